@@ -1,6 +1,6 @@
 """The tokens of a source with their places, as docs/LANGUAGE.md has them, and what a source
 declares: enough to say what stands at a place."""
-import functools, re
+import functools, os, re
 
 GAP = re.compile(rb"(?:[ \t\n\v\f\r]|//[^\n]*|/\*.*?\*/)*", re.S)
 MARKS = sorted("( ) { } [ ] ; , = ? : + - * / % == != < > <= >= && || & | ^ << >> ! ~ ++ -- += -= *= /= %= &= |= ^= <<= >>= ->".split(), key=len, reverse=True)
@@ -9,8 +9,23 @@ KEYWORDS = set(
     "auto break case char const continue default do double else enum extern float for goto if inline int long register restrict return short signed sizeof static struct"
     " switch typedef union unsigned void volatile while _Alignas _Alignof _Atomic _Bool _Complex _Generic _Imaginary _Noreturn _Static_assert _Thread_local".split()
 )
-# the modelled calls, with the number of their arguments
-MODELLED = {"accept": 0, "wait": 1, "waitfor": 2, "sleep": 1, "yield": 0, "take": 2, "put": 1, "give": 2, "self": 0, "spawn": 2}
+# the crate's table of the modelled calls other than `spawn`; tools/install puts it beside the tools
+TABLE = os.path.join(os.path.dirname(os.path.realpath(__file__)), "../../crates/cap_word/src/modelled_calls.rt")
+
+
+def modelled_calls():
+    """The modelled calls with the number of their arguments, in the order of the table but that a
+    name stands behind the one that it begins with."""
+    with open(TABLE) as file:
+        text = file.read()
+    names = re.findall(r'ModelledCall::(\w+) => "(\w+)"', text)
+    arms = re.findall(r"([\w:|\s]+) => (\d+),", text[text.index("fn parameters") : text.index("fn gives_result")])
+    count = {call: int(number) for calls, number in arms for call in re.findall(r"ModelledCall::(\w+)", calls)}
+    ordered = sorted(names, key=lambda it: next(at for at, (_, first) in enumerate(names) if it[1].startswith(first)))
+    return {**{name: count[call] for call, name in ordered}, "spawn": 2}
+
+
+MODELLED = modelled_calls()
 
 
 class Token:

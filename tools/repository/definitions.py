@@ -148,7 +148,7 @@ class Reader:
 def first_sentence(comment):
     """The text up to the full stop or colon that ends its first sentence, in one line."""
     text = " ".join(comment.split())
-    found = re.match(r"(.+?[.:])(?=\s+[A-Z`(]|\s*$)", text)
+    found = re.match(r"(.+?[.:])(?=\s+[A-Z`(#]|\s*$)", text)
     return (found[1] if found else text).rstrip(".:")
 
 

@@ -1,4 +1,4 @@
--- What contracts see of an accepted program.
+-- An accepted program, as contracts see it.
 use Rattle.c_tree.specs.declared.programs.Program.{Program}
 use Rattle.stack_image.specs.declared.images.Image.{Image}
 use Rattle.stack_certificate.specs.declared.certificates.Certificate.{Certificate}

@@ -1,4 +1,4 @@
--- What an accepted program is.
+-- The definition of an accepted program.
 use Rattle.std.specs.Prelude.{◌≡◌}
 use Rattle.c_tree.specs.Trees.{ProgramTree}
 use Rattle.c_tree.specs.ProgramView.{program_tree}
@@ -11,7 +11,7 @@ use Rattle.accepted_pairs.specs.declared.accepted.Accepted.{Accepted}
 abbrev pub accepted_tree : Accepted → ProgramTree
 accepted_tree accepted = program_tree accepted.program
 
--- the three values that were handed in, accepted
+-- the three given values, accepted
 pub record Accepts (accepted : Accepted) (program : Program) (image : Image) (certificate : Certificate) : Type 0 where
   pub program_is : accepted_tree accepted ≡ program_tree program
   pub image_is : accepted.image ≡ image

@@ -15,12 +15,12 @@ use decoded_code::Ready;
 use flat_code::FlatProgram;
 use rv_code::Instr;
 use stack_certificate::Certificate;
-use stack_image::Image;
+use stack_image::{CODE_START, Image};
 use std::marker::Model;
 
-/// A program with an image and a certificate that are valid for it: every rule of the checker holds of them
-/// and of the program's flat code, which it keeps beside the decoded words of the image's code. Contracts see the
-/// three that were accepted.
+/// A program with an image and a certificate that are valid for it: every rule of the checker holds for them and the
+/// program's flat code, which is stored too, with the decoded words of the image's code. Contracts see the program,
+/// the image and the certificate.
 #[derive(Drop)]
 pub struct Accepted {
     program: Program,
@@ -51,8 +51,8 @@ impl Model for Accepted {
 }
 
 impl Accepted {
-    /// The program, the image and the certificate, which are valid for it, its flat code and the lists of the image's
-    /// code. It takes no memory.
+    /// Returns the program with the image and the certificate, which are valid for it, its flat code and the lists of
+    /// the image's code. It doesn't allocate.
     pub fn new(
         program: Program,
         image: Image,
@@ -74,21 +74,21 @@ impl Accepted {
         }
     }
 
-    /// The rules hold of the three. It does nothing: it tells this of a value that was accepted.
+    /// Law: the rules hold for program, image and certificate. It has no effect at run time.
     pub fn is_valid(&self)
         ensures { IsValid (lowered (accepted_tree self.now)) self.now.image self.now.certificate }
     {
         let _words = self.image.code.len();
     }
 
-    /// The program.
+    /// Returns the program.
     pub fn program(&self) -> &Program
         ensures { program_tree result.now ≡ accepted_tree self.now }
     {
         &self.program
     }
 
-    /// The image, which is valid for the program with the certificate.
+    /// Returns the image, which is valid for the program with the certificate.
     pub fn image(&self) -> &Image
         ensures value { result.now ≡ self.now.image }
         ensures valid { IsValid (lowered (accepted_tree self.now)) self.now.image self.now.certificate }
@@ -96,43 +96,43 @@ impl Accepted {
         &self.image
     }
 
-    /// The certificate.
+    /// Returns the certificate.
     pub fn certificate(&self) -> &Certificate
         ensures { result.now ≡ self.now.certificate }
     {
         &self.certificate
     }
 
-    /// The flat code of the program.
+    /// Returns the flat code of the program.
     pub fn flat(&self) -> &FlatProgram
         ensures { program_code result.now ≡ lowered (accepted_tree self.now) }
     {
         &self.flat
     }
 
-    /// The instruction of each word of the image's code, and None in the place of a word that is no instruction.
+    /// Returns the instruction of each word of the image's code, and `None` for a word that isn't an instruction.
     pub fn instrs(&self) -> &[Option<Instr>]
         ensures { result.now ≡ map decoding self.now.image.code }
     {
         self.lists.instrs.as_slice()
     }
 
-    /// The ready operation of each word of the image's code.
+    /// Returns the ready operation of each word of the image's code.
     pub fn ready(&self) -> &[Ready]
         ensures { AreReady self.now.image.code (length self.now.image.code) result.now }
     {
         self.lists.ready.as_slice()
     }
 
-    /// The function among whose words an address stands. The work doesn't grow with the program.
+    /// Returns the function whose words contain an address, in time that doesn't depend on the program.
     pub fn function_at(&self, address: u32) -> u32
         requires { (f : ℕ) × StandsIn self.now.certificate address f }
         ensures { StandsIn self.now.certificate address result }
     {
-        self.lists.functions[((address - 0x1000) / 4) as usize]
+        self.lists.functions[((address - CODE_START) / 4) as usize]
     }
 
-    /// How many words stand in a function before each of its operations, and last, before its end.
+    /// Returns the number of words of a function before each of its operations, and last, before its end.
     pub fn words_before(&self, function: u32) -> &[u64]
         requires { function < length (lowered (accepted_tree self.now)).functions }
         ensures { AreWordsBefore (lowered (accepted_tree self.now)) self.now.certificate function result.now }

@@ -1,4 +1,4 @@
-// What is looked up in the code of an accepted pair without going over it.
+// Lists for look-ups in the code of an accepted pair, without a search.
 
 ghost use Rattle.std.specs.Prelude.{◌≡◌, ℕ, ◌+◌, ◌^◌, ◌<◌, ◌≤◌, IfOk, length, slice_index};
 ghost use Rattle.flat_code.specs.ProgramView.{program_code};
@@ -6,17 +6,16 @@ ghost use Rattle.certificate_rules.specs.Validity.{IsValid};
 ghost use Rattle.accepted_pairs.specs.CodeLists.{AreBefore, AreCodeLists, NamesFunctions};
 ghost use Rattle.accepted_pairs.specs.Held.{IsReadable};
 
-use crate::lookups::fact_of;
 use crate::words_before::words_before_each;
 use decoded_code::{Ready, decode_all, ready_all};
 use flat_code::FlatProgram;
 use rv_code::Instr;
-use stack_certificate::Certificate;
-use stack_image::Image;
+use stack_certificate::{Certificate, fact_of};
+use stack_image::{CODE_START, Image};
 use std::alloc::{AllocError, Global};
 
-/// The instruction and the ready operation of each word of the code, the function of each word, and for each function how many words stand before
-/// each of its operations.
+/// The instruction and the ready operation of each word of the code, the function of each word, and for each function
+/// the number of words before each of its operations.
 #[derive(Drop)]
 pub struct CodeLists {
     pub instrs: Vec<Option<Instr>>,
@@ -25,7 +24,7 @@ pub struct CodeLists {
     pub before: Vec<Vec<u64>>,
 }
 
-/// The lists of a valid pair. They take memory in the size of the code and of the program.
+/// Returns the lists of a valid pair. Their memory is linear in the size of the code and of the program.
 pub fn code_lists_of(
     alloc: Global,
     flat: &FlatProgram,
@@ -49,7 +48,7 @@ pub fn code_lists_of(
     })
 }
 
-// Writes at each word of the code the number of the function that has it.
+// Writes the number of a function at each of its words of the code.
 fn name_functions(
     flat: &FlatProgram,
     image: &Image,
@@ -64,12 +63,12 @@ fn name_functions(
     for f in 0..flat.functions().len() as u64 {
         let function = f as u32;
         let fact = fact_of(certificate, function);
-        let start = (fact.entry - 0x1000) / 4;
+        let start = (fact.entry - CODE_START) / 4;
         name_run(functions, start as usize, fact.words as usize, function);
     }
 }
 
-// Writes a number at each word of a run.
+// Writes a number at each word of a range.
 fn name_run(functions: &mut [u32], start: usize, words: usize, function: u32)
     requires { start + words ≤ length functions.old }
     ensures run { (word : ℕ) → start ≤ word → word < start + words → slice_index functions.new word ≡ function }
@@ -81,7 +80,7 @@ fn name_run(functions: &mut [u32], start: usize, words: usize, function: u32)
     }
 }
 
-// How many words stand before each operation, for each function.
+// The number of words before each operation, for each function.
 fn words_before_all(
     alloc: Global,
     flat: &FlatProgram,

@@ -1,32 +1,24 @@
-// What a program and its certificate hold at a number.
+// Look-ups by number in a program and its certificate.
 
 ghost use Rattle.std.specs.Prelude.{◌≡◌, ◌≢◌, ℕ, ◌<◌, IfSome, IfNone, length, slice_get, slice_index, slice_index_or, Some};
 ghost use Rattle.std.specs.List.Sorted.{IsStrictlyIncreasing};
 ghost use Rattle.flat_code.specs.Codes.{function_at, operation_at};
 ghost use Rattle.flat_code.specs.ProgramView.{program_code};
 ghost use Rattle.flat_code.specs.WellFormed.{IsFunction, IsOperation, context_of};
-ghost use Rattle.stack_certificate.specs.Certificates.{fact_at, kind_in};
+ghost use Rattle.stack_certificate.specs.Certificates.{kind_in};
 ghost use Rattle.stack_certificate.specs.Templates.{kind_of};
 ghost use Rattle.certificate_rules.specs.Sites.{fact_numbers};
 
 use flat_code::{FlatFunction, FlatProgram, Op};
-use stack_certificate::{Certificate, FunctionFact, LinkKind, SiteFact};
+use stack_certificate::{Certificate, LinkKind, SiteFact};
 
-/// A function of a program.
+/// Returns a function of a program.
 pub fn function_of(flat: &FlatProgram, function: u32) -> &FlatFunction
     requires { function < length (program_code flat.now).functions }
     ensures value { result.now ≡ function_at (program_code flat.now) function }
     ensures formed { IsFunction (program_code flat.now) result.now }
 {
     &flat.functions()[function as usize]
-}
-
-/// What the certificate says of a function.
-pub fn fact_of(certificate: &Certificate, function: u32) -> &FunctionFact
-    requires { function < length certificate.now.functions }
-    ensures { result.now ≡ fact_at certificate.now function }
-{
-    &certificate.functions.as_slice()[function as usize]
 }
 
 /// An operation of a function.
@@ -49,7 +41,7 @@ fn operation_in(function: &FlatFunction, op: u32) -> &Op
     &function.ops.as_slice()[op as usize]
 }
 
-/// The place of a site's fact among facts whose numbers rise, by halving.
+/// Returns the index of a site's fact among facts with increasing numbers, by binary search.
 pub fn find_site(facts: &[SiteFact], site: u32) -> Option<usize>
     requires { IsStrictlyIncreasing (fact_numbers facts.now) }
     ensures found { IfSome result (λ k. (k < length facts.now) × (slice_index (fact_numbers facts.now) k ≡ site)) }
@@ -72,7 +64,7 @@ pub fn find_site(facts: &[SiteFact], site: u32) -> Option<usize>
     }
 }
 
-// How a site links, by its fact among facts whose numbers rise.
+// The link kind of a site, by its fact among facts with increasing numbers.
 fn kind_of_site(facts: &[SiteFact], site: u32) -> LinkKind
     requires { IsStrictlyIncreasing (fact_numbers facts.now) }
     ensures { result ≡ kind_in facts.now site }
@@ -83,8 +75,8 @@ fn kind_of_site(facts: &[SiteFact], site: u32) -> LinkKind
     }
 }
 
-/// How the site of an operation links: plain where the operation has no site, or the certificate has no fact of it. The
-/// certificate's sites are in the order of their numbers, so the search takes the logarithm of their count.
+/// Returns the link kind of an operation's site: plain if the operation has no site, or the certificate no fact for it.
+/// The certificate's sites are in the order of their numbers, so the time is logarithmic in their count.
 pub fn kind_of_operation(certificate: &Certificate, op: &Op) -> LinkKind
     requires { IsStrictlyIncreasing (fact_numbers certificate.now.sites) }
     ensures { result ≡ kind_of certificate.now op.now }

@@ -7,7 +7,8 @@ use flat_code::FlatProgram;
 use stack_certificate::{Certificate, operation_size};
 use std::alloc::{AllocError, Global};
 
-/// How many words stand in a function before each of its operations, and last, before its end.
+/// Returns the number of words of a function before each of its operations, and last, before its
+/// end.
 pub fn words_before_each(
     alloc: Global,
     flat: &FlatProgram,

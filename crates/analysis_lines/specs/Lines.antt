@@ -1,4 +1,4 @@
--- The lines that tell what was found out of a program's calls.
+-- The lines with the results of the analysis of a program's calls.
 use Rattle.std.specs.Prelude.{ℕ, zero, suc, if◌then◌else◌, List, [], ◌∷◌, ◌++◌, map, length, codes, slice_index, slice_index_or}
 use Rattle.cap_text.specs.Decimals.{canonical_decimal}
 use Rattle.cap_text.specs.TextLines.{ended_lines}
@@ -14,7 +14,7 @@ abbrev pub function_line : (names : List (List ℕ)) → (weights bounds : List 
 function_line names weights bounds function =
     (((((codes "function " ++ canonical_decimal function) ++ 32 ∷ name_at names function) ++ codes " frame ") ++ canonical_decimal (slice_index weights function)) ++ codes " bound ") ++ canonical_decimal (slice_index bounds function)
 
--- what a site is: a back edge, checkpointed but no back edge, or plain
+-- the kind of a site: a back edge, checkpointed but not a back edge, or plain
 abbrev pub kind_word : (back checkpointed : List ℕ) → ℕ → List ℕ
 kind_word back checkpointed number = if has number back then codes "back" else (if has number checkpointed then codes "over" else codes "plain")
 

@@ -1,8 +1,8 @@
 // The lines that the command `graph` prints.
 //
-// In: the functions of a program, with the bytes of each frame and its bound, and the call sites in
-// order, with the numbers of the back edges and of the checkpointed sites. Out: a line for each
-// function and one for each site (specs/Lines.antt). The crate above uses the contract of
+// In: the functions of a program, with the size of each frame in bytes and its bound, and the call
+// sites in order, with the numbers of the back edges and of the checkpointed sites. Out: a line for
+// each function and one for each site (specs/Lines.antt). The crates above use the contract of
 // `analysis_text`. The form of the lines is Capriccio's own.
 #![tactic(auto)]
 

@@ -9,29 +9,29 @@ ghost use Rattle.call_graph.specs.declared.sites.GraphSite.{GraphSite};
 ghost use Rattle.analysis_lines.specs.Lines.{site_line, kind_word, functions_text, analysis_lines};
 
 use c_tree::Function;
-use call_graph::{GraphSite, is_kept};
+use call_graph::{GraphSite, is_among};
 use cap_text::put_dec;
 use std::alloc::{AllocError, Global};
 
-/// What was found out of a program's calls.
+/// The results of the analysis of a program's calls.
 #[derive(Clone, Copy)]
 pub struct Findings<'a> {
     /// The functions, by number.
     pub functions: &'a [Function],
-    /// The bytes of each function's frame.
+    /// The size of each function's frame in bytes.
     pub weights: &'a [u32],
     /// The bound of each function in bytes.
     pub bounds: &'a [u32],
     /// The call sites, in order of their numbers.
     pub sites: &'a [GraphSite],
-    /// The numbers of the back edges, rising.
+    /// The numbers of the back edges, increasing.
     pub back: &'a [u32],
-    /// The numbers of the checkpointed sites, rising.
+    /// The numbers of the checkpointed sites, increasing.
     pub checkpointed: &'a [u32],
 }
 
-/// A line for each function, by number, and then a line for each call site, in order: `function I NAME frame F bound B`,
-/// and `site S CALLER` with `back`, `over` or `plain` behind it.
+/// Returns a line for each function, by number, and then a line for each call site, in order: `function I NAME frame F
+/// bound B`, and `site S CALLER` followed by `back`, `over` or `plain`.
 pub fn analysis_text(alloc: Global, found: Findings) -> Result<Vec<u8>, AllocError>
     requires frames { length found.weights.now ≡ length found.functions.now }
     requires bounds { length found.bounds.now ≡ length found.functions.now }
@@ -137,15 +137,15 @@ fn put_site(text: &mut Vec<u8>, number: u32, caller: &[u8], kind: &[u8]) -> Resu
     Ok(())
 }
 
-// What a site is.
+// The kind of a site.
 fn kind_of(number: u32, back: &[u32], checkpointed: &[u32]) -> &'static [u8]
     requires back { IsStrictlyIncreasing back.now }
     requires checkpointed { IsStrictlyIncreasing checkpointed.now }
     ensures { result.now ≡ kind_word back.now checkpointed.now number }
 {
-    if !is_kept(number, back) {
+    if is_among(number, back) {
         b"back"
-    } else if !is_kept(number, checkpointed) {
+    } else if is_among(number, checkpointed) {
         b"over"
     } else {
         b"plain"

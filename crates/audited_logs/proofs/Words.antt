@@ -12,7 +12,8 @@ use Rattle.cap_word.specs.declared.traps.TrapKind.{TrapKind}
 use Rattle.c_mean.specs.ModelledCalls.{blocking_row, immediate_row}
 use Rattle.chunk_pool.specs.Pool.{Taken, taken_for}
 use Rattle.machine_world.specs.Local as local
-use Rattle.machine_world.specs.Local.{Local, LocalMove, Ended, Trapped, NoRoom, Wrong, a0, a1, tp, t1, asks_or_wrong, linked_on, unlinked_front, unlinked_on, chunk_with_payload, ended, trapped, system_call, machine_of, local_move, local_step}
+use Rattle.stack_certificate.specs.Registers.{tp, t1, a0, a1}
+use Rattle.machine_world.specs.Local.{Local, LocalMove, Ended, Trapped, NoRoom, Wrong, asks_or_wrong, linked_on, unlinked_front, unlinked_on, chunk_with_payload, ended, trapped, system_call, machine_of, local_move, local_step}
 use Rattle.machine_world.specs.Threads as machine
 use Rattle.machine_world.specs.Threads.{Thread, World, Setting, Move, most_threads, printed, spawned, unless_trap, asked, stopped, moved, step}
 use Rattle.machine_world.specs.WellFormed.{AreWords}

@@ -1,4 +1,4 @@
--- What the lines of a log print, and what a choice among them rests on, where the lines before it are lawful as they are read.
+-- What the lines of a log print, and what a choice among them depends on, if the lines before it are lawful.
 use Rattle.std.specs.Prelude.{◌≡◌, ℕ, ◌+◌, ◌-◌, List, [], ◌∷◌, ◌++◌, map}
 use Rattle.c_mean.specs.World as source
 use Rattle.choice_rules.specs.Choice.{IsChoice}
@@ -11,7 +11,7 @@ use Rattle.schedule_log.specs.declared.entries.Entry.{Entry}
 
 -- ---- what lines print
 
--- the schedule: what each `event` delivers, and at each `block` and `end` that its thread has run
+-- the schedule: the delivery of each `event`, and the run of a thread at each `block` and `end`
 abbrev pub schedule_of : List Entry → List source.Entry
 schedule_of [] = []
 schedule_of (Entry.Event clock item ∷ entries) = source.Deliver (delivered item) ∷ schedule_of entries
@@ -35,7 +35,7 @@ costs_of (Entry.End thread cost free ∷ entries) = cost ∷ costs_of entries
 costs_of (Entry.Edge from to count cost changes ∷ entries) = costs_of entries
 costs_of (Entry.Stop stop ∷ entries) = costs_of entries
 
--- the clock behind these lines: an `event`, a `drop` and a `run` print it, and a segment moves it on by its cost
+-- the clock after these lines: an `event`, a `drop` and a `run` print it, and a segment advances it by its cost
 abbrev pub clock_after : ℕ → List Entry → ℕ
 clock_after now [] = now
 clock_after now (Entry.Event clock item ∷ entries) = clock_after clock entries
@@ -47,7 +47,7 @@ clock_after now (Entry.End thread cost free ∷ entries) = clock_after (now + co
 clock_after now (Entry.Edge from to count cost changes ∷ entries) = clock_after now entries
 clock_after now (Entry.Stop stop ∷ entries) = clock_after now entries
 
--- the chunks that are held, of so many: all but those that the last `block` or `end` prints as free
+-- the number of held chunks: all chunks except those that the last `block` or `end` prints as free
 abbrev pub held_after : ℕ → ℕ → List Entry → ℕ
 held_after chunks held [] = held
 held_after chunks held (Entry.Event clock item ∷ entries) = held_after chunks held entries
@@ -61,8 +61,9 @@ held_after chunks held (Entry.Stop stop ∷ entries) = held_after chunks held en
 
 -- ---- the choices
 
--- A `run` line behind these lines names the rule's choice, by what is seen there: the program's world under the schedule that they print, the
--- averages of the costs that they print, and the clock and the held chunks that they print.
+-- a `run` line after these lines names the rule's choice by what is visible there: the program's world under the
+-- schedule that they print, the averages of the costs that they print, and the clock and the held chunks that they
+-- print
 pub record IsPrintedChoice (g : Given) (trace : List ℕ) (earlier : List Entry) (clock thread node : ℕ) : Type 0 where
   pub state : State
   pub read : Leads g (start_of g trace) earlier state
@@ -75,7 +76,7 @@ pub record IsPrintedChoice (g : Given) (trace : List ℕ) (earlier : List Entry)
   pub clock_is : state.clock ≡ clock_after 0 earlier
   pub held : state.held ≡ held_after (chunks_of g) 1 earlier
 
--- each `run` line does
+-- each `run` line does so
 abbrev pub AreLawfulChoices : Given → List ℕ → List Entry → Type 0
 AreLawfulChoices g trace entries =
     (earlier later : List Entry) (clock thread node : ℕ) → entries ≡ earlier ++ Entry.Run clock thread node ∷ later → IsPrintedChoice g trace earlier clock thread node

@@ -1,4 +1,5 @@
--- What the lines of a log say of a text in whose expressions calls stand: of the text by itself, with no rewriting (`deep_mean`).
+-- What the lines of a log say of a text whose expressions may contain calls: of the text by itself, without rewriting
+-- (`deep_mean`).
 use Rattle.std.specs.Prelude.{◌≡◌, ◌≢◌, ◌<◌, ℕ, ℤ, List, [], ◌∷◌, ◌++◌, length, Some, slice_get}
 use Rattle.cap_word.specs.Word.{signed}
 use Rattle.cap_word.specs.declared.calls.Block.{Block}
@@ -13,14 +14,14 @@ use Rattle.lawful_log.specs.Good.{delivered}
 use Rattle.schedule_log.specs.declared.entries.Entry.{Entry}
 use Rattle.schedule_log.specs.declared.entries.StopLine.{StopLine}
 
--- what threads have put, as `out` lines tell it: threads with signed numbers
+-- what threads have put, as `out` lines print it: threads with signed numbers
 abbrev pub lines_of : List (ℕ × ℕ) → List (ℕ × ℤ)
 lines_of [] = []
 lines_of (output ∷ outputs) = (output.0, signed output.1) ∷ lines_of outputs
 
--- ---- where the text has come to
+-- ---- the state of the text
 
--- this schedule leads from the text's start to a world in which just this has been put, and which is as asked
+-- this schedule leads from the text's start to a world in which exactly this has been put, and which has this property
 abbrev pub ComesTo : DeepProgram → List ℕ → List source.Entry → List (ℕ × ℤ) → (DeepWorld → Type 0) → Type 0
 ComesTo text caps schedule put asked =
     (world : DeepWorld) × deep.IsAfter text caps (deep.start_world text) schedule world × (put ≡ lines_of world.outputs) × asked world
@@ -38,17 +39,17 @@ HasEnded thread world = slice_get world.threads thread ≡ Some deep.Ended
 abbrev pub HaveAllEnded : DeepWorld → Type 0
 HaveAllEnded world = (thread : ℕ) → thread < length world.threads → HasEnded thread world
 
--- some thread hasn't
+-- some thread hasn't ended
 abbrev pub IsSomeLive : DeepWorld → Type 0
 IsSomeLive world = (thread : ℕ) × (rest : DeepRest) × (slice_get world.threads thread ≡ Some rest) × (rest ≢ deep.Ended)
 
--- after this schedule the thread runs to this trap, and then just this has been put
+-- after this schedule the thread runs to this trap, and then exactly this has been put
 abbrev pub ComesToTrap : DeepProgram → List ℕ → List source.Entry → List (ℕ × ℤ) → ℕ → TrapKind → Type 0
 ComesToTrap text caps schedule put thread kind =
     (world : DeepWorld) × (end : DeepRested) × deep.IsAfter text caps (deep.start_world text) schedule world × deep.RunsTo text caps world thread end
     × (end.trap ≡ Some kind) × (put ≡ lines_of end.world.outputs)
 
--- after this schedule the thread runs until just this has been put
+-- after this schedule the thread runs until exactly this has been put
 abbrev pub ComesToCut : DeepProgram → List ℕ → List source.Entry → List (ℕ × ℤ) → ℕ → Type 0
 ComesToCut text caps schedule put thread =
     (world : DeepWorld) × (count : ℕ) × (there : DeepSegment) × deep.IsAfter text caps (deep.start_world text) schedule world
@@ -56,8 +57,8 @@ ComesToCut text caps schedule put thread =
 
 -- ---- the lines
 
--- a stop: at `done` each of the text's threads has ended, at `idle` some thread hasn't, and a refused line of the trace says nothing of them; at a
--- trap that trap is the text's; elsewhere the text is cut after what was put
+-- a stop: at `done` each of the text's threads has ended, and at `idle` some thread hasn't; a refused line of the trace
+-- says nothing of the threads; a trap is the text's; at any other stop the text is cut after what was put
 abbrev pub StopsSo : DeepProgram → List ℕ → List source.Entry → List (ℕ × ℤ) → StopLine → Type 0
 StopsSo text caps schedule put StopLine.Done = ComesTo text caps schedule put HaveAllEnded
 StopsSo text caps schedule put StopLine.Idle = ComesTo text caps schedule put IsSomeLive
@@ -67,8 +68,8 @@ StopsSo text caps schedule put (StopLine.Cut thread Stop.NoChunk cost free) = Co
 StopsSo text caps schedule put (StopLine.Cut thread Stop.Fuel cost free) = ComesToCut text caps schedule put thread
 StopsSo text caps schedule put (StopLine.Cut thread Stop.Threads cost free) = ComesToCut text caps schedule put thread
 
--- The lines that are left, after those that have given this schedule and printed this. An `event` delivers its item; `drop` and `run` do
--- nothing to the source; at a `block` and an `end` the thread has run, and rests so.
+-- the rest of the lines, after those that gave this schedule and printed this. An `event` delivers its item; `drop` and
+-- `run` leave the source unchanged; at a `block` and an `end` the thread has run and rests as printed.
 abbrev pub AreTextLines : DeepProgram → List ℕ → List source.Entry → List (ℕ × ℤ) → List Entry → Type 0
 AreTextLines text caps schedule put [] = Unit {0}
 AreTextLines text caps schedule put (Entry.Event clock item ∷ entries) = AreTextLines text caps (schedule ++ source.Deliver (delivered item) ∷ []) put entries
@@ -84,6 +85,6 @@ AreTextLines text caps schedule put (Entry.End thread cost free ∷ entries) =
 AreTextLines text caps schedule put (Entry.Edge from to count cost changes ∷ entries) = AreTextLines text caps schedule put entries
 AreTextLines text caps schedule put (Entry.Stop stop ∷ entries) = StopsSo text caps schedule put stop
 
--- the whole log: what the text does under the schedule that it prints
+-- the whole log: what the text does under the schedule that the log prints
 abbrev pub IsTextLog : DeepProgram → List ℕ → List Entry → Type 0
 IsTextLog text caps entries = AreTextLines text caps [] [] entries

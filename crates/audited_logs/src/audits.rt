@@ -15,9 +15,10 @@ ghost use Rattle.schedule_log.specs.EntryText.{log_text};
 ghost use Rattle.schedule_log.specs.declared.entries.Entry.{Entry};
 ghost use Rattle.schedule_log.specs.declared.entries.StopLine.{StopLine};
 
-/// The text of the lawful log of a valid pair of a well scoped program, where no cap is above 2^31, is lawful as it is read without the
-/// machine, by the same policy and on the same trace, or some line of it needs more steps of the source than may be taken, however many
-/// these are: it is never unlawful, and lawful wherever enough may be taken. It does nothing: the laws are the contract.
+/// Laws: the text of the lawful log of a valid pair of a well-scoped program, with no cap above 2^31, has one of two
+/// verdicts by the lawful reading, under the same policy and on the same trace. It is lawful, or some line needs more
+/// steps of the source than the limit, whatever that is. So it is never unlawful, and it is lawful if the limit is
+/// large enough.
 pub fn lawful_logs_are_read_as_lawful()
     ensures judged { (g : Setup) (trace : List ℕ) (entries : List Entry) (stop : StopLine) (end : World) (most_steps : ℕ) → IsWellScoped g.program →
         IsValid (lowered g.program) g.image g.certificate → AreWellFormed (checked_of g) (start_areas g) → g.policy.fuel ≤ most_fuel →
@@ -30,15 +31,15 @@ pub fn lawful_logs_are_read_as_lawful()
         AreCapsSmall g.policy.caps → IsLawfulLog g trace entries stop end → IsLawfulWithEnough g trace (log_text entries) }
 {}
 
-/// A valid pair has such a log, whatever the trace and the policy. It does nothing: the law is the contract.
+/// Law: a valid pair has a lawful log with such a verdict, whatever the trace and the policy.
 pub fn pairs_have_logs_that_are_read()
     ensures { (g : Setup) (trace : List ℕ) (most_steps : ℕ) → IsWellScoped g.program → IsValid (lowered g.program) g.image g.certificate →
         AreWellFormed (checked_of g) (start_areas g) → g.policy.fuel ≤ most_fuel → AreCapsSmall g.policy.caps → HasReadLog g most_steps trace }
 {}
 
-/// In a log that is lawful as it is read, each `run` line names the choice that the rule makes at that place, by what the lines before it
-/// print: the program's world under their schedule, the averages of their costs, their clock and their free chunks. Ghost law: no effect
-/// at run time.
+/// Law: in a log with the verdict lawful, each `run` line names the choice of the rule at that place. The choice
+/// depends on the program's world under the printed schedule, and on the averages of the costs, the clock and the free
+/// chunks that the lines before it print.
 pub fn read_choices_are_lawful()
     ensures { (g : Given) (trace log : List ℕ) → (lawful : IsLawful g trace log) → AreLawfulChoices g trace lawful.entries }
 {}

@@ -16,23 +16,23 @@ ghost use Rattle.schedule_log.specs.declared.entries.Entry.{Entry};
 ghost use Rattle.schedule_log.specs.declared.entries.StopLine.{StopLine};
 ghost use Rattle.audited_logs.specs.TextLog.{IsTextLog};
 
-/// Each well-scoped program that a source reads as does what the source means, whose expressions hold calls. Ghost law: no effect at run
-/// time.
+/// Law: each well-scoped program as which a source is read does what the source means. The source's expressions may
+/// contain calls.
 pub fn programs_mean_their_text()
     ensures { (source : List ℕ) (program : ProgramTree) → IsWellScoped program → MeansText source program }
 {}
 
-/// The lawful log of a valid pair of a program that a source reads as is the source's own: under the schedule that its lines print the
-/// source puts what they print, blocks and ends where they say so, at calls of these keys, and stops as they say: at `stop done` each of its
-/// threads has ended. Ghost law: no effect at run time.
+/// Law: the lawful log of a valid pair of a program as which a source is read is the source's log. Under the schedule
+/// that its lines print, the source puts what they print, blocks and ends where they say so, at calls of the printed
+/// keys, and stops as they say: at `stop done` each of its threads has ended.
 pub fn logs_are_the_texts()
     ensures { (source : List ℕ) (g : Setup) (trace : List ℕ) (entries : List Entry) (stop : StopLine) (end : World) → (read : ReadsNested source g.program) →
         IsWellScoped g.program → IsValid (lowered g.program) g.image g.certificate → AreWellFormed (checked_of g) (start_areas g) → g.policy.fuel ≤ most_fuel →
         IsLawfulLog g trace entries stop end → IsTextLog (deep_program read.tree) g.policy.caps entries }
 {}
 
-/// A log that is lawful as it is read, without the machine, is the source's own: under the schedule that its lines print the source puts
-/// what they print, blocks and ends where they say so, at calls of these keys, and stops as they say. Ghost law: no effect at run time.
+/// Law: a log with the verdict lawful is the source's log. Under the schedule that its lines print, the source puts
+/// what they print, blocks and ends where they say so, at calls of the printed keys, and stops as they say.
 pub fn read_logs_are_the_texts()
     ensures { (source : List ℕ) (g : Given) (trace log : List ℕ) → (read : ReadsNested source g.program) → IsWellScoped g.program →
         (lawful : IsLawful g trace log) → IsTextLog (deep_program read.tree) g.policy.caps lawful.entries }

@@ -1,7 +1,7 @@
 -- Averages in which each new sample counts one eighth, scaled by 256.
 use Rattle.std.specs.Prelude.{ℕ, ◌/◌, ℤ, pos, negsuc, ◌+ℤ◌, ◌-ℤ◌, ◌*ℤ◌, List, [], ◌∷◌}
 
--- a number over a divisor above 0, rounded down, for negative numbers too
+-- a number divided by a divisor above 0, rounded down, for negative numbers too
 abbrev pub floor_div : ℤ → ℕ → ℤ
 floor_div (pos n) d = pos (n / d)
 floor_div (negsuc n) d = negsuc (n / d)

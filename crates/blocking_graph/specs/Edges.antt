@@ -1,10 +1,10 @@
--- The edges of the blocking graph: for each pair of nodes with records, their count and averages.
+-- The edges of the blocking graph: for each pair of nodes with records, their number and averages.
 use Rattle.std.specs.Prelude.{ℕ, ◌+◌, ◌==◌, ◌||◌, ◌&&◌, nat_lt, Bool, ℤ, pos, ◌+ℤ◌, ◌*ℤ◌, if◌then◌else◌, List, [], ◌∷◌, map, filter, fold, sum_by, slice_index_or}
 use Rattle.blocking_graph.specs.Averages.{floor_div, first_average, next_average, next_averages}
 use Rattle.blocking_graph.specs.declared.edges.EdgeLine.{EdgeLine}
 use Rattle.blocking_graph.specs.declared.segments.SegmentRecord.{SegmentRecord}
 
--- whether an edge comes before that of a record: by the node it leads from, then by the node it leads to
+-- whether an edge comes before that of a record, in the order by `from`, then `to`
 abbrev pub is_before : EdgeLine → SegmentRecord → Bool
 is_before edge segment = nat_lt edge.from segment.from || (edge.from == segment.from && nat_lt edge.to segment.to)
 
@@ -30,7 +30,7 @@ next_edge edge segment = record edge {
   change = next_averages edge.change segment.change;
 }
 
--- the edges, by the node that they lead from and then by the node that they lead to, after one more record
+-- the edges, ordered by `from`, then `to`, after one more record
 abbrev pub edges_with : List EdgeLine → SegmentRecord → List EdgeLine
 edges_with [] segment = first_edge segment ∷ []
 edges_with (edge ∷ edges) segment =
@@ -42,7 +42,7 @@ edges_with (edge ∷ edges) segment =
 abbrev pub edges_of : List SegmentRecord → List EdgeLine
 edges_of records = fold edges_with [] records
 
--- the edges that lead from a node
+-- the edges from a node
 abbrev pub edges_from : List EdgeLine → ℕ → List EdgeLine
 edges_from edges node = filter (λ edge. edge.from == node) edges
 
@@ -50,7 +50,7 @@ edges_from edges node = filter (λ edge. edge.from == node) edges
 abbrev pub count_of : List EdgeLine → ℕ
 count_of edges = sum_by (λ edge. edge.count) edges
 
--- a sum with an edge's count times its average change of a resource
+-- a sum plus an edge's count times its average change of a resource
 abbrev pub with_weight : ℕ → ℤ → EdgeLine → ℤ
 with_weight resource total edge = total +ℤ (pos edge.count *ℤ slice_index_or edge.change resource (pos 0))
 
@@ -58,8 +58,8 @@ with_weight resource total edge = total +ℤ (pos edge.count *ℤ slice_index_or
 abbrev pub weighted_change : List EdgeLine → ℕ → ℤ
 weighted_change edges resource = fold (with_weight resource) (pos 0) edges
 
--- what a segment from a node is expected to change a resource by, scaled by 256: the average over the edges from
--- the node, each weighted by its count and rounded down, or 0 where there is none
+-- the expected change of a resource by a segment from a node, scaled by 256: the average over the edges from the
+-- node, each weighted by its count, rounded down, or 0 if there are none
 abbrev pub prediction : List EdgeLine → ℕ → ℕ → ℤ
 prediction edges node resource =
     let out = edges_from edges node in

@@ -1,4 +1,4 @@
--- What a blocking graph means.
+-- The state of a blocking graph, and its invariant.
 use Rattle.std.specs.Prelude.{ℕ, ◌≡◌, ◌^◌, ◌<◌, ◌≤◌, ◌==◌, ◌||◌, ◌&&◌, nat_lt, Bool, IsTrue, ⊤, unsigned_abs, All, List, [], ◌∷◌, length}
 use Rattle.std.specs.List.{AllByRecursion}
 use Rattle.blocking_graph.specs.Edges.{count_of}
@@ -10,7 +10,7 @@ pub record GraphState : Type 0 where
   pub keys : List (List ℕ)
   pub edges : List EdgeLine
 
--- a graph before anything happened
+-- a graph without keys and records
 abbrev pub empty_graph : GraphState
 empty_graph = record { keys = []; edges = [] }
 
@@ -19,23 +19,25 @@ pub record IsSegment (segment : SegmentRecord) : Type 0 where
   pub cost : segment.cost < 2 ^ 40
   pub changes : All (λ change. unsigned_abs change ≤ 2 ^ 31) segment.change
 
--- what a graph keeps of an edge: it has a record, and its averages are in their samples' range, scaled
+-- the invariant of an edge: it has a record, and its averages are in the range of their samples,
+-- scaled
 pub record IsEdge (edge : EdgeLine) : Type 0 where
   pub some : 1 ≤ edge.count
   pub cost : unsigned_abs edge.cost ≤ 2 ^ 48
   pub eight : length edge.change ≡ 8
   pub changes : All (λ average. unsigned_abs average ≤ 2 ^ 39) edge.change
 
--- whether an edge comes before another: by the node it leads from, then by the node it leads to
+-- whether an edge comes before another, in the order by `from`, then `to`
 abbrev pub precedes : EdgeLine → EdgeLine → Bool
 precedes edge other = nat_lt edge.from other.from || (edge.from == other.from && nat_lt edge.to other.to)
 
--- each edge comes before all that follow it, so no two are of one pair
+-- each edge comes before all after it, so no two are of one pair
 abbrev pub IsRising : List EdgeLine → Type 0
 IsRising [] = ⊤
 IsRising (edge ∷ edges) = AllByRecursion (λ other. IsTrue (precedes edge other)) edges × IsRising edges
 
--- what a graph keeps: its edges in order, at most 2^40 records in all, and at most 2^31 keys
+-- the invariant of a graph: its edges are in order, with at most 2^40 records in all, and it has at
+-- most 2^31 keys
 pub record IsGraph (graph : GraphState) : Type 0 where
   pub edges : AllByRecursion IsEdge graph.edges
   pub rising : IsRising graph.edges

@@ -1,4 +1,4 @@
--- The numbers of the nodes: keys are numbered from 2, in order of first appearance.
+-- The numbers of the nodes: keys are numbered from 2, in the order in which they first occur.
 use Rattle.std.specs.Prelude.{ℕ, ◌+◌, Bool, nat_eq, if◌then◌else◌, List, [], ◌∷◌, ◌++◌, fold}
 use Rattle.std.specs.List.{list_any, position_or_len}
 use Rattle.std.specs.Cmp.Lexicographic.{pointwise}
@@ -7,11 +7,11 @@ use Rattle.std.specs.Cmp.Lexicographic.{pointwise}
 abbrev pub same_key : List ℕ → List ℕ → Bool
 same_key = pointwise nat_eq
 
--- the keys that have numbers, in order, after a key appears
+-- the keys that have numbers, in order, after a key occurs
 abbrev pub keys_with : List (List ℕ) → List ℕ → List (List ℕ)
 keys_with keys key = if list_any (same_key key) keys then keys else keys ++ key ∷ []
 
--- the keys that have numbers after these keys appeared, the earliest first
+-- the keys that have numbers after these keys have occurred, the earliest first
 abbrev pub keys_of : List (List ℕ) → List (List ℕ)
 keys_of appeared = fold keys_with [] appeared
 

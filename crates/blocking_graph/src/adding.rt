@@ -8,7 +8,8 @@ use crate::edges::EdgeLine;
 use crate::segments::SegmentRecord;
 use std::alloc::AllocError;
 
-/// The place of a record's edge: that of the first edge that doesn't come before it. It is found by halving.
+/// Returns the index of a record's edge: that of the first edge that doesn't come before it, found by binary
+/// search.
 fn place_of(edges: &[EdgeLine], segment: &SegmentRecord) -> usize
     requires { IsRising edges.now }
     ensures place { result ≡ position_or_len (λ edge. not (is_before edge segment.now)) edges.now }
@@ -17,7 +18,7 @@ fn place_of(edges: &[EdgeLine], segment: &SegmentRecord) -> usize
     edges.partition_point(|edge| edge.is_before(segment))
 }
 
-/// The edge of a record's pair of nodes, if there is one.
+/// Returns the edge of a record's pair of nodes, if there is one.
 pub(crate) fn edge_of(edges: &[EdgeLine], segment: &SegmentRecord) -> Option<EdgeLine>
     requires { IsRising edges.now }
     ensures { result ≡ edge_between edges.now segment.now.from segment.now.to }
@@ -30,8 +31,8 @@ pub(crate) fn edge_of(edges: &[EdgeLine], segment: &SegmentRecord) -> Option<Edg
     }
 }
 
-/// Adds a record to the edges, which are in order of the nodes that they lead from and to. It takes no
-/// memory where there is room for one more edge.
+/// Adds a record to the edges, which are ordered by `from`, then `to`. It doesn't allocate if there is room
+/// for one more edge.
 pub(crate) fn add(edges: &mut Vec<EdgeLine>, segment: &SegmentRecord) -> Result<(), AllocError>
     requires edges { AllByRecursion IsEdge edges.old.items }
     requires rising { IsRising edges.old.items }

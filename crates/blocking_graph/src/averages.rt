@@ -1,7 +1,7 @@
 ghost use Rattle.std.specs.Prelude.{◌≡◌, ◌≤◌, ◌^◌, ℕ, ◌<◌, ℤ, pos, map, unsigned_abs, slice_index_or};
 ghost use Rattle.blocking_graph.specs.Averages.{first_average, floor_div, next_average, next_averages};
 
-/// An eighth of an average, rounded down.
+/// Returns an eighth of an average, rounded down.
 #[tactic(auto, using(crate::proofs::AverageLemmas::quotients))]
 fn eighth_of(average: i128) -> i128
     ensures value { result ≡ floor_div average 8 }
@@ -10,8 +10,8 @@ fn eighth_of(average: i128) -> i128
     average.div_euclid(8)
 }
 
-/// The average after one more sample, scaled by 256: an eighth of it, rounded down, goes, and an eighth
-/// of the sample comes.
+/// Returns the average after one more sample, scaled by 256: it subtracts an eighth of the average,
+/// rounded down, and adds 32 times the sample.
 pub(crate) fn next_average_of(average: i128, sample: i128) -> i128
     requires average { unsigned_abs average ≤ 2 ^ 48 }
     requires sample { unsigned_abs sample ≤ 2 ^ 63 }
@@ -20,7 +20,7 @@ pub(crate) fn next_average_of(average: i128, sample: i128) -> i128
     average - eighth_of(average) + 32 * sample
 }
 
-/// The averages of one sample of each resource.
+/// Returns the averages of one sample of each resource.
 pub(crate) fn first_averages_of(samples: &[i64; 8]) -> [i128; 8]
     ensures { result ≡ map first_average samples.now }
 {
@@ -31,7 +31,7 @@ pub(crate) fn first_averages_of(samples: &[i64; 8]) -> [i128; 8]
     averages
 }
 
-/// The averages after one more sample of each resource.
+/// Returns the averages after one more sample of each resource.
 pub(crate) fn next_averages_of(averages: &[i128; 8], samples: &[i64; 8]) -> [i128; 8]
     requires { (k : ℕ) → k < 8 → unsigned_abs (slice_index_or averages.now k (pos 0)) ≤ 2 ^ 39 }
     ensures { result ≡ next_averages averages.now samples.now }

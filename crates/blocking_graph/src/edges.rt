@@ -5,13 +5,13 @@ use crate::averages::{first_averages_of, next_average_of, next_averages_of};
 use crate::segments::SegmentRecord;
 use std::alloc::AllocError;
 
-/// An edge of the blocking graph: a pair of nodes with records, their count, and the averages of their
-/// cost and of the change of each resource, scaled by 256.
+/// An edge of the blocking graph: a pair of nodes with records, their number, and the averages of
+/// their cost and of the change of each resource, scaled by 256.
 #[derive(Clone, Copy, PartialEq, Eq)]
 pub struct EdgeLine {
-    /// The node that the edge leads from.
+    /// The node from which the edge leads.
     pub from: u32,
-    /// The node that it leads to.
+    /// The node to which it leads.
     pub to: u32,
     /// The number of its records.
     pub count: u64,
@@ -25,7 +25,7 @@ impl EdgeLine {
     ghost use Rattle.blocking_graph.specs.Edges.{first_edge, next_edge, is_before, is_of};
     ghost use Rattle.blocking_graph.specs.Graph.{IsEdge, IsSegment};
 
-    /// The edge of a pair's first record.
+    /// Returns the edge of a pair's first record.
     pub(crate) fn first(segment: &SegmentRecord) -> EdgeLine
         requires { IsSegment segment.now }
         ensures { result ≡ first_edge segment.now }
@@ -39,7 +39,7 @@ impl EdgeLine {
         }
     }
 
-    /// The edge after one more record of its pair.
+    /// Returns the edge after one more record of its pair.
     pub(crate) fn with(&self, segment: &SegmentRecord) -> EdgeLine
         requires edge { IsEdge self.now }
         requires segment { IsSegment segment.now }
@@ -55,14 +55,14 @@ impl EdgeLine {
         }
     }
 
-    /// Whether the edge comes before that of a record.
+    /// Returns whether the edge comes before that of a record.
     pub(crate) fn is_before(&self, segment: &SegmentRecord) -> bool
         ensures { result ≡ is_before self.now segment.now }
     {
         self.from < segment.from || self.from == segment.from && self.to < segment.to
     }
 
-    /// Whether the edge is that of a record.
+    /// Returns whether the edge is that of a record.
     pub(crate) fn is_of(&self, segment: &SegmentRecord) -> bool
         ensures { result ≡ is_of self.now segment.now }
     {

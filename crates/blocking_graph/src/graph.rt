@@ -12,9 +12,9 @@ use std::alloc::{AllocError, Global};
 use std::collections::BTreeMap;
 use std::marker::Model;
 
-/// The blocking points of a run with the edges between them. What it means is the keys that have
-/// numbers, in order, and for each pair of nodes with records their count and averages. Beside these it
-/// keeps, of each node, the sums over the edges that lead from it, so that a prediction costs one search.
+/// The blocking points of a run with the edges between them. Contracts see the keys that have numbers, in
+/// order, and for each pair of nodes with records their number and averages. In addition it keeps, for
+/// each node, the sums over the edges from it, so a prediction needs one search.
 #[derive(Drop)]
 pub struct Graph {
     keys: IndexSet<SiteKey>,
@@ -36,7 +36,7 @@ impl Model for Graph {
 impl Graph {
     ghost use Rattle.blocking_graph.specs.Graph.{empty_graph, IsSegment, IsRising};
 
-    /// The graph before anything happened. It takes no memory.
+    /// Returns the graph without keys and records. It doesn't allocate.
     pub fn new(alloc: Global) -> Graph
         ensures { result ≡ empty_graph }
     {
@@ -47,7 +47,7 @@ impl Graph {
         }
     }
 
-    /// The number of the node with this key. A key that is new gets the next number; the first is 2.
+    /// Returns the number of the node with this key. A new key gets the next number; the first is 2.
     pub fn node_of(&mut self, key: &SiteKey) -> Result<u32, AllocError>
         requires { length self.old.keys < 2 ^ 31 }
         ensures number { IfOk result (λ number. number ≡ node_number self.old.keys key.now) }
@@ -59,7 +59,7 @@ impl Graph {
         Ok(place as u32 + 2)
     }
 
-    /// Takes in the record of a segment.
+    /// Adds the record of a segment.
     #[tactic(auto, using(crate::proofs::GraphLemmas::counts))]
     pub fn note(&mut self, segment: SegmentRecord) -> Result<(), AllocError>
         requires range { IsSegment segment }
@@ -74,8 +74,9 @@ impl Graph {
         add(&mut self.edges, &segment)
     }
 
-    /// What a segment from the node is expected to change the use of the resource by, scaled by 256: the
-    /// average over the edges from the node, weighted by their counts and rounded down, or 0 without one.
+    /// Returns the expected change of the use of the resource by a segment from the node, scaled by 256:
+    /// the average over the edges from the node, weighted by their counts and rounded down, or 0 if there
+    /// are none.
     pub fn predicted(&self, node: u32, resource: u32) -> i128
         requires { resource < 8 }
         ensures value { result ≡ prediction self.now.edges node resource }
@@ -87,7 +88,7 @@ impl Graph {
         }
     }
 
-    /// The edges, by the node that they lead from and then by the node that they lead to.
+    /// Returns the edges, ordered by `from`, then `to`.
     pub fn edges(&self) -> Result<Vec<EdgeLine>, AllocError>
         ensures all { IfOk result (λ edges. edges.items ≡ self.now.edges) }
         ensures order { IfOk result (λ edges. IsRising edges.items) }

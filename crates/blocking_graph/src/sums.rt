@@ -12,8 +12,8 @@ use crate::edges::EdgeLine;
 use crate::segments::SegmentRecord;
 use std::collections::BTreeMap;
 
-/// What the edges from a node come to: the number of their records, and of each resource the sum of their
-/// average changes, each as often as its edge has records, scaled by 256.
+/// The sums over the edges from a node: the number of their records, and for each resource the sum of
+/// count times average change, scaled by 256.
 #[derive(Clone, Copy)]
 pub struct NodeSums {
     /// The number of records.
@@ -22,7 +22,7 @@ pub struct NodeSums {
     pub change: [i128; 8],
 }
 
-/// The edge's average change of the resource, as often as it has records.
+/// Returns the edge's count times its average change of the resource.
 fn weight_of(edge: &EdgeLine, resource: usize) -> i128
     requires edge { IsEdge edge.now }
     requires count { edge.now.count ≤ 2 ^ 40 }
@@ -45,7 +45,7 @@ fn weight_or_0_of(edge: &Option<EdgeLine>, resource: usize) -> i128
     }
 }
 
-/// A sum in which one part gives way to another.
+/// Returns a sum in which one term is replaced by another.
 fn moved_by(total: i128, before: i128, after: i128) -> i128
     requires total { unsigned_abs total ≤ 2 ^ 79 }
     requires before { unsigned_abs before ≤ 2 ^ 79 }
@@ -55,7 +55,7 @@ fn moved_by(total: i128, before: i128, after: i128) -> i128
     total - before + after
 }
 
-/// A sum over a count above 0, rounded down.
+/// Returns a sum divided by a count above 0, rounded down.
 #[tactic(auto, using(crate::proofs::PredictionLemmas::quotients))]
 fn rounded_down(total: i128, count: u64) -> i128
     requires some { 0 < count }
@@ -67,7 +67,7 @@ fn rounded_down(total: i128, count: u64) -> i128
 }
 
 impl NodeSums {
-    /// The average change of the resource over the records, rounded down, or 0 where there is none.
+    /// Returns the average change of the resource over the records, rounded down, or 0 if there are none.
     pub(crate) fn average(&self, resource: usize) -> i128
         requires small { unsigned_abs (slice_index_or self.now.change resource (pos 0)) ≤ self.now.count * 2 ^ 39 }
         requires resource { resource < 8 }
@@ -81,7 +81,7 @@ impl NodeSums {
         }
     }
 
-    /// The sums after one more record, by which an edge, if it was there, gave way to another.
+    /// Returns the sums after one more record, which replaced an edge, if there was one, by another.
     fn moved(&self, before: &Option<EdgeLine>, after: &EdgeLine) -> NodeSums
         requires count { self.now.count < 2 ^ 40 }
         requires small { (k : ℕ) → k < 8 → unsigned_abs (slice_index_or self.now.change k (pos 0)) ≤ 2 ^ 79 }
@@ -103,7 +103,7 @@ impl NodeSums {
     }
 }
 
-/// A pair's edge after one more record.
+/// Returns a pair's edge after one more record.
 fn edge_with(edge: &Option<EdgeLine>, segment: &SegmentRecord) -> EdgeLine
     requires edge { IfSome edge.now (λ edge. IsEdge edge × (edge.count < 2 ^ 40)) }
     requires segment { IsSegment segment.now }
@@ -116,7 +116,7 @@ fn edge_with(edge: &Option<EdgeLine>, segment: &SegmentRecord) -> EdgeLine
     }
 }
 
-/// What is kept of a node, or zeros.
+/// Returns the sums of a node, or zeros.
 fn sums_at(sums: &BTreeMap<u32, NodeSums>, node: u32) -> NodeSums
     ensures { (edges : List EdgeLine) → IsKeptOf edges (get nat_cmp sums.now node) → IsSumOf edges result }
 {
@@ -129,7 +129,7 @@ fn sums_at(sums: &BTreeMap<u32, NodeSums>, node: u32) -> NodeSums
     }
 }
 
-/// The sums of the node that a record leads from, after the record.
+/// Returns the sums of the node from which a record leads, after the record.
 pub(crate) fn sums_with(
     sums: &BTreeMap<u32, NodeSums>,
     edges: &[EdgeLine],

@@ -1,9 +1,9 @@
 // A writer of bytes through a buffer.
 //
-// A `BufferedWriter` holds what its sink did not take yet, at most 4,096 bytes, and the refusal that it gave, if it gave
-// one. The writer of a run's log writes its lines through it. `Writes` tells what a text that goes through it, piece by
-// piece, does to it and to its sink. After a refusal nothing more is written, as with a stream of C whose error
-// indicator is set.
+// A `BufferedWriter` has the bytes that its sink hasn't taken yet, at most 4,096, and the first refusal, if there was
+// one. The log of a run is written through it. `Writes` defines the effect of a text that is written piece by piece on
+// the writer and on its sink. After a refusal nothing more is written, as in a stream of C whose error indicator is
+// set.
 #![tactic(auto)]
 
 mod writer;

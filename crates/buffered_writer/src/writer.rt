@@ -1,4 +1,4 @@
-// The buffer, and what goes through it.
+// The buffer, and writing through it.
 ghost use Rattle.std.specs.Prelude.{◌≡◌, ◌≤◌, ◌<◌, ◌∷◌, [], ◌++◌, length, true, false, IfOk, IfSome, IsSome, None, Err};
 ghost use Rattle.cap_io.specs.Writes.{Puts};
 ghost use Rattle.buffered_writer.specs.Puts.{CountsPut};
@@ -8,20 +8,20 @@ use cap_io::{Sink, SinkError, put_all};
 use std::alloc::{AllocError, Global};
 use std::marker::Model;
 
-/// The most bytes that a writer holds.
+/// The maximum number of bytes in the buffer.
 const BUFFER_BYTES: usize = 4096;
 
-/// Why bytes were not put.
+/// Why bytes weren't written.
 #[derive(Clone, Copy, PartialEq, Eq)]
 pub enum PutError {
     /// A write failed: the sink counted a fault.
     WriteFault,
-    /// There was no memory, here or in the sink.
+    /// An allocation failed, here or in the sink.
     Memory,
 }
 
-/// Writes bytes to a sink through a buffer of 4,096 bytes, which goes to the sink when it is full and at the end.
-/// Contracts see the bytes that it holds, which its sink did not take yet, and the refusal that it gave, if it gave one.
+/// Writes bytes to a sink through a buffer of 4,096 bytes, which is flushed when it is full and at the end. Contracts
+/// see the bytes in the buffer, which the sink hasn't taken yet, and the first refusal, if there was one.
 #[derive(Drop)]
 pub struct BufferedWriter {
     held: Vec<u8>,
@@ -40,7 +40,7 @@ impl Model for BufferedWriter {
 }
 
 impl BufferedWriter {
-    /// A writer that holds nothing. It takes its buffer.
+    /// Returns a writer with an empty buffer, which it allocates.
     pub fn new(alloc: Global) -> Result<BufferedWriter, AllocError>
         ensures { IfOk result (λ writer. writer ≡ record { held = []; refused = None }) }
     {
@@ -50,12 +50,12 @@ impl BufferedWriter {
         })
     }
 
-    /// Writes these bytes, unless a refusal was given: the bytes that `out` took, followed by those that the writer holds,
-    /// grow by just these. It takes no memory.
+    /// Writes these bytes, unless there was a refusal: the bytes that `out` took, followed by those in the buffer, grow
+    /// by exactly these. It doesn't allocate.
     ///
-    /// The refusal is kept, and `answer` tells it: `WriteFault` only where the count of faults of `out` rose in this call,
-    /// or stands at its end, `Memory` only where `out` had no memory. Then `out` took a prefix of what was held and the
-    /// bytes.
+    /// A refusal is kept, and `answer` returns it: `WriteFault` only if the count of faults of `out` rose in this call,
+    /// or is at its maximum; `Memory` only if `out` was out of memory. Then `out` took a prefix of the buffer followed
+    /// by the bytes.
     pub fn write<K: Sink>(&mut self, out: &mut K, bytes: &[u8])
         ensures { Writes (log_state self.old (K.taken out.old) (K.faults out.old))
             (log_state self.new (K.taken out.new) (K.faults out.new)) bytes.now }
@@ -65,7 +65,7 @@ impl BufferedWriter {
         }
     }
 
-    /// The same of one byte.
+    /// Writes one byte, like `write`.
     pub fn write_byte<K: Sink>(&mut self, out: &mut K, byte: u8)
         ensures { Writes (log_state self.old (K.taken out.old) (K.faults out.old))
             (log_state self.new (K.taken out.new) (K.faults out.new)) (byte ∷ []) }
@@ -74,7 +74,7 @@ impl BufferedWriter {
         self.hold(byte);
     }
 
-    /// What the writer answers: the refusal that it keeps.
+    /// Returns the first refusal, if there was one.
     pub fn answer(&self) -> Result<(), PutError>
         ensures kept { KeepsAnswer self.now result }
         ensures most { length self.now.held ≤ 4096 }
@@ -85,11 +85,14 @@ impl BufferedWriter {
         }
     }
 
-    /// Writes what is held, which is the end of what goes through the writer.
+    /// Flushes the buffer at the end of the text.
     ///
-    /// `WriteFault` comes only where the count of faults of `out` rose in this call, or stands at its end, or again;
-    /// `Memory` only where `out` had no memory, or again: the writer takes none. After either `out` took a prefix of
-    /// what was held, and nothing of it where a refusal was given before.
+    /// # Errors
+    ///
+    /// `WriteFault` only if the count of faults of `out` rose in this call, or is at its maximum, or if it was the
+    /// refusal before; `Memory` only if `out` was out of memory, or if it was the refusal before: the writer itself
+    /// doesn't allocate. After either, `out` took a prefix of the buffer, and nothing of it if there was a refusal
+    /// before.
     pub fn finish<K: Sink>(self, out: &mut K) -> Result<(), PutError>
         ensures again { IfSome self.refused (λ refusal. result ≡ Err refusal × out.new ≡ out.old) }
         ensures bytes { Puts (K.taken out.old) (K.taken out.new) self.held result }
@@ -102,7 +105,7 @@ impl BufferedWriter {
         }
     }
 
-    /// Makes room for a byte, unless a refusal was given.
+    /// Makes room for a byte, unless there was a refusal.
     fn make_room<K: Sink>(&mut self, out: &mut K)
         ensures bytes { Writes (log_state self.old (K.taken out.old) (K.faults out.old))
             (log_state self.new (K.taken out.new) (K.faults out.new)) [] }
@@ -113,7 +116,7 @@ impl BufferedWriter {
         }
     }
 
-    /// Tells whether the buffer has no room left, and no refusal was given.
+    /// Returns whether the buffer is full and there was no refusal.
     fn is_full(&self) -> bool
         ensures room { result ≡ false → self.now.refused ≡ None → length self.now.held < 4096 }
         ensures unrefused { result ≡ true → self.now.refused ≡ None }
@@ -121,7 +124,7 @@ impl BufferedWriter {
         self.refused.is_none() && self.held.len() == BUFFER_BYTES
     }
 
-    /// Holds one byte more, unless a refusal was given.
+    /// Appends one byte to the buffer, unless there was a refusal.
     fn hold(&mut self, byte: u8)
         requires { self.old.refused ≡ None → length self.old.held < 4096 }
         ensures refused { self.new.refused ≡ self.old.refused }
@@ -133,7 +136,7 @@ impl BufferedWriter {
         }
     }
 
-    /// Writes what is held to the sink, and holds nothing where it took all of it.
+    /// Writes the buffer to the sink, and empties it if the sink took all of it.
     fn flush<K: Sink>(&mut self, out: &mut K)
         requires { self.old.refused ≡ None }
         ensures bytes { Writes (log_state self.old (K.taken out.old) (K.faults out.old))

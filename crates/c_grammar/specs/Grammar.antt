@@ -1,5 +1,5 @@
--- The trees of the grammar of CapC: which tree the tokens from one list on are, up to the list of those behind it
--- (ISO/IEC 9899:2018, 6.5 to 6.9, the subset). One rule for each alternative.
+-- The trees of the grammar of CapC: the tree of the tokens at the front of one list, up to the list of the tokens
+-- after them (ISO/IEC 9899:2018, 6.5 to 6.9, the subset). One rule for each alternative.
 use Rattle.std.specs.Prelude.{ℕ, ◌≡◌, ◌≢◌, ◌+◌, ◌-◌, ◌%◌, ◌^◌, ◌<◌, ◌≤◌, Bool, true, false, List, [], ◌∷◌, ◌++◌, Option, Some, None}
 use Rattle.c_lex.specs.declared.tokens.Token.{Token}
 use Rattle.c_tree.specs.declared.operators.Infix.{Infix}
@@ -10,7 +10,7 @@ use Rattle.c_grammar.specs.declared.signs.Sign.TheVariants as signs
 use Rattle.c_grammar.specs.Operators.{unary_operator_of, infix_operator_of, level_of_infix}
 use Rattle.c_grammar.specs.Tokens.{next_sign, next_kind, next_at, rest_of, Passes, PassesName, PassesNumber}
 
--- the next token is this operator before an operand, or between two
+-- the next token is this operator, before an operand or between two
 pub record PassesPrefix (before : List Token) (operator : UnaryOperator) (after : List Token) : Type 0 where
   pub is_next : unary_operator_of (next_kind before) ≡ Some operator
   pub behind : after ≡ rest_of before
@@ -27,12 +27,12 @@ mutual
     conditional : {before b c d f after : List Token} {e x y : RawExprTree} → IsBinary source 0 before e b → Passes signs.Question b c → IsExpr source c x d → Passes signs.Colon d f → IsExpr source f y after
         → IsExpr source before (RawConditional e x y) after
 
-  -- operands with operators of this level and tighter ones between them; those of one level lean to the left
+  -- operands joined by operators of this level and tighter ones; operators of one level lean to the left
   pub data IsBinary (source : List ℕ) : ℕ → List Token → RawExprTree → List Token → Type 0 where
     operand : {level : ℕ} {before after : List Token} {e : RawExprTree} → 10 ≤ level → IsUnary source before e after → IsBinary source level before e after
     chain : {level : ℕ} {before b after : List Token} {first e : RawExprTree} → level < 10 → IsBinary source (level + 1) before first b → IsRepeated source level first b e after → IsBinary source level before e after
 
-  -- operators of this level with their right operands, behind the left operand
+  -- operators of this level with their right operands, after the left operand
   pub data IsRepeated (source : List ℕ) : ℕ → RawExprTree → List Token → RawExprTree → List Token → Type 0 where
     no_more : {level : ℕ} {e : RawExprTree} {after : List Token} → IsRepeated source level e after e after
     another : {level : ℕ} {before b c after : List Token} {left right e : RawExprTree} {operator : Infix} → PassesInfix level before operator b → IsBinary source (level + 1) b right c
@@ -115,12 +115,12 @@ pub data IsForStep (source : List ℕ) : List Token → Option RawSimpleTree →
   no_step : {before after : List Token} → Passes signs.RightParenthesis before after → IsForStep source before None after
   step : {before b after : List Token} {s : RawSimpleTree} → IsSimple source before s b → Passes signs.RightParenthesis b after → IsForStep source before (Some s) after
 
--- the declarations of one list in front of other statements, each a statement
+-- the declarations of one list, each as a statement, in front of other statements
 abbrev pub declared_before : List RawSimpleTree → RawStmtTrees → RawStmtTrees
 declared_before [] ss = ss
 declared_before (d ∷ ds) ss = RawThen (RawDo d) (declared_before ds ss)
 
--- Statements. `nearest` tells whether an else belongs to the nearest if that can take it.
+-- Statements. `nearest` says whether an else belongs to the nearest if that can take it.
 mutual
   pub data IsBody (nearest : Bool) (source : List ℕ) : List Token → RawStmtTree → List Token → Type 0 where
     simple : {before b after : List Token} {s : RawSimpleTree} → IsSimple source before s b → Passes signs.Semicolon b after → IsBody nearest source before (RawDo s) after
@@ -167,7 +167,7 @@ pub data AreMoreMembers (source : List ℕ) : List Token → List NameTree → L
   last_member : {before after : List Token} → Passes signs.RightBrace before after → AreMoreMembers source before [] after
   another_member : {before b c after : List Token} {n : NameTree} {ns : List NameTree} → Passes signs.Comma before b → PassesName source b n c → AreMoreMembers source c ns after → AreMoreMembers source before (n ∷ ns) after
 
--- a parameter's name, which a prototype may lack
+-- a parameter's name, which a prototype may omit
 pub data IsNameOption (source : List ℕ) : List Token → Option NameTree → List Token → Type 0 where
   no_name : {after : List Token} → IsNameOption source after None after
   a_name : {before after : List Token} {n : NameTree} → PassesName source before n after → IsNameOption source before (Some n) after

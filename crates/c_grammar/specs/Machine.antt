@@ -1,21 +1,22 @@
--- A machine that reads tokens without a choice: what is still to come is a list of tasks, and the first task alone,
--- with the sign of the next token, decides.
+-- A machine that reads tokens deterministically: what is still to be read is a list of tasks, and the first task and
+-- the class of the next token determine the step.
 use Rattle.std.specs.Prelude.{ℕ, ◌+◌, List, [], ◌∷◌, ◌++◌, Option, Some, None}
 use Rattle.c_grammar.specs.declared.signs.Sign.{Sign}
 use Rattle.c_grammar.specs.declared.signs.Sign.TheVariants as signs
 
--- What is still to come. Where alternatives of the grammar begin alike, one task stands for what is left of all of them.
+-- A task: what is still to be read. If alternatives of the grammar begin alike, one task stands for the rest of all of
+-- them.
 pub data Task : Type 0 where
   -- a token
   Token : Sign → Task
-  -- the end of a construct that no token ends
+  -- the end of a construct that isn't ended by a token
   Done : Task
   Items : Task
-  -- behind `int`, `void`, and `int` and a name, at the start of an item
+  -- after `int`, `void`, and `int` and a name, at the start of an item
   AfterInt : Task
   AfterVoid : Task
   AfterIntName : Task
-  -- from a global's name on, behind it, and behind the whole of it
+  -- from a global's name on, after it, and after the whole of it
   GlobalName : Task
   AfterGlobalName : Task
   MoreGlobals : Task
@@ -24,22 +25,22 @@ pub data Task : Type 0 where
   TableParameter : Task
   TableMembers : Task
   MoreMembers : Task
-  -- from the parenthesis of a function's parameters on, and behind it; behind `void` there, and behind the whole
+  -- from the parenthesis of a function's parameters on, and after it; after `void` there, and after the whole
   Parameters : Task
   ParameterList : Task
   ParametersEnd : Task
   AfterParameters : Task
-  -- behind the `int` of a parameter, and behind the parameter, where each so far has a name
+  -- after the `int` of a parameter, and after the parameter, if each so far has a name
   ParameterName : Task
   MoreParameters : Task
-  -- the same where one has none
+  -- the same, if a parameter has no name
   PrototypeName : Task
   MorePrototype : Task
   BlockItems : Task
   Body : Task
   ElsePart : Task
   Parenthesized : Task
-  -- an expression or none, and a `;`
+  -- an optional expression, and a `;`
   UpToSemicolon : Task
   ForParts : Task
   ForInit : Task
@@ -47,31 +48,32 @@ pub data Task : Type 0 where
   LocalName : Task
   AfterLocalName : Task
   MoreLocals : Task
-  -- behind the name, and behind the index, of an assignment or a call
+  -- after the name, and after the index, of an assignment or a call
   AfterSimpleName : Task
   AfterSimpleIndex : Task
   ArgumentList : Task
   MoreArguments : Task
   Expr : Task
-  -- an operand, what may stand behind its name and its index, and behind the operand
+  -- an operand, what may follow its name and its index, and after the operand
   Operand : Task
   AfterName : Task
   AfterIndex : Task
   Tail : Task
 
--- What a task does at a sign: it takes the token and leaves tasks, lets the next task decide, or refuses.
+-- What a task does at a token of some class: it takes the token and leaves tasks, passes the decision to the next task,
+-- or refuses.
 pub data Move : Type 0 where
   Take : List Task → Move
   Pass : Move
   Refuse : Move
 
--- the same move with more tasks behind it
+-- the same move with more tasks after it
 abbrev pub and_then : Move → List Task → Move
 and_then (Take tasks) more = Take (tasks ++ more)
 and_then Pass more = Pass
 and_then Refuse more = Refuse
 
--- one token of this sign
+-- a task that takes one token of this class
 abbrev pub token_move : Sign → Sign → Move
 token_move signs.Name signs.Name = Take []
 token_move signs.Number signs.Number = Take []
@@ -347,18 +349,18 @@ move AfterName sign = after_name_move sign
 move AfterIndex sign = after_index_move sign
 move Tail sign = tail_move sign
 
--- the tasks after a token, where the first of them makes this move and the others come to `later`
+-- the tasks after a token, if the first of them makes this move and the others lead to `later`
 abbrev pub after_move : Move → List Task → Option (List Task) → Option (List Task)
 after_move (Take tasks) rest later = Some (tasks ++ rest)
 after_move Pass rest later = later
 after_move Refuse rest later = None
 
--- the tasks after a token of this sign, if it is taken
+-- the tasks after a token of this class, if it is taken
 abbrev pub step : List Task → Sign → Option (List Task)
 step [] sign = None
 step (task ∷ rest) sign = after_move (move task sign) rest (step rest sign)
 
--- How many constructs a task closes.
+-- The number of constructs that a task closes.
 abbrev pub closes_task : Task → ℕ
 closes_task (Token signs.RightParenthesis) = 1
 closes_task (Token signs.RightBracket) = 1
@@ -378,7 +380,7 @@ closes_task ArgumentList = 1
 closes_task MoreArguments = 1
 closes_task _ = 0
 
--- How many constructs are open, where these tasks are still to do.
+-- The number of open constructs, if these tasks are still to be done.
 abbrev pub open_tasks : List Task → ℕ
 open_tasks [] = 0
 open_tasks (task ∷ rest) = closes_task task + open_tasks rest

@@ -1,4 +1,4 @@
--- Which tokens are operators, and how tightly those between operands bind.
+-- Which tokens are operators, and how tightly binary operators bind.
 use Rattle.std.specs.Prelude.{ℕ, Option, Some, None}
 use Rattle.c_lex.specs.declared.marks.Mark.TheVariants as marks
 use Rattle.c_lex.specs.declared.tokens.TokenKind.{TokenKind}

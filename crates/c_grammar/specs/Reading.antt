@@ -1,4 +1,4 @@
--- How the machine reads tokens one after another.
+-- How the machine reads a list of tokens.
 use Rattle.std.specs.Prelude.{ℕ, Bool, true, false, nat_le, if◌then◌else◌, List, [], ◌∷◌, Option, Some, None}
 use Rattle.c_lex.specs.declared.tokens.Token.{Token}
 use Rattle.c_grammar.specs.declared.errors.ParseError.{ParseError}
@@ -8,7 +8,7 @@ use Rattle.c_grammar.specs.Signs.{sign_of_token}
 use Rattle.c_grammar.specs.Machine as tasks
 use Rattle.c_grammar.specs.Machine.{Task, step, open_tasks}
 
--- what a token is to the grammar
+-- the class of a token
 abbrev pub sign_at : Token → Sign
 sign_at token = sign_of_token token.kind
 
@@ -16,7 +16,7 @@ abbrev pub signs_of : List Token → List Sign
 signs_of [] = []
 signs_of (token ∷ tokens) = sign_at token ∷ signs_of tokens
 
--- the tasks may be left undone
+-- the tasks may be left undone at the end of the source
 abbrev pub finishes : List Task → Bool
 finishes [] = true
 finishes (tasks.Items ∷ rest) = true
@@ -27,7 +27,8 @@ finishes (tasks.AfterIndex ∷ rest) = finishes rest
 finishes (tasks.Tail ∷ rest) = finishes rest
 finishes (_ ∷ rest) = false
 
--- The first refusal of the tokens, where these tasks are still to do, or none. `end` is the length of the source.
+-- The first refusal of the tokens, if these tasks are still to be done, or none. `end` is the length of the
+-- source.
 unfoldable pub run : ℕ → List Task → List Token → Option ParseError
 run end todo [] = if finishes todo then None else Some (Unexpected end)
 run end todo (token ∷ tokens) =

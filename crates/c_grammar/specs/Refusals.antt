@@ -6,7 +6,7 @@ use Rattle.c_lex.specs.declared.tokens.Token.{Token}
 use Rattle.c_grammar.specs.Rests.{Symbol, Program, Way, Any, Nearest, TakesAll, CanBeNothing, open_in}
 use Rattle.c_grammar.specs.Reading.{signs_of}
 
--- the tokens can be taken one after another, and this rest is left
+-- the tokens can be taken one after another, leaving this rest
 abbrev pub Leave : Way → List Token → List Symbol → Type 0
 Leave way tokens rest = TakesAll way (Program ∷ []) (signs_of tokens) rest
 
@@ -18,19 +18,19 @@ CanBeTaken tokens = (rest : List Symbol) × Leave Any tokens rest
 abbrev pub IsLeft : Way → List Token → Type 0
 IsLeft way tokens = (rest : List Symbol) × Leave way tokens rest
 
--- the tokens can be taken whole: a rest is left that can be nothing
+-- the tokens can be taken as a whole: they leave a rest that can be empty
 abbrev pub AreWhole : Way → List Token → Type 0
 AreWhole way tokens = (rest : List Symbol) × Leave way tokens rest × CanBeNothing rest
 
--- at the last of the tokens more than 64 constructs are open, where each else belongs to the nearest if that can take it
+-- at the last of the tokens more than 64 constructs are open, if each else belongs to the nearest if that can take it
 abbrev pub IsDeep : List Token → Type 0
 IsDeep tokens = (rest : List Symbol) × Leave Nearest tokens rest × (64 < open_in rest)
 
--- no tokens from the first on are too deep at their last
+-- none of the tokens, from the first on, is too deep
 abbrev pub IsShallow : List Token → Type 0
 IsShallow tokens = (front back : List Token) → tokens ≡ front ++ back → IsDeep front → ⊥
 
--- the tokens before can be taken, and not with this one behind them
+-- the tokens before can be taken, but not followed by this one
 pub record IsUnexpectedToken (tokens : List Token) (at : ℕ) : Type 0 where
   pub before : List Token
   pub token : Token
@@ -41,7 +41,7 @@ pub record IsUnexpectedToken (tokens : List Token) (at : ℕ) : Type 0 where
   pub not_with_it : CanBeTaken (before ++ (token ∷ [])) → ⊥
   pub not_too_deep : IsShallow before
 
--- all tokens can be taken, and no way leaves a rest that can be nothing
+-- all tokens can be taken, but every rest that they leave needs another token
 pub record IsUnexpectedEnd (end : ℕ) (tokens : List Token) (at : ℕ) : Type 0 where
   pub place : at ≡ end
   pub taken : CanBeTaken tokens
@@ -65,11 +65,11 @@ pub record IsWithin (tokens : List Token) : Type 0 where
   pub whole : CanBeNothing rest
   pub not_too_deep : IsShallow tokens
 
--- where Unexpected stands
+-- the tokens are refused as Unexpected at this place
 abbrev pub IsUnexpected : ℕ → List Token → ℕ → Type 0
 IsUnexpected end tokens at = IsUnexpectedToken tokens at ⊎ IsUnexpectedEnd end tokens at
 
--- the tokens are a program in which nothing is too deep, or what they are refused for
+-- the verdict on the tokens: they are a program in which nothing is too deep, or this is their refusal
 abbrev pub Verdict : ℕ → List Token → Option ParseError → Type 0
 Verdict end tokens None = IsWithin tokens
 Verdict end tokens (Some (Unexpected at)) = IsUnexpected end tokens at

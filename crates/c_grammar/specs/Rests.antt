@@ -1,19 +1,19 @@
--- The grammar of CapC, by what is still to come. A rest is a list of symbols. To take a token, the first symbol
--- of the rest is replaced by any of its alternatives until it is a token, which is removed if it is the one to
--- take. Nothing here decides between alternatives.
+-- The grammar of CapC, by what is still to be read. A rest is a list of symbols. To take a token, the first
+-- symbol of the rest is replaced by any of its alternatives until it is a token, which is removed if it is the
+-- one to be taken. Nothing here chooses between alternatives.
 use Rattle.std.specs.Prelude.{ℕ, ◌+◌, ◌≡◌, List, [], ◌∷◌, ◌++◌}
 use Rattle.c_grammar.specs.Signs.{Level, Tightest, Looser, Loosest, IsOperator, IsPrefix}
 use Rattle.c_grammar.specs.declared.signs.Sign.{Sign}
 use Rattle.c_grammar.specs.declared.signs.Sign.TheVariants as signs
 
--- A symbol of the grammar. What stands in brackets of one kind is a symbol of its own, which begins with the
--- opening bracket; so is each part that may be left out or repeated.
+-- A symbol of the grammar. A bracketed part is one symbol, which begins with the opening bracket; so is each
+-- optional or repeated part.
 pub data Symbol : Type 0 where
   -- a token
   The : Sign → Symbol
   AnOperator : Level → Symbol
   APrefix : Symbol
-  -- the end of an if, a while, a for, an operand behind its operator, or a conditional expression
+  -- the end of an if, a while, a for, an operand after its operator, or a conditional expression
   End : Symbol
   Program : Symbol
   Item : Symbol
@@ -59,13 +59,13 @@ pub data Symbol : Type 0 where
   MoreArguments : Symbol
   Expr : Symbol
   ConditionalOption : Symbol
-  -- operands with binary operators up to this level between them, and operators of this level with operands
+  -- operands joined by binary operators up to this level, and operators of this level with their operands
   Binary : Level → Symbol
   Repeated : Level → Symbol
   Unary : Symbol
   Primary : Symbol
 
--- the alternatives of a symbol, other than that of an else that is left out
+-- the alternatives of a symbol, other than the absence of an else
 pub data Alternative : Symbol → List Symbol → Type 0 where
   end : Alternative End []
   no_more_items : Alternative Program []
@@ -180,17 +180,17 @@ pub data Alternative : Symbol → List Symbol → Type 0 where
   call_primary : Alternative Primary (Call ∷ [])
   parenthesized_primary : Alternative Primary (Parenthesized ∷ [])
 
--- Which ways are meant: any, or those in which an else belongs to the nearest if that can take it.
+-- Which derivations are considered: all, or those in which an else belongs to the nearest if that can take it.
 pub data Way : Type 0 where
   Any : Way
   Nearest : Way
 
--- an else may be left out before this sign
+-- an else may be absent before a token of this class
 abbrev pub MayLeaveOut : Way → Sign → Type 0
 MayLeaveOut Any sign = Unit {0}
 MayLeaveOut Nearest sign = sign ≡ signs.Else → ⊥
 
--- The rest takes a token of this sign, and leaves the other rest.
+-- The rest takes a token of this class, and leaves the other rest.
 pub data Takes (way : Way) : List Symbol → Sign → List Symbol → Type 0 where
   token : {sign : Sign} {rest : List Symbol} → Takes way (The sign ∷ rest) sign rest
   operator : {level : Level} {sign : Sign} {rest : List Symbol} → IsOperator level sign → Takes way (AnOperator level ∷ rest) sign rest
@@ -198,18 +198,19 @@ pub data Takes (way : Way) : List Symbol → Sign → List Symbol → Type 0 whe
   by : {symbol : Symbol} {parts rest after : List Symbol} {sign : Sign} → Alternative symbol parts → Takes way (parts ++ rest) sign after → Takes way (symbol ∷ rest) sign after
   no_else : {rest after : List Symbol} {sign : Sign} → MayLeaveOut way sign → Takes way rest sign after → Takes way (ElseOption ∷ rest) sign after
 
--- The rest takes tokens of these signs one after another, and leaves the other rest.
+-- The rest takes tokens of these classes one after another, and leaves the other rest.
 pub data TakesAll (way : Way) : List Symbol → List Sign → List Symbol → Type 0 where
   none : {rest : List Symbol} → TakesAll way rest [] rest
   one : {rest between after : List Symbol} {sign : Sign} {signs : List Sign} → Takes way rest sign between → TakesAll way between signs after → TakesAll way rest (sign ∷ signs) after
 
--- The rest can be replaced by nothing.
+-- The rest can be empty.
 pub data CanBeNothing : List Symbol → Type 0 where
   empty : CanBeNothing []
   by : {symbol : Symbol} {parts rest : List Symbol} → Alternative symbol parts → CanBeNothing (parts ++ rest) → CanBeNothing (symbol ∷ rest)
   no_else : {rest : List Symbol} → CanBeNothing rest → CanBeNothing (ElseOption ∷ rest)
 
--- How many constructs a symbol of a rest closes. A closing bracket stands in a rest from its opening bracket on.
+-- The number of constructs that a symbol of a rest closes. A closing bracket is in a rest from its opening
+-- bracket on.
 abbrev pub closes : Symbol → ℕ
 closes (The signs.RightParenthesis) = 1
 closes (The signs.RightBracket) = 1
@@ -217,7 +218,7 @@ closes (The signs.RightBrace) = 1
 closes End = 1
 closes _ = 0
 
--- How many constructs are open, where this rest is still to come.
+-- The number of open constructs, if this rest is still to be read.
 abbrev pub open_in : List Symbol → ℕ
 open_in [] = 0
 open_in (symbol ∷ rest) = closes symbol + open_in rest

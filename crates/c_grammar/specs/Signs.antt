@@ -1,4 +1,4 @@
--- What the grammar tells tokens apart by.
+-- The classes of tokens in the grammar.
 use Rattle.c_lex.specs.declared.keywords.Keyword.{Keyword}
 use Rattle.c_lex.specs.declared.keywords.Keyword.TheVariants as keywords
 use Rattle.c_lex.specs.declared.marks.Mark.{Mark}
@@ -8,7 +8,7 @@ use Rattle.c_lex.specs.declared.tokens.TokenKind.TheVariants as kinds
 use Rattle.c_grammar.specs.declared.signs.Sign.{Sign}
 use Rattle.c_grammar.specs.declared.signs.Sign.TheVariants as signs
 
--- how loosely a binary operator binds: the levels from `* / %`, the tightest, on
+-- the levels of binary operators, from `* / %`, the tightest, on
 pub data Level : Type 0 where
   Tightest : Level
   Looser : Level → Level
@@ -68,7 +68,7 @@ sign_of_token (kinds.Number value) = signs.Number
 sign_of_token (kinds.Keyword keyword) = sign_of_keyword keyword
 sign_of_token (kinds.Mark mark) = sign_of_mark mark
 
--- the sign is an operator between operands, of this level
+-- a binary operator of this level
 pub data IsOperator : Level → Sign → Type 0 where
   star : IsOperator Tightest signs.Star
   multiplicative : IsOperator Tightest signs.Multiplicative
@@ -83,7 +83,7 @@ pub data IsOperator : Level → Sign → Type 0 where
   logical_and : IsOperator (Looser (Looser (Looser (Looser (Looser (Looser (Looser (Looser Tightest)))))))) signs.LogicalAnd
   logical_or : IsOperator (Looser (Looser (Looser (Looser (Looser (Looser (Looser (Looser (Looser Tightest))))))))) signs.LogicalOr
 
--- the sign is an operator before its operand
+-- an operator before its operand
 pub data IsPrefix : Sign → Type 0 where
   plus : IsPrefix signs.Plus
   minus : IsPrefix signs.Minus

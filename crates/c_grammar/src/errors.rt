@@ -4,25 +4,26 @@ ghost use Rattle.c_grammar.specs.declared.errors.ParseError.TheVariants.{Memory}
 
 use std::alloc::{AllocError, AllocFailed};
 
-/// Why the tokens of a source have no tree. Places are bytes, counted from 0.
+/// Why the tokens of a source have no tree. Places are byte indices, counted from 0.
 #[derive(Clone, Copy)]
 pub enum ParseError {
-    /// The token there, or the end of the source, fits nothing that may stand there.
+    /// The token there, or the end of the source, can't follow the tokens before it.
     Unexpected {
         /// The place of the token, or the length of the source.
         at: u32,
     },
-    /// At the token there more than 64 constructs are open.
+    /// At the token there, more than 64 constructs are open.
     TooDeep {
         /// The place of the token.
         at: u32,
     },
-    /// The call of the name there stands inside an expression; of `parse_nested`, in one in the parentheses of a `for`.
+    /// The call of the name there is inside an expression; for `parse_nested`, inside one in the parentheses of a
+    /// `for`.
     NestedCall {
         /// The place of the call's name.
         at: u32,
     },
-    /// Memory ran out.
+    /// An allocation failed.
     Memory,
 }
 

@@ -1,12 +1,12 @@
-// What the grammar tells tokens apart by.
+// The classes of tokens in the grammar.
 ghost use Rattle.std.specs.Prelude.{◌≡◌};
 ghost use Rattle.c_grammar.specs.Signs.{sign_of_token, sign_of_keyword, sign_of_mark};
 
 use c_lex::{Keyword, Mark, TokenKind};
 
-/// What a token is to the grammar. `+`, `-` and `*` have uses beside that between two operands, and `!` and `~` stand
-/// before an operand alone; the other operators between operands differ in how tightly they bind, and in nothing else
-/// that the grammar sees.
+/// The class of a token in the grammar. `+`, `-` and `*` have other uses than between two operands, and `!` and `~`
+/// are only used before an operand. The other operators between operands differ, for the grammar, only in how tightly
+/// they bind.
 #[derive(Clone, Copy, PartialEq, Eq)]
 pub enum Sign {
     Name,
@@ -49,13 +49,13 @@ pub enum Sign {
     BitOr,
     LogicalAnd,
     LogicalOr,
-    /// A keyword or a mark of C that the grammar has no use for.
+    /// A keyword or a mark of C that the grammar doesn't use.
     Unused,
     /// No token: the end of the source.
     Finish,
 }
 
-/// What a token of this kind is to the grammar.
+/// Returns the class of a token of this kind.
 pub fn sign_of(kind: TokenKind) -> Sign
     ensures { result ≡ sign_of_token kind }
 {

@@ -1,5 +1,4 @@
--- What a source text is where calls may stand inside expressions: the one definition of which program its bytes are, and of what they
--- are refused for.
+-- The program of a source text that may have calls inside expressions, and the refusal of a text that has none.
 use Rattle.std.specs.Prelude.{ℕ, List}
 use Rattle.c_tree.specs.RawTrees.{RawItemTree}
 use Rattle.c_tree.specs.Trees.{ProgramTree}
@@ -15,23 +14,23 @@ use Rattle.grammar_laws.specs.Ranks.{site_numbers}
 use Rattle.deep_mean.specs.Naming.{deep_program}
 use Rattle.hoist_meaning.specs.SameRuns.{RunsTheSame}
 
--- The rewritten tree breaks no rule of scope, defines `main` and exceeds no limit, and the program is that tree with numbers in the
--- place of its names. The numbers of its calls are those of their names' places in the text.
+-- The rewritten tree breaks no rule of scope, defines `main` and exceeds no limit, and the program is that tree with
+-- numbers in place of its names. Its calls are numbered by the places of their names in the text.
 abbrev pub IsHoistedTo : List RawItemTree → ProgramTree → Type 0
 IsHoistedTo tree program = IsResolvedBy (site_numbers (items_hoisted tree)) (items_hoisted tree) program
 
 abbrev pub IsRefusedHoisted : List RawItemTree → ScopeError → Type 0
 IsRefusedHoisted tree error = IsRefused (items_hoisted tree) error
 
--- the source reads as this program: every call in the parentheses of a `for` is whole
+-- the source is read as this program: every call in the parentheses of a `for` is whole
 abbrev pub ReadsNested : List ℕ → ProgramTree → Type 0
 ReadsNested source program = ReadsWhere AreForPartsWhole IsHoistedTo source program
 
--- The program does what the source means, whose expressions hold calls: the runs of both are the same (`SameRuns` of hoist_meaning), for
--- every tree that the source is.
+-- The program does what the source means, with calls inside expressions: both have the same runs (`SameRuns` of
+-- hoist_meaning), for every tree of the source.
 abbrev pub MeansText : List ℕ → ProgramTree → Type 0
 MeansText source program = (read : ReadsNested source program) → RunsTheSame program (deep_program read.tree)
 
--- what the source is refused for
+-- the refusal of the source
 abbrev pub IsNestedSourceErrorOf : List ℕ → SourceError → Type 0
 IsNestedSourceErrorOf source error = IsSourceErrorWhere AreForPartsWhole nested_in_fors IsRefusedHoisted source error

@@ -14,7 +14,7 @@ ghost use Rattle.c_hoist.specs.NestedText.{IsHoistedTo, IsRefusedHoisted, ReadsN
 
 use c_lex::lex;
 use c_parse::parse_nested;
-use c_scope::{SourceError, of_lex, of_parse, of_scope};
+use c_scope::SourceError;
 use c_tree::{Program, RawItem, RawProgram};
 use call_numbers::numbers_by_places;
 use call_places::add_places_of_calls;
@@ -22,23 +22,24 @@ use hoist_rules::hoist_item;
 use scope_rules::{Resolver, ScopeError};
 use std::alloc::{AllocError, Global};
 
-/// The program that a source of at most 1,048,576 bytes is, where a call may stand inside an expression everywhere but in the
-/// parentheses of a `for`: its tokens (ISO/IEC 9899:2018, 6.4), its tree (6.5 to 6.9), in which each call that isn't whole goes before
-/// its statement, and its names' meanings (6.2.1), of the subset that docs/LANGUAGE.md gives. The calls have the numbers of their
-/// names' places in the source. The program does what the text means (`deep_mean`): for every schedule both have the same outputs,
-/// modelled calls with values, keys, traps and ends.
+/// Returns the program of a source of at most 1,048,576 bytes, which may have calls inside expressions everywhere
+/// except in the parentheses of a `for`: its tokens (ISO/IEC 9899:2018, 6.4), its tree (6.5 to 6.9), in which each call
+/// that isn't whole goes before its statement, and the meanings of its names (6.2.1), for the subset that
+/// docs/LANGUAGE.md defines. The calls are numbered by the places of their names in the source. The program does what
+/// the text means (`deep_mean`): for every schedule both have the same outputs, modelled calls with values, keys, traps
+/// and ends.
 ///
 /// # Errors
 ///
-/// Those of `c_scope`'s `read_program`, but `NestedCall` at the first call in the parentheses of a `for` that isn't whole. The limit
-/// `locals` counts the new names.
+/// Those of `c_scope`'s `read_program`, but `NestedCall` at the first call in the parentheses of a `for` that isn't
+/// whole. The limit `locals` includes the new names.
 pub fn read_nested(alloc: Global, source: &[u8]) -> Result<Program, SourceError>
     requires { length source.now ≤ 1048576 }
     ensures program { IfOk result (λ p. ReadsNested source.now (program_tree p)) }
     ensures refusal { IfErr result (λ e. e ≢ SourceError.Memory → IsNestedSourceErrorOf source.now e) }
     ensures meaning { IfOk result (λ p. MeansText source.now (program_tree p)) }
 
-    // The source is no other program, and has no other refusal.
+    // The source isn't any other program, and has no other refusal.
     ensures only_program { (p : ProgramTree) → ReadsNested source.now p →
         MatchResult result (λ q. program_tree q ≡ p) (λ e. e ≡ SourceError.Memory) }
     ensures only_refusal { (e : SourceError) → IsNestedSourceErrorOf source.now e →
@@ -53,22 +54,13 @@ fn read(alloc: Global, source: &[u8]) -> Result<Program, SourceError>
     ensures program { IfOk result (λ p. ReadsNested source.now (program_tree p)) }
     ensures refusal { IfErr result (λ e. e ≢ SourceError.Memory → IsNestedSourceErrorOf source.now e) }
 {
-    let tokens = match lex(alloc, source) {
-        Ok(tokens) => tokens,
-        Err(error) => return Err(of_lex(error)),
-    };
-    let raw = match parse_nested(alloc, source, &tokens) {
-        Ok(raw) => raw,
-        Err(error) => return Err(of_parse(error)),
-    };
+    let tokens = lex(alloc, source)?;
+    let raw = parse_nested(alloc, source, &tokens)?;
     drop(tokens);
-    match resolve_hoisted(alloc, raw) {
-        Ok(program) => Ok(program),
-        Err(error) => Err(of_scope(error)),
-    }
+    Ok(resolve_hoisted(alloc, raw)?)
 }
 
-// What the rewritten items of a source make, and the places of their calls, in the order of the rewritten tree.
+// The resolved items of a rewritten source, and the places of their calls, in the order of the rewritten tree.
 #[derive(Drop)]
 struct Rewriting {
     resolver: Resolver,
@@ -76,27 +68,28 @@ struct Rewriting {
 }
 
 impl Rewriting {
-    // One more item. What it is rewritten to is freed.
-    fn item(&mut self, alloc: Global, raw: &RawItem) -> Result<(), AllocError>
-        requires { IsItemForWhole (raw_item_tree raw.now) }
-        ensures read { OnOk result ((all read : List RawItemTree) → HasRead self.old.resolver all read → HasRead self.new.resolver all (read ++ item_hoisted (raw_item_tree raw.now) ∷ [])) }
-        ensures places { OnOk result (self.new.places.items ≡ self.old.places.items ++ item_places is_call (item_hoisted (raw_item_tree raw.now))) }
+    // One more item. It is freed before it is resolved, and what it is rewritten to behind that.
+    fn item(&mut self, alloc: Global, raw: RawItem) -> Result<(), AllocError>
+        requires { IsItemForWhole (raw_item_tree raw) }
+        ensures read { OnOk result ((all read : List RawItemTree) → HasRead self.old.resolver all read → HasRead self.new.resolver all (read ++ item_hoisted (raw_item_tree raw) ∷ [])) }
+        ensures places { OnOk result (self.new.places.items ≡ self.old.places.items ++ item_places is_call (item_hoisted (raw_item_tree raw))) }
     {
-        let hoisted = hoist_item(alloc, raw)?;
+        let hoisted = hoist_item(alloc, &raw)?;
         add_places_of_calls(&mut self.places, &hoisted)?;
+        drop(raw);
         self.resolver.item(&hoisted)?;
         Ok(())
     }
 }
 
-// What the items make, each of which is rewritten and resolved before the next is.
-fn rewritten(alloc: Global, raw: &[RawItem]) -> Result<Rewriting, AllocError>
-    requires { AreForPartsWhole (raw_item_trees raw.now) }
-    ensures read { IfOk result (λ w. HasRead w.resolver (items_hoisted (raw_item_trees raw.now)) (items_hoisted (raw_item_trees raw.now))) }
-    ensures places { IfOk result (λ w. w.places.items ≡ items_places is_call (items_hoisted (raw_item_trees raw.now))) }
+// What the items make, each of which is rewritten and resolved before the next is, and freed.
+fn rewritten(alloc: Global, raw: Vec<RawItem>) -> Result<Rewriting, AllocError>
+    requires { AreForPartsWhole (raw_item_trees raw.items) }
+    ensures read { IfOk result (λ w. HasRead w.resolver (items_hoisted (raw_item_trees raw.items)) (items_hoisted (raw_item_trees raw.items))) }
+    ensures places { IfOk result (λ w. w.places.items ≡ items_places is_call (items_hoisted (raw_item_trees raw.items))) }
 {
     let mut rewritten = Rewriting {
-        resolver: Resolver::new(alloc, raw)?,
+        resolver: Resolver::new(alloc, &raw)?,
         places: Vec::new(alloc),
     };
     for item in raw {
@@ -105,16 +98,15 @@ fn rewritten(alloc: Global, raw: &[RawItem]) -> Result<Rewriting, AllocError>
     Ok(rewritten)
 }
 
-// The program of the rewritten tree, or a refusal of it. It frees the tree as it is read.
+// The program of the rewritten tree, or a refusal of it. It frees the tree as it was read.
 fn resolve_hoisted(alloc: Global, raw: RawProgram) -> Result<Program, ScopeError>
     requires { AreForPartsWhole (raw_program_tree raw) }
     ensures resolved { IfOk result (λ p. IsHoistedTo (raw_program_tree raw) (program_tree p)) }
     ensures refused { IfErr result (λ e. IsRefusedHoisted (raw_program_tree raw) e) }
 {
-    let Ok(read) = rewritten(alloc, raw.items()) else {
+    let Ok(read) = rewritten(alloc, raw.into_items()) else {
         return Err(ScopeError::Memory);
     };
-    drop(raw);
     let Ok(numbers) = numbers_by_places(alloc, &read.places) else {
         return Err(ScopeError::Memory);
     };

@@ -1,12 +1,12 @@
--- The classes of bytes that tokens are made of.
+-- The classes of bytes in tokens.
 use Rattle.std.specs.Prelude.{ℕ, Bool, ◌==◌, ◌||◌, ◌&&◌, nat_le}
 use Rattle.std.specs.Char.{is_ascii_alphabetic, is_ascii_digit}
 
--- space, tab, LF, vertical tab, form feed and CR: 9 to 13 are the five others in order
+-- space, tab, LF, vertical tab, form feed and CR: the last five, in order, are 9 to 13
 abbrev pub is_white_space : ℕ → Bool
 is_white_space b = (b == 32) || (nat_le 9 b && nat_le b 13)
 
--- a letter of ASCII, or `_`
+-- an ASCII letter, or `_`
 abbrev pub is_letter : ℕ → Bool
 is_letter b = is_ascii_alphabetic b || (b == 95)
 

@@ -3,7 +3,7 @@ use Rattle.std.specs.Prelude.{ℕ, ◌≡◌, ◌≢◌, ◌⊎◌, List, [], �
 use Rattle.c_lex.specs.Bytes.{is_white_space}
 use Rattle.c_lex.specs.Marks.{BeginsWith}
 
--- the pattern stands nowhere in the text
+-- the pattern doesn't occur in the text
 abbrev pub Lacks : List ℕ → List ℕ → Type 0
 Lacks text pattern = (front back : List ℕ) → text ≢ front ++ (pattern ++ back)
 
@@ -11,7 +11,8 @@ Lacks text pattern = (front back : List ℕ) → text ≢ front ++ (pattern ++ b
 abbrev pub line_feed : List ℕ
 line_feed = 10 ∷ []
 
--- `//` and what follows, up to before the next LF or up to the end; after is what comes behind it
+-- `//` and what follows, up to the next LF, which it doesn't include, or up to the end; `after` is
+-- the rest
 pub record IsLineComment (text after : List ℕ) : Type 0 where
   pub body : List ℕ
   pub spelled : text ≡ codes "//" ++ body
@@ -22,14 +23,14 @@ pub record IsLineComment (text after : List ℕ) : Type 0 where
 pub record IsBlockComment (text : List ℕ) : Type 0 where
   pub body : List ℕ
   pub spelled : text ≡ codes "/*" ++ (body ++ codes "*/")
-  -- no `*/` stands before the one at the end
+  -- there is no `*/` before the one at the end
   pub first : Lacks (body ++ codes "*") (codes "*/")
 
--- a comment, with what comes behind it
+-- a comment, with the rest after it
 abbrev pub IsComment : List ℕ → List ℕ → Type 0
 IsComment text after = IsLineComment text after ⊎ IsBlockComment text
 
--- white space and comments, as many as there are, with what comes behind them
+-- any number of white-space bytes and comments, with the rest after them
 pub data IsGap : List ℕ → List ℕ → Type 0 where
   nothing : {after : List ℕ} → IsGap [] after
   space : {byte : ℕ} {gap after : List ℕ} → IsTrue (is_white_space byte) → IsGap gap after → IsGap (byte ∷ gap) after

@@ -1,9 +1,9 @@
--- How keywords are written.
+-- The spelling of keywords.
 use Rattle.std.specs.Prelude.{ℕ, List, codes}
 use Rattle.c_lex.specs.declared.keywords.Keyword.{Keyword}
 use Rattle.c_lex.specs.declared.keywords.Keyword.TheVariants as keywords
 
--- a keyword as it is written
+-- a keyword's spelling
 abbrev pub keyword_text : Keyword → List ℕ
 keyword_text keywords.Auto = codes "auto"
 keyword_text keywords.Break = codes "break"

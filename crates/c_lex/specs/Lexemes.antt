@@ -1,4 +1,4 @@
--- What is taken whole where a token begins, and what it then is.
+-- What is taken as one lexeme where a token begins, and which token it is.
 use Rattle.std.specs.Prelude.{ℕ, ◌≡◌, ◌≢◌, ◌<◌, ◌^◌, ◌⊎◌, List, [], ◌∷◌, ◌++◌, codes, IsTrue}
 use Rattle.std.specs.List.{AllByRecursion}
 use Rattle.c_lex.specs.declared.keywords.Keyword.{Keyword}
@@ -19,20 +19,20 @@ abbrev pub IsWord : List ℕ → Type 0
 IsWord [] = ⊥
 IsWord (first ∷ rest) = AllWordBytes (first ∷ rest)
 
--- a word that begins with no digit
+-- a word that doesn't begin with a digit
 abbrev pub IsIdentifier : List ℕ → Type 0
 IsIdentifier [] = ⊥
 IsIdentifier (first ∷ rest) = IsTrue (is_letter first) × AllWordBytes rest
 
--- what is taken whole: a word, also one that begins with a digit, or a mark
+-- a lexeme: a word, even one that begins with a digit, or a mark
 abbrev pub IsLexeme : List ℕ → Type 0
 IsLexeme text = IsWord text ⊎ ((mark : Mark) × (text ≡ mark_text mark))
 
--- a comment begins the text
+-- the text begins with a comment
 abbrev pub BeginsComment : List ℕ → Type 0
 BeginsComment text = BeginsWith text (codes "//") ⊎ BeginsWith text (codes "/*")
 
--- Where the text goes on with `lexeme ++ after`, the lexeme is taken: no longer one begins there, and no comment.
+-- If the text continues with `lexeme ++ after`, the lexeme is taken: no longer one begins there, and no comment.
 pub record IsTaken (lexeme after : List ℕ) : Type 0 where
   pub whole : IsLexeme lexeme
   pub longest : (more rest : List ℕ) → after ≡ more ++ rest → IsLexeme (lexeme ++ more) → more ≡ []

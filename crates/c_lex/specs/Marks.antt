@@ -1,4 +1,4 @@
--- How marks are written.
+-- The spelling of marks.
 use Rattle.std.specs.Prelude.{ℕ, ◌≡◌, List, ◌++◌, codes}
 use Rattle.c_lex.specs.declared.marks.Mark.{Mark}
 use Rattle.c_lex.specs.declared.marks.Mark.TheVariants as marks
@@ -7,7 +7,7 @@ use Rattle.c_lex.specs.declared.marks.Mark.TheVariants as marks
 abbrev pub BeginsWith : List ℕ → List ℕ → Type 0
 BeginsWith text pattern = (after : List ℕ) × (text ≡ pattern ++ after)
 
--- a mark as it is written
+-- a mark's spelling
 abbrev pub mark_text : Mark → List ℕ
 mark_text marks.ShiftLeftAssign = codes "<<="
 mark_text marks.ShiftRightAssign = codes ">>="

@@ -1,4 +1,4 @@
--- What a text begins with, as the first step of lexical analysis answers it.
+-- The first piece of a text, as the first step of lexical analysis returns it.
 use Rattle.std.specs.Prelude.{ℕ, ◌<◌, ◌≤◌, List, length, take, drop}
 use Rattle.c_lex.specs.declared.pieces.Piece.{Piece}
 use Rattle.c_lex.specs.declared.pieces.Piece.TheVariants as pieces
@@ -6,13 +6,13 @@ use Rattle.c_lex.specs.declared.tokens.TokenKind.{TokenKind}
 use Rattle.c_lex.specs.Gaps.{IsGap}
 use Rattle.c_lex.specs.Lexemes.{IsTaken, IsOfKind}
 
--- the first bytes, so many of them, are part of a gap
+-- the first bytes, of this number, are part of a gap
 pub record IsFirstGap (text : List ℕ) (size : ℕ) : Type 0 where
   pub some : 0 < size
   pub within : size ≤ length text
   pub between : IsGap (take size text) (drop size text)
 
--- the first bytes, so many of them, are a token of this kind
+-- the first bytes, of this number, are a token of this kind
 pub record IsFirstToken (text : List ℕ) (kind : TokenKind) (size : ℕ) : Type 0 where
   pub some : 0 < size
   pub within : size ≤ length text

@@ -1,10 +1,10 @@
-// How far a comment goes.
+// The length of a comment.
 ghost use Rattle.std.specs.Prelude.{ℕ, ◌≡◌, ◌≢◌, ◌+◌, ◌<◌, ◌≤◌, length, slice_index, take, drop, codes, IfSome, IfNone};
 ghost use Rattle.c_lex.specs.Gaps.{Lacks, IsLineComment, IsBlockComment};
 ghost use Rattle.c_lex.specs.Marks.{BeginsWith};
 ghost use Rattle.c_lex.specs.Tokens.{IsOpenComment};
 
-// The place of the first LF, or the text's length.
+// The index of the first LF, or the text's length.
 fn line_length(text: &[u8]) -> usize
     ensures within { result ≤ length text.now }
     ensures one_line { (k : ℕ) → k < result → slice_index text.now k ≢ 10 }
@@ -18,7 +18,7 @@ fn line_length(text: &[u8]) -> usize
     text.len()
 }
 
-// The place of the first `*/`.
+// The index of the first `*/`.
 fn end_of_comment(text: &[u8]) -> Option<usize>
     ensures within { IfSome result (λ place. place + 1 < length text.now) }
     ensures star { IfSome result (λ place. slice_index text.now place ≡ 42) }
@@ -36,8 +36,8 @@ fn end_of_comment(text: &[u8]) -> Option<usize>
     None
 }
 
-/// The length of the comment that begins with `//`: up to before the next LF, or up to the end
-/// (ISO/IEC 9899:2018, 6.4.9).
+/// Returns the length of the comment that begins with `//`: up to the next LF, which it doesn't
+/// include, or up to the end (ISO/IEC 9899:2018, 6.4.9).
 pub(crate) fn line_comment_length(text: &[u8]) -> usize
     requires { BeginsWith text.now (codes "//") }
     ensures within { result ≤ length text.now }
@@ -46,8 +46,8 @@ pub(crate) fn line_comment_length(text: &[u8]) -> usize
     2 + line_length(&text[2..])
 }
 
-/// The length of the comment that begins with `/*`: up to the next `*/`, or `None` where there is none
-/// (ISO/IEC 9899:2018, 6.4.9).
+/// Returns the length of the comment that begins with `/*`: up to the next `*/`, or `None` if there is
+/// none (ISO/IEC 9899:2018, 6.4.9).
 pub(crate) fn block_comment_length(text: &[u8]) -> Option<usize>
     requires { BeginsWith text.now (codes "/*") }
     ensures within { IfSome result (λ end. end ≤ length text.now) }

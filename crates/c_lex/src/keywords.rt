@@ -3,7 +3,7 @@ ghost use Rattle.std.specs.Prelude.{◌≡◌, ◌≢◌, IfSome, IfNone};
 ghost use Rattle.c_lex.specs.declared.keywords.Keyword.{Keyword};
 ghost use Rattle.c_lex.specs.Keywords.{keyword_text};
 
-/// A keyword of C (ISO/IEC 9899:2018, 6.4.1). Those that the subset has no use for are keywords too.
+/// A keyword of C (ISO/IEC 9899:2018, 6.4.1), including those that the subset doesn't use.
 #[derive(Clone, Copy, PartialEq, Eq)]
 pub enum Keyword {
     /// `auto`
@@ -97,7 +97,7 @@ pub enum Keyword {
 }
 
 impl Keyword {
-    /// The keyword as it is written.
+    /// Returns the keyword's spelling.
     pub fn text(self) -> &'static str
         ensures { result.now ≡ keyword_text self }
     {
@@ -197,7 +197,7 @@ const KEYWORDS: [Keyword; 44] = [
     Keyword::ThreadLocal,
 ];
 
-/// The keyword that a word is, or `None` where it is none.
+/// Returns the keyword that a word is, or `None` if it isn't one.
 pub(crate) fn keyword_of(word: &[u8]) -> Option<Keyword>
     ensures found { IfSome result (λ keyword. word.now ≡ keyword_text keyword) }
     ensures none { IfNone result ((keyword : Keyword) → word.now ≢ keyword_text keyword) }

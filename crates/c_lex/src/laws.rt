@@ -1,4 +1,4 @@
-// What holds of every source and its tokens.
+// Laws of a source and its tokens.
 ghost use Rattle.std.specs.Prelude.{ℕ, ◌≡◌, List, length};
 ghost use Rattle.std.specs.List.{AllByRecursion};
 ghost use Rattle.c_lex.specs.declared.tokens.LexError.{LexError};
@@ -7,8 +7,7 @@ ghost use Rattle.c_lex.specs.Lexemes.{IsOfKind};
 ghost use Rattle.c_lex.specs.Places.{StandInOrder, lexeme_of};
 ghost use Rattle.c_lex.specs.Tokens.{AreTokensOf, IsLexErrorOf};
 
-/// A source has at most one list of tokens, at most one refusal, and never both. It does nothing: the law is the
-/// contract.
+/// Law: a source has at most one list of tokens, at most one refusal, and never both.
 pub fn reading_is_unique()
     ensures one_list { (source : List ℕ) (tokens others : List Token) →
         AreTokensOf source tokens → AreTokensOf source others → tokens ≡ others }
@@ -18,8 +17,8 @@ pub fn reading_is_unique()
         AreTokensOf source tokens → ¬ IsLexErrorOf source error }
 {}
 
-/// The tokens of a source stand one behind another within it, and the bytes at a token's place are what its kind
-/// says. It does nothing: the law is the contract.
+/// Law: the tokens of a source follow one another within it, and the bytes at a token's place are as its kind
+/// says.
 pub fn tokens_stand_in_source()
     ensures order { (source : List ℕ) (tokens : List Token) →
         AreTokensOf source tokens → StandInOrder 0 tokens (length source) }

@@ -8,12 +8,12 @@ use crate::pieces::{Piece, first_piece};
 use crate::tokens::{LexError, Token};
 use std::alloc::Global;
 
-/// The tokens of a source of at most 1,048,576 bytes, in order, by ISO/IEC 9899:2018, 6.4, as far as the subset goes.
+/// Returns the tokens of a source of at most 1,048,576 bytes, in order, by ISO/IEC 9899:2018, 6.4, as far as the
+/// subset goes.
 ///
 /// # Errors
 ///
-/// `BadByte`, `OpenComment` and `BadNumber` at the first place where no token begins, `Memory` where the list has no
-/// room.
+/// `BadByte`, `OpenComment` or `BadNumber` at the first place where no token begins; `Memory` if an allocation fails.
 pub fn lex(alloc: Global, source: &[u8]) -> Result<Vec<Token>, LexError>
     requires { length source.now ≤ 1048576 }
     ensures tokens { IfOk result (λ tokens. AreTokensOf source.now tokens.items) }

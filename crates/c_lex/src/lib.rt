@@ -1,13 +1,14 @@
-// Lexical analysis of CapC, a subset of C: the bytes of a source become its list of tokens.
+// Lexical analysis of CapC, a subset of C: from the bytes of a source to its list of tokens.
 //
-// In goes a source of at most 1,048,576 bytes, any bytes. Out come its names, numbers, keywords and marks, each
-// with its place and length, or the first place where no token begins: a byte of no token, a comment without
-// an end, or a number that is none. White space and comments are left out.
+// In: a source of at most 1,048,576 bytes, any bytes. Out: its names, numbers, keywords and marks, each with its
+// place and length; or the first place where no token begins: a byte that begins no token, a comment without an end,
+// or a number that is malformed or too large. White space and comments are skipped.
 //
-// `lex` is the contract for the crate above: it answers the tokens exactly where `AreTokensOf` holds of the
-// source and the list (specs/Tokens.antt), and else the refusal that `IsLexErrorOf` gives.
+// The crates above use the contract of `lex`: it returns the tokens exactly if `AreTokensOf` holds of the source and
+// the list (specs/Tokens.antt), and otherwise the refusal that `IsLexErrorOf` defines.
 //
-// The rules are those of ISO/IEC 9899:2018, 6.4, of ASCII alone and without strings, characters, suffixes and octal.
+// The rules are those of ISO/IEC 9899:2018, 6.4, for ASCII only, without strings, characters, suffixes and octal
+// numbers. A law has no effect at run time: its contract is a theorem.
 #![tactic(auto)]
 
 mod bytes;

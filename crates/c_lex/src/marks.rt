@@ -1,10 +1,9 @@
-// The marks, and which mark a text begins with.
+// The marks, and the mark with which a text begins.
 ghost use Rattle.std.specs.Prelude.{◌≡◌, ◌≤◌, length, IfSome, IfNone};
 ghost use Rattle.c_lex.specs.declared.marks.Mark.{Mark};
 ghost use Rattle.c_lex.specs.Marks.{mark_text, BeginsWith};
 
-/// A mark: an operator or a separator of C (ISO/IEC 9899:2018, 6.4.6). Those that the subset has no use for are marks
-/// too.
+/// A mark: an operator or a separator of C (ISO/IEC 9899:2018, 6.4.6), including those that the subset doesn't use.
 #[derive(Clone, Copy, PartialEq, Eq)]
 pub enum Mark {
     /// `<<=`
@@ -98,7 +97,7 @@ pub enum Mark {
 }
 
 impl Mark {
-    /// The mark as it is written.
+    /// Returns the mark's spelling.
     pub fn text(self) -> &'static str
         ensures { result.now ≡ mark_text self }
     {
@@ -199,7 +198,7 @@ const MARKS: [Mark; 44] = [
     Mark::Exclamation,
 ];
 
-/// The longest mark that the text begins with, or `None` where it begins with none.
+/// Returns the longest mark with which the text begins, or `None` if it begins with none.
 pub(crate) fn mark_at(text: &[u8]) -> Option<Mark>
     ensures found { IfSome result (λ mark. BeginsWith text.now (mark_text mark)) }
     ensures longest { IfSome result

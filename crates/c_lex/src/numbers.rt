@@ -1,9 +1,9 @@
-// The value of a number as it is written.
+// The value of a number as it is spelled.
 ghost use Rattle.std.specs.Prelude.{ℕ, ◌≡◌, ◌+◌, ◌*◌, ◌≤◌, ◌<◌, ◌^◌, IfSome, IfNone};
 ghost use Rattle.std.specs.Str.Parse.{AllDigits, digits_value};
 ghost use Rattle.c_lex.specs.Numbers.{IsNumber};
 
-// The number with one more digit, or `None` where it has more than 32 bits.
+// The number with one more digit, or `None` if it needs more than 32 bits.
 fn with_digit(value: u32, radix: u32, digit: u32) -> Option<u32>
     ensures value { IfSome result (λ next. next ≡ value * radix + digit) }
     ensures none { IfNone result (2 ^ 32 ≤ value * radix + digit) }
@@ -11,8 +11,8 @@ fn with_digit(value: u32, radix: u32, digit: u32) -> Option<u32>
     value.checked_mul(radix)?.checked_add(digit)
 }
 
-// The number that the digits spell in the radix, or `None` where one is no digit of it or the number has more than
-// 32 bits.
+// The number that the digits spell in the radix, or `None` if one of them isn't a digit of it or the number needs
+// more than 32 bits.
 fn value_of(digits: &[u8], radix: u32) -> Option<u32>
     requires at_least { 2 ≤ radix }
     requires at_most { radix ≤ 36 }
@@ -28,7 +28,7 @@ fn value_of(digits: &[u8], radix: u32) -> Option<u32>
     Some(value)
 }
 
-/// The value of the number that a word is, or `None` where it is no number or one of more than 32 bits
+/// Returns the value of the number that a word is, or `None` if it isn't a number or needs more than 32 bits
 /// (ISO/IEC 9899:2018, 6.4.4.1, without octal and suffixes).
 pub(crate) fn number_of(word: &[u8]) -> Option<u32>
     ensures value { IfSome result (λ value. IsNumber word.now value) }

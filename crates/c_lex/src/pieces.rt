@@ -1,4 +1,4 @@
-// The first piece of a text: a gap, a token, or what is none.
+// The first piece of a text: a gap, a token, or neither.
 ghost use Rattle.std.specs.Prelude.{ℕ, ◌≡◌, ◌≢◌, ◌<◌, ◌≤◌, ◌^◌, length, slice_index, take, IsTrue, IfSome, IfNone, IfOk, IfErr};
 ghost use Rattle.std.specs.Char.{is_ascii_digit};
 ghost use Rattle.c_lex.specs.Bytes.{is_white_space, is_word_byte};
@@ -14,16 +14,16 @@ use crate::marks::mark_at;
 use crate::numbers::number_of;
 use crate::tokens::{LexError, TokenKind};
 
-/// What a text begins with.
+/// The first piece of a text.
 #[derive(Clone, Copy)]
 pub(crate) enum Piece {
-    /// White space or a comment, of this many bytes.
+    /// White space or a comment, with its length in bytes.
     Gap { length: usize },
-    /// A token, of this many bytes.
+    /// A token, with its length in bytes.
     Token { kind: TokenKind, length: usize },
 }
 
-// How many bytes of a word the text begins with.
+// The number of word bytes at the front of the text.
 fn word_length(text: &[u8]) -> usize
     ensures within { result ≤ length text.now }
     ensures word { (k : ℕ) → k < result → IsTrue (is_word_byte (slice_index text.now k)) }
@@ -37,7 +37,7 @@ fn word_length(text: &[u8]) -> usize
     text.len()
 }
 
-// The kind of a word, or `None` where it begins with a digit and is no number.
+// The kind of a word, or `None` if it begins with a digit and isn't a number.
 fn word_kind(word: &[u8]) -> Option<TokenKind>
     requires { IsWord word.now }
     ensures kind { IfSome result (λ kind. IsOfKind word.now kind) }
@@ -54,7 +54,7 @@ fn word_kind(word: &[u8]) -> Option<TokenKind>
     }
 }
 
-// The word at the front of the text, whose place in the source is `at`.
+// The word at the front of the text, which is at the place `at` of the source.
 fn word_piece(text: &[u8], at: u32) -> Result<Piece, LexError>
     requires nonempty { 0 < length text.now }
     requires word { IsTrue (is_word_byte (slice_index text.now 0)) }
@@ -68,7 +68,8 @@ fn word_piece(text: &[u8], at: u32) -> Result<Piece, LexError>
     }
 }
 
-// The comment at the front of the text, whose place in the source is `at`, or `None` where none begins.
+// The comment at the front of the text, which is at the place `at` of the source, or `None` if none
+// begins there.
 fn comment_piece(text: &[u8], at: u32) -> Result<Option<Piece>, LexError>
     ensures piece { IfOk result (λ answer. IfSome answer (λ piece. IsFirstPiece text.now piece)) }
     ensures absent { IfOk result (λ answer. IfNone answer (¬ BeginsComment text.now)) }
@@ -87,7 +88,7 @@ fn comment_piece(text: &[u8], at: u32) -> Result<Option<Piece>, LexError>
     Ok(None)
 }
 
-// The mark at the front of the text, whose place in the source is `at`.
+// The mark at the front of the text, which is at the place `at` of the source.
 fn mark_piece(text: &[u8], at: u32) -> Result<Piece, LexError>
     requires nonempty { 0 < length text.now }
     requires space { ¬ IsTrue (is_white_space (slice_index text.now 0)) }
@@ -105,11 +106,11 @@ fn mark_piece(text: &[u8], at: u32) -> Result<Piece, LexError>
     }
 }
 
-/// The piece that a text begins with, which isn't empty and whose place in the source is `at`.
+/// Returns the first piece of a text that isn't empty and is at the place `at` of the source.
 ///
 /// # Errors
 ///
-/// `BadByte`, `OpenComment` or `BadNumber` at `at` where neither a gap nor a token begins.
+/// `BadByte`, `OpenComment` or `BadNumber` at `at` if neither a gap nor a token begins there.
 pub(crate) fn first_piece(text: &[u8], at: u32) -> Result<Piece, LexError>
     requires { 0 < length text.now }
     ensures piece { IfOk result (λ piece. IsFirstPiece text.now piece) }

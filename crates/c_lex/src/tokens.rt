@@ -1,22 +1,22 @@
-// Tokens, their kinds, and why a source has none.
+// Tokens, their kinds, and why a source has no list of them.
 use crate::keywords::Keyword;
 use crate::marks::Mark;
 
-/// A token, with where it stands in the source.
+/// A token, with its place in the source.
 #[derive(Clone, Copy, PartialEq, Eq)]
 pub struct Token {
-    /// What it is.
+    /// Its kind.
     pub kind: TokenKind,
     /// The place of its first byte, counted from 0.
     pub at: u32,
-    /// How many bytes it has, at least 1.
+    /// Its length in bytes, at least 1.
     pub length: u32,
 }
 
-/// What a token is (ISO/IEC 9899:2018, 6.4).
+/// The kind of a token (ISO/IEC 9899:2018, 6.4).
 #[derive(Clone, Copy, PartialEq, Eq)]
 pub enum TokenKind {
-    /// A name: a letter or `_`, then letters, digits and `_`, and no keyword.
+    /// A name: a letter or `_`, followed by letters, digits and `_`; keywords aren't names.
     Name,
     /// A number, decimal or hexadecimal.
     Number {
@@ -32,7 +32,7 @@ pub enum TokenKind {
 /// Why a source has no list of tokens. `at` is the first place where no token begins, counted from 0.
 #[derive(Clone, Copy)]
 pub enum LexError {
-    /// The byte there is neither white space nor the first of a comment, a word or a mark.
+    /// The byte there is neither white space nor the beginning of a comment, a word or a mark.
     BadByte {
         /// The byte's place.
         at: u32,
@@ -42,11 +42,11 @@ pub enum LexError {
         /// The place of its `/`.
         at: u32,
     },
-    /// The word that begins there with a digit is no number, or one above 4294967295.
+    /// The word that begins there with a digit isn't a number, or is one above 4294967295.
     BadNumber {
         /// The place of its first digit.
         at: u32,
     },
-    /// Memory ran out.
+    /// An allocation failed.
     Memory,
 }

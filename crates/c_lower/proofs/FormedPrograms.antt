@@ -17,7 +17,7 @@ use Rattle.flat_code.specs.Codes.{code_of}
 use Rattle.flat_code.specs.WellFormed as flat
 use Rattle.flat_code.specs.WellFormed.{IsOperation, IsFunction, IsWellFormed}
 use Rattle.c_lower.specs.StmtCode.{stmts_size, stmts_code}
-use Rattle.c_lower.specs.ProgramCode.{closing_code, first_temporary, function_ops, lowered_function, lowered_global, lowered}
+use Rattle.c_lower.specs.ProgramCode.{closing_code, first_temporary, function_ops, function_sizes, lowered_function, lowered_global, lowered}
 use Rattle.c_lower.proofs.Lists.{all-append, all-weaker, map-map}
 use Rattle.c_lower.proofs.Suits.{Suits}
 use Rattle.c_lower.proofs.CodeSizes.{stmts_length}
@@ -109,6 +109,12 @@ closing_size : (gives : Bool) (t : ℕ) → 1 ≤ length (closing_code gives t)
 closing_size true t = omega arith
 closing_size false t = omega arith
 
+function_words : (p : ProgramTree) (f : FunctionTree) → IsFunctionScoped p f → sum (function_sizes f) ≤ 2 ^ 20
+function_words p f h =
+    let n = function_temporaries f in
+    let all_words : sum f.sizes ≡ f.params + sum (declared_words f) = ap sum h.sizes ∙ (sum_both (scalars f.params) (declared_words f) ∙ ap (λ x. x + sum (declared_words f)) (scalars_words f.params)) in
+    omega (arith, sum_both f.sizes (scalars n), scalars_words n, all_words, h.params, h.words, h.temporaries)
+
 function_formed : (p : ProgramTree) (f : FunctionTree) → IsFunctionScoped p f → length (function_ops f) ≤ 2 ^ 32 → IsFunction (lowered p) (lowered_function f)
 function_formed p f h short =
     let n = function_temporaries f in
@@ -116,13 +122,12 @@ function_formed p f h short =
     let c = tree.context_of p f in
     let d = flat.context_of (lowered p) (lowered_function f) in
     let suits = function_suits p f in
-    let all_words : sum f.sizes ≡ f.params + sum (declared_words f) = ap sum h.sizes ∙ (sum_both (scalars f.params) (declared_words f) ∙ ap (λ x. x + sum (declared_words f)) (scalars_words f.params)) in
     let within : stmts_size f.body < length (function_ops f) =
     omega (arith, length-append (stmts_code f.body 0 t 0 0) (closing_code f.gives t), stmts_length f.body 0 t 0 0, closing_size f.gives t) in
     record {
       params = h.params;
       parameters = ap (λ xs. take f.params (xs ++ scalars n)) h.sizes ∙ (ap (take f.params) (append_assoc (scalars f.params) (declared_words f) (scalars n)) ∙ parameters_first f.params (declared_words f ++ scalars n));
-      words = omega (arith, sum_both f.sizes (scalars n), scalars_words n, all_words, h.params, h.words, h.temporaries);
+      words = function_words p f h;
       count = short;
       ops = all-append (IsOperation d) (stmts_code f.body 0 t 0 0) (closing_code f.gives t)
           (stmts_formed c d t n suits false (below f.params) f.body 0 0 0 h.body (omega arith) (omega (arith, within)) (λ y. absurd (false≢true y)))
@@ -168,6 +173,10 @@ all_small p (f ∷ fs) h = (h.0.temporaries, all_small p fs h.1)
 pub all_few : (p : ProgramTree) (fs : List FunctionTree) → AreFunctionsScoped p fs → AllByRecursion (λ f. length f.sizes ≤ 65536) fs
 all_few p [] h = tt
 all_few p (f ∷ fs) h = (few_variables p f h.0, all_few p fs h.1)
+
+pub all_words : (p : ProgramTree) (fs : List FunctionTree) → AreFunctionsScoped p fs → AllByRecursion (λ f. sum (function_sizes f) ≤ 2 ^ 20) fs
+all_words p [] h = tt
+all_words p (f ∷ fs) h = (function_words p f h.0, all_words p fs h.1)
 
 -- the code whose parts are those of the lowered program is the lowered program
 pub lowered_is : (p : ProgramTree) (fs : List FlatFunction) (gs : List FlatGlobal) (ts : List (List ℕ)) (main : ℕ) → fs ≡ map lowered_function p.functions → gs ≡ map lowered_global p.globals → ts ≡ p.tables → main ≡ p.main → code_of fs gs ts main ≡ lowered p

@@ -1,4 +1,4 @@
--- The operations of operators one after another, which group to the left: what follows the left operand.
+-- The operations of a chain of operators, which group to the left: those after the left operand.
 use Rattle.std.specs.Prelude.{ℕ, ◌+◌, List, [], ◌∷◌, ◌++◌}
 use Rattle.c_tree.specs.declared.operators.Infix.{Infix}
 use Rattle.c_tree.specs.Trees.{ExprTree}
@@ -11,11 +11,11 @@ infix_size (Infix.Binary op) = 1
 infix_size Infix.LogicalAnd = 5
 infix_size Infix.LogicalOr = 6
 
--- 1 or 0 in variable k, where it isn't 0 there, and where it is or `otherwise` is jumped to
+-- variable k becomes 1 if it isn't 0, and 0 if it is or if `otherwise` is jumped to
 abbrev pub truth_code : (k otherwise end : ℕ) → List Op
 truth_code k otherwise end = Op.JumpZero k otherwise ∷ Op.Const k 1 ∷ Op.Jump end ∷ Op.Const k 0 ∷ []
 
--- an operator and its right operand, where the left one is in variable k
+-- an operator and its right operand, when the left one is in variable k
 abbrev pub operand_code : Infix → ExprTree → (p k : ℕ) → List Op
 operand_code (Infix.Binary op) r p k = expr_code r p (k + 1) ++ (Op.Bin (operator_of op) k k (k + 1) ∷ [])
 operand_code Infix.LogicalAnd r p k =

@@ -1,11 +1,11 @@
--- The operations of an expression: three-address code whose values go through temporaries as through a stack (Aho, Lam,
--- Sethi, Ullman, "Compilers", sections 6.4 and 6.6).
+-- The operations of an expression: three-address code that evaluates in temporaries as on a stack (Aho, Lam, Sethi,
+-- Ullman, "Compilers", sections 6.4 and 6.6).
 use Rattle.std.specs.Prelude.{ℕ, ◌+◌, List, [], ◌∷◌, ◌++◌}
 use Rattle.c_tree.specs.Trees.{ExprTree, Number, Local, Global, LocalElement, GlobalElement, Unary, Parenthesized, Binary, LogicalAnd, LogicalOr, Conditional}
 use Rattle.flat_code.specs.declared.operations.Op.{Op}
 use Rattle.c_lower.specs.Operations.{operator_of, unary_code, unary_size}
 
--- how many operations there are
+-- the number of operations of an expression
 abbrev pub expr_size : ExprTree → ℕ
 expr_size (Number v) = 1
 expr_size (Local x) = 1
@@ -19,8 +19,8 @@ expr_size (LogicalAnd l r) = expr_size l + expr_size r + 5
 expr_size (LogicalOr l r) = expr_size l + expr_size r + 6
 expr_size (Conditional c a b) = expr_size c + expr_size a + expr_size b + 2
 
--- The operations that leave an expression's value in variable k, which is a temporary, and use the temporaries from it
--- on. The first of them is operation p of its function. A jump names the number of an operation.
+-- The operations that compute an expression's value in variable k, which is a temporary, and use the temporaries from
+-- it on. The first of them is operation p of its function. A jump names an operation by its number.
 abbrev pub expr_code : ExprTree → (p k : ℕ) → List Op
 expr_code (Number v) p k = Op.Const k v ∷ []
 expr_code (Local x) p k = Op.Copy k x ∷ []

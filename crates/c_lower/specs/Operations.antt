@@ -1,4 +1,4 @@
--- The operation that stands for an operator.
+-- The operations for an operator.
 use Rattle.std.specs.Prelude.{ℕ, List, [], ◌∷◌}
 use Rattle.c_tree.specs.declared.operators.BinaryOperator.{BinaryOperator}
 use Rattle.c_tree.specs.declared.operators.UnaryOperator.{UnaryOperator}
@@ -23,7 +23,7 @@ operator_of BinaryOperator.GreaterOrEqual = BinOp.GreaterOrEqual
 operator_of BinaryOperator.Equal = BinOp.Equal
 operator_of BinaryOperator.NotEqual = BinOp.NotEqual
 
--- what follows the operand of an operator before it, where its value is in variable k: `+` changes nothing
+-- the operations after the operand of a unary operator, when its value is in variable k: `+` has none
 abbrev pub unary_code : UnaryOperator → ℕ → List Op
 unary_code UnaryOperator.Plus k = []
 unary_code UnaryOperator.Negate k = Op.Neg k k ∷ []

@@ -15,14 +15,14 @@ abbrev pub closing_code : Bool → ℕ → List Op
 closing_code true t = Op.Const t 0 ∷ Op.Return (Some t) ∷ []
 closing_code false t = Op.Return None ∷ []
 
--- a function's first temporary comes after its parameters and its declared names
+-- a function's first temporary, which comes after its parameters and its declared names
 abbrev pub first_temporary : FunctionTree → ℕ
 first_temporary f = length f.sizes
 
 abbrev pub function_ops : FunctionTree → List Op
 function_ops f = stmts_code f.body 0 (first_temporary f) 0 0 ++ closing_code f.gives (first_temporary f)
 
--- its variables: parameters, declared names in the order of the text, and as many temporaries as it uses
+-- its variables: parameters, declared names in the order of the text, and temporaries
 abbrev pub function_sizes : FunctionTree → List ℕ
 function_sizes f = f.sizes ++ scalars (function_temporaries f)
 

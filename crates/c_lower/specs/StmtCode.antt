@@ -17,7 +17,7 @@ simple_size (SetLocalElement a i v) = expr_size i + held_size v + 1
 simple_size (SetGlobalElement a i v) = expr_size i + held_size v + 1
 simple_size (Calling c) = call_size c
 
--- t is the first temporary's variable. An element's index comes before its right side.
+-- t is the variable of the first temporary. An element's index is evaluated before its right side.
 abbrev pub simple_code : SimpleTree → (p t : ℕ) → List Op
 simple_code (DeclareScalar x) p t = Op.Const x 0 ∷ []
 simple_code (DeclareArray x n) p t = Op.Zero x ∷ []
@@ -28,7 +28,7 @@ simple_code (SetLocalElement a i v) p t = expr_code i p t ++ held_code v (p + ex
 simple_code (SetGlobalElement a i v) p t = expr_code i p t ++ held_code v (p + expr_size i) (t + 1) ++ (Op.StoreArray a t (t + 1) ∷ [])
 simple_code (Calling c) p t = call_code c p t None
 
--- the start of a `for`, one part after another
+-- the first part of a `for`, one declaration or assignment after another
 abbrev pub simples_size : List SimpleTree → ℕ
 simples_size [] = 0
 simples_size (s ∷ ss) = simple_size s + simples_size ss
@@ -46,7 +46,7 @@ abbrev pub step_code : Option SimpleTree → (p t : ℕ) → List Op
 step_code None p t = []
 step_code (Some s) p t = simple_code s p t
 
--- the test of a `for`, if there is one: where its condition is 0, operation `to` is next
+-- the test of a `for`, if there is one: if its condition is 0, operation `to` is next
 abbrev pub test_size : Option ExprTree → ℕ
 test_size None = 0
 test_size (Some c) = expr_size c + 1
@@ -82,8 +82,8 @@ abbrev mutual
   stmts_size NoStmts = 0
   stmts_size (Then s ss) = stmt_size s + stmts_size ss
 
--- The operations of a statement from operation p on. In a loop `leave` is the operation to which `break` jumps, and `skip`
--- that to which `continue` does: in a `while` its test, in a `for` its step.
+-- The operations of a statement from operation p on. In a loop, `leave` is the target of `break` and `skip` that of
+-- `continue`: the test of a `while`, or the step of a `for`.
 abbrev mutual
   pub stmt_code : StmtTree → (p t leave skip : ℕ) → List Op
   stmt_code (Do s) p t leave skip = simple_code s p t

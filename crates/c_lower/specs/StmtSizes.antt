@@ -1,9 +1,9 @@
--- The sizes of the statements that jumps pass over, as a walk from the end of the text to its start finds them.
+-- The sizes of the statements that jumps skip, in the order of a walk from the end of the text to its start.
 use Rattle.std.specs.Prelude.{ℕ, List, [], ◌∷◌, ◌++◌}
 use Rattle.c_tree.specs.Trees.{StmtTree, StmtTrees, Do, Empty, Block, If, IfElse, While, For, Break, Continue, Return, NoStmts, Then}
 use Rattle.c_lower.specs.StmtCode.{stmt_size}
 
--- The last size is the first that is wanted where the code is put from the start.
+-- The last size is the first that is used when the code is written from the start.
 abbrev mutual
   pub stmt_sizes : StmtTree → List ℕ
   stmt_sizes (Do s) = []

@@ -12,7 +12,7 @@ use cap_word::Words;
 use flat_code::Op;
 use std::alloc::{AllocError, Global};
 
-// Arguments from left to right, into the temporaries from variable k on; these are the answer.
+// Arguments from left to right, into the temporaries from variable k on; returns these variables.
 fn put_arguments(
     alloc: Global,
     code: &mut Vec<Op>,
@@ -32,8 +32,8 @@ fn put_arguments(
     Ok(Words::new(variables))
 }
 
-// A call whose index and arguments go to the temporaries from variable k on, and whose result, if one is
-// wanted, goes to variable d.
+// A call; its index and arguments go to the temporaries from variable k on, and its result, if it is
+// used, to variable d.
 pub fn put_call(
     alloc: Global,
     code: &mut Vec<Op>,
@@ -117,7 +117,7 @@ pub fn put_call(
     }
 }
 
-// A right side that goes to variable x, by way of variable k where it is a value.
+// A right side that goes to variable x, through variable k if it is a value.
 pub fn put_set(
     alloc: Global,
     code: &mut Vec<Op>,

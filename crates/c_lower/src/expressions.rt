@@ -90,7 +90,7 @@ pub fn put_then(code: &mut Vec<Op>, k: u32, expr: &Expr, op: Op) -> Result<(), A
     put(code, op)
 }
 
-// An operator and its right operand, where the value of the left one is in variable k.
+// An operator and its right operand, when the value of the left one is in variable k.
 #[cycle(expressions)]
 fn put_operand(
     code: &mut Vec<Op>,

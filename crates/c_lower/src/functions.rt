@@ -15,7 +15,7 @@ use cap_word::Words;
 use flat_code::{FlatFunction, Op, Ops};
 use std::alloc::{AllocError, Global};
 
-// What stands after the body: an `int` function returns 0 there.
+// The operations after the body: an `int` function returns 0 there.
 fn put_closing(code: &mut Vec<Op>, t: u32, gives: bool) -> Result<(), AllocError>
     ensures { OnOk result (code.new.items ≡ code.old.items ++ closing_code gives t) }
 {
@@ -55,7 +55,8 @@ fn body_code(alloc: Global, t: u32, body: &[Stmt]) -> Result<Vec<Op>, AllocError
     Ok(code)
 }
 
-// A function whose code has more operations than have numbers is a want of memory.
+/// The flat code of one function of a program, as `lower` gives it. A function of more than 2^32 operations is
+/// a want of memory.
 pub fn lower_function(alloc: Global, function: &Function) -> Result<FlatFunction, AllocError>
     requires small { function_temporaries (function_tree function.now) ≤ 65536 }
     requires few { length (function_tree function.now).sizes ≤ 65536 }
@@ -68,6 +69,7 @@ pub fn lower_function(alloc: Global, function: &Function) -> Result<FlatFunction
     if code.len() > 4_294_967_296 {
         return Err(AllocError);
     }
+    code.shrink_to_fit();
     Ok(FlatFunction {
         params: function.params,
         gives: function.gives,

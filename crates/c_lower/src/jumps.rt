@@ -1,4 +1,5 @@
-// The jumps of `&&`, `||` and `? :`. Such a jump is open, with no target yet, until the code that it passes over is there.
+// The jumps of `&&`, `||` and `? :`. Such a jump is open, that is, without a target, until the code that it skips has
+// been written.
 
 ghost use Rattle.std.specs.Prelude.{◌≡◌, ◌<◌, ◌+◌, [], ◌∷◌, ◌++◌, IfOk, OnOk, length, slice_set};
 ghost use Rattle.flat_code.specs.declared.operations.Op.{Op};
@@ -8,8 +9,7 @@ use crate::places::{patch, place_after, put, put_open};
 use flat_code::Op;
 use std::alloc::AllocError;
 
-// 1 or 0 in variable k: 1 where it isn't 0 there, and 0 where it is or where what is put here is jumped past to its
-// fourth operation.
+// Sets variable k to 1 or 0: to 1 if it isn't 0, and to 0 if it is or if a jump leads to the fourth operation here.
 fn put_truth(code: &mut Vec<Op>, k: u32) -> Result<(), AllocError>
     ensures { OnOk result (code.new.items ≡ code.old.items ++ truth_code k (length code.old.items + 3) (length code.old.items + 4)) }
 {
@@ -21,7 +21,7 @@ fn put_truth(code: &mut Vec<Op>, k: u32) -> Result<(), AllocError>
     put(code, Op::Const { d: k, value: 0 })
 }
 
-// The open jump at `test` leads past `more` operations from here on where variable k is 0.
+// Closes the open jump at `test`: it skips `more` operations from here on if variable k is 0.
 fn close_test(code: &mut Vec<Op>, k: u32, test: usize, more: u32) -> Result<(), AllocError>
     requires { test < length code.old.items }
     ensures { OnOk result (code.new.items ≡ slice_set code.old.items test (Op.JumpZero k (length code.old.items + more))) }
@@ -31,7 +31,7 @@ fn close_test(code: &mut Vec<Op>, k: u32, test: usize, more: u32) -> Result<(), 
     Ok(())
 }
 
-// The open jump at `jump` leads past `more` operations from here on.
+// Closes the open jump at `jump`: it skips `more` operations from here on.
 pub fn close_jump(code: &mut Vec<Op>, jump: usize, more: u32) -> Result<(), AllocError>
     requires { jump < length code.old.items }
     ensures { OnOk result (code.new.items ≡ slice_set code.old.items jump (Op.Jump (length code.old.items + more))) }
@@ -41,8 +41,8 @@ pub fn close_jump(code: &mut Vec<Op>, jump: usize, more: u32) -> Result<(), Allo
     Ok(())
 }
 
-// What stands between the sides of a conditional expression whose test is at `test`: an open jump, whose place is the
-// answer.
+// The operations between the sides of a conditional expression whose test is at `test`: an open jump, whose place is
+// returned.
 pub fn put_between(code: &mut Vec<Op>, k: u32, test: usize) -> Result<usize, AllocError>
     requires { test < length code.old.items }
     ensures code { OnOk result (code.new.items ≡ slice_set code.old.items test (Op.JumpZero k (length code.old.items + 1)) ++ Op.Jump 0 ∷ []) }
@@ -52,7 +52,7 @@ pub fn put_between(code: &mut Vec<Op>, k: u32, test: usize) -> Result<usize, All
     put_open(code)
 }
 
-// What follows the right operand of `&&`, whose test is at `test`.
+// The operations after the right operand of `&&`, whose test is at `test`.
 pub fn put_both(code: &mut Vec<Op>, k: u32, test: usize) -> Result<(), AllocError>
     requires { test < length code.old.items }
     ensures { OnOk result (code.new.items ≡ slice_set code.old.items test (Op.JumpZero k (length code.old.items + 3)) ++ truth_code k (length code.old.items + 3) (length code.old.items + 4)) }
@@ -61,7 +61,8 @@ pub fn put_both(code: &mut Vec<Op>, k: u32, test: usize) -> Result<(), AllocErro
     put_truth(code, k)
 }
 
-// What follows the left operand of `||`. The answer is the place of its open jump, which is taken where that isn't 0.
+// The operations after the left operand of `||`. Returns the place of its open jump, which is taken if the operand
+// isn't 0.
 pub fn put_unless(code: &mut Vec<Op>, k: u32) -> Result<usize, AllocError>
     ensures code { OnOk result (code.new.items ≡ code.old.items ++ Op.JumpZero k (length code.old.items + 2) ∷ Op.Jump 0 ∷ []) }
     ensures place { IfOk result (λ at. at ≡ length code.old.items + 1) }
@@ -71,7 +72,7 @@ pub fn put_unless(code: &mut Vec<Op>, k: u32) -> Result<usize, AllocError>
     put_open(code)
 }
 
-// What follows the right operand of `||`, whose open jump is at `jump`.
+// The operations after the right operand of `||`, whose open jump is at `jump`.
 pub fn put_either(code: &mut Vec<Op>, k: u32, jump: usize) -> Result<(), AllocError>
     requires { jump < length code.old.items }
     ensures { OnOk result (code.new.items ≡ slice_set code.old.items jump (Op.Jump (length code.old.items + 1)) ++ truth_code k (length code.old.items + 3) (length code.old.items + 4)) }

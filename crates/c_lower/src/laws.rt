@@ -13,7 +13,7 @@ ghost use Rattle.c_lower.specs.CallCode.{call_code};
 ghost use Rattle.c_lower.specs.StmtCode.{simple_code, stmt_code};
 ghost use Rattle.c_lower.specs.ProgramCode.{closing_code, lowered};
 
-/// What four small programs are lowered to, and the weights of the first one's functions. It does nothing.
+/// Example: four small programs have this flat code, and the functions of the first one these weights.
 pub fn samples_are_lowered()
     ensures passing { lowered one_call ≡ passing }
     ensures descending { lowered recursion ≡ descending }
@@ -22,8 +22,8 @@ pub fn samples_are_lowered()
     ensures weights { map (λ f. weight_of f.sizes) (lowered one_call).functions ≡ 16 ∷ 16 ∷ [] }
 {}
 
-/// The rows of expressions, from operation 10 on and into variable 2. Variables 0 and 1 are declared
-/// names, `x` and the array `a`. It does nothing.
+/// Example: expressions have these rows, from operation 10 on and into variable 2. Variables 0 and 1 are
+/// declared names, `x` and the array `a`.
 pub fn expressions_have_their_rows()
     ensures number { expr_code (Number 7) 10 2 ≡ Op.Const 2 7 ∷ [] }
     ensures local { expr_code (Local 0) 10 2 ≡ Op.Copy 2 0 ∷ [] }
@@ -44,8 +44,8 @@ pub fn expressions_have_their_rows()
         ≡ Op.Copy 2 0 ∷ Op.JumpZero 2 14 ∷ Op.Const 2 5 ∷ Op.Jump 15 ∷ Op.Const 2 6 ∷ [] }
 {}
 
-/// The rows of calls at site 9, from operation 10 on: arguments from variable 2 on, and the result to
-/// variable 0 or nowhere. It does nothing.
+/// Example: calls at site 9 have these rows, from operation 10 on: arguments from variable 2 on, and the
+/// result in variable 0 or unused.
 pub fn calls_have_their_rows()
     ensures function { call_code (CallFunction 9 3 (Number 5 ∷ Local 1 ∷ [])) 10 2 (Some 0)
         ≡ Op.Const 2 5 ∷ Op.Copy 3 1 ∷ Op.Call 9 (Some 0) 3 (2 ∷ 3 ∷ []) ∷ [] }
@@ -56,8 +56,8 @@ pub fn calls_have_their_rows()
     ensures spawn { call_code (CallSpawn 9 3 (Number 5)) 10 2 None ≡ Op.Const 2 5 ∷ Op.Spawn 9 None 3 2 ∷ [] }
 {}
 
-/// The rows of declarations, assignments and calls, from operation 10 on. Variables 0 and 1 are declared
-/// names, and the temporaries begin at variable 2. It does nothing.
+/// Example: declarations, assignments and calls have these rows, from operation 10 on. Variables 0 and 1
+/// are declared names, and the temporaries begin at variable 2.
 pub fn simple_statements_have_their_rows()
     ensures declared { simple_code (DeclareScalar 0) 10 2 ≡ Op.Const 0 0 ∷ [] }
     ensures array { simple_code (DeclareArray 1 8) 10 2 ≡ Op.Zero 1 ∷ [] }
@@ -78,9 +78,9 @@ pub fn simple_statements_have_their_rows()
     ensures call { simple_code (Calling (CallModelled 9 ModelledCall.Put (Number 5 ∷ []))) 10 2 ≡ Op.Const 2 5 ∷ Op.Model 9 None 3 (2 ∷ []) ∷ [] }
 {}
 
-/// The rows of the other statements, from operation 10 on, where `break` jumps to operation 90 and
-/// `continue` to 80, and what closes a function. Variable 0 is a declared name, and the temporaries begin
-/// at variable 2. It does nothing.
+/// Example: the other statements have these rows, from operation 10 on, if `break` jumps to operation 90
+/// and `continue` to 80; so have the closing operations of a function. Variable 0 is a declared name, and
+/// the temporaries begin at variable 2.
 pub fn statements_have_their_rows()
     ensures block { stmt_code (Block (Then (Do (DeclareScalar 0)) (Then Empty (Then (Do (DeclareScalar 0)) NoStmts)))) 10 2 90 80
         ≡ Op.Const 0 0 ∷ Op.Const 0 0 ∷ [] }

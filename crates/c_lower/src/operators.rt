@@ -1,4 +1,4 @@
-// Operators of a source, and the operations that stand for them.
+// Operators of a source, and their operations.
 
 ghost use Rattle.std.specs.Prelude.{◌≡◌, ◌++◌, OnOk};
 ghost use Rattle.c_lower.specs.Chains.{infix_size};
@@ -32,7 +32,7 @@ pub fn operator_for(operator: BinaryOperator) -> BinOp
     }
 }
 
-// What follows the operand of an operator before it, whose value is in variable k.
+// The operations after the operand of a unary operator, when its value is in variable k.
 pub fn put_unary(code: &mut Vec<Op>, k: u32, operator: UnaryOperator) -> Result<(), AllocError>
     ensures { OnOk result (code.new.items ≡ code.old.items ++ unary_code operator k) }
 {

@@ -13,14 +13,15 @@ pub fn put(code: &mut Vec<Op>, op: Op) -> Result<(), AllocError>
     Ok(())
 }
 
-// A sum of sizes. More operations than a jump can name are a want of memory.
+// A sum of sizes. If there are more operations than a jump can name, this is reported as out of
+// memory.
 pub fn sum(a: u32, b: u32) -> Result<u32, AllocError>
     ensures { IfOk result (λ n. n ≡ a + b) }
 {
     a.checked_add(b).ok_or(AllocError)
 }
 
-// The number of the operation that comes `size` and `more` operations after those that are there.
+// The number of the operation that comes `size` and `more` operations after the last one so far.
 pub fn place_after(code: &Vec<Op>, size: u32, more: u32) -> Result<u32, AllocError>
     ensures { IfOk result (λ n. n ≡ length code.now.items + size + more) }
 {
@@ -30,7 +31,7 @@ pub fn place_after(code: &Vec<Op>, size: u32, more: u32) -> Result<u32, AllocErr
     sum(sum(here, size)?, more)
 }
 
-// A jump that leads nowhere yet. The answer is its place.
+// A jump without a target yet. Returns its place.
 pub fn put_open(code: &mut Vec<Op>) -> Result<usize, AllocError>
     ensures code { OnOk result (code.new.items ≡ code.old.items ++ Op.Jump 0 ∷ []) }
     ensures place { IfOk result (λ at. at ≡ length code.old.items) }
@@ -40,7 +41,7 @@ pub fn put_open(code: &mut Vec<Op>) -> Result<usize, AllocError>
     Ok(at)
 }
 
-// An operation in the place of one that is there.
+// Replaces an operation.
 pub fn patch(code: &mut Vec<Op>, at: usize, op: Op)
     requires { at < length code.old.items }
     ensures { code.new.items ≡ slice_set code.old.items at op }

@@ -15,10 +15,13 @@ use cap_word::Words;
 use flat_code::{FlatFunction, FlatGlobal, FlatProgram};
 use std::alloc::{AllocError, Global};
 
-/// The flat code of a program, operation for operation as the table says: the variables of a function are
-/// its parameters, its declared names in the order of the text and as many temporaries as it uses; calls
-/// keep the numbers of their sites; after the body an `int` function returns 0. A function of more than
-/// 2^32 operations is a want of memory.
+/// Returns the flat code of a program, operation for operation by the table: the variables of a function
+/// are its parameters, its declared names in the order of the text, and its temporaries; calls keep the
+/// numbers of their sites; after its body an `int` function returns 0.
+///
+/// # Errors
+///
+/// `AllocError` if an allocation fails, or if a function has more than 2^32 operations.
 pub fn lower(alloc: Global, program: &Program) -> Result<FlatProgram, AllocError>
     ensures { IfOk result (λ flat. program_code flat ≡ lowered (program_tree program.now)) }
 {

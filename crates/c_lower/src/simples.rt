@@ -102,7 +102,7 @@ pub fn put_step(
     }
 }
 
-// The test of a `for`, if there is one, which jumps to operation `to` where its condition is 0.
+// The test of a `for`, if there is one, which jumps to operation `to` if its condition is 0.
 pub fn put_test(
     code: &mut Vec<Op>,
     t: u32,

@@ -1,5 +1,5 @@
-// How many operations the code of a tree has. Each statement is counted once, before any code is there, and the sizes
-// of those that a jump passes over are kept in a list, so that the jump can be written before them.
+// The number of operations in the code of a tree. Each statement is counted once, before any code is written, and the
+// sizes of those that a jump skips are kept in a list, so the jump can be written before them.
 
 ghost use Rattle.std.specs.Prelude.{◌≡◌, ℕ, ◌+◌, List, [], ◌∷◌, ◌++◌, IfOk, OnOk, map, option_map};
 ghost use Rattle.c_tree.specs.Views.{expr_tree, call_tree, right_tree, simple_tree, stmt_tree, stmt_trees};
@@ -13,8 +13,8 @@ use crate::places::sum;
 use c_tree::{Call, Expr, ForParts, RightSide, Simple, Stmt};
 use std::alloc::AllocError;
 
-// `size` and the number of operations of an expression. The functions after it add what they are named after in the
-// same way.
+// `size` plus the number of operations of an expression. The functions after it add the sizes of what they are named
+// after.
 #[cycle(expressions)]
 fn add_expr(size: u32, expr: &Expr) -> Result<u32, AllocError>
     ensures { IfOk result (λ n. n ≡ size + expr_size (expr_tree expr.now)) }
@@ -44,7 +44,7 @@ fn add_expr(size: u32, expr: &Expr) -> Result<u32, AllocError>
     }
 }
 
-// The same where `more` operations belong to the expression.
+// The same plus `more` operations of the expression.
 #[cycle(expressions)]
 fn add_more(size: u32, more: u32, expr: &Expr) -> Result<u32, AllocError>
     ensures { IfOk result (λ n. n ≡ size + more + expr_size (expr_tree expr.now)) }
@@ -148,7 +148,7 @@ fn add_return(size: u32, value: &Option<RightSide>) -> Result<u32, AllocError>
     }
 }
 
-// The size of a `for` whose body has `size` operations.
+// The size of a `for` with a body of `size` operations.
 fn size_of_for(parts: &ForParts, size: u32) -> Result<u32, AllocError>
     ensures { IfOk result (λ n. n ≡ simples_size (map simple_tree parts.now.init.items) + test_size (option_map expr_tree parts.now.condition) + size + step_size (option_map simple_tree parts.now.step) + 1) }
 {
@@ -156,7 +156,7 @@ fn size_of_for(parts: &ForParts, size: u32) -> Result<u32, AllocError>
     add_simples(turn, &parts.init)
 }
 
-// The size of a statement. The sizes of those in it that jumps pass over are put at the end of `sizes`, from the last
+// The size of a statement. The sizes of the statements in it that jumps skip are appended to `sizes`, from the last
 // to the first.
 #[cycle(sizes)]
 fn size_of_stmt(sizes: &mut Vec<u32>, stmt: &Stmt) -> Result<u32, AllocError>
@@ -193,7 +193,7 @@ fn size_of_stmt(sizes: &mut Vec<u32>, stmt: &Stmt) -> Result<u32, AllocError>
     }
 }
 
-// The size of a statement that a jump passes over, which is put at the end of `sizes` too.
+// The size of a statement that a jump skips, which is appended to `sizes` too.
 #[cycle(sizes)]
 fn size_of_passed(sizes: &mut Vec<u32>, stmt: &Stmt) -> Result<u32, AllocError>
     ensures size { IfOk result (λ n. n ≡ stmt_size (stmt_tree stmt.now)) }
@@ -204,7 +204,7 @@ fn size_of_passed(sizes: &mut Vec<u32>, stmt: &Stmt) -> Result<u32, AllocError>
     Ok(size)
 }
 
-// The same of statements one after another.
+// The same for a list of statements.
 #[cycle(sizes)]
 pub fn size_of_stmts(sizes: &mut Vec<u32>, stmts: &[Stmt]) -> Result<u32, AllocError>
     ensures size { IfOk result (λ n. n ≡ stmts_size (stmt_trees stmts.now)) }
@@ -219,7 +219,7 @@ pub fn size_of_stmts(sizes: &mut Vec<u32>, stmts: &[Stmt]) -> Result<u32, AllocE
     Ok(size)
 }
 
-// The last size, which is then gone.
+// Removes the last size and returns it.
 pub fn last_size(sizes: &mut Vec<u32>) -> u32
     ensures { (rest : List ℕ) → (n : ℕ) → sizes.old.items ≡ rest ++ n ∷ [] → (result ≡ n) × (sizes.new.items ≡ rest) }
 {

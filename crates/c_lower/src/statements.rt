@@ -16,17 +16,17 @@ use c_tree::{Expr, Simple, Stmt};
 use flat_code::Op;
 use std::alloc::{AllocError, Global};
 
-// What a statement's code knows of its function and of the loop that it stands in.
+// The context of a statement's code: its function and the loop around it.
 #[derive(Clone, Copy)]
 pub struct Context {
     // The variable of the function's first temporary.
     pub t: u32,
-    // The operation to which `break` jumps, and that to which `continue` does.
+    // The target of `break`, and the target of `continue`.
     pub leave: u32,
     pub skip: u32,
 }
 
-// A condition, and a jump past `size` and `more` operations where it is 0. The answer is where that leads.
+// A condition, and a jump that skips `size` and `more` operations if it is 0. Returns the jump's target.
 fn put_condition(
     code: &mut Vec<Op>,
     t: u32,
@@ -44,7 +44,7 @@ fn put_condition(
     Ok(to)
 }
 
-// A jump past as many operations.
+// A jump that skips this number of operations.
 fn put_jump(code: &mut Vec<Op>, size: u32) -> Result<(), AllocError>
     ensures { OnOk result (code.new.items ≡ code.old.items ++ Op.Jump (length code.old.items + size + 1) ∷ []) }
 {
@@ -52,7 +52,7 @@ fn put_jump(code: &mut Vec<Op>, size: u32) -> Result<(), AllocError>
     put(code, Op::Jump { to })
 }
 
-// What the body of a `for` knows, whose turns begin at the end of the code.
+// The context of the body of a `for` whose turns begin at the end of the code.
 fn in_turn(
     code: &Vec<Op>,
     t: u32,
@@ -69,7 +69,7 @@ fn in_turn(
     Ok(Context { t, leave, skip })
 }
 
-// `sizes` ends with the sizes of the statements here that jumps pass over; these are gone then.
+// `sizes` ends with the sizes of the statements here that jumps skip; they are removed.
 #[cycle(statements)]
 fn put_stmt(
     alloc: Global,
@@ -121,7 +121,7 @@ fn put_stmt(
     }
 }
 
-// Statements one after another.
+// A list of statements.
 #[cycle(statements)]
 pub fn put_stmts(
     alloc: Global,

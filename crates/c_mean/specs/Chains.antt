@@ -1,4 +1,4 @@
--- The value of operators one after another, which group to the left, from the value of what stands left of them.
+-- The value of a chain of operators, which group to the left, from the value of the operand to their left.
 use Rattle.std.specs.Prelude.{◌≡◌, ℕ, List, [], ◌∷◌, Ok, Err}
 use Rattle.cap_word.specs.declared.traps.TrapKind.{TrapKind}
 use Rattle.c_tree.specs.declared.operators.Infix.{Infix}
@@ -15,7 +15,7 @@ abbrev pub chain_value : List (List ℕ) → List (List ℕ) → Value → List 
 chain_value names globals left [] = left
 chain_value names globals left (p ∷ ps) = chain_value names globals (joined_value p.0 left (value names globals p.1)) ps
 
--- the left operand alone decides
+-- the left operand alone determines the value
 abbrev pub IsDecided : Infix → ℕ → ℕ → Type 0
 IsDecided operator left word = (right : Value) → joined_value operator (Ok left) right ≡ Ok word
 

@@ -10,7 +10,7 @@ use Rattle.c_mean.specs.Frames.{Place, Running, key_of}
 use Rattle.c_mean.specs.Steps.{source_machine, started}
 use Rattle.c_mean.specs.World.{Rest, Fresh, Blocked, Ended}
 
--- statements one after another
+-- a tree of statements
 abbrev pub in_order : List StmtTree → StmtTrees
 in_order [] = NoStmts
 in_order (s ∷ ss) = Then s (in_order ss)
@@ -21,7 +21,7 @@ returns e = Return (Some (Computed e))
 abbrev pub puts : ℕ → ExprTree → StmtTree
 puts site e = Do (Calling (CallModelled site ModelledCall.Put (e ∷ [])))
 
--- an `int` function with parameters, words of its variables and statements
+-- an `int` function with its number of parameters, the sizes of its variables and its statements
 abbrev pub int_function : ℕ → List ℕ → List StmtTree → FunctionTree
 int_function params sizes ss = record { name = []; params = params; gives = true; sizes = sizes; body = in_order ss }
 
@@ -215,14 +215,14 @@ late_range_test = functions_alone (
 abbrev pub one_modelled : ModelledCall → List ExprTree → ProgramTree
 one_modelled call arguments = functions_alone (int_function 0 [] (Do (Calling (CallModelled 0 call arguments)) ∷ returns (Number 0) ∷ []) ∷ []) 0
 
--- ---- what is looked at
+-- ---- what the examples examine
 
--- the frames of a thread: function and words of its names
+-- the frames of a thread: function, and words of its names
 abbrev pub frames_of : Running → List (ℕ × List (List ℕ))
 frames_of thread = (thread.frame.function, thread.frame.names) ∷ map (λ w. (w.frame.function, w.frame.names)) thread.below
 
--- after so many steps from the start of `main`, the thread goes on with these frames, which wait at these sites for a
--- result that goes to these places
+-- after this number of steps from the start of `main`, the thread continues with these frames, which wait at these
+-- sites for results that go to these places
 abbrev pub HasFrames : ProgramTree → ℕ → List (ℕ × List (List ℕ)) → List (ℕ × Place) → Type 0
 HasFrames program n frames waits =
     (thread : Running) × (moves (source_machine program) n (started program program.main [] []) ≡ Goes thread)

@@ -4,7 +4,7 @@ use Rattle.cap_word.specs.Rows.{zeros, scalars}
 use Rattle.c_tree.specs.Trees.{FunctionTree, ProgramTree, NoStmts}
 use Rattle.c_mean.specs.ToDo.{Item, all_before}
 
--- where a result goes: nowhere, to a name, to an element whose index is already a number, or back to the caller
+-- the destination of a result: none, a name, an element whose index has been evaluated, or the caller
 pub data Place : Type 0 where
   Nowhere : Place
   InLocal : (x : ℕ) → Place
@@ -13,7 +13,7 @@ pub data Place : Type 0 where
   InGlobalElement : (a i : ℕ) → Place
   Returned : Place
 
--- a function, the words of its names, and what it has still to do
+-- a frame: a function, the words of its names, and what it has still to do
 pub record Frame : Type 0 where
   pub function : ℕ
   pub names : List (List ℕ)
@@ -25,7 +25,7 @@ pub record WaitingFrame : Type 0 where
   pub site : ℕ
   pub place : Place
 
--- a thread that runs: its running frame, the frames below it, innermost first, and the globals
+-- a running thread: its running frame, the frames below it, innermost first, and the globals
 pub record Running : Type 0 where
   pub frame : Frame
   pub below : List WaitingFrame
@@ -36,11 +36,11 @@ pub record Waiting : Type 0 where
   pub front : WaitingFrame
   pub below : List WaitingFrame
 
--- function f of the program, which is there
+-- function f of the program, which exists
 abbrev pub function_at : ProgramTree → ℕ → FunctionTree
 function_at program f = slice_index_or program.functions f (record { name = []; params = 0; gives = false; sizes = []; body = NoStmts })
 
--- a frame at its function's start: it has its arguments, and 0 in every other name
+-- a frame at its function's start: its parameters have the arguments, and every other name is 0
 abbrev pub pushed : ProgramTree → ℕ → List ℕ → Frame
 pushed program f arguments = record {
   function = f;
@@ -48,6 +48,7 @@ pushed program f arguments = record {
   to_do = all_before (function_at program f).body [];
 }
 
--- the key of a thread at a modelled call: its site, and then those of the up to seven innermost calls, innermost first
+-- the key of a thread at a modelled call: the site of that call, followed by those of up to seven innermost calls,
+-- innermost first
 abbrev pub key_of : Waiting → List ℕ
 key_of waiting = waiting.front.site ∷ take 7 (map (λ w. w.site) waiting.below)

@@ -1,10 +1,10 @@
--- What a run of one thread leaves as it was.
+-- What a run of one thread leaves unchanged.
 use Rattle.std.specs.Prelude.{◌≡◌, ◌≢◌, ℕ, ◌<◌, ◌≤◌, List, ◌++◌, map, length, slice_get}
 use Rattle.c_mean.specs.ModelledCalls.{Exchange, Delivery, Arrival, Message, channel_of}
 use Rattle.c_mean.specs.World.{World}
 
--- after thread t ran in a world: every other thread that was there rests where it rested, none is gone, what was put
--- stands, followed only by what t put, and there are as many channels as before
+-- after thread t ran in a world: every other thread rests where it rested, none has been removed, the outputs before
+-- are followed only by those of t, and the number of channels is the same
 pub record LeavesAlone (world : World) (t : ℕ) (after : World) : Type 0 where
   pub others : (u : ℕ) → u ≢ t → u < length world.threads → slice_get after.threads u ≡ slice_get world.threads u
   pub none_gone : length world.threads ≤ length after.threads

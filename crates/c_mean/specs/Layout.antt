@@ -1,9 +1,9 @@
--- Words of names one after another, as the calls of this crate take them, and which expressions have a value there.
+-- Words of names one after another, and which expressions have a value there.
 use Rattle.std.specs.Prelude.{◌≡◌, ℕ, ◌<◌, List, [], ◌∷◌, map, take, drop, length, slice_index}
 use Rattle.c_tree.specs.declared.facts.GlobalFact.{GlobalFact}
 use Rattle.c_tree.specs.Trees.{ExprTree, Number, Local, Global, LocalElement, GlobalElement, Unary, Parenthesized, Binary, LogicalAnd, LogicalOr, Conditional}
 
--- the rows of names with these widths, cut from their words in order
+-- the rows of names with these widths, cut from the list of their words in order
 abbrev pub rows_of : List ℕ → List ℕ → List (List ℕ)
 rows_of [] words = []
 rows_of (n ∷ ns) words = take n words ∷ rows_of ns (drop n words)
@@ -12,7 +12,8 @@ rows_of (n ∷ ns) words = take n words ∷ rows_of ns (drop n words)
 abbrev pub widths_of : List GlobalFact → List ℕ
 widths_of globals = map (λ g. g.words) globals
 
--- an expression names what is there, of names and globals with these widths, and one without an index has one word
+-- the names in an expression exist, among names and globals with these widths, and those without an index have one
+-- word
 abbrev pub IsInRange : List ℕ → List ℕ → ExprTree → Type 0
 IsInRange sizes widths (Number v) = Unit {0}
 IsInRange sizes widths (Local x) = (x < length sizes) × (slice_index sizes x ≡ 1)

@@ -1,5 +1,5 @@
--- What the operators of CapC compute, on words: ISO/IEC 9899:2018, 6.5.3.3 and 6.5.5 to 6.5.12, where a sum, a
--- difference, a product and `<<` wrap, shift counts are taken modulo 32 and `>>` copies the sign.
+-- The values of the operators of CapC, on words: ISO/IEC 9899:2018, 6.5.3.3 and 6.5.5 to 6.5.12; a sum, a
+-- difference, a product and `<<` wrap, shift counts are taken modulo 32, and `>>` copies the sign.
 use Rattle.std.specs.Prelude.{ℕ, ◌-◌, ◌^◌, not, nat_eq, int_lt, int_le, bit_and, bit_or, bit_xor}
 use Rattle.cap_word.specs.Word as word
 use Rattle.c_tree.specs.declared.operators.BinaryOperator.{BinaryOperator}

@@ -1,4 +1,4 @@
--- Where the calls of a function stand in its text: what is still to do after each, and which names are in scope there.
+-- The calls in a function's text: what is still to do after each, and which names are in scope there.
 use Rattle.std.specs.Prelude.{◌≡◌, ℕ, List, [], ◌∷◌, ◌++◌, map, Option, Some, None}
 use Rattle.std.specs.List.{Contains}
 use Rattle.c_tree.specs.Trees.{CallTree, RightTree, Computed, Called, SimpleTree, DeclareScalar, DeclareArray, DeclareWith, SetLocal, SetGlobal, SetLocalElement, SetGlobalElement, Calling, StmtTree, StmtTrees, Do, Empty, Block, If, IfElse, While, For, Break, Continue, Return, NoStmts, Then, FunctionTree, ProgramTree}
@@ -8,7 +8,7 @@ use Rattle.c_tree.specs.WellScoped.{with_names, scope_after, scope_after_all}
 use Rattle.c_mean.specs.ToDo.{Item, Simply, Back, WhileLoop, ForLoop, step_item, all_before, turn_before}
 use Rattle.c_mean.specs.Frames.{Place, Nowhere, InLocal, InGlobal, InLocalElement, InGlobalElement, Returned, WaitingFrame, function_at}
 
--- where the text says that a result goes: a place without its index
+-- the destination of a result in the text: a place without its index
 pub data Target : Type 0 where
   ToNowhere : Target
   ToLocal : (x : ℕ) → Target
@@ -36,7 +36,7 @@ abbrev pub right_calls : RightTree → Target → List ℕ → List Item → Lis
 right_calls (Computed e) target scope rest = []
 right_calls (Called call) target scope rest = record { call = call; target = target; scope = scope; rest = rest } ∷ []
 
--- the calls of a statement before which these names are in scope, and after which the rest is still to do
+-- the calls of a statement, given the names in scope before it and what is still to do after it
 abbrev pub simple_calls : SimpleTree → List ℕ → List Item → List CallInText
 simple_calls (DeclareScalar x) scope rest = []
 simple_calls (DeclareArray x n) scope rest = []
@@ -47,7 +47,7 @@ simple_calls (SetLocalElement a i v) scope rest = right_calls v (ToLocalElement 
 simple_calls (SetGlobalElement a i v) scope rest = right_calls v (ToGlobalElement a) scope rest
 simple_calls (Calling call) scope rest = right_calls (Called call) ToNowhere scope rest
 
--- the calls of the start of a `for`, one part after another
+-- the calls of the first part of a `for`
 abbrev pub simples_calls : List SimpleTree → List ℕ → List Item → List CallInText
 simples_calls [] scope rest = []
 simples_calls (s ∷ ss) scope rest = simple_calls s scope (map Simply ss ++ rest) ++ simples_calls ss (with_names scope (simple_names s)) rest
@@ -80,15 +80,15 @@ abbrev mutual
   stmts_calls NoStmts scope rest = []
   stmts_calls (Then s ss) scope rest = stmt_calls s scope (all_before ss rest) ++ stmts_calls ss (scope_after scope s) rest
 
--- the calls of a function, in the order of the text: its parameters are in scope from the start
+-- the calls of a function, in the order of the text; its parameters are in scope from the start
 abbrev pub function_calls : FunctionTree → List CallInText
 function_calls f = stmts_calls f.body (below f.params) []
 
 abbrev pub site_of : CallInText → ℕ
 site_of call = (call_site call.call).number
 
--- a frame waits at a call of its function's text: its site is that call's, its result goes where the text says, and what
--- follows the call is what it has still to do
+-- a frame waits at a call of its function's text: its site is that of the call, its result goes to the place in the
+-- text, and what follows the call is what it has still to do
 pub record WaitsAt (program : ProgramTree) (waiting : WaitingFrame) (call : CallInText) : Type 0 where
   pub in_text : Contains (function_calls (function_at program waiting.frame.function)) call
   pub site : waiting.site ≡ site_of call

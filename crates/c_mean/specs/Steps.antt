@@ -1,6 +1,6 @@
--- One step of a source thread: a declaration, an assignment, one test of a condition, a jump out of or back to a loop, a
--- call that pushes a frame, a return that pops one and stores its result, a modelled call, a trap by index or table, or
--- the end of the last frame (ISO/IEC 9899:2018, 6.5.2.2, 6.5.16 and 6.8).
+-- One step of a source thread: a declaration, an assignment, one test of a condition, a jump out of a loop or back to
+-- its start, a call that pushes a frame, a return that pops one and stores its result, a modelled call, a trap by index
+-- or table, or the end of the last frame (ISO/IEC 9899:2018, 6.5.2.2, 6.5.16 and 6.8).
 use Rattle.std.specs.Prelude.{ℕ, zero, suc, Bool, true, false, List, [], ◌∷◌, Option, Some, None, nat_lt, length, Result, Ok, Err, map, replicate, slice_index, slice_index_or}
 use Rattle.cap_word.specs.Rows.{width, with_word, with_zeros}
 use Rattle.cap_word.specs.Calls.{Call, Question, Answer, Finish, call_of, spawn_of}
@@ -12,13 +12,13 @@ use Rattle.c_mean.specs.Values.{Value, value, values}
 use Rattle.c_mean.specs.ToDo.{Item, Simply, Choose, Test, Enter, Back, Leave, Skip, GiveBack, GiveBackWord, Fail, before, body_before, turn_before, after_leave, after_skip}
 use Rattle.c_mean.specs.Frames.{Place, Nowhere, InLocal, InGlobal, InLocalElement, InGlobalElement, Returned, WaitingFrame, Running, Waiting, pushed}
 
--- what a step of a source thread leads to
+-- the outcome of a step of a source thread
 abbrev pub SourceMove : Type 0
 SourceMove = Move Running Waiting Question Finish
 
 -- ---- parts of a thread
 
--- the thread with something else to do
+-- the thread, with these items still to do instead
 abbrev pub to_do : Running → List Item → Running
 to_do thread items = record thread { frame = record thread.frame { to_do = items } }
 
@@ -50,8 +50,8 @@ abbrev pub stored_where : Bool → Running → Result Running TrapKind
 stored_where true thread = Ok thread
 stored_where false thread = Err TrapKind.Index
 
--- a word goes to a place; an element's index, read unsigned, has to be below the array's size. A word that goes back to
--- the caller is all that is left to do.
+-- a word is stored at a place; an element's index, unsigned, has to be below the array's size. If the word is returned
+-- to the caller, nothing else is left to do.
 abbrev pub stored : Running → Place → ℕ → Result Running TrapKind
 stored thread Nowhere word = Ok thread
 stored thread (InLocal x) word = Ok (with_names thread (with_word thread.frame.names x 0 word))
@@ -64,7 +64,7 @@ stored thread Returned word = Ok (to_do thread (GiveBackWord word ∷ []))
 abbrev pub assigned : Running → Place → ℕ → SourceMove
 assigned thread place word = on_value thread (stored thread place word) Goes
 
--- the thread after the result of a call came: where it can't be stored, the trap is what is left to do
+-- the thread after the result of a call has arrived: if it can't be stored, only the trap is left to do
 abbrev pub delivered_or : Running → Result Running TrapKind → Running
 delivered_or thread (Ok after) = after
 delivered_or thread (Err trap) = to_do thread (Fail trap ∷ [])
@@ -79,12 +79,12 @@ delivered waiting below globals word =
 abbrev pub waits_at : Running → ℕ → Place → WaitingFrame
 waits_at thread site place = record { frame = thread.frame; site = site; place = place }
 
--- a function is called: a frame is pushed
+-- a call of a function: a frame is pushed
 abbrev pub entered : ProgramTree → Running → ℕ → Place → ℕ → List ℕ → SourceMove
 entered program thread site place f arguments =
     Goes (record { frame = pushed program f arguments; below = waits_at thread site place ∷ thread.below; globals = thread.globals })
 
--- a member of a table is called; its index, read unsigned, has to be below the number of members
+-- a call of a member of a table; its index, unsigned, has to be below the number of members
 abbrev pub entered_where : Bool → ProgramTree → Running → ℕ → Place → ℕ → ℕ → SourceMove
 entered_where true program thread site place f argument = entered program thread site place f (argument ∷ [])
 entered_where false program thread site place f argument = trapped thread TrapKind.Table
@@ -98,12 +98,12 @@ abbrev pub asks : Running → ℕ → Place → Call → SourceMove
 asks thread site place call =
     Asks (record { call = call; globals = thread.globals }) (record { front = waits_at thread site place; below = thread.below })
 
--- in a program that is well scoped each call has as many arguments as it takes; any other one ends the thread
+-- in a well-scoped program each call has the right number of arguments; any other call ends the thread
 abbrev pub asks_if : Running → ℕ → Place → Option Call → SourceMove
 asks_if thread site place (Some call) = asks thread site place call
 asks_if thread site place None = Stops (record { trap = None; globals = thread.globals })
 
--- arguments come from left to right, and a table's index before its argument
+-- arguments are evaluated from left to right, and a table's index before its argument
 abbrev pub called : ProgramTree → Running → Place → CallTree → SourceMove
 called program thread place (CallFunction site f es) = on_value thread (all_valued thread es) (λ arguments. entered program thread site place f arguments)
 called program thread place (CallTable site t i e) =
@@ -112,15 +112,15 @@ called program thread place (CallTable site t i e) =
 called program thread place (CallSpawn site f e) = on_value thread (valued thread e) (λ argument. asks thread site place (spawn_of f argument))
 called program thread place (CallModelled site m es) = on_value thread (all_valued thread es) (λ arguments. asks_if thread site place (call_of (number_of m) arguments))
 
--- a right side, whose value or result goes to a place
+-- a right side; its value or result goes to a place
 abbrev pub assigns : ProgramTree → Running → Place → RightTree → SourceMove
 assigns program thread place (Computed e) = on_value thread (valued thread e) (assigned thread place)
 assigns program thread place (Called call) = called program thread place call
 
 -- ---- statements
 
--- a declaration without a value sets all words of its name to 0. In `a[i] = e` the index comes before the right side, and
--- the range test after it.
+-- a declaration without a value sets all words of its name to 0. In `a[i] = e` the index is evaluated before the right
+-- side, and tested after it.
 abbrev pub does : ProgramTree → Running → SimpleTree → SourceMove
 does program thread (DeclareScalar x) = Goes (with_names thread (with_zeros thread.frame.names x))
 does program thread (DeclareArray x n) = Goes (with_names thread (with_zeros thread.frame.names x))
@@ -131,12 +131,12 @@ does program thread (SetLocalElement a i v) = on_value thread (valued thread i) 
 does program thread (SetGlobalElement a i v) = on_value thread (valued thread i) (λ index. assigns program thread (InGlobalElement a index) v)
 does program thread (Calling call) = called program thread Nowhere call
 
--- the first of two lists of items where a condition isn't 0, and else the second
+-- the first of two lists of items if a condition isn't 0, and otherwise the second
 abbrev pub branched : Running → List Item → List Item → ℕ → SourceMove
 branched thread first second zero = Goes (to_do thread second)
 branched thread first second (suc n) = Goes (to_do thread first)
 
--- a return to the frame below, with a word that isn't looked at where the function gives none; or the thread's end
+-- a return to the frame below, with a word that is ignored if the function gives no result; or the thread's end
 abbrev pub returned : Running → List WaitingFrame → ℕ → SourceMove
 returned thread [] word = Stops (record { trap = None; globals = thread.globals })
 returned thread (waiting ∷ below) word = Goes (delivered waiting below thread.globals word)
@@ -146,8 +146,8 @@ gives_back program thread None = returned thread thread.below 0
 gives_back program thread (Some (Computed e)) = on_value thread (valued thread e) (returned thread thread.below)
 gives_back program thread (Some (Called call)) = called program thread Returned call
 
--- An item, where the thread has only the items after it still to do. The mark of a turn is never met here, since it is no
--- step (see `performs_first`); its row is there so that each item has one.
+-- An item, when the thread has only the items after it still to do. The mark of a turn never occurs here, since it
+-- isn't a step (see `performs_first`); it has a row so that every item has one.
 abbrev pub performs : ProgramTree → Running → Item → List Item → SourceMove
 performs program thread (Simply s) rest = does program thread s
 performs program thread (Choose c s r) rest = on_value thread (valued thread c) (branched thread (before s rest) (before r rest))
@@ -160,7 +160,7 @@ performs program thread (GiveBack v) rest = gives_back program thread v
 performs program thread (GiveBackWord word) rest = returned thread thread.below word
 performs program thread (Fail trap) rest = trapped thread trap
 
--- The first item. Marks of turns before it are passed over within the same step. A function that reaches its end returns 0
+-- The first item. Marks of turns before it are skipped within the same step. A function that reaches its end returns 0
 -- if it is an `int` function.
 abbrev pub performs_first : ProgramTree → Running → List Item → SourceMove
 performs_first program thread [] = returned thread thread.below 0
@@ -171,7 +171,7 @@ performs_first program thread (item ∷ rest) = performs program (to_do thread r
 abbrev pub source_step : ProgramTree → Running → SourceMove
 source_step program thread = performs_first program thread thread.frame.to_do
 
--- a thread goes on with the answer to its modelled call, which is no step
+-- a thread resumes with the answer to its modelled call, which isn't a step
 abbrev pub source_resume : Waiting → Answer → Running
 source_resume waiting answer = delivered waiting.front waiting.below answer.globals answer.result
 

@@ -1,21 +1,21 @@
 -- The value of an expression, or its first trap, from the words of names and globals: ISO/IEC 9899:2018, 6.5, from
--- left to right. `&&`, `||` and `?:` look only at what they need.
+-- left to right. `&&`, `||` and `?:` evaluate only the operands that they need.
 use Rattle.std.specs.Prelude.{ℕ, zero, suc, Bool, true, false, List, [], ◌∷◌, nat_lt, Result, Ok, Err}
 use Rattle.cap_word.specs.Rows.{width, word_at}
 use Rattle.cap_word.specs.declared.traps.TrapKind.{TrapKind}
 use Rattle.c_tree.specs.Trees.{ExprTree, Number, Local, Global, LocalElement, GlobalElement, Unary, Parenthesized, Binary, LogicalAnd, LogicalOr, Conditional}
 use Rattle.c_mean.specs.Operators.{unary_value, binary_value}
 
--- a word, or the first trap on the way to it
+-- a word, or the first trap in the evaluation
 abbrev pub Value : Type 0
 Value = Result ℕ TrapKind
 
--- the word where its index is in range, and else the trap
+-- the word if its index is in range, and otherwise the trap
 abbrev pub in_range : Bool → ℕ → Value
 in_range true word = Ok word
 in_range false word = Err TrapKind.Index
 
--- an element by its index, which is read unsigned
+-- an element by its unsigned index
 abbrev pub element : List (List ℕ) → ℕ → Value → Value
 element rows a (Ok i) = in_range (nat_lt i (width rows a)) (word_at rows a i)
 element rows a (Err trap) = Err trap
@@ -24,19 +24,19 @@ abbrev pub on_one : (ℕ → ℕ) → Value → Value
 on_one operator (Ok a) = Ok (operator a)
 on_one operator (Err trap) = Err trap
 
--- the trap of the left operand comes first
+-- an operator on two values; the trap of the left operand takes precedence
 abbrev pub on_both : (ℕ → ℕ → ℕ) → Value → Value → Value
 on_both operator (Ok a) (Ok b) = Ok (operator a b)
 on_both operator (Ok a) (Err trap) = Err trap
 on_both operator (Err trap) right = Err trap
 
--- 1 where a value isn't 0
+-- 1 if a value isn't 0, and 0 otherwise
 abbrev pub truth : Value → Value
 truth (Ok zero) = Ok 0
 truth (Ok (suc a)) = Ok 1
 truth (Err trap) = Err trap
 
--- the first of two values where a condition isn't 0, and else the second; the other one isn't looked at
+-- the first of two values if a condition isn't 0, and otherwise the second; the other one isn't evaluated
 abbrev pub choice : Value → Value → Value → Value
 choice (Ok zero) first second = second
 choice (Ok (suc a)) first second = first

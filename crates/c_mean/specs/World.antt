@@ -1,4 +1,4 @@
--- The source world: threads by number that run one at a time, in any order that is given from outside, each up to its
+-- The source world: threads by number, which run one at a time, in an order that is given from outside, each up to its
 -- next blocking call, its end or its trap (the cooperative threads of Capriccio, SOSP 2003).
 use Rattle.std.specs.Prelude.{◌≡◌, ℕ, ◌+◌, ◌<◌, List, [], ◌∷◌, ◌++◌, length, replicate, Option, Some, None, option_map, slice_get, slice_set}
 use Rattle.cap_word.specs.Calls.{Call, Blocking, Immediate}
@@ -10,48 +10,49 @@ use Rattle.c_mean.specs.Frames.{Running, Waiting}
 use Rattle.c_mean.specs.Steps.{SourceMove, source_step, source_resume, started, start_globals}
 use Rattle.c_mean.specs.ModelledCalls.{Exchange, BlockingRow, blocking_row, ImmediateRow, immediate_row, Delivery, with_delivery}
 
--- where a thread rests
+-- the state of a thread at rest
 pub data Rest : Type 0 where
-  -- it hasn't run: a function and its arguments
+  -- it hasn't run yet: a function and its arguments
   Fresh : (function : ℕ) (arguments : List ℕ) → Rest
   -- it is blocked at a call
   Blocked : (block : Block) (waiting : Waiting) → Rest
   -- it has ended
   Ended : Rest
 
--- the threads by number, the globals, what threads meet outside themselves, and what was put so far: thread and value
+-- a world: the threads by number, the globals, what threads share besides these, and the outputs so far, each with its
+-- thread
 pub record World : Type 0 where
   pub threads : List Rest
   pub globals : List (List ℕ)
   pub exchange : Exchange
   pub outputs : List (ℕ × ℕ)
 
--- nothing has come, and nothing is used
+-- nothing has arrived, and no resource is in use
 abbrev pub empty_exchange : Exchange
 empty_exchange = record { arrivals = []; channels = replicate 64 []; uses = replicate 8 0 }
 
--- the world in which a run starts: `main`, which is thread 0, hasn't run
+-- the world at the start of a run: `main`, which is thread 0, hasn't run
 abbrev pub start_world : ProgramTree → World
 start_world program = record { threads = Fresh program.main [] ∷ []; globals = start_globals program; exchange = empty_exchange; outputs = [] }
 
 -- ---- one thread runs
 
--- a thread that runs in a world. The globals are the thread's until it rests.
+-- a thread that runs in a world. The globals are those of the thread until it rests.
 pub record Segment : Type 0 where
   pub number : ℕ
   pub running : Running
   pub world : World
 
--- where a run of a thread has come to: the world, and the trap if it is one
+-- the world when a run of a thread has come to rest, and the trap if it is one
 pub record Rested : Type 0 where
   pub trap : Option TrapKind
   pub world : World
 
--- what a step of a segment leads to; it asks nothing
+-- the outcome of a step of a segment; it asks nothing
 abbrev pub SegmentMove : Type 0
 SegmentMove = Move Segment ⊥ ⊥ Rested
 
--- the run has come to a trap
+-- the run traps
 abbrev pub traps : Segment → List (List ℕ) → TrapKind → SegmentMove
 traps segment globals trap = Stops (record { trap = Some trap; world = record segment.world { globals = globals } })
 
@@ -59,17 +60,17 @@ traps segment globals trap = Stops (record { trap = Some trap; world = record se
 abbrev pub rests : Segment → List (List ℕ) → Rest → SegmentMove
 rests segment globals rest = Stops (record { trap = None; world = record segment.world { threads = slice_set segment.world.threads segment.number rest; globals = globals } })
 
--- where there is a trap the run has come to it, and else the other
+-- the trap, if there is one, and otherwise the other outcome
 abbrev pub unless_trap : Segment → List (List ℕ) → Option TrapKind → SegmentMove → SegmentMove
 unless_trap segment globals (Some trap) other = traps segment globals trap
 unless_trap segment globals None other = other
 
--- a number that was printed joins the outputs
+-- a number that was output is appended to the outputs
 abbrev pub with_printed : ℕ → List (ℕ × ℕ) → Option ℕ → List (ℕ × ℕ)
 with_printed number outputs None = outputs
 with_printed number outputs (Some value) = outputs ++ (number, value) ∷ []
 
--- a thread that starts gets the next number
+-- a new thread gets the next number
 abbrev pub with_started : List Rest → Option (ℕ × ℕ) → List Rest
 with_started threads None = threads
 with_started threads (Some start) = threads ++ Fresh start.0 (start.1 ∷ []) ∷ []
@@ -112,8 +113,8 @@ segment_machine program caps = record { step = segment_step program caps; resume
 
 -- ---- runs of a thread
 
--- The effect of resuming, which is no step; none where there is no such thread or it has ended. A blocked thread is run
--- only where it is ready (`is_ready`, which needs a clock): elsewhere the answer to its call means nothing.
+-- The effect of resuming, which isn't a step; none if there is no such thread or it has ended. A blocked thread is run
+-- only if it is ready (`is_ready`, which needs a clock): otherwise the answer to its call has no meaning.
 abbrev pub begun_at : ProgramTree → List ℕ → World → ℕ → Option Rest → Option Segment
 begun_at program caps world number None = None
 begun_at program caps world number (Some Ended) = None
@@ -130,15 +131,15 @@ begun_at program caps world number (Some (Blocked block waiting)) =
 abbrev pub begun : ProgramTree → List ℕ → World → ℕ → Option Segment
 begun program caps world number = begun_at program caps world number (slice_get world.threads number)
 
--- what at most n source steps of a thread lead to, from where it rests
+-- the outcome of at most n source steps of a thread, from where it rests
 abbrev pub thread_moves : ProgramTree → List ℕ → World → ℕ → ℕ → Option SegmentMove
 thread_moves program caps world number n = option_map (moves (segment_machine program caps) n) (begun program caps world number)
 
--- the run of a thread comes to this
+-- the run of a thread ends in this, at rest or in a trap
 abbrev pub RunsTo : ProgramTree → List ℕ → World → ℕ → Rested → Type 0
 RunsTo program caps world number rested = (n : ℕ) × (thread_moves program caps world number n ≡ Some (Stops rested))
 
--- the run of a thread, cut at the first moment at which it has put so many values, is in this segment
+-- the run of a thread, cut at the first moment at which it has made this number of outputs, is in this segment
 abbrev pub IsCutAt : ProgramTree → List ℕ → World → ℕ → ℕ → Segment → Type 0
 IsCutAt program caps world number puts segment =
     (m : ℕ) × (thread_moves program caps world number m ≡ Some (Goes segment))
@@ -147,7 +148,7 @@ IsCutAt program caps world number puts segment =
 
 -- ---- schedules
 
--- an entry of a schedule: something comes from outside, or a thread runs
+-- an entry of a schedule: a delivery from outside, or a run of a thread
 pub data Entry : Type 0 where
   Deliver : (delivery : Delivery) → Entry
   Run : (number : ℕ) → Entry

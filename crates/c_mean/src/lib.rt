@@ -1,19 +1,16 @@
-// What a CapC program means, over the plain trees of c_tree.
+// The meaning of CapC programs, over the plain trees of c_tree.
 //
-// The definitions stand in specs/: the value of an expression (Values), what a frame has still to do and one step of a
+// The definitions are in specs/: the value of an expression (Values), what a frame has still to do and one step of a
 // source thread (ToDo, Frames, Steps), the table of the modelled calls, for source, flat code and machine alike
 // (ModelledCalls), the world of threads and its runs (World), and where a function's calls stand in its text (Sites). A
-// thread is a machine of cap_word/specs/Runs.antt. The crates above cite these definitions, the laws and `value_of`, the
-// one call here that computes. The public functions with empty bodies are laws and examples: their contracts are proved.
+// thread is a machine of cap_word/specs/Runs.antt. The crates above cite these definitions and the laws. Nothing here runs:
+// the public functions are laws and examples, whose contracts are proved. `source_items` evaluates expressions.
 // The rules are those of ISO/IEC 9899:2018, clauses 6.5 and 6.8, for the subset CapC, with wrapping arithmetic; the
 // threads are Capriccio's (SOSP 2003) in idea.
 #![tactic(auto)]
 
 mod examples;
 mod laws;
-mod layout;
-mod operators;
-mod values;
 
 pub use examples::{
     blocked_threads_are_ready, call_pushes_frame, calls_out_of_range_trap, deep_thread_blocks,
@@ -26,4 +23,3 @@ pub use laws::{
     modelled_calls_are_known, runs_have_one_end, runs_leave_others_alone,
     scoped_expressions_are_in_range, segments_run_threads,
 };
-pub use values::value_of;

@@ -1,4 +1,4 @@
--- The tokens of a source are this tree, and what they are refused for.
+-- The tree of the tokens of a source, and their refusal.
 use Rattle.std.specs.Prelude.{ℕ, ◌≡◌, List, Option, Some, length}
 use Rattle.c_lex.specs.declared.tokens.Token.{Token}
 use Rattle.c_tree.specs.RawTrees.{RawItemTree}
@@ -11,15 +11,17 @@ use Rattle.c_parse.specs.NestedCalls.{nested_in_items}
 use Rattle.c_tree.specs.WholeForParts.{AreForPartsWhole}
 use Rattle.c_parse.specs.ForParts.{nested_in_fors}
 
--- ---- over which calls have to be whole
+-- ---- by which calls have to be whole
 
--- the tokens are a program in which nothing is too deep and the calls that have to be whole are, and this is its tree
+-- the tokens are a program in which nothing is too deep and each call that has to be whole is whole, and this is its
+-- tree
 pub record IsParsedWhere (Whole : List RawItemTree → Type 0) (source : List ℕ) (tokens : List Token) (items : List RawItemTree) : Type 0 where
   pub within : IsWithin tokens
   pub tree : IsProgram source tokens items
   pub whole : Whole items
 
--- the tokens are a program in which nothing is too deep, and the first of its calls that had to be whole and isn't is of the name there
+-- the tokens are a program in which nothing is too deep, and the first of its calls that has to be whole and isn't has
+-- its name there
 pub record IsNestedWhere (first_nested : List RawItemTree → Option ℕ) (source : List ℕ) (tokens : List Token) (at : ℕ) : Type 0 where
   pub items : List RawItemTree
   pub within : IsWithin tokens
@@ -40,7 +42,7 @@ IsParsed source tokens items = IsParsedWhere AreCallsWhole source tokens items
 abbrev pub IsParseErrorOf : List ℕ → List Token → ParseError → Type 0
 IsParseErrorOf source tokens error = IsRefusedWhere nested_in_items source tokens error
 
--- ---- the calls in the parentheses of a `for` have to be
+-- ---- the calls in the parentheses of a `for` have to be whole
 
 abbrev pub IsParsedNested : List ℕ → List Token → List RawItemTree → Type 0
 IsParsedNested source tokens items = IsParsedWhere AreForPartsWhole source tokens items

@@ -1,4 +1,4 @@
-// Calls in the parentheses of a `for` that are not whole.
+// Calls in the parentheses of a `for` that aren't whole.
 ghost use Rattle.std.specs.Prelude.{◌≡◌};
 ghost use Rattle.c_tree.specs.RawViews.{raw_stmt_tree, raw_stmt_trees, raw_item_tree, raw_item_trees};
 ghost use Rattle.c_parse.specs.ForParts.{nested_in_for, nested_in_all_for, nested_in_item_for, nested_in_fors};
@@ -6,7 +6,8 @@ ghost use Rattle.c_parse.specs.ForParts.{nested_in_for, nested_in_all_for, neste
 use crate::nested_calls::{first, nested_in_condition, nested_in_simples, nested_in_step};
 use c_tree::{RawItem, RawStmt};
 
-/// The place of the name of the first call in the parentheses of a `for` that is not whole, if there is one.
+/// Returns the place of the name of the first call in the parentheses of a `for` that isn't whole, if there
+/// is one.
 pub(crate) fn nested_in_fors(items: &[RawItem]) -> Option<u32>
     ensures { result ≡ nested_in_fors (raw_item_trees items.now) }
 {

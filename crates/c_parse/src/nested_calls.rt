@@ -1,11 +1,11 @@
-// Calls that are not whole.
+// Calls that aren't whole.
 ghost use Rattle.std.specs.Prelude.{◌≡◌, map, option_map};
 ghost use Rattle.c_tree.specs.RawViews.{raw_expr_tree, raw_expr_trees, raw_simple_tree, raw_stmt_tree, raw_stmt_trees, raw_item_tree, raw_item_trees};
 ghost use Rattle.c_parse.specs.NestedCalls.{earlier, first_call, first_call_of, nested_in_value, nested_in_simple, nested_in_simples, nested_in_condition, nested_in_step, nested_in_return, nested_in_stmt, nested_in_stmts, nested_in_item, nested_in_items};
 
 use c_tree::{RawExpr, RawItem, RawSimple, RawStmt};
 
-/// The place of the name of the first call that is not whole, if there is one.
+/// Returns the place of the name of the first call that isn't whole, if there is one.
 pub(crate) fn nested_in_items(items: &[RawItem]) -> Option<u32>
     ensures { result ≡ nested_in_items (raw_item_trees items.now) }
 {
@@ -72,7 +72,7 @@ fn nested_in_stmt(stmt: &RawStmt) -> Option<u32>
     }
 }
 
-/// The first that is there.
+/// Returns the first of the two that exists.
 pub(crate) fn first(one: Option<u32>, other: Option<u32>) -> Option<u32>
     ensures { result ≡ earlier one other }
 {

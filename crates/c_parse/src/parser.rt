@@ -14,14 +14,14 @@ use c_tree::{RawItem, RawProgram};
 use grammar_reader::{Cursor, Text, all_items};
 use std::alloc::Global;
 
-/// The tree of a source, whose tokens these are, as `c_lex` gives them (ISO/IEC 9899:2018, 6.5 to 6.9, the subset).
+/// Returns the tree of a source with these tokens, which `c_lex` returned (ISO/IEC 9899:2018, 6.5 to 6.9, the subset).
 ///
 /// # Errors
 ///
-/// `Unexpected` at the first token with which the tokens so far are no beginning of a program, or at the end of the
-/// source; `TooDeep` at the first token where more than 64 constructs are open; of the two the one at the earlier token,
-/// and `Unexpected` where both stand at one. Where neither stands, `NestedCall` at the first call that is not whole, which
-/// stands inside an expression. `Memory` where the tree has no room.
+/// `Unexpected` at the first token with which the tokens so far aren't the beginning of a program, or at the end of the
+/// source; `TooDeep` at the first token at which more than 64 constructs are open; of the two the one at the earlier
+/// token, and `Unexpected` if both are at the same. Otherwise `NestedCall` at the first call that isn't whole, that is,
+/// which is inside an expression. `Memory` if an allocation fails.
 pub fn parse(alloc: Global, source: &[u8], tokens: &[Token]) -> Result<RawProgram, ParseError>
     requires { length source.now ≤ 1048576 }
     ensures tree { IfOk result (λ program. IsParsed source.now tokens.now (raw_program_tree program)) }
@@ -36,11 +36,13 @@ pub fn parse(alloc: Global, source: &[u8], tokens: &[Token]) -> Result<RawProgra
     tree_of(alloc, source, tokens)
 }
 
-/// The tree of a source, as `parse` gives it, where a call may stand inside an expression everywhere but in the parentheses of a `for`.
+/// Returns the tree of a source, like `parse`, but calls may be nested in expressions everywhere except in the
+/// parentheses of a `for`.
 ///
 /// # Errors
 ///
-/// Those of `parse`, but `NestedCall` at the first call in the three parts in the parentheses of a `for` that is not whole.
+/// Those of `parse`, but `NestedCall` at the first call in the three parts in the parentheses of a `for` that isn't
+/// whole.
 pub fn parse_nested(
     alloc: Global,
     source: &[u8],

@@ -1,4 +1,4 @@
--- What a source text is: the one definition of which program its bytes are, and of what they are refused for.
+-- The program of a source text, and the refusal of a text that has none.
 use Rattle.std.specs.Prelude.{ℕ, List, Option}
 use Rattle.c_lex.specs.declared.tokens.Token.{Token}
 use Rattle.c_lex.specs.declared.tokens.LexError.{LexError}
@@ -14,10 +14,11 @@ use Rattle.c_scope.specs.declared.source_errors.SourceError.{SourceError}
 use Rattle.c_scope.specs.declared.source_errors.SourceError.TheVariants as refusals
 use Rattle.scope_rules.specs.Outcomes.{IsResolved, IsRefused}
 
--- ---- over which calls have to be whole, the first that isn't, and what a tree is resolved to and refused for
+-- ---- by which calls have to be whole, the first that isn't, and how a tree is resolved and refused
 
--- The bytes of the source split into these tokens, by maximal munch, with white space and comments between them; the tokens are this
--- tree of the grammar, in which nothing is too deep and the calls that have to be whole are; and the tree is resolved to the program.
+-- The bytes of the source split into these tokens, by maximal munch, with white space and comments between them; the
+-- tokens are this tree of the grammar, in which nothing is too deep and each call that has to be whole is whole; and
+-- the tree is resolved to the program.
 pub record ReadsWhere (Whole : List RawItemTree → Type 0) (Resolved : List RawItemTree → ProgramTree → Type 0) (source : List ℕ) (program : ProgramTree) : Type 0 where
   pub tokens : List Token
   pub tree : List RawItemTree
@@ -25,7 +26,7 @@ pub record ReadsWhere (Whole : List RawItemTree → Type 0) (Resolved : List Raw
   pub parsed : IsParsedWhere Whole source tokens tree
   pub resolved : Resolved tree program
 
--- the bytes do not split into tokens
+-- the bytes don't split into tokens
 abbrev pub IsNoTokens : List ℕ → LexError → Type 0
 IsNoTokens source error = IsLexErrorOf source error
 
@@ -43,7 +44,7 @@ pub record IsNoProgramWhere (Whole : List RawItemTree → Type 0) (Refused : Lis
   pub parsed : IsParsedWhere Whole source tokens tree
   pub refused : Refused tree error
 
--- What the source is refused for: the refusal of the first of the three readings that has one.
+-- The refusal of the source: that of the first of the three stages that has one.
 abbrev pub IsSourceErrorWhere : (List RawItemTree → Type 0) → (List RawItemTree → Option ℕ) → (List RawItemTree → ScopeError → Type 0) → List ℕ → SourceError → Type 0
 IsSourceErrorWhere Whole first_nested Refused source (refusals.BadByte at) = IsNoTokens source (LexError.BadByte at)
 IsSourceErrorWhere Whole first_nested Refused source (refusals.OpenComment at) = IsNoTokens source (LexError.OpenComment at)
@@ -61,15 +62,15 @@ IsSourceErrorWhere Whole first_nested Refused source refusals.Memory = ⊥
 
 -- ---- every call has to be whole
 
--- The source reads as this program: each call of its tree is whole, and the tree breaks no rule of scope, defines `main`, exceeds no
--- limit, and with numbers in the place of its names it is the program.
+-- The source is read as this program: each call of its tree is whole, and the tree breaks no rule of scope, defines
+-- `main`, exceeds no limit, and is the program with numbers in place of names.
 abbrev pub ReadsAs : List ℕ → ProgramTree → Type 0
 ReadsAs source program = ReadsWhere AreCallsWhole IsResolved source program
 
 abbrev pub IsSourceErrorOf : List ℕ → SourceError → Type 0
 IsSourceErrorOf source error = IsSourceErrorWhere AreCallsWhole nested_in_items IsRefused source error
 
--- each reader's refusal among those of a source
+-- each stage's refusal as one of the source
 abbrev pub by_lex : LexError → SourceError
 by_lex (LexError.BadByte at) = refusals.BadByte at
 by_lex (LexError.OpenComment at) = refusals.OpenComment at

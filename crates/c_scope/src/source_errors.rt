@@ -1,6 +1,5 @@
-// Why a source text is no program.
+// Why a source text isn't a program.
 ghost use Rattle.std.specs.Prelude.{◌≡◌};
-ghost use Rattle.c_scope.specs.SourceText.{by_lex, by_parse, by_scope};
 
 use c_lex::LexError;
 use c_parse::ParseError;
@@ -8,11 +7,11 @@ use cap_word::Which;
 use scope_rules::ScopeError;
 use thiserror::Error;
 
-/// Why a source text is no program: the refusal of the first of the three readings, into tokens, into a tree and into a
-/// program, that has one. `at` is a place, a byte of the source counted from 0.
+/// Why a source text isn't a program: the refusal of the first of the three stages (tokens, tree, program) that has
+/// one. `at` is a place, the index of a byte of the source, counted from 0.
 #[derive(Debug, Drop, Error)]
 pub enum SourceError {
-    /// The byte there begins no token.
+    /// No token begins at the byte there.
     #[error("BadByte at {at}")]
     BadByte {
         /// The byte's place.
@@ -24,25 +23,25 @@ pub enum SourceError {
         /// The place of its `/*`.
         at: u32,
     },
-    /// A text that begins with a digit and is no number, or none below 2^32.
+    /// A word that begins with a digit and isn't a number below 2^32.
     #[error("BadNumber at {at}")]
     BadNumber {
         /// The place of its first digit.
         at: u32,
     },
-    /// The token there, or the end of the source, fits nothing that may stand there.
+    /// The token there, or the end of the source, can't follow the tokens before it.
     #[error("Unexpected at {at}")]
     Unexpected {
         /// The place of the token, or the length of the source.
         at: u32,
     },
-    /// At the token there more than 64 constructs are open.
+    /// At the token there, more than 64 constructs are open.
     #[error("TooDeep at {at}")]
     TooDeep {
         /// The place of the token.
         at: u32,
     },
-    /// A call inside an expression; where calls inside expressions are rewritten, one in the parentheses of a `for`.
+    /// A call inside an expression; if calls inside expressions are rewritten, one in the parentheses of a `for`.
     #[error("NestedCall at {at}")]
     NestedCall {
         /// The place of the call's name.
@@ -81,46 +80,55 @@ pub enum SourceError {
         /// The quantity.
         which: Which,
     },
-    /// Memory ran out.
+    /// An allocation failed.
     #[error("out of memory")]
     Memory,
 }
 
-/// The refusal of the reading into tokens as one of the source.
-pub fn of_lex(error: LexError) -> SourceError
-    ensures { result ≡ by_lex error }
-{
-    match error {
-        LexError::BadByte { at } => SourceError::BadByte { at },
-        LexError::OpenComment { at } => SourceError::OpenComment { at },
-        LexError::BadNumber { at } => SourceError::BadNumber { at },
-        LexError::Memory => SourceError::Memory,
+impl From<LexError> for SourceError {
+    ghost use Rattle.c_scope.specs.SourceText.{by_lex};
+
+    ghost from_gives = { λ refusal error. error ≡ by_lex refusal };
+
+    fn from(refusal: LexError) -> SourceError {
+        match refusal {
+            LexError::BadByte { at } => SourceError::BadByte { at },
+            LexError::OpenComment { at } => SourceError::OpenComment { at },
+            LexError::BadNumber { at } => SourceError::BadNumber { at },
+            LexError::Memory => SourceError::Memory,
+        }
     }
 }
 
-/// The refusal of the reading into a tree as one of the source.
-pub fn of_parse(error: ParseError) -> SourceError
-    ensures { result ≡ by_parse error }
-{
-    match error {
-        ParseError::Unexpected { at } => SourceError::Unexpected { at },
-        ParseError::TooDeep { at } => SourceError::TooDeep { at },
-        ParseError::NestedCall { at } => SourceError::NestedCall { at },
-        ParseError::Memory => SourceError::Memory,
+impl From<ParseError> for SourceError {
+    ghost use Rattle.c_scope.specs.SourceText.{by_parse};
+
+    ghost from_gives = { λ refusal error. error ≡ by_parse refusal };
+
+    fn from(refusal: ParseError) -> SourceError {
+        match refusal {
+            ParseError::Unexpected { at } => SourceError::Unexpected { at },
+            ParseError::TooDeep { at } => SourceError::TooDeep { at },
+            ParseError::NestedCall { at } => SourceError::NestedCall { at },
+            ParseError::Memory => SourceError::Memory,
+        }
     }
 }
 
-/// The refusal of the reading into a program as one of the source.
-pub fn of_scope(error: ScopeError) -> SourceError
-    ensures { result ≡ by_scope error }
-{
-    match error {
-        ScopeError::Unknown { at } => SourceError::Unknown { at },
-        ScopeError::Twice { at } => SourceError::Twice { at },
-        ScopeError::Arity { at } => SourceError::Arity { at },
-        ScopeError::Kind { at } => SourceError::Kind { at },
-        ScopeError::NoMain => SourceError::NoMain,
-        ScopeError::Limit { which } => SourceError::Limit { which },
-        ScopeError::Memory => SourceError::Memory,
+impl From<ScopeError> for SourceError {
+    ghost use Rattle.c_scope.specs.SourceText.{by_scope};
+
+    ghost from_gives = { λ refusal error. error ≡ by_scope refusal };
+
+    fn from(refusal: ScopeError) -> SourceError {
+        match refusal {
+            ScopeError::Unknown { at } => SourceError::Unknown { at },
+            ScopeError::Twice { at } => SourceError::Twice { at },
+            ScopeError::Arity { at } => SourceError::Arity { at },
+            ScopeError::Kind { at } => SourceError::Kind { at },
+            ScopeError::NoMain => SourceError::NoMain,
+            ScopeError::Limit { which } => SourceError::Limit { which },
+            ScopeError::Memory => SourceError::Memory,
+        }
     }
 }

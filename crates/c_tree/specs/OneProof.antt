@@ -1,4 +1,4 @@
--- Well-scopedness has at most one proof, so that a program can carry it.
+-- Well-scopedness has at most one proof, so a program can carry it.
 use Rattle.std.specs.Prelude.{ℕ, ◌+◌, Bool, true, List, [], ◌∷◌, Option, Some, None}
 use Rattle.std.specs.List.{IsDistinct-prop, AllByRecursion-prop}
 use Rattle.std.specs.Coded.{le_prop, Unit-prop, coded_ℕ, coded_list}

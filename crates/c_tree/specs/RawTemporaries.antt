@@ -1,9 +1,9 @@
--- How many temporaries the flat code of a source takes, as it is read.
+-- The number of temporaries in the flat code of a source, as it is read.
 use Rattle.std.specs.Prelude.{ℕ, ◌+◌, ◌≤◌, max, min, List, [], ◌∷◌, Option, Some, None}
 use Rattle.c_tree.specs.RawTrees.{RawExprTree, RawExprTrees, RawNumber, RawName, RawElement, RawUnary, RawParenthesized, RawBinary, RawLogicalAnd, RawLogicalOr, RawConditional, RawCall, RawTableCall, NoExprs, And, RawSimpleTree, RawDeclareScalar, RawDeclareArray, RawDeclareWith, RawSet, RawSetElement, RawCalling, RawTableCalling, RawStmtTree, RawStmtTrees, RawDo, RawEmpty, RawBlock, RawIf, RawIfElse, RawWhile, RawFor, RawBreak, RawContinue, RawReturn, NoRawStmts, RawThen, RawItemTree, RawGlobal, RawGlobalArray, RawTableItem, RawPrototypeItem, RawFunctionItem}
 
--- an expression, from the temporary of its value on. A call goes from the same one on: its index and its
--- arguments one after another, where an argument after the sixth counts as the sixth, and its result
+-- an expression, counted from the temporary of its value. A call is counted from the same one: its
+-- index, its arguments one after another, where those after the sixth count as the sixth, and its result
 abbrev mutual
   pub raw_temporaries : RawExprTree → ℕ
   raw_temporaries (RawNumber n) = 1
@@ -35,7 +35,7 @@ abbrev pub raw_simples_temporaries : List RawSimpleTree → ℕ
 raw_simples_temporaries [] = 0
 raw_simples_temporaries (s ∷ ss) = max (raw_simple_temporaries s) (raw_simples_temporaries ss)
 
--- what is left out takes none
+-- an absent expression needs none
 abbrev pub raw_optional_temporaries : Option RawExprTree → ℕ
 raw_optional_temporaries None = 0
 raw_optional_temporaries (Some e) = raw_temporaries e
@@ -44,7 +44,7 @@ abbrev pub raw_step_temporaries : Option RawSimpleTree → ℕ
 raw_step_temporaries None = 0
 raw_step_temporaries (Some s) = raw_simple_temporaries s
 
--- the most that a statement or one in it takes
+-- the maximum number for a statement or one in it
 abbrev mutual
   pub raw_stmt_temporaries : RawStmtTree → ℕ
   raw_stmt_temporaries (RawDo s) = raw_simple_temporaries s
@@ -69,7 +69,7 @@ raw_item_temporaries (RawTableItem n size members) = 0
 raw_item_temporaries (RawPrototypeItem gives n params) = 0
 raw_item_temporaries (RawFunctionItem gives n params body) = raw_stmts_temporaries body
 
--- no statement takes more than 65,536 temporaries
+-- no statement needs more than 65,536 temporaries
 abbrev pub AreWithinTemporaries : List RawItemTree → Type 0
 AreWithinTemporaries [] = Unit {0}
 AreWithinTemporaries (i ∷ is) = (raw_item_temporaries i ≤ 65536) × AreWithinTemporaries is

@@ -1,4 +1,5 @@
--- The plain trees of a source as it is read: names with their places, with no capacity and no address.
+-- The plain trees of a source as it is read: names with their places, without capacities and
+-- addresses.
 use Rattle.std.specs.Prelude.{ℕ, Bool, List, Option}
 use Rattle.c_tree.specs.declared.operators.BinaryOperator.{BinaryOperator}
 use Rattle.c_tree.specs.declared.operators.UnaryOperator.{UnaryOperator}
@@ -8,7 +9,7 @@ pub record NameTree : Type 0 where
   pub at : ℕ
   pub text : List ℕ
 
--- an expression, in which a call may stand anywhere; operators of one level lean to the left
+-- an expression, which may have calls anywhere; operators of one level lean to the left
 mutual
   pub data RawExprTree : Type 0 where
     RawNumber : (value : ℕ) → RawExprTree
@@ -55,7 +56,7 @@ mutual
     NoRawStmts : RawStmtTrees
     RawThen : (s : RawStmtTree) (ss : RawStmtTrees) → RawStmtTrees
 
--- one thing declared or defined outside functions
+-- one declaration or definition outside functions
 pub data RawItemTree : Type 0 where
   RawGlobal : (n : NameTree) (start : ℕ) → RawItemTree
   RawGlobalArray : (n : NameTree) (size : ℕ) → RawItemTree

@@ -1,4 +1,4 @@
--- The plain tree that each type of the code stands for, of a source as it is read.
+-- The plain trees of the code's types, for a source as it is read.
 use Rattle.std.specs.Prelude.{List, [], ◌∷◌, map, option_map}
 use Rattle.c_tree.specs.RawTrees.{NameTree, RawExprTree, RawExprTrees, RawNumber, RawName, RawElement, RawUnary, RawParenthesized, RawBinary, RawLogicalAnd, RawLogicalOr, RawConditional, RawCall, RawTableCall, NoExprs, And, RawSimpleTree, RawDeclareScalar, RawDeclareArray, RawDeclareWith, RawSet, RawSetElement, RawCalling, RawTableCalling, RawStmtTree, RawStmtTrees, RawDo, RawEmpty, RawBlock, RawIf, RawIfElse, RawWhile, RawFor, RawBreak, RawContinue, RawReturn, NoRawStmts, RawThen, RawItemTree, RawGlobal, RawGlobalArray, RawTableItem, RawPrototypeItem, RawFunctionItem}
 use Rattle.c_tree.specs.declared.operators.Infix.{Infix}
@@ -15,23 +15,23 @@ use Rattle.c_tree.specs.declared.raw_items.RawItem.{RawItem}
 abbrev pub name_tree : Name → NameTree
 name_tree n = record { at = n.at; text = n.text.items }
 
--- two operands with an operator between them
+-- two operands joined by an operator
 abbrev pub raw_joined : RawExprTree → Infix → RawExprTree → RawExprTree
 raw_joined l (Infix.Binary op) r = RawBinary op l r
 raw_joined l Infix.LogicalAnd r = RawLogicalAnd l r
 raw_joined l Infix.LogicalOr r = RawLogicalOr l r
 
--- operators one after another, which lean to the left
+-- a chain of operators, which leans to the left
 abbrev pub raw_chained : RawExprTree → List (Infix × RawExprTree) → RawExprTree
 raw_chained l [] = l
 raw_chained l (p ∷ ps) = raw_chained (raw_joined l p.0 p.1) ps
 
--- a list of expressions as arguments one after another
+-- a list of expressions as arguments
 abbrev pub raw_arguments : List RawExprTree → RawExprTrees
 raw_arguments [] = NoExprs
 raw_arguments (e ∷ es) = And e (raw_arguments es)
 
--- one level of an expression, with each part already seen as its tree
+-- one level of an expression, given the trees of its parts
 abbrev pub raw_expr_step : RawExpr-F RawExprTree → RawExprTree
 raw_expr_step (RawExpr-F.Number n) = RawNumber n
 raw_expr_step (RawExpr-F.Name n) = RawName (name_tree n)
@@ -58,12 +58,12 @@ raw_simple_tree (RawSimple.SetElement n i v) = RawSetElement (name_tree n) (raw_
 raw_simple_tree (RawSimple.Call n es) = RawCalling (name_tree n) (raw_expr_trees es.items)
 raw_simple_tree (RawSimple.TableCall n i e) = RawTableCalling (name_tree n) (raw_expr_tree i.value) (raw_expr_tree e.value)
 
--- a list of statements as statements one after another
+-- a list of statements as a tree of statements
 abbrev pub raw_in_order : List RawStmtTree → RawStmtTrees
 raw_in_order [] = NoRawStmts
 raw_in_order (s ∷ ss) = RawThen s (raw_in_order ss)
 
--- one level of a statement, with each statement in it already seen as its tree
+-- one level of a statement, given the trees of the statements in it
 abbrev pub raw_stmt_step : RawStmt-F RawStmtTree → RawStmtTree
 raw_stmt_step (RawStmt-F.Simple s) = RawDo (raw_simple_tree s)
 raw_stmt_step RawStmt-F.Empty = RawEmpty

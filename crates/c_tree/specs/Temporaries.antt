@@ -1,15 +1,15 @@
--- How many temporaries the flat code of a tree takes.
+-- The number of temporaries in the flat code of a tree.
 use Rattle.std.specs.Prelude.{ℕ, ◌+◌, max, min, List, [], ◌∷◌, Option, Some, None, if◌then◌else◌}
 use Rattle.c_tree.specs.declared.operators.Infix.{Infix}
 use Rattle.c_tree.specs.Trees.{ExprTree, Number, Local, Global, LocalElement, GlobalElement, Unary, Parenthesized, Binary, LogicalAnd, LogicalOr, Conditional, CallTree, CallFunction, CallTable, CallSpawn, CallModelled, RightTree, Computed, Called, SimpleTree, DeclareScalar, DeclareArray, DeclareWith, SetLocal, SetGlobal, SetLocalElement, SetGlobalElement, Calling, StmtTree, StmtTrees, Do, Empty, Block, If, IfElse, While, For, Break, Continue, Return, NoStmts, Then, FunctionTree}
 
--- an operand after its operator, where it takes n by itself
+-- an operand after its operator, if it needs n by itself
 abbrev pub operand_temporaries : Infix → ℕ → ℕ
 operand_temporaries (Infix.Binary op) n = 1 + n
 operand_temporaries Infix.LogicalAnd n = n
 operand_temporaries Infix.LogicalOr n = n
 
--- an expression, from the temporary of its value on: the right operand goes to the next one
+-- an expression, counted from the temporary of its value: the right operand is in the next one
 abbrev pub expr_temporaries : ExprTree → ℕ
 expr_temporaries (Number n) = 1
 expr_temporaries (Local x) = 1
@@ -23,24 +23,24 @@ expr_temporaries (LogicalAnd l r) = max (expr_temporaries l) (expr_temporaries r
 expr_temporaries (LogicalOr l r) = max (expr_temporaries l) (expr_temporaries r)
 expr_temporaries (Conditional c a b) = max (expr_temporaries c) (max (expr_temporaries a) (expr_temporaries b))
 
--- arguments, the first of them k temporaries on
+-- arguments, the first of which is k temporaries further on
 abbrev pub arguments_temporaries : ℕ → List ExprTree → ℕ
 arguments_temporaries k [] = 0
 arguments_temporaries k (e ∷ es) = max (k + expr_temporaries e) (arguments_temporaries (1 + k) es)
 
--- a call's index and arguments, from the temporary of the first of them on
+-- a call's index and arguments, counted from the temporary of the first of them
 abbrev pub call_temporaries : CallTree → ℕ
 call_temporaries (CallFunction s f es) = arguments_temporaries 0 es
 call_temporaries (CallTable s t i e) = max (expr_temporaries i) (1 + expr_temporaries e)
 call_temporaries (CallSpawn s f e) = expr_temporaries e
 call_temporaries (CallModelled s m es) = arguments_temporaries 0 es
 
--- a right side that goes straight to a variable
+-- a right side that is computed directly into a variable
 abbrev pub right_temporaries : RightTree → ℕ
 right_temporaries (Computed e) = expr_temporaries e
 right_temporaries (Called c) = call_temporaries c
 
--- a right side that goes to a temporary first
+-- a right side that is computed into a temporary first
 abbrev pub held_temporaries : RightTree → ℕ
 held_temporaries (Computed e) = expr_temporaries e
 held_temporaries (Called c) = max 1 (call_temporaries c)
@@ -59,7 +59,7 @@ abbrev pub simples_temporaries : List SimpleTree → ℕ
 simples_temporaries [] = 0
 simples_temporaries (s ∷ ss) = max (simple_temporaries s) (simples_temporaries ss)
 
--- what is left out takes none
+-- an absent condition needs none
 abbrev pub condition_temporaries : Option ExprTree → ℕ
 condition_temporaries None = 0
 condition_temporaries (Some e) = expr_temporaries e
@@ -72,7 +72,7 @@ abbrev pub returned_temporaries : Option RightTree → ℕ
 returned_temporaries None = 0
 returned_temporaries (Some v) = held_temporaries v
 
--- the most that a statement or one in it takes
+-- the maximum number for a statement or one in it
 abbrev mutual
   pub stmt_temporaries : StmtTree → ℕ
   stmt_temporaries (Do s) = simple_temporaries s
@@ -90,10 +90,11 @@ abbrev mutual
   stmts_temporaries NoStmts = 0
   stmts_temporaries (Then s ss) = max (stmt_temporaries s) (stmts_temporaries ss)
 
--- a function's: those of its body, and one for the 0 that an int function returns at its end
+-- a function: the temporaries of its body, and one for the 0 that an int function returns at its
+-- end
 abbrev pub function_temporaries : FunctionTree → ℕ
 function_temporaries f = max (if f.gives then 1 else 0) (stmts_temporaries f.body)
 
--- a count, told apart only up to 65,537: the limit, and one above it
+-- a count, exact up to the limit, and 65,537 above it
 abbrev pub capped : ℕ → ℕ
 capped n = min n 65537

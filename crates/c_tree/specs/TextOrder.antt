@@ -1,11 +1,12 @@
--- The declared names and the calls of a tree, in the order of the tree: of a `for` the start, the step and the body.
+-- The declared names and the calls of a tree, in the order of the tree: of a `for`, the first part, the step and the
+-- body.
 use Rattle.std.specs.Prelude.{ℕ, ◌+◌, ◌≡◌, List, [], ◌∷◌, ◌++◌, Option, Some, None}
 use Rattle.c_tree.specs.declared.facts.Site.{Site}
 use Rattle.c_tree.specs.declared.facts.SiteKind.{SiteKind}
 use Rattle.c_tree.specs.Trees.{CallTree, CallFunction, CallTable, CallSpawn, CallModelled, RightTree, Computed, Called, SimpleTree, DeclareScalar, DeclareArray, DeclareWith, SetLocal, SetGlobal, SetLocalElement, SetGlobalElement, Calling, StmtTree, StmtTrees, Do, Empty, Block, If, IfElse, While, For, Break, Continue, Return, NoStmts, Then, FunctionTree, ProgramTree}
 use Rattle.cap_word.specs.ModelledCalls.{number_of}
 
--- a declared name: its variable, and its words
+-- a declared name: its variable, and its size in words
 pub record Declared : Type 0 where
   pub variable : ℕ
   pub words : ℕ
@@ -31,7 +32,7 @@ abbrev pub step_names : Option SimpleTree → List Declared
 step_names None = []
 step_names (Some s) = simple_names s
 
--- the names that a statement declares, those of the statements in it included
+-- the names that a statement declares, including those in the statements in it
 abbrev mutual
   pub stmt_names : StmtTree → List Declared
   stmt_names (Do s) = simple_names s
@@ -82,7 +83,7 @@ abbrev pub step_sites : Option SimpleTree → List Site
 step_sites None = []
 step_sites (Some s) = simple_sites s
 
--- the calls of a statement, those of the statements in it included
+-- the calls of a statement, including those in the statements in it
 abbrev mutual
   pub stmt_sites : StmtTree → List Site
   stmt_sites (Do s) = simple_sites s
@@ -108,7 +109,7 @@ functions_sites (f ∷ fs) = stmts_sites f.body ++ functions_sites fs
 abbrev pub program_sites : ProgramTree → List Site
 program_sites p = functions_sites p.functions
 
--- numbers that rise by one, n of them, from k on
+-- n numbers, each one higher than the last, from k on
 abbrev pub counting : ℕ → List ℕ → Type 0
 counting k [] = Unit {0}
 counting k (n ∷ ns) = (n ≡ k) × counting (1 + k) ns

@@ -1,4 +1,4 @@
--- The plain trees of a program: what contracts see, with no capacity and no address.
+-- The plain trees of a program, as contracts see them: without capacities and addresses.
 use Rattle.std.specs.Prelude.{ℕ, Bool, List, Option}
 use Rattle.c_tree.specs.declared.operators.BinaryOperator.{BinaryOperator}
 use Rattle.c_tree.specs.declared.operators.UnaryOperator.{UnaryOperator}
@@ -26,7 +26,7 @@ pub data CallTree : Type 0 where
   CallSpawn : (s f : ℕ) (e : ExprTree) → CallTree
   CallModelled : (s : ℕ) (m : ModelledCall) (es : List ExprTree) → CallTree
 
--- what is assigned or returned
+-- a right side, or the value of a return
 pub data RightTree : Type 0 where
   Computed : (e : ExprTree) → RightTree
   Called : (c : CallTree) → RightTree
@@ -60,7 +60,8 @@ mutual
     NoStmts : StmtTrees
     Then : (s : StmtTree) (ss : StmtTrees) → StmtTrees
 
--- a function: name, count of parameters, whether it is an int function, words of each variable, body
+-- a function: name, number of parameters, whether it is an int function, size of each variable in
+-- words, body
 pub record FunctionTree : Type 0 where
   pub name : List ℕ
   pub params : ℕ

@@ -1,4 +1,4 @@
--- The plain tree that each type of the code stands for.
+-- The plain trees of the code's types.
 use Rattle.std.specs.Prelude.{ℕ, List, [], ◌∷◌, map, option_map}
 use Rattle.c_tree.specs.Trees.{ExprTree, Number, Local, Global, LocalElement, GlobalElement, Unary, Parenthesized, Binary, LogicalAnd, LogicalOr, Conditional, CallTree, CallFunction, CallTable, CallSpawn, CallModelled, RightTree, Computed, Called, SimpleTree, DeclareScalar, DeclareArray, DeclareWith, SetLocal, SetGlobal, SetLocalElement, SetGlobalElement, Calling, StmtTree, StmtTrees, Do, Empty, Block, If, IfElse, While, For, Break, Continue, Return, NoStmts, Then, FunctionTree}
 use Rattle.c_tree.specs.declared.operators.Infix.{Infix}
@@ -14,18 +14,18 @@ use Rattle.c_tree.specs.declared.statements.Stmt.TheFolds.{fold-Stmt}
 use Rattle.c_tree.specs.declared.facts.Function.{Function}
 use Rattle.c_tree.specs.declared.facts.TableFact.{TableFact}
 
--- two operands with an operator between them
+-- two operands joined by an operator
 abbrev pub joined : ExprTree → Infix → ExprTree → ExprTree
 joined l (Infix.Binary op) r = Binary op l r
 joined l Infix.LogicalAnd r = LogicalAnd l r
 joined l Infix.LogicalOr r = LogicalOr l r
 
--- operators one after another, which lean to the left
+-- a chain of operators, which leans to the left
 abbrev pub chained : ExprTree → List (Infix × ExprTree) → ExprTree
 chained l [] = l
 chained l (p ∷ ps) = chained (joined l p.0 p.1) ps
 
--- one level of an expression, with each part already seen as its tree
+-- one level of an expression, given the trees of its parts
 abbrev pub expr_step : Expr-F ExprTree → ExprTree
 expr_step (Expr-F.Number n) = Number n
 expr_step (Expr-F.Local x) = Local x
@@ -43,7 +43,7 @@ expr_tree = fold-Expr ExprTree expr_step
 abbrev pub call_tree : Call → CallTree
 call_tree (Call.Function s f es) = CallFunction s f (map expr_tree es.items)
 call_tree (Call.Table s t i e) = CallTable s t (expr_tree i.value) (expr_tree e.value)
-call_tree (Call.Spawn s f e) = CallSpawn s f (expr_tree e)
+call_tree (Call.Spawn s f e) = CallSpawn s f (expr_tree e.value)
 call_tree (Call.Modelled s m es) = CallModelled s m (map expr_tree es.items)
 
 abbrev pub right_tree : RightSide → RightTree
@@ -56,16 +56,16 @@ simple_tree (Simple.DeclareArray x n) = DeclareArray x n
 simple_tree (Simple.DeclareWith x v) = DeclareWith x (right_tree v)
 simple_tree (Simple.SetLocal x v) = SetLocal x (right_tree v)
 simple_tree (Simple.SetGlobal g v) = SetGlobal g (right_tree v)
-simple_tree (Simple.SetLocalElement a i v) = SetLocalElement a (expr_tree i.value) (right_tree v)
-simple_tree (Simple.SetGlobalElement a i v) = SetGlobalElement a (expr_tree i.value) (right_tree v)
+simple_tree (Simple.SetLocalElement a i v) = SetLocalElement a (expr_tree i.value) (right_tree v.value)
+simple_tree (Simple.SetGlobalElement a i v) = SetGlobalElement a (expr_tree i.value) (right_tree v.value)
 simple_tree (Simple.Call c) = Calling (call_tree c)
 
--- a list of statements as statements one after another
+-- a list of statements as a tree of statements
 abbrev pub in_order : List StmtTree → StmtTrees
 in_order [] = NoStmts
 in_order (s ∷ ss) = Then s (in_order ss)
 
--- one level of a statement, with each statement in it already seen as its tree
+-- one level of a statement, given the trees of the statements in it
 abbrev pub stmt_step : Stmt-F StmtTree → StmtTree
 stmt_step (Stmt-F.Simple s) = Do (simple_tree s)
 stmt_step Stmt-F.Empty = Empty

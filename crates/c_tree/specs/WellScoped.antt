@@ -1,4 +1,4 @@
--- When a program is well scoped: all that the layers above rely on, so that they index without a test.
+-- When a program is well scoped: everything that lets the crates above index without a test.
 use Rattle.std.specs.Prelude.{ℕ, ◌^◌, ◌<◌, ◌≤◌, ◌≡◌, Bool, true, false, IsTrue, eqb, ◌||◌, List, [], ◌∷◌, length, map, sum, slice_index, slice_index_or, Option, Some, None}
 use Rattle.std.specs.List.{IsDistinct, AllByRecursion}
 use Rattle.cap_word.specs.ModelledCalls.{parameters_of, gives_result}
@@ -7,7 +7,7 @@ use Rattle.c_tree.specs.TextOrder.{Declared, simple_names, stmts_names, program_
 use Rattle.c_tree.specs.Sizes.{below, declared_words, sizes_of}
 use Rattle.c_tree.specs.Temporaries.{function_temporaries}
 
--- what a call of a function needs and gives
+-- the number of a function's parameters, and whether its calls give a result
 pub record Signature : Type 0 where
   pub params : ℕ
   pub gives : Bool
@@ -15,8 +15,8 @@ pub record Signature : Type 0 where
 abbrev pub signature_of : FunctionTree → Signature
 signature_of f = record { params = f.params; gives = f.gives }
 
--- what a body may name: functions, words of globals, count of tables, words of its function's variables,
--- and whether its function is an int function
+-- what a body may name: functions, sizes of globals, the number of tables, sizes of its function's
+-- variables, and whether its function is an int function
 pub record Context : Type 0 where
   pub signatures : List Signature
   pub globals : List ℕ
@@ -27,16 +27,17 @@ pub record Context : Type 0 where
 abbrev pub context_of : ProgramTree → FunctionTree → Context
 context_of p f = record { signatures = map signature_of p.functions; globals = map (λ g. g.words) p.globals; tables = length p.tables; sizes = f.sizes; gives = f.gives }
 
--- the signature of function f, which is there
+-- the signature of function f, which exists
 abbrev pub signature_at : List Signature → ℕ → Signature
 signature_at ss f = slice_index_or ss f (record { params = 0; gives = false })
 
--- whether x is one of the names in scope
+-- whether x is in scope
 abbrev pub visible : ℕ → List ℕ → Bool
 visible x [] = false
 visible x (y ∷ ys) = eqb x y || visible x ys
 
--- an expression: its numbers are in range, its names are in scope, and one without an index has one word
+-- an expression: its numbers are in range, its names are in scope, and a name without an index has one
+-- word
 abbrev pub IsExprScoped : Context → List ℕ → ExprTree → Type 0
 IsExprScoped c scope (Number v) = v < 2 ^ 32
 IsExprScoped c scope (Local x) = (x < length c.sizes) × (slice_index c.sizes x ≡ 1) × IsTrue (visible x scope)
@@ -54,7 +55,7 @@ abbrev pub AreExprsScoped : Context → List ℕ → List ExprTree → Type 0
 AreExprsScoped c scope [] = Unit {0}
 AreExprsScoped c scope (e ∷ es) = IsExprScoped c scope e × AreExprsScoped c scope es
 
--- a call: what is called is there, with as many arguments as it has parameters
+-- a call: its callee exists, and it has as many arguments as the callee has parameters
 abbrev pub IsCallScoped : Context → List ℕ → CallTree → Type 0
 IsCallScoped c scope (CallFunction s f es) = (f < length c.signatures) × (length es ≡ (signature_at c.signatures f).params) × AreExprsScoped c scope es
 IsCallScoped c scope (CallTable s t i e) = (t < c.tables) × IsExprScoped c scope i × IsExprScoped c scope e
@@ -68,12 +69,12 @@ call_gives c (CallTable s t i e) = true
 call_gives c (CallSpawn s f e) = true
 call_gives c (CallModelled s m es) = gives_result m
 
--- a right side: a result is used only of a call that gives one
+-- a right side: a result is used only if the call gives one
 abbrev pub IsRightScoped : Context → List ℕ → RightTree → Type 0
 IsRightScoped c scope (Computed e) = IsExprScoped c scope e
 IsRightScoped c scope (Called k) = IsCallScoped c scope k × IsTrue (call_gives c k)
 
--- a declaration's name is in scope only after it: the scope here is the one before
+-- a declaration's name is in scope only after the declaration: this is the scope before it
 abbrev pub IsSimpleScoped : Context → List ℕ → SimpleTree → Type 0
 IsSimpleScoped c scope (DeclareScalar x) = (x < length c.sizes) × (slice_index c.sizes x ≡ 1)
 IsSimpleScoped c scope (DeclareArray x n) = (x < length c.sizes) × (slice_index c.sizes x ≡ n) × (1 ≤ n)
@@ -84,12 +85,12 @@ IsSimpleScoped c scope (SetLocalElement a i v) = (a < length c.sizes) × IsTrue 
 IsSimpleScoped c scope (SetGlobalElement a i v) = (a < length c.globals) × IsExprScoped c scope i × IsRightScoped c scope v
 IsSimpleScoped c scope (Calling k) = IsCallScoped c scope k
 
--- a scope and the names that were declared in it since, one after another
+-- a scope, with the names that have been declared in it since, in order
 abbrev pub with_names : List ℕ → List Declared → List ℕ
 with_names scope [] = scope
 with_names scope (d ∷ ds) = with_names (d.variable ∷ scope) ds
 
--- the scope after a statement: only a declaration in this very scope adds a name to it
+-- the scope after a statement: only a declaration directly in this scope adds a name to it
 abbrev pub scope_after : List ℕ → StmtTree → List ℕ
 scope_after scope (Do s) = with_names scope (simple_names s)
 scope_after scope Empty = scope
@@ -102,7 +103,7 @@ scope_after scope Break = scope
 scope_after scope Continue = scope
 scope_after scope (Return v) = scope
 
--- the start of a for, one part after another
+-- the first part of a for, one declaration or assignment after another
 abbrev pub AreSimplesScoped : Context → List ℕ → List SimpleTree → Type 0
 AreSimplesScoped c scope [] = Unit {0}
 AreSimplesScoped c scope (s ∷ ss) = IsSimpleScoped c scope s × AreSimplesScoped c (with_names scope (simple_names s)) ss
@@ -125,7 +126,7 @@ abbrev pub IsReturnScoped : Context → List ℕ → Option RightTree → Type 0
 IsReturnScoped c scope None = c.gives ≡ false
 IsReturnScoped c scope (Some v) = (c.gives ≡ true) × IsRightScoped c scope v
 
--- a statement, where `loop` tells whether it stands in a loop: break and continue stand only in one
+-- a statement; `loop` says whether it is in a loop: break and continue are allowed only there
 abbrev mutual
   pub IsStmtScoped : Context → Bool → List ℕ → StmtTree → Type 0
   IsStmtScoped c loop scope (Do s) = IsSimpleScoped c scope s
@@ -143,8 +144,8 @@ abbrev mutual
   AreStmtsScoped c loop scope NoStmts = Unit {0}
   AreStmtsScoped c loop scope (Then s ss) = IsStmtScoped c loop scope s × AreStmtsScoped c loop (scope_after scope s) ss
 
--- a function: its variables are its parameters and then its declared names in the order of the text, it
--- is within the limits, and its body is well scoped
+-- a function: its variables are its parameters followed by its declared names in the order of the text,
+-- it is within the limits, and its body is well scoped
 pub record IsFunctionScoped (p : ProgramTree) (f : FunctionTree) : Type 0 where
   pub params : f.params ≤ 6
   pub sizes : f.sizes ≡ sizes_of f
@@ -157,7 +158,7 @@ abbrev pub AreFunctionsScoped : ProgramTree → List FunctionTree → Type 0
 AreFunctionsScoped p [] = Unit {0}
 AreFunctionsScoped p (f ∷ fs) = IsFunctionScoped p f × AreFunctionsScoped p fs
 
--- numbers of sites: each its own, and below their count
+-- numbers of sites: all different, and below their count
 abbrev pub AreSiteNumbers : List ℕ → Type 0
 AreSiteNumbers ns = IsDistinct eqb ns × AllByRecursion (λ n. n < length ns) ns
 

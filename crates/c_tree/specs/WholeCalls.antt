@@ -1,9 +1,9 @@
--- Which calls of a source are whole: a call is whole where it is a statement, the whole right side of an
+-- Which calls of a source are whole: a call is whole if it is a statement, the whole right side of an
 -- assignment or of a declaration, or the whole value of a return.
 use Rattle.std.specs.Prelude.{List, [], ◌∷◌, Option, Some, None}
 use Rattle.c_tree.specs.RawTrees.{RawExprTree, RawExprTrees, RawNumber, RawName, RawElement, RawUnary, RawParenthesized, RawBinary, RawLogicalAnd, RawLogicalOr, RawConditional, RawCall, RawTableCall, NoExprs, And, RawSimpleTree, RawDeclareScalar, RawDeclareArray, RawDeclareWith, RawSet, RawSetElement, RawCalling, RawTableCalling, RawStmtTree, RawStmtTrees, RawDo, RawEmpty, RawBlock, RawIf, RawIfElse, RawWhile, RawFor, RawBreak, RawContinue, RawReturn, NoRawStmts, RawThen, RawItemTree, RawGlobal, RawGlobalArray, RawTableItem, RawPrototypeItem, RawFunctionItem}
 
--- no call stands in the expression
+-- the expression contains no call
 abbrev pub HasNoCall : RawExprTree → Type 0
 HasNoCall (RawNumber v) = Unit {0}
 HasNoCall (RawName n) = Unit {0}
@@ -21,7 +21,7 @@ abbrev pub HaveNoCall : RawExprTrees → Type 0
 HaveNoCall NoExprs = Unit {0}
 HaveNoCall (And e es) = HasNoCall e × HaveNoCall es
 
--- a right side or a returned value: it may be a call, in which no other stands
+-- a right side or a returned value: it may be a call, but contains no other
 abbrev pub IsValueWhole : RawExprTree → Type 0
 IsValueWhole (RawNumber v) = Unit {0}
 IsValueWhole (RawName n) = Unit {0}

@@ -1,4 +1,4 @@
--- That each call in the three parts in the parentheses of a `for` is whole.
+-- Whether each call in the three parts in the parentheses of a `for` is whole.
 use Rattle.std.specs.Prelude.{List, [], ◌∷◌}
 use Rattle.c_tree.specs.RawTrees.{RawStmtTree, RawStmtTrees, RawDo, RawEmpty, RawBlock, RawIf, RawIfElse, RawWhile, RawFor, RawBreak, RawContinue, RawReturn, NoRawStmts, RawThen, RawItemTree, RawGlobal, RawGlobalArray, RawTableItem, RawPrototypeItem, RawFunctionItem}
 use Rattle.c_tree.specs.WholeCalls.{AreSimplesWhole, IsConditionWhole, IsStepWhole}

@@ -1,12 +1,12 @@
-// Expressions whose names have become numbers.
+// Expressions with numbers in place of names.
 
 use crate::operators::{Infix, UnaryOperator};
 
-/// An expression without calls. A variable is numbered within its function, parameters first; a global
-/// is numbered within the program.
+/// An expression without calls. Variables are numbered within their function, parameters first;
+/// globals are numbered within the program.
 #[derive(Drop)]
 pub enum Expr {
-    /// A number, taken as a word.
+    /// A number, taken modulo 2^32.
     Number(u32),
     /// A variable of one word.
     Local(u32),
@@ -28,7 +28,7 @@ pub enum Expr {
     },
     /// An expression in parentheses.
     Parenthesized(Box<Expr>),
-    /// Operators one after another, which group to the left: `a - b + c` is `(a - b) + c`.
+    /// A list of operators of one level, which group to the left: `a - b + c` is `(a - b) + c`.
     Chain {
         first: Box<Expr>,
         rest: Vec<(Infix, Expr)>,

@@ -1,16 +1,16 @@
-// The trees of a CapC source: as it is read, with names, and as it is meant, with numbers.
+// The trees of a CapC source: as it is read, with names, and as it is resolved, with numbers.
 //
-// `RawProgram` is what a reader makes: names and byte places, not yet told apart. `Program` is what a
-// resolver makes of it: functions, globals, tables, variables and call sites go by number, and its
-// invariant says that all of them are there, in scope, of the right kind and within the limits, so that
-// the crates above index without a test. Contracts see both as plain trees, which have no capacity and
-// no address (specs/Trees.antt, specs/RawTrees.antt). A chain of operators of one level is a list here
-// and leans to the left there, so that a walk goes no deeper than the source nests.
+// `RawProgram` is the output of a reader: names with their places in the text, not yet resolved.
+// `Program` is the output of a resolver: functions, globals, tables, variables and call sites have
+// numbers. Its invariant says that all of them exist, are in scope, of the right kind and within the
+// limits, so the crates above index without a test. Contracts see both as plain trees, without capacities
+// and addresses (specs/Trees.antt, specs/RawTrees.antt). A chain of operators of one level is a list in
+// the code and leans to the left in the plain tree, so a walk recurses no deeper than the source nests.
 //
-// Which calls have to be whole where calls may stand inside expressions, namely those in the parentheses
-// of a `for`, is defined here too (specs/WholeForParts.antt; the law `whole_in_fors`). The parser and the
-// rewriting share it, so that neither waits for the other.
-// The rules are those of ISO/IEC 9899:2018, clauses 6.2.1, 6.5 and 6.8, for the subset CapC.
+// Which calls have to be whole is defined here too: where calls may be nested in expressions, those in
+// the parentheses of a `for` (specs/WholeForParts.antt; the law `whole_in_fors`). The parser and the
+// rewriting both use this definition. The rules are those of ISO/IEC 9899:2018, clauses 6.2.1, 6.5 and
+// 6.8, for the subset CapC.
 #![tactic(auto)]
 
 mod expressions;

@@ -1,6 +1,6 @@
-// What stands between and before operands: operators.
+// Operators.
 
-/// An operator both of whose operands are evaluated (ISO/IEC 9899:2018, 6.5.5 to 6.5.12).
+/// An operator that evaluates both operands (ISO/IEC 9899:2018, 6.5.5 to 6.5.12).
 #[derive(Clone, Copy, PartialEq, Eq)]
 pub enum BinaryOperator {
     Add,
@@ -21,8 +21,8 @@ pub enum BinaryOperator {
     NotEqual,
 }
 
-/// An operator between two operands. The logical ones evaluate the right operand only where the left
-/// one leaves the answer open (ISO/IEC 9899:2018, 6.5.13 and 6.5.14).
+/// An operator between two operands. The logical ones evaluate the right operand only if the left
+/// one doesn't determine the result (ISO/IEC 9899:2018, 6.5.13 and 6.5.14).
 #[derive(Clone, Copy, PartialEq, Eq)]
 pub enum Infix {
     Binary(BinaryOperator),

@@ -14,7 +14,6 @@ use std::alloc::{AllocError, Global};
 /// A program that is well scoped: each number is in range and each name in its scope, arguments agree
 /// with parameters, results are used only of calls that give one, `return`, `break` and `continue` stand
 /// where they may, and the limits hold (ISO/IEC 9899:2018, 6.2.1, 6.5.2.2 and 6.8.6).
-#[derive(Drop)]
 pub struct Program {
     functions: Vec<Function>,
     globals: Vec<GlobalFact>,
@@ -25,6 +24,19 @@ pub struct Program {
     ghost sites_listed: { sites.items ≡ program_sites (tree_of functions.items globals.items tables.items main) },
 }
 
+impl Drop for Program {
+    // Written out, so that no crate above proves how a tree is dropped.
+    fn drop(self) {
+        let Program {
+            functions: _functions,
+            globals: _globals,
+            tables: _tables,
+            main: _,
+            sites: _sites,
+        } = self;
+    }
+}
+
 impl Program {
     ghost use Rattle.std.specs.Prelude.{◌≡◌, map, IfOk};
     ghost use Rattle.c_tree.specs.TextOrder.{program_sites};
@@ -33,8 +45,8 @@ impl Program {
     ghost use Rattle.c_tree.specs.WellScoped.{IsWellScoped};
     ghost use Rattle.c_tree.specs.ProgramView.{program_tree};
 
-    /// The program of these functions, globals and tables, in the order of their numbers, and of the
-    /// number of `main`. It takes memory for the list of its sites.
+    /// Returns the program with these functions, globals and tables, in the order of their numbers, and
+    /// with this number of `main`. It allocates the list of the program's sites.
     pub fn new(
         alloc: Global,
         functions: Vec<Function>,
@@ -56,36 +68,36 @@ impl Program {
         })
     }
 
-    /// The functions, in the order of their definitions.
+    /// Returns the functions, in the order of their definitions.
     pub fn functions(&self) -> &[Function]
         ensures { map function_tree result.now ≡ (program_tree self.now).functions }
     {
         &self.functions
     }
 
-    /// The globals, in the order of their declarations.
+    /// Returns the globals, in the order of their declarations.
     pub fn globals(&self) -> &[GlobalFact]
         ensures { result.now ≡ (program_tree self.now).globals }
     {
         &self.globals
     }
 
-    /// The tables, in the order of their declarations.
+    /// Returns the tables, in the order of their declarations.
     pub fn tables(&self) -> &[TableFact]
         ensures { map table_row result.now ≡ (program_tree self.now).tables }
     {
         &self.tables
     }
 
-    /// The number of `main`.
+    /// Returns the number of `main`.
     pub fn main_number(&self) -> u32
         ensures { result ≡ (program_tree self.now).main }
     {
         self.main
     }
 
-    /// The call sites, in the order of the tree. Their numbers need not rise in it: a resolver numbers
-    /// them by their places in the source.
+    /// Returns the call sites, in the order of the tree. Their numbers needn't increase in this order: a
+    /// resolver numbers them by their places in the source.
     pub fn sites(&self) -> &[Site]
         ensures { result.now ≡ program_sites (program_tree self.now) }
     {

@@ -9,10 +9,10 @@ pub struct Name {
     pub text: Vec<u8>,
 }
 
-/// An expression with names, in which a call may stand wherever an expression may.
+/// An expression with names, which may have calls anywhere in it.
 #[derive(Drop)]
 pub enum RawExpr {
-    /// A number, taken as a word.
+    /// A number, taken modulo 2^32.
     Number(u32),
     Name(Name),
     /// `name[index]`
@@ -25,7 +25,7 @@ pub enum RawExpr {
         operand: Box<RawExpr>,
     },
     Parenthesized(Box<RawExpr>),
-    /// Operators one after another, which group to the left: `a - b + c` is `(a - b) + c`.
+    /// A list of operators of one level, which group to the left: `a - b + c` is `(a - b) + c`.
     Chain {
         first: Box<RawExpr>,
         rest: Vec<(Infix, RawExpr)>,

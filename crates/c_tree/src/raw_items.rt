@@ -1,4 +1,4 @@
-// What a source declares and defines outside functions, as it is read.
+// The declarations and definitions of a source outside functions, as they are read.
 
 use crate::raw_expressions::Name;
 use crate::raw_statements::RawStmt;
@@ -11,7 +11,7 @@ pub struct RawTable {
     pub members: Vec<Name>,
 }
 
-/// A function's prototype. A parameter may have no name in it.
+/// A function's prototype. Its parameters may be unnamed.
 #[derive(Drop)]
 pub struct RawPrototype {
     /// Whether the result is `int`.
@@ -30,13 +30,13 @@ pub struct RawFunction {
     pub body: Vec<RawStmt>,
 }
 
-/// One thing that a source declares or defines outside functions. A declaration of several globals is
-/// several items.
+/// One declaration or definition outside functions. A declaration of several globals is several
+/// items.
 #[derive(Drop)]
 pub enum RawItem {
-    /// A global of one word, and the word that it starts at.
+    /// A global of one word, with its initial value.
     Global { name: Name, start: u32 },
-    /// A global array, with the number of words that stands in the text.
+    /// A global array, with the number of words as in the text.
     GlobalArray { name: Name, words: u32 },
     Table(RawTable),
     Prototype(RawPrototype),

@@ -9,7 +9,7 @@ pub enum RawSimple {
     DeclareScalar {
         name: Name,
     },
-    /// `int name[words];`, with the number that stands in the text.
+    /// `int name[words];`, with the number as in the text.
     DeclareArray {
         name: Name,
         words: u32,
@@ -43,7 +43,7 @@ pub enum RawSimple {
     },
 }
 
-/// What stands in the parentheses of a `for`.
+/// The parts in the parentheses of a `for`.
 #[derive(Drop)]
 pub struct RawForParts {
     pub init: Vec<RawSimple>,

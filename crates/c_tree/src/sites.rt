@@ -9,7 +9,7 @@ use crate::statements::{Call, RightSide, Simple, Stmt};
 use std::alloc::AllocError;
 
 impl Call {
-    /// The call's site: its number, and what is called.
+    /// Returns the call's site: its number and its callee.
     pub fn site(&self) -> Site
         ensures { result ≡ call_site (call_tree self.now) }
     {

@@ -1,9 +1,9 @@
-// Calls and statements whose names have become numbers.
+// Calls and statements with numbers in place of names.
 
 use crate::expressions::Expr;
 use cap_word::ModelledCall;
 
-/// A call, with the number of its site. Its arguments have no calls in them.
+/// A call, with the number of its site. Its arguments don't contain calls.
 #[derive(Drop)]
 pub enum Call {
     Function {
@@ -22,7 +22,7 @@ pub enum Call {
     Spawn {
         site: u32,
         function: u32,
-        argument: Expr,
+        argument: Box<Expr>,
     },
     Modelled {
         site: u32,
@@ -31,14 +31,15 @@ pub enum Call {
     },
 }
 
-/// What is assigned or returned: the value of an expression, or the result of a call.
+/// The right side of an assignment or the value of a `return`: an expression, or a call whose result is
+/// used.
 #[derive(Drop)]
 pub enum RightSide {
     Expr(Expr),
     Call(Call),
 }
 
-/// A statement that has no statement in it and leaves no loop and no function: a declaration of one
+/// A statement that contains no other statement and leaves no loop or function: a declaration of one
 /// name, an assignment, or a call.
 #[derive(Drop)]
 pub enum Simple {
@@ -67,18 +68,18 @@ pub enum Simple {
     SetLocalElement {
         array: u32,
         index: Box<Expr>,
-        value: RightSide,
+        value: Box<RightSide>,
     },
     SetGlobalElement {
         array: u32,
         index: Box<Expr>,
-        value: RightSide,
+        value: Box<RightSide>,
     },
-    /// A call whose result, if it gives one, is dropped.
+    /// A call; its result, if it gives one, is discarded.
     Call(Call),
 }
 
-/// What stands in the parentheses of a `for`.
+/// The parts in the parentheses of a `for`.
 #[derive(Drop)]
 pub struct ForParts {
     pub init: Vec<Simple>,

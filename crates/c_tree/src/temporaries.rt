@@ -1,7 +1,7 @@
-// How many temporaries the flat code of a tree takes.
+// The number of temporaries in the flat code of a tree.
 //
-// Each count is exact up to the limit of 65,536 for one statement, and says 65,537 above it, so that no
-// tree makes it overflow.
+// Each count is exact up to the limit of 65,536 per statement, and 65,537 above it, so it never
+// overflows.
 
 ghost use Rattle.std.specs.Prelude.{◌≡◌, ◌≤◌, ◌+◌, max, map, option_map};
 ghost use Rattle.c_tree.specs.Views.{expr_tree, call_tree, right_tree, simple_tree, stmt_tree, stmt_trees, function_tree};
@@ -26,7 +26,7 @@ fn larger(a: u32, b: u32) -> u32
     if a < b { b } else { a }
 }
 
-// What an operand takes after its operator, up to 65,537.
+// The temporaries of an operand after its operator, up to 65,537.
 fn after(operator: Infix, count: u32) -> u32
     requires { count ≤ 65537 }
     ensures { result ≡ capped (operand_temporaries operator count) }
@@ -38,7 +38,8 @@ fn after(operator: Infix, count: u32) -> u32
 }
 
 impl Expr {
-    /// The temporaries that the expression takes, its own value's included; 65,537 if more than 65,536.
+    /// Returns the number of temporaries that the expression needs, including the one for its own
+    /// value; 65,537 if it is more than 65,536.
     pub fn temporaries(&self) -> u32
         ensures { result ≡ capped (expr_temporaries (expr_tree self.now)) }
     {
@@ -69,7 +70,8 @@ impl Expr {
     }
 }
 
-// An argument that takes `count` by itself, `index` temporaries on; up to 65,537.
+// The temporaries of an argument that needs `count` by itself and comes after `index` other ones; up to
+// 65,537.
 fn further(index: usize, count: u32) -> u32
     requires { count ≤ 65537 }
     ensures { result ≡ capped (index + count) }
@@ -221,7 +223,8 @@ fn stmts_of(stmts: &[Stmt]) -> u32
 }
 
 impl Function {
-    /// The temporaries that the function takes; 65,537 if a statement of it takes more than 65,536.
+    /// Returns the number of temporaries that the function needs; 65,537 if one of its statements needs
+    /// more than 65,536.
     pub fn temporaries(&self) -> u32
         ensures { result ≡ capped (function_temporaries (function_tree self.now)) }
     {

@@ -1,11 +1,11 @@
--- Who calls whom, and cycles of calls.
+-- Calls between functions, and cycles of calls.
 use Rattle.std.specs.Prelude.{ℕ, ◌≡◌, ◌≤◌, true, Option, Some, None, List, [], ◌∷◌}
 use Rattle.flat_code.specs.declared.operations.Op.{Op}
 use Rattle.flat_code.specs.Codes.{FlatCode, operation_at, members_of}
 use Rattle.call_graph.specs.Lists.{has}
 
--- the functions that an operation calls: the one that it names, or each member of the table. The start of a thread is no
--- call
+-- the functions that an operation calls: the one that it names, or each member of the table. The start of a thread
+-- isn't a call
 abbrev pub functions_called : FlatCode → Op → List ℕ
 functions_called code (Op.Call site d f args) = f ∷ []
 functions_called code (Op.CallTable site d t i s) = members_of code t
@@ -18,28 +18,28 @@ pub record Calls (code : FlatCode) (f g : ℕ) : Type 0 where
   pub there : operation_at code f k ≡ Some op
   pub called : has g (functions_called code op) ≡ true
 
--- calls lead from function f by way of these functions, the last of which is g
+-- calls lead from function f through these functions, the last of which is g
 abbrev pub IsWay : FlatCode → ℕ → List ℕ → ℕ → Type 0
 IsWay code f [] g = f ≡ g
 IsWay code f (h ∷ hs) g = Calls code f h × IsWay code h hs g
 
--- one call or more leads from function f to function g
+-- one or more calls lead from function f to function g
 pub record Reaches (code : FlatCode) (f g : ℕ) : Type 0 where
   pub first : ℕ
   pub call : Calls code f first
   pub rest : List ℕ
   pub way : IsWay code first rest g
 
--- function f lies on a cycle of calls
+-- function f is on a cycle of calls
 abbrev pub IsOnCycle : FlatCode → ℕ → Type 0
 IsOnCycle code f = Reaches code f f
 
--- the least number of which something holds
+-- the least number with a property
 pub record IsLeast (P : ℕ → Type 0) (n : ℕ) : Type 0 where
   pub holds : P n
   pub least : (m : ℕ) → P m → n ≤ m
 
--- the least number of which something holds, or none where it holds of none
+-- the least number with a property, or none if no number has it
 abbrev pub IsLeastOf : (ℕ → Type 0) → Option ℕ → Type 0
 IsLeastOf P None = (n : ℕ) → P n → ⊥
 IsLeastOf P (Some n) = IsLeast P n

@@ -1,4 +1,4 @@
--- Functions that are marked once, and kept in a list until they were looked at.
+-- Functions that are marked once, and kept in a list until they are visited.
 use Rattle.std.specs.Prelude.{ℕ, ◌≡◌, ◌⊎◌, ◌+◌, Bool, true, false, if◌then◌else◌, List, [], ◌∷◌, length}
 use Rattle.std.specs.List.{slice_index_or}
 use Rattle.call_graph.specs.Lists.{has}
@@ -9,12 +9,12 @@ use Rattle.call_cycles.specs.Cycles.{Calls, IsOnCycle}
 abbrev pub is_marked : List Bool → ℕ → Bool
 is_marked marks f = slice_index_or marks f false
 
--- how many functions aren't marked
+-- the number of functions that aren't marked
 abbrev pub unmarked : List Bool → ℕ
 unmarked [] = 0
 unmarked (b ∷ bs) = (if b then 0 else 1) + unmarked bs
 
--- each function with P is marked, and those that weren't before are added to a list
+-- each function with P is marked, and those that weren't are added to a list
 pub record Marks (P : ℕ → Type 0) (marks : List Bool) (left : List ℕ) (marks' : List Bool) (left' : List ℕ) : Type 0 where
   pub each : length marks' ≡ length marks
   pub done : (g : ℕ) → P g → is_marked marks' g ≡ true
@@ -25,15 +25,15 @@ pub record Marks (P : ℕ → Type 0) (marks : List Bool) (left : List ℕ) (mar
   pub added : (g : ℕ) → has g left' ≡ true → (has g left ≡ true) ⊎ (is_marked marks' g ≡ true)
   pub work : unmarked marks' + length left' ≡ unmarked marks + length left
 
--- of each table that was seen, all members are marked
+-- all members of each seen table are marked
 pub record AreSeen (code : FlatCode) (marks seen : List Bool) : Type 0 where
   pub each : length seen ≡ length code.tables
   pub members : (t g : ℕ) → is_marked seen t ≡ true → has g (members_of code t) ≡ true → is_marked marks g ≡ true
 
--- what a marked function calls is marked
+-- the callees of a marked function are marked
 abbrev pub IsClosed : FlatCode → List Bool → Type 0
 IsClosed code marks = (g h : ℕ) → is_marked marks g ≡ true → Calls code g h → is_marked marks h ≡ true
 
--- no marked function lies on a cycle
+-- no marked function is on a cycle
 abbrev pub AreOffCycles : FlatCode → List Bool → Type 0
 AreOffCycles code marks = (f : ℕ) → is_marked marks f ≡ true → IsOnCycle code f → ⊥

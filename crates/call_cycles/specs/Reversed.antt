@@ -4,7 +4,7 @@ use Rattle.std.specs.List.{AllByRecursion}
 use Rattle.call_graph.specs.declared.sites.GraphSite.{GraphSite}
 use Rattle.call_graph.specs.Graph.{IsSiteOf, IsRising}
 
--- sites of a graph of so many nodes without tables, numbered in order from 0
+-- sites of a graph with this number of nodes and no tables, numbered in order from 0
 pub record AreNumbered (nodes : ℕ) (sites : List GraphSite) : Type 0 where
   pub all : AllByRecursion (IsSiteOf nodes []) sites
   pub rising : IsRising sites

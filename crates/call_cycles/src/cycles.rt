@@ -12,7 +12,7 @@ use cycle_break::back_edges;
 use flat_code::FlatProgram;
 use std::alloc::{AllocError, Global};
 
-// Whether calls lead from a function back to itself: all that it reaches by calls is marked.
+// Whether calls lead from a function back to itself: marks everything that it reaches by calls.
 fn is_on_cycle(alloc: Global, flat: &FlatProgram, function: u32) -> Result<bool, AllocError>
     requires { function < length (program_code flat.now).functions }
     ensures found { IfOk result (λ found. found ≡ true → IsOnCycle (program_code flat.now) function) }
@@ -30,7 +30,7 @@ fn is_on_cycle(alloc: Global, flat: &FlatProgram, function: u32) -> Result<bool,
     Ok(marks[function as usize])
 }
 
-// The same, without a walk where it is known that the function lies on no cycle.
+// The same, without a walk if the function is known to be on no cycle.
 fn lies_on_cycle(
     alloc: Global,
     flat: &FlatProgram,
@@ -49,7 +49,7 @@ fn lies_on_cycle(
     is_on_cycle(alloc, flat, function)
 }
 
-// The least function that lies on a cycle, where some are known to lie on none.
+// The least function on a cycle, if some are known to be on none.
 fn least_on_cycle(
     alloc: Global,
     flat: &FlatProgram,
@@ -69,7 +69,7 @@ fn least_on_cycle(
     Ok(None)
 }
 
-// The least function of a program that lies on a cycle. A graph without back edges has none.
+// The least function of a program on a cycle. A graph without back edges has none.
 pub(crate) fn cycle_of(
     alloc: Global,
     flat: &FlatProgram,

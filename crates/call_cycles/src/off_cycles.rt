@@ -7,8 +7,8 @@ use crate::reaching::mark_callees;
 use flat_code::FlatProgram;
 use std::alloc::{AllocError, Global};
 
-// Marks a function and all that it reaches by calls, and says whether it lies on no cycle. What was marked before leads nowhere
-// but to what was marked before, so it leads to the function only where it was marked.
+// Marks a function and everything that it reaches by calls, and returns whether it is on no cycle. Marked functions
+// call only marked functions, so they lead to the function only if it was already marked.
 fn is_off_cycles(
     alloc: Global,
     flat: &FlatProgram,
@@ -34,8 +34,8 @@ fn is_off_cycles(
     Ok(!found)
 }
 
-// Marks a function and all that it reaches by calls, unless it was marked before, and notes where it lies on no cycle. A number
-// that is no function's is passed over.
+// Marks a function and everything that it reaches by calls, unless it was already marked, and notes if it is on no
+// cycle. A number that isn't a function's is skipped.
 fn note_function(
     alloc: Global,
     flat: &FlatProgram,
@@ -65,9 +65,9 @@ fn note_function(
     Ok(())
 }
 
-// Functions that lie on no cycle, found in one pass: each that wasn't reached from those taken before it, and doesn't lead to
-// itself. They are taken in this order, from the last on. What is found is right in any order; in that in which the walk over the
-// reversed calls leaves the functions all are found.
+// Finds functions on no cycle in one pass: each that isn't reached from those before it, and doesn't lead to itself.
+// They are taken in this order, from the last on. The result is right for any order; for the order in which the walk
+// over the reversed calls leaves the functions, it is complete.
 pub(crate) fn off_cycles(
     alloc: Global,
     flat: &FlatProgram,

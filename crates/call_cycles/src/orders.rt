@@ -10,17 +10,21 @@ use cycle_break::leaving_order;
 use flat_code::FlatProgram;
 use std::alloc::{AllocError, Global};
 
-/// Why no order of a program's functions is given.
+/// Why a program's functions have no order.
 #[derive(Clone, Copy, PartialEq, Eq)]
 pub enum OrderError {
-    /// From this function, the least one, calls lead back to it.
+    /// Calls lead from this function, the least one, back to itself.
     Cycle { function: u32 },
-    /// Memory is lacking.
+    /// An allocation failed.
     Memory,
 }
 
-/// The functions of a program in an order in which each stands behind all that it calls. `Cycle` comes exactly where a
-/// function lies on a cycle of calls, and names the least. More than 2^32 functions count as want of memory.
+/// Returns the functions of a program in an order in which each comes after all that it calls.
+///
+/// # Errors
+///
+/// `Cycle` exactly if a function is on a cycle of calls, with the least one, unless memory runs out; `Memory` if an
+/// allocation fails, or if there are more than 2^32 functions.
 pub fn bottom_up_order(alloc: Global, flat: &FlatProgram) -> Result<Vec<u32>, OrderError>
     ensures order { IfOk result (λ order. IsFromBottom (program_code flat.now) order.items) }
     ensures all { IfOk result (λ order. (f : ℕ) → f < length (program_code flat.now).functions → StandsBefore order.items (length order.items) f) }
@@ -41,7 +45,7 @@ pub fn bottom_up_order(alloc: Global, flat: &FlatProgram) -> Result<Vec<u32>, Or
     }
 }
 
-// The call graph of a program, in which no function weighs anything.
+// The call graph of a program, with all weights 0.
 fn graph_of(alloc: Global, flat: &FlatProgram) -> Result<CallGraph, AllocError>
     ensures graph { IfOk result (λ graph. IsGraph (program_code flat.now) graph) }
     ensures few { IfOk result (λ _. length (program_code flat.now).functions ≤ 2 ^ 32) }

@@ -19,7 +19,7 @@ fn function_of(flat: &FlatProgram, function: usize) -> &FlatFunction
     &flat.functions()[function]
 }
 
-// Marks a function, and keeps it for later, unless it was marked before.
+// Marks a function, and adds it to the list of functions still to be visited, unless it was already marked.
 fn mark(function: u32, marks: &mut [bool], left: &mut Vec<u32>) -> Result<(), AllocError>
     requires { function < length marks.old }
     ensures { OnOk result (Marks (λ g. g ≡ function) marks.old left.old.items marks.new left.new.items) }
@@ -43,7 +43,8 @@ fn mark_each(functions: &[u32], marks: &mut [bool], left: &mut Vec<u32>) -> Resu
     Ok(())
 }
 
-// The same for each member of a table. Those of a table that was seen are marked, and aren't looked at again.
+// The same for each member of a table. Those of a table that has been seen are marked, and aren't tested
+// again.
 fn mark_members(
     flat: &FlatProgram,
     table: u32,

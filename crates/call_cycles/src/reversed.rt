@@ -7,7 +7,7 @@ use call_graph::{CallGraph, Callees, GraphSite, Target};
 use cycle_break::leaving_order;
 use std::alloc::{AllocError, Global};
 
-// The node that stands for what a call enters: a function's number, or that of a table, which come behind the functions.
+// The node for the callee of a call: a function's number, or that of a table, which come after the functions.
 fn node_of(target: Target, tables: &[Callees], functions: usize) -> usize
     requires target { IsTargetOf functions tables.now target }
     requires few { functions + length tables.now ≤ 2 ^ 32 }
@@ -19,7 +19,7 @@ fn node_of(target: Target, tables: &[Callees], functions: usize) -> usize
     }
 }
 
-// Adds a site by which one node calls another. More than 2^32 sites count as want of memory.
+// Adds a site at which one node calls another. More than 2^32 sites are reported as out of memory.
 fn add_site(
     sites: &mut Vec<GraphSite>,
     nodes: usize,
@@ -44,7 +44,7 @@ fn add_site(
     Ok(())
 }
 
-// Adds, for each site of a graph, that what it enters calls its caller.
+// Adds, for each site of a graph, that its callee calls its caller.
 fn add_callers(
     sites: &mut Vec<GraphSite>,
     of_graph: &[GraphSite],
@@ -101,8 +101,8 @@ fn add_tables(
     Ok(())
 }
 
-// The graph in which each call goes the other way. A table is a node behind the functions: each of its members calls it, and it
-// calls each function that calls the table. More than 2^32 nodes count as want of memory.
+// The graph in which each call is reversed. A table is a node after the functions: each of its members calls it, and it
+// calls each function that calls the table. More than 2^32 nodes are reported as out of memory.
 fn reversed_graph(alloc: Global, graph: &CallGraph) -> Result<CallGraph, AllocError> {
     let functions = graph.weights().len();
     let tables = graph.tables();
@@ -117,9 +117,9 @@ fn reversed_graph(alloc: Global, graph: &CallGraph) -> Result<CallGraph, AllocEr
     Ok(CallGraph::new(weights, Vec::new(alloc), sites, graph.main()))
 }
 
-// The order in which the walk over the reversed calls leaves functions and tables. Nothing rests on it but how many walks it takes
-// to find the least function on a cycle: from the last on, calls lead from a function only to those that were taken before
-// it, and to those on a cycle with it.
+// The order in which the walk over the reversed calls leaves functions and tables. Only the number of walks that it
+// takes to find the least function on a cycle depends on it: from the last on, calls lead from a function only to those
+// before it in this order, and to those on a cycle with it.
 pub(crate) fn reversed_order(alloc: Global, graph: &CallGraph) -> Result<Vec<u32>, AllocError> {
     let reversed = reversed_graph(alloc, graph)?;
     leaving_order(alloc, &reversed, &[])

@@ -16,7 +16,7 @@ use Rattle.flat_code.specs.WellFormed.{context_of, signature_of, IsOperation, Is
 use Rattle.call_graph.specs.declared.sites.GraphSite.{GraphSite}
 use Rattle.call_graph.specs.declared.sites.Target.TheVariants.{Function, Table}
 use Rattle.call_graph.specs.FlatCalls.{call_site, call_sites_from}
-use Rattle.call_graph.specs.Graph.{IsTargetOf, IsSiteOf, IsRising, IsCallGraph}
+use Rattle.call_graph.specs.Graph.{IsTargetOf, IsSiteOf, IsRising, IsCallGraph, IsUnsortedGraph}
 use Rattle.call_graph.proofs.ListLemmas.{all-at}
 
 all-map : {X : Type 0} (P Q : X → Type 0) → ((x : X) → P x → Q x) → (xs : List X) → AllByRecursion P xs → AllByRecursion Q xs
@@ -146,19 +146,26 @@ numbers-rise xs ss distinct permutation up =
     rw (get_or-map (λ (s : GraphSite). s.number) ss i none d lt', get_or-map (λ (s : GraphSite). s.number) ss j none d lt) (up i j none le lt) in
     rising-from ss (λ i j lt within. AllPairs-from_increasing (numbers ss) (IsStrictlyIncreasing-from_distinct (numbers ss) up' distinct') i j 0 lt within)
 
-pub flat-graph : (code : FlatCode) (weights : List ℕ) (sites : List GraphSite) → IsWellFormed code → length weights ≡ length code.functions → length weights ≤ 2 ^ 32 →
-    IsPermutation (call_sites_from 0 code.functions) sites → IsNonDecreasingBy (λ s. s.number) sites →
-    IsCallGraph (record { weights = weights; tables = code.tables; sites = sites; main = code.main })
-flat-graph code weights sites formed same few permutation up =
-    let below : AllByRecursion (IsSiteOf (length code.functions) code.tables) sites =
-    recursion_from_All (IsSiteOf (length code.functions) code.tables) sites
-    (All-permutation (IsSiteOf (length code.functions) code.tables) (call_sites_from 0 code.functions) sites permutation
-    (All-from_recursion (IsSiteOf (length code.functions) code.tables) (call_sites_from 0 code.functions)
-    (functions-sites code formed 0 code.functions (omega arith) formed.functions))) in
-    record {
-      few = few;
-      main = omega (arith, formed.main_defined, same);
-      tables = subst (λ n. AllByRecursion (λ row. AllByRecursion (λ f. f < n) row) code.tables) (sym same) (tables-below code formed code.tables formed.tables);
-      sites = subst (λ n. AllByRecursion (IsSiteOf n code.tables) sites) (sym same) below;
-      rising = numbers-rise (call_sites_from 0 code.functions) sites (part-distinct (numbers (call_sites_from 0 code.functions)) (site_numbers code) (part-functions 0 code.functions) formed.sites) permutation up;
-    }
+-- what keeps its sites in the order of their numbers is a graph
+pub sorted-graph : (weights : List ℕ) (tables : List (List ℕ)) (main : ℕ) (sites sorted : List GraphSite) → IsUnsortedGraph (record { weights = weights; tables = tables; sites = sites; main = main }) →
+    IsPermutation sites sorted → IsNonDecreasingBy (λ s. s.number) sorted → IsCallGraph (record { weights = weights; tables = tables; sites = sorted; main = main })
+sorted-graph weights tables main sites sorted unsorted permutation up = record {
+  few = unsorted.few;
+  main = unsorted.main;
+  tables = unsorted.tables;
+  sites = recursion_from_All (IsSiteOf (length weights) tables) sorted
+      (All-permutation (IsSiteOf (length weights) tables) sites sorted permutation
+      (All-from_recursion (IsSiteOf (length weights) tables) sites unsorted.sites));
+  rising = numbers-rise sites sorted unsorted.once permutation up;
+}
+
+-- the call sites of a well formed program
+pub flat-graph : (code : FlatCode) (weights : List ℕ) → IsWellFormed code → length weights ≡ length code.functions → length weights ≤ 2 ^ 32 →
+    IsUnsortedGraph (record { weights = weights; tables = code.tables; sites = call_sites_from 0 code.functions; main = code.main })
+flat-graph code weights formed same few = record {
+  few = few;
+  main = omega (arith, formed.main_defined, same);
+  tables = subst (λ n. AllByRecursion (λ row. AllByRecursion (λ f. f < n) row) code.tables) (sym same) (tables-below code formed code.tables formed.tables);
+  sites = subst (λ n. AllByRecursion (IsSiteOf n code.tables) (call_sites_from 0 code.functions)) (sym same) (functions-sites code formed 0 code.functions (omega arith) formed.functions);
+  once = part-distinct (numbers (call_sites_from 0 code.functions)) (site_numbers code) (part-functions 0 code.functions) formed.sites;
+}

@@ -1,12 +1,12 @@
 -- Whether a number stands in a list.
-use Rattle.std.proofs.Common.{◌≡◌, ◌≢◌, ℕ, zero, suc, ◌<◌, ◌≤◌, Bool, true, false, not, Result, Ok, Err, List, [], ◌∷◌, length, get_or, refl, arith}
+use Rattle.std.proofs.Common.{◌≡◌, ◌≢◌, ℕ, zero, suc, ◌<◌, ◌≤◌, Bool, true, false, Result, Ok, Err, List, [], ◌∷◌, length, get_or, refl, arith}
 use Rattle.std.proofs.lemmas.Bool.Decides.{nat_tests}
 use Rattle.std.proofs.lemmas.List.Sorted.{searched}
 use Rattle.std.proofs.lemmas.List.Kept.{AllPairs-from_increasing}
 use Rattle.std.specs.List.Sorted.{IsStrictlyIncreasing, IsBinarySearchResult}
 use Rattle.std.specs.List.{AllByRecursion}
 use Rattle.std.specs.Ordering.{nat_cmp}
-use Rattle.std.specs.Prelude.{is_err}
+use Rattle.std.specs.Prelude.{is_ok}
 use Rattle.call_graph.specs.Lists.{has}
 
 -- a test is true or false
@@ -33,7 +33,7 @@ has-none (x ∷ xs) n none =
     grind (arith, nat_tests)
 
 -- what a search of numbers that rise tells
-found : (xs : List ℕ) (n : ℕ) (r : Result ℕ ℕ) → IsBinarySearchResult (λ y. nat_cmp y n) xs r → ((i j : ℕ) → i ≤ j → j < length xs → get_or xs i 0 ≤ get_or xs j 0) → is_err r ≡ not (has n xs)
+found : (xs : List ℕ) (n : ℕ) (r : Result ℕ ℕ) → IsBinarySearchResult (λ y. nat_cmp y n) xs r → ((i j : ℕ) → i ≤ j → j < length xs → get_or xs i 0 ≤ get_or xs j 0) → is_ok r ≡ has n xs
 found xs n (Ok i) h up = let at = searched xs n (Ok i) h up in rw (has-at xs i n at.0 at.1) refl
 found xs n (Err i) h up =
     let apart = searched xs n (Err i) h up in
@@ -43,5 +43,5 @@ found xs n (Err i) h up =
 up_from_rising : (xs : List ℕ) → IsStrictlyIncreasing xs → (i j : ℕ) → i ≤ j → j < length xs → get_or xs i 0 ≤ get_or xs j 0
 up_from_rising xs rising i j le within = grind (arith, AllPairs-from_increasing xs rising i j 0)
 
-pub is_err-search : (xs : List ℕ) (n : ℕ) (r : Result ℕ ℕ) → IsStrictlyIncreasing xs → IsBinarySearchResult (λ y. nat_cmp y n) xs r → is_err r ≡ not (has n xs)
-is_err-search xs n r rising h = found xs n r h (up_from_rising xs rising)
+pub is_ok-search : (xs : List ℕ) (n : ℕ) (r : Result ℕ ℕ) → IsStrictlyIncreasing xs → IsBinarySearchResult (λ y. nat_cmp y n) xs r → is_ok r ≡ has n xs
+is_ok-search xs n r rising h = found xs n r h (up_from_rising xs rising)

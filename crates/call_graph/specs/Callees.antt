@@ -9,7 +9,7 @@ abbrev pub callees : List (List ℕ) → Target → List ℕ
 callees tables (Function function) = function ∷ []
 callees tables (Table table) = slice_index_or tables table []
 
--- the greatest value of some things, or 0 where there is none
+-- the greatest value of some elements, or 0 if there are none
 abbrev pub greatest : {X : Type 0} → (X → ℕ) → List X → ℕ
 greatest value [] = 0
 greatest value (x ∷ xs) = max (value x) (greatest value xs)

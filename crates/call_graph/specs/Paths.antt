@@ -10,12 +10,12 @@ abbrev pub IsAmong : List GraphSite → GraphSite → Type 0
 IsAmong [] site = ⊥
 IsAmong (first ∷ sites) site = (first ≡ site) ⊎ IsAmong sites site
 
--- a call on the way: its site, and the function that it enters
+-- a call on a path: its site, and the function that it enters
 pub record Call : Type 0 where
   pub site : GraphSite
   pub callee : ℕ
 
--- a call by a function of a graph, at a site that is none of these
+-- a call by a function of a graph, at a site that isn't one of these
 pub record IsCallBy (graph : CallGraphState) (without : List ℕ) (from : ℕ) (call : Call) : Type 0 where
   pub site : IsAmong graph.sites call.site
   pub caller : call.site.caller ≡ from
@@ -31,7 +31,7 @@ IsPath graph without from (call ∷ calls) to = IsCallBy graph without from call
 abbrev pub BreaksEveryCycle : CallGraphState → List ℕ → Type 0
 BreaksEveryCycle graph numbers = (function : ℕ) (call : Call) (calls : List Call) → ¬ (IsPath graph numbers function (call ∷ calls) function)
 
--- the sum of the weights of a function and of those that calls enter
+-- the sum of the weights of a function and of those that the calls enter
 abbrev pub weight_along : CallGraphState → ℕ → List Call → ℕ
 weight_along graph from [] = slice_index graph.weights from
 weight_along graph from (call ∷ calls) = slice_index graph.weights from + weight_along graph call.callee calls

@@ -4,9 +4,9 @@ use crate::callee_lists::Callees;
 use crate::sites::GraphSite;
 use std::marker::Model;
 
-/// A weighted call graph. What it means is the weights of the functions, the members of the tables, the
-/// call sites and the function that is started. It keeps that every function's number is below the number
-/// of weights, that the sites' numbers rise and that every site has a callee.
+/// A weighted call graph. Contracts see the weights of the functions, the members of the tables, the call
+/// sites and the start function. Its invariant: every function's number is below the number of weights,
+/// the sites' numbers increase, and every site has a callee.
 #[derive(Drop)]
 pub struct CallGraph {
     weights: Vec<u32>,
@@ -28,8 +28,8 @@ impl Model for CallGraph {
 impl CallGraph {
     ghost use Rattle.call_graph.specs.Graph.{IsCallGraph};
 
-    /// The graph of these weights in bytes, by function, these tables, these sites and this function that
-    /// is started. It takes no memory.
+    /// Returns the graph with these weights in bytes, by function, these tables, these sites and this
+    /// start function. It doesn't allocate.
     pub fn new(
         weights: Vec<u32>,
         tables: Vec<Callees>,
@@ -47,7 +47,7 @@ impl CallGraph {
         }
     }
 
-    /// The weights of the functions in bytes, by number.
+    /// Returns the weights of the functions in bytes, by number.
     pub fn weights(&self) -> &[u32]
         ensures value { result.now ≡ self.now.weights }
         ensures kept { IsCallGraph self.now }
@@ -55,21 +55,21 @@ impl CallGraph {
         self.weights.as_slice()
     }
 
-    /// The members of the tables, by number.
+    /// Returns the members of the tables, by number.
     pub fn tables(&self) -> &[Callees]
         ensures { result.now ≡ self.now.tables }
     {
         self.tables.as_slice()
     }
 
-    /// The call sites, in order of their numbers.
+    /// Returns the call sites, in order of their numbers.
     pub fn sites(&self) -> &[GraphSite]
         ensures { result.now ≡ self.now.sites }
     {
         self.sites.as_slice()
     }
 
-    /// The number of the function that is started.
+    /// Returns the number of the start function.
     pub fn main(&self) -> u32
         ensures { result ≡ self.now.main }
     {

@@ -2,7 +2,8 @@ ghost use Rattle.std.specs.Prelude.{◌≡◌};
 
 use std::marker::Model;
 
-/// The functions that a call may enter, in order: the members of a table. Contracts see their list.
+/// The functions that a call may enter, in order: the members of a table. Contracts see the list of
+/// them.
 #[derive(Drop)]
 pub struct Callees {
     functions: Vec<u32>,
@@ -17,14 +18,14 @@ impl Model for Callees {
 }
 
 impl Callees {
-    /// The list of these functions. It takes no memory.
+    /// Returns the list of these functions. It doesn't allocate.
     pub fn new(functions: Vec<u32>) -> Callees
         ensures { result ≡ functions.items }
     {
         Callees { functions }
     }
 
-    /// The functions, in order.
+    /// Returns the functions, in order.
     pub fn as_slice(&self) -> &[u32]
         ensures { result.now ≡ self.now }
     {

@@ -8,7 +8,7 @@ use cap_word::Words;
 use flat_code::{FlatFunction, Op};
 use std::alloc::{AllocError, Global};
 
-/// The call site of an operation, if it is a call of a function or a table.
+/// Returns the call site of an operation, if it is a call of a function or a table.
 fn site_of(op: &Op, caller: u32) -> Option<GraphSite>
     ensures { result ≡ call_site caller op.now }
 {
@@ -27,8 +27,8 @@ fn site_of(op: &Op, caller: u32) -> Option<GraphSite>
     }
 }
 
-/// Adds the call sites of a function's operations.
-fn push_sites(ops: &[Op], caller: u32, sites: &mut Vec<GraphSite>) -> Result<(), AllocError>
+/// Adds the call sites of a function's operations: each call of a function or a table is one, and a spawn is none.
+pub fn push_sites(ops: &[Op], caller: u32, sites: &mut Vec<GraphSite>) -> Result<(), AllocError>
     ensures { OnOk result (sites.new.items ≡ sites.old.items ++ filter_map (call_site caller) ops.now) }
 {
     for op in ops {
@@ -39,7 +39,7 @@ fn push_sites(ops: &[Op], caller: u32, sites: &mut Vec<GraphSite>) -> Result<(),
     Ok(())
 }
 
-/// The call sites of these functions.
+/// Returns the call sites of these functions.
 pub(crate) fn sites_of_functions(
     alloc: Global,
     functions: &[FlatFunction],
@@ -54,7 +54,7 @@ pub(crate) fn sites_of_functions(
     Ok(sites)
 }
 
-/// The members of these tables, each copied once.
+/// Returns the members of these tables, each copied once.
 pub(crate) fn copies_of(alloc: Global, tables: &[Words]) -> Result<Vec<Callees>, AllocError>
     ensures { IfOk result (λ copies. copies.items ≡ tables.now) }
 {

@@ -1,4 +1,4 @@
-ghost use Rattle.std.specs.Prelude.{◌≡◌, IfOk, not};
+ghost use Rattle.std.specs.Prelude.{◌≡◌, IfOk};
 ghost use Rattle.std.specs.List.Sorted.{IsStrictlyIncreasing};
 ghost use Rattle.call_graph.specs.Index.{CallersBelow, IsIndex};
 ghost use Rattle.call_graph.specs.Lists.{has};
@@ -6,30 +6,30 @@ ghost use Rattle.call_graph.specs.Lists.{has};
 use crate::sites::GraphSite;
 use std::alloc::{AllocError, Global};
 
-/// Where the sites of each function stand in the list of all sites, some left out.
+/// The indices of each function's sites in the list of all sites, without some of them.
 #[derive(Drop)]
 pub struct CallerIndex<'a> {
     /// All sites.
     pub sites: &'a [GraphSite],
-    /// The numbers of the sites that are left out, rising.
+    /// The numbers of the sites that are left out, increasing.
     pub without: &'a [u32],
-    /// The place of each function's first site, or the number of sites.
+    /// The index of each function's first site, or the number of sites.
     pub first: Vec<usize>,
-    /// The place of the next site of the same caller, or the number of sites.
+    /// The index of the next site of the same caller, or the number of sites.
     pub next: Vec<usize>,
 }
 
-/// Whether a number is none of these, which rise. It takes no memory.
-pub fn is_kept(number: u32, without: &[u32]) -> bool
-    requires { IsStrictlyIncreasing without.now }
-    ensures { result ≡ not (has number without.now) }
+/// Whether a number is one of these, which rise. It takes no memory.
+pub fn is_among(number: u32, numbers: &[u32]) -> bool
+    requires { IsStrictlyIncreasing numbers.now }
+    ensures { result ≡ has number numbers.now }
 {
-    without.binary_search(&number).is_err()
+    numbers.binary_search(&number).is_ok()
 }
 
 impl<'a> CallerIndex<'a> {
-    /// The index of these sites, without those of the numbers in `without`, which rise. Each caller is below
-    /// the number of functions.
+    /// Returns the index of these sites, without those with the numbers in `without`, which increase. Each
+    /// caller is below the number of functions.
     pub fn new(
         alloc: Global,
         functions: usize,
@@ -49,7 +49,7 @@ impl<'a> CallerIndex<'a> {
         while place > 0 {
             place -= 1;
             let site = sites[place];
-            if is_kept(site.number, without) {
+            if !is_among(site.number, without) {
                 next[place] = first[site.caller as usize];
                 first[site.caller as usize] = place;
             }

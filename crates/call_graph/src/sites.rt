@@ -1,9 +1,9 @@
-/// What a call site calls.
+/// The callee of a call site.
 #[derive(Clone, Copy)]
 pub enum Target {
-    /// The function of this number.
+    /// The function with this number.
     Function(u32),
-    /// The table of this number: one of its members.
+    /// A member of the table with this number.
     Table(u32),
 }
 
@@ -12,8 +12,8 @@ pub enum Target {
 pub struct GraphSite {
     /// The number of the site.
     pub number: u32,
-    /// The number of the function that the site stands in.
+    /// The number of the function that contains the site.
     pub caller: u32,
-    /// What the site calls.
+    /// The callee.
     pub target: Target,
 }

@@ -5,11 +5,12 @@ ghost use Rattle.grammar_laws.specs.Ranks.{lesser, ranks};
 
 use std::alloc::{AllocError, Global};
 
-/// The number of each call, by the places of the calls' names, in the order of the tree: how many of the places are less.
+/// Returns the number of each call, from the places of the calls' names, in the order of the tree: how many of the
+/// places are less.
 ///
 /// # Errors
 ///
-/// There is no room for them, or there are 2^32 places or more.
+/// `AllocError` if an allocation fails, or if there are 2^32 places or more.
 pub fn numbers_by_places(alloc: Global, places: &[u32]) -> Result<Vec<u32>, AllocError>
     ensures numbers { IfOk result (λ ns. ns.items ≡ ranks places.now) }
     ensures distinct { IfOk result (λ ns. AreSiteNumbers ns.items) }
@@ -21,7 +22,7 @@ pub fn numbers_by_places(alloc: Global, places: &[u32]) -> Result<Vec<u32>, Allo
     Ok(numbers)
 }
 
-// The rank of each place. A source has at most 1,048,576 bytes, so a table of all places is small.
+// The rank of each place. A source has at most 1,048,576 bytes, so a table over all places is small.
 fn ranks(alloc: Global, places: &[u32]) -> Result<Vec<u32>, AllocError>
     requires { length places.now < 2 ^ 32 }
     ensures { IfOk result (λ ns. ns.items ≡ ranks places.now) }
@@ -36,7 +37,7 @@ fn ranks(alloc: Global, places: &[u32]) -> Result<Vec<u32>, AllocError>
     Ok(numbers)
 }
 
-// For each place up to the greatest how many of the places are less.
+// The number of places below each place, up to the greatest.
 fn starts(alloc: Global, places: &[u32]) -> Result<Vec<u32>, AllocError>
     requires { length places.now < 2 ^ 32 }
     ensures all { IfOk result (λ v. EachIndex places.now (λ k. slice_index places.now k < length v.items)) }

@@ -10,6 +10,10 @@ use std::alloc::{AllocError, Global};
 
 /// The place of the first byte of the name of each call of a source, in the order of the tree. Of a tree that was read
 /// from a text that is the order of the text.
+///
+/// # Errors
+///
+/// Memory ran out.
 pub fn places_of_calls(alloc: Global, raw: &RawProgram) -> Result<Vec<u32>, AllocError>
     ensures { IfOk result (λ ps. ps.items ≡ items_places is_call (raw_program_tree raw.now)) }
 {
@@ -28,6 +32,10 @@ fn add_items(places: &mut Vec<u32>, items: &[RawItem]) -> Result<(), AllocError>
 }
 
 /// Adds the places of the calls of one item, in the order of the tree.
+///
+/// # Errors
+///
+/// Memory ran out.
 pub fn add_places_of_calls(places: &mut Vec<u32>, item: &RawItem) -> Result<(), AllocError>
     ensures { OnOk result (places.new.items ≡ places.old.items ++ item_places is_call (raw_item_tree item.now)) }
 {

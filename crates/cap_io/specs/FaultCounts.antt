@@ -1,7 +1,7 @@
--- What contracts see of the present folder as a shelf.
+-- The current folder as a shelf, as contracts see it.
 use Rattle.std.specs.Prelude.{ℕ}
 
--- how many loads and how many stores failed
+-- the numbers of failed loads and failed stores
 pub record FaultCounts : Type 0 where
   pub loads : ℕ
   pub stores : ℕ

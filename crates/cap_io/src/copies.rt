@@ -1,7 +1,7 @@
 // Bytes copied to the front of a buffer.
 ghost use Rattle.std.specs.Prelude.{◌≡◌, length, take, drop, min};
 
-/// Copies as many bytes as there are and fit to the front of `to`, and answers their number.
+/// Copies the first bytes of `from` to the front of `to`, as many as fit, and returns their number.
 pub(crate) fn copy_front(from: &[u8], to: &mut [u8]) -> usize
     ensures count { result ≡ min (length from.now) (length to.old) }
     ensures front { take result to.new ≡ take result from.now }

@@ -1,4 +1,4 @@
-// Files in memory, as a list of names and bytes.
+// A list of files in memory, with their names and bytes.
 ghost use Rattle.std.specs.Prelude.{◌≡◌, ◌≤◌, OnOk, OnErr, IfOk, vec_len, string_bytes};
 ghost use Rattle.std.specs.Str.{bytes_eq};
 ghost use Rattle.std.specs.List.{position};
@@ -9,7 +9,8 @@ use super::ShelfError;
 use std::alloc::{AllocError, Global};
 use std::marker::Model;
 
-/// Files under names, the first of a name counting. Contracts see the list of names and bytes.
+/// Files by name; of two files with the same name the first counts. Contracts see the list of names
+/// and bytes.
 #[derive(Drop)]
 pub(crate) struct FileList {
     files: Vec<(String, Vec<u8>)>,
@@ -30,7 +31,7 @@ impl FileList {
         FileList { files }
     }
 
-    /// A copy of the file's bytes, if there is such a file of at most `max` bytes.
+    /// Returns a copy of the file's bytes, if there is such a file and it has at most `max` bytes.
     pub(crate) fn load(&self, alloc: Global, name: &str, max: u32) -> Result<Vec<u8>, ShelfError>
         ensures file { LoadsFile (file_in self.now name.now) max result }
         ensures bound { IfOk result (λ bytes. vec_len bytes ≤ max) }
@@ -49,7 +50,8 @@ impl FileList {
         Ok(copy)
     }
 
-    /// Puts the bytes under the name, in place of what the file held if there is one.
+    /// Stores the bytes under the name, and replaces the file's old contents if there is such a
+    /// file.
     pub(crate) fn put(&mut self, alloc: Global, name: &str, bytes: &[u8]) -> Result<(), AllocError>
         ensures ok { OnOk result (self.new ≡ put_file self.old name.now bytes.now) }
         ensures err { OnErr result (self.new ≡ self.old) }
@@ -66,7 +68,7 @@ impl FileList {
     }
 }
 
-/// The place of the first file of that name.
+/// Returns the index of the first file of that name.
 fn place_of(files: &[(String, Vec<u8>)], name: &str) -> Option<usize>
     ensures { result ≡ position (λ file. bytes_eq (string_bytes file.0) name.now) files.now }
 {

@@ -1,4 +1,4 @@
-// The present folder as a shelf.
+// The current folder as a shelf.
 ghost use Rattle.std.specs.Prelude.{◌≡◌, ◌≤◌, IfOk, OnOk, vec_len};
 ghost use Rattle.cap_io.specs.FaultCounts.{FaultCounts};
 
@@ -10,8 +10,8 @@ use std::io::{ErrorKind, Read};
 use std::marker::Model;
 use std::rt::Files;
 
-/// A shelf over the present folder: a name is a path there. It tells nothing of the files. Contracts see its two counts
-/// of faults, which rise at each error of the system but one: that there is no such file, at a load, is Absent.
+/// A shelf over the current folder: a name is a path in it. It doesn't expose its files. Contracts see its two counts
+/// of faults, which rise at each error of the system except one: a load of a file that doesn't exist is Absent.
 #[derive(Drop)]
 pub struct DirShelf<R: Files + Drop> {
     rt: R,
@@ -31,7 +31,7 @@ impl<R: Files + Drop> Model for DirShelf<R> {
 }
 
 impl<R: Files + Drop> DirShelf<R> {
-    /// The present folder of the process, with no faults so far.
+    /// Returns the current folder of the process, with no faults so far.
     pub fn new(rt: R) -> Self
         ensures { result ≡ record { loads = 0; stores = 0 } }
     {
@@ -69,7 +69,7 @@ impl<R: Files + Drop> Shelf for DirShelf<R> {
     }
 }
 
-/// The bytes of a file of at most `max` bytes.
+/// Returns the bytes of a file of at most `max` bytes.
 fn read_file<R: Files>(rt: &R, alloc: Global, name: &str, max: u32) -> Result<Vec<u8>, ShelfError>
     ensures { IfOk result (λ bytes. vec_len bytes ≤ max) }
 {
@@ -91,7 +91,7 @@ fn read_file<R: Files>(rt: &R, alloc: Global, name: &str, max: u32) -> Result<Ve
     }
 }
 
-/// The bytes of an open file of at most `max` bytes.
+/// Returns the bytes of an open file of at most `max` bytes.
 fn read_rest<F: Read>(file: &mut F, alloc: Global, max: u32) -> Result<Vec<u8>, ShelfError>
     ensures { IfOk result (λ bytes. vec_len bytes ≤ max) }
 {
@@ -105,7 +105,7 @@ fn read_rest<F: Read>(file: &mut F, alloc: Global, max: u32) -> Result<Vec<u8>, 
     }
 }
 
-/// Appends what is left of an open file, up to `max` bytes in all.
+/// Appends the rest of an open file, up to `max` bytes in all.
 fn read_into<F: Read>(file: &mut F, bytes: &mut Vec<u8>, max: u32) -> Result<(), ShelfError>
     requires { vec_len bytes.old ≤ max }
     ensures { OnOk result (vec_len bytes.new ≤ max) }

@@ -1,11 +1,12 @@
-// What the program reads from, writes to and keeps files in.
+// External objects: sources of bytes, sinks for bytes, and shelves of files.
 //
-// `Source`, `Sink` and `Shelf` are the three kinds of object that a command is handed. Each tells, for contracts alone,
-// how many faults it counted, and its content where that is known: the bytes left, the bytes taken, the files by name.
-// So a contract above can say that a call failed only where a fault was counted, and what it read or wrote exactly
-// where the object tells. `put_all` writes a whole piece. The forms in memory serve tests: `MemSource`, `MemSink` and
-// `MemShelf` fail at the calls that they are told, `CleanSource`, `CleanSink` and `CleanShelf` never. `StdSource`,
-// `StdSink` and `DirShelf` reach the system. The calls follow `read` and `write` of POSIX and of Rust's `std::io`.
+// `Source`, `Sink` and `Shelf` are the three kinds of object that a command takes. Each has, for contracts alone, a
+// count of its faults, and its contents if it exposes them: the bytes left, the bytes taken, the files by name. So a
+// contract above can say that a call failed only if a fault was counted, and exactly what it read or wrote if the
+// object exposes its contents. `put_all` writes a whole piece. The objects in memory serve tests: `MemSource`,
+// `MemSink` and `MemShelf` fail at given calls, `CleanSource`, `CleanSink` and `CleanShelf` never fail. `StdSource`,
+// `StdSink` and `DirShelf` are real streams and files. The calls follow `read` and `write` of POSIX and of Rust's
+// `std::io`.
 #![tactic(auto)]
 
 mod copies;

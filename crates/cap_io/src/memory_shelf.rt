@@ -10,8 +10,8 @@ use super::{Shelf, ShelfError};
 use std::alloc::Global;
 use std::marker::Model;
 
-/// A shelf of given files that fails at given calls. Contracts see what it keeps: names and bytes, the number of loads
-/// and stores together, the calls that are to fail, and the numbers of loads and of stores that failed.
+/// A shelf of given files that fails at given calls. Contracts see its contents: names and bytes, the number of loads
+/// and stores together, the calls that fail, and the numbers of failed loads and failed stores.
 #[derive(Drop)]
 pub struct MemShelf {
     files: FileList,
@@ -33,9 +33,9 @@ impl Model for MemShelf {
 }
 
 impl MemShelf {
-    /// A shelf of `files`, names and bytes, which differ in their names: of two of one name the first counts. It fails
-    /// at the calls that `fails` lists, counted from 1 over loads and stores; the number beside a call is how many bytes
-    /// a store that fails there leaves. It allocates nothing, and so does not use `_alloc`.
+    /// Returns a shelf of `files`, pairs of a name and bytes; of two files with the same name the first counts. It
+    /// fails at the calls that `fails` lists, counted from 1 over loads and stores together; the number beside a call
+    /// is the number of bytes that a store leaves if it fails there. It doesn't allocate, so `_alloc` isn't used.
     pub fn new(_alloc: Global, files: Vec<(String, Vec<u8>)>, fails: Vec<(u64, u32)>) -> Self
         ensures { result ≡ record { entries = entries_of files.items; calls = 0; fails = fails.items; load_faults = 0; store_faults = 0 } }
     {
@@ -59,7 +59,7 @@ impl Shelf for MemShelf {
 
     ghost files = { λ s. Some (file_in s.entries) };
 
-    /// As the trait says, and exactly: a call that is listed fails, and no other does.
+    /// Loads a file as the trait says; a call fails exactly if it is listed.
     fn load(&mut self, alloc: Global, name: &str, max: u32) -> Result<Vec<u8>, ShelfError>
         ensures bound { IfOk result (λ bytes. vec_len bytes ≤ max) }
         ensures file { Loads (Some (file_in self.old.entries)) name.now max result }
@@ -78,8 +78,8 @@ impl Shelf for MemShelf {
         self.files.load(alloc, name, max)
     }
 
-    /// As the trait says, and exactly: a call that is listed fails, leaves as many of the bytes as are listed and there
-    /// are, and no other fails. After Memory no file has changed.
+    /// Stores a file as the trait says; a call fails exactly if it is listed, and then leaves the listed number of
+    /// bytes, or all if there are fewer. After Memory no file has changed.
     fn store(&mut self, alloc: Global, name: &str, bytes: &[u8]) -> Result<(), ShelfError>
         ensures file { Stores (Some (file_in self.old.entries)) (Some (file_in self.new.entries)) name.now bytes.now result }
         ensures counts { CountsStores result self.old.store_faults self.new.store_faults }
@@ -102,7 +102,7 @@ impl Shelf for MemShelf {
     }
 }
 
-/// How many bytes a store that is this call leaves, where the call is to fail.
+/// Returns the number of bytes that a store leaves if it is this call, or `None` if the call doesn't fail.
 fn kept_at(fails: &[(u64, u32)], call: u64) -> Option<u32>
     ensures { result ≡ kept_of fails.now call }
 {
@@ -125,8 +125,8 @@ impl Model for CleanShelf {
 }
 
 impl CleanShelf {
-    /// A shelf of `files`, names and bytes, which differ in their names: of two of one name the first counts. It
-    /// allocates nothing, and so does not use `_alloc`.
+    /// Returns a shelf of `files`, pairs of a name and bytes; of two files with the same name the first counts. It
+    /// doesn't allocate, so `_alloc` isn't used.
     pub fn new(_alloc: Global, files: Vec<(String, Vec<u8>)>) -> Self
         ensures { result ≡ entries_of files.items }
     {
@@ -146,7 +146,7 @@ impl Shelf for CleanShelf {
 
     ghost files = { λ s. Some (file_in s) };
 
-    /// As the trait says; it never answers Failed.
+    /// Loads a file as the trait says; it never returns Failed.
     fn load(&mut self, alloc: Global, name: &str, max: u32) -> Result<Vec<u8>, ShelfError>
         ensures bound { IfOk result (λ bytes. vec_len bytes ≤ max) }
         ensures file { Loads (Some (file_in self.old)) name.now max result }
@@ -157,7 +157,7 @@ impl Shelf for CleanShelf {
         self.files.load(alloc, name, max)
     }
 
-    /// As the trait says; it never answers Failed, and after Memory no file has changed.
+    /// Stores a file as the trait says; it never returns Failed, and after Memory no file has changed.
     fn store(&mut self, alloc: Global, name: &str, bytes: &[u8]) -> Result<(), ShelfError>
         ensures file { Stores (Some (file_in self.old)) (Some (file_in self.new)) name.now bytes.now result }
         ensures never_fails { CountsStores result 0 0 }

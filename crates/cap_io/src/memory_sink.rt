@@ -8,8 +8,8 @@ use super::{Sink, SinkError};
 use std::alloc::Global;
 use std::marker::Model;
 
-/// A sink that keeps what it takes and fails at given calls. Contracts see what it keeps: the bytes taken, the most
-/// bytes a call, the number of calls, the calls that are to fail, and the number of faults.
+/// A sink that keeps the bytes it takes and fails at given calls. Contracts see its contents: the bytes taken, the
+/// maximum number of bytes per call, the number of calls, the calls that fail, and the number of faults.
 #[derive(Drop)]
 pub struct MemSink {
     bytes: Vec<u8>,
@@ -31,8 +31,8 @@ impl Model for MemSink {
 }
 
 impl MemSink {
-    /// An empty sink that takes at most `per_call` bytes a call, at least 1, and fails at the calls that `fails` lists,
-    /// counted from 1. It allocates nothing.
+    /// Returns an empty sink that takes at most `per_call` bytes per call, at least 1, and fails at the calls that
+    /// `fails` lists, counted from 1. It doesn't allocate.
     pub fn new(alloc: Global, per_call: u32, fails: Vec<u64>) -> Self
         requires { 1 ≤ per_call }
         ensures { result ≡ record { taken = []; per_call = per_call; calls = 0; fails = fails.items; faults = 0 } }
@@ -46,7 +46,7 @@ impl MemSink {
         }
     }
 
-    /// The bytes taken.
+    /// Returns the bytes taken.
     pub fn bytes(&self) -> &[u8]
         ensures { result.now ≡ self.now.taken }
     {
@@ -61,8 +61,8 @@ impl Sink for MemSink {
 
     ghost taken = { λ s. Some s.taken };
 
-    /// As the trait says, and exactly: a call that is listed fails, and every other takes as many bytes as there are
-    /// and as it may take, where there is memory for them.
+    /// Takes bytes as the trait says; a call fails exactly if it is listed. Any other call takes the maximum number of
+    /// bytes per call, or the whole piece if it is shorter, if there is memory for them.
     fn write(&mut self, piece: &[u8]) -> Result<usize, SinkError>
         ensures bound { IfOk result (λ n. n ≤ length piece.now) }
         ensures bytes { WriteAppends (Some self.old.taken) (Some self.new.taken) result piece.now }
@@ -84,7 +84,7 @@ impl Sink for MemSink {
     }
 }
 
-/// A sink that keeps what it takes and never fails. Contracts see the bytes taken.
+/// A sink that keeps the bytes it takes and never fails. Contracts see the bytes taken.
 #[derive(Drop)]
 pub struct CleanSink {
     bytes: Vec<u8>,
@@ -99,7 +99,7 @@ impl Model for CleanSink {
 }
 
 impl CleanSink {
-    /// An empty sink. It allocates nothing.
+    /// Returns an empty sink. It doesn't allocate.
     pub fn new(alloc: Global) -> Self
         ensures { result ≡ [] }
     {
@@ -108,7 +108,7 @@ impl CleanSink {
         }
     }
 
-    /// The bytes taken.
+    /// Returns the bytes taken.
     pub fn bytes(&self) -> &[u8]
         ensures { result.now ≡ self.now }
     {
@@ -123,7 +123,7 @@ impl Sink for CleanSink {
 
     ghost taken = { λ s. Some s };
 
-    /// As the trait says, and exactly: it takes the whole piece where there is memory for it.
+    /// Takes bytes as the trait says: the whole piece, if there is memory for it.
     fn write(&mut self, piece: &[u8]) -> Result<usize, SinkError>
         ensures bound { IfOk result (λ n. n ≤ length piece.now) }
         ensures bytes { WriteAppends (Some self.old) (Some self.new) result piece.now }

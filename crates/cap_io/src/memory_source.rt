@@ -8,8 +8,8 @@ use super::copies::copy_front;
 use super::{Failed, Source};
 use std::marker::Model;
 
-/// A source of given bytes that fails at given calls. Contracts see what it keeps: the bytes left, the most bytes a
-/// call, the number of calls, the calls that are to fail, and the number of faults.
+/// A source of given bytes that fails at given calls. Contracts see its contents: the bytes left, the maximum number of
+/// bytes per call, the number of calls, the calls that fail, and the number of faults.
 #[derive(Drop)]
 pub struct MemSource {
     bytes: Vec<u8>,
@@ -32,8 +32,8 @@ impl Model for MemSource {
 }
 
 impl MemSource {
-    /// A source of `bytes` that gives at most `per_call` of them a call, at least 1, and fails at the calls that `fails`
-    /// lists, counted from 1.
+    /// Returns a source of `bytes` that provides at most `per_call` of them per call, at least 1, and fails at the
+    /// calls that `fails` lists, counted from 1.
     pub fn new(bytes: Vec<u8>, per_call: u32, fails: Vec<u64>) -> Self
         requires { 1 ≤ per_call }
         ensures { result ≡ record { left = bytes.items; per_call = per_call; calls = 0; fails = fails.items; faults = 0 } }
@@ -56,8 +56,8 @@ impl Source for MemSource {
 
     ghost left = { λ s. Some s.left };
 
-    /// As the trait says, and exactly: a call that is listed fails, and every other gives as many bytes as are left, as
-    /// it may give and as there is room for.
+    /// Reads bytes as the trait says; a call fails exactly if it is listed. Any other call provides the maximum number
+    /// of bytes per call, or fewer if fewer are left or the buffer is shorter.
     fn read(&mut self, buf: &mut [u8]) -> Result<usize, Failed>
         ensures fills { FillsPrefix result buf.old buf.new }
         ensures bytes { ReadConsumes (Some self.old.left) (Some self.new.left) result buf.new }
@@ -96,7 +96,7 @@ impl Model for CleanSource {
 }
 
 impl CleanSource {
-    /// A source of `bytes`.
+    /// Returns a source of `bytes`.
     pub fn new(bytes: Vec<u8>) -> Self
         ensures { result ≡ bytes.items }
     {
@@ -111,7 +111,7 @@ impl Source for CleanSource {
 
     ghost left = { λ s. Some s };
 
-    /// As the trait says, and exactly: it gives as many bytes as are left and as there is room for.
+    /// Reads bytes as the trait says: all that are left, or as many as the buffer holds if it is shorter.
     fn read(&mut self, buf: &mut [u8]) -> Result<usize, Failed>
         ensures fills { FillsPrefix result buf.old buf.new }
         ensures bytes { ReadConsumes (Some self.old) (Some self.new) result buf.new }

@@ -1,11 +1,11 @@
-// Objects that keep files under names.
+// Objects that store files by name.
 ghost use Rattle.std.specs.Prelude.{◌≡◌, ℕ, ◌^◌, ◌<◌, ◌≤◌, IfOk, vec_len, Option};
 ghost use Rattle.cap_io.specs.Files.{Files, KeepsFiles};
 ghost use Rattle.cap_io.specs.Shelves.{Loads, CountsLoads, Stores, CountsStores};
 
 use std::alloc::Global;
 
-/// Why a shelf refused a load or a store. A store answers only Failed or Memory.
+/// Why a shelf refused a load or a store. A store returns only Failed or Memory.
 #[derive(Clone, Copy, PartialEq, Eq)]
 pub enum ShelfError {
     Failed,
@@ -14,10 +14,10 @@ pub enum ShelfError {
     Memory,
 }
 
-/// An object that keeps files under names, as a folder does.
+/// An object that stores files by name, like a folder.
 ///
-/// `load_faults` and `store_faults` are its counts of faults of loads and of stores, and `files` the bytes of each
-/// file by its name, where it tells them.
+/// `load_faults` and `store_faults` count its failed loads and failed stores; `files` has the bytes of each file by its
+/// name, if the shelf exposes them.
 pub trait Shelf {
     ghost load_faults: { Self → ℕ };
 
@@ -25,10 +25,13 @@ pub trait Shelf {
 
     ghost files: { Self → Option Files };
 
-    /// The bytes of the file `name`. TooLong comes exactly where it has more than `max` bytes, and Absent exactly where
-    /// there is no such file, where the shelf tells its files; both give way to Failed and Memory. Failed comes only
-    /// where the count of loads' faults rose, or stands at its end. At every other answer the count is as before. No file
-    /// changes.
+    /// Returns the bytes of the file `name`. No file changes.
+    ///
+    /// # Errors
+    ///
+    /// If the shelf exposes its files: TooLong exactly if the file has more than `max` bytes, and Absent exactly if
+    /// there is no such file, unless Failed or Memory takes precedence. Failed only if the count of failed loads rose,
+    /// or is at its maximum; otherwise the count is unchanged.
     fn load(&mut self, alloc: Global, name: &str, max: u32) -> Result<Vec<u8>, ShelfError>
         ensures bound { IfOk result (λ bytes. vec_len bytes ≤ max) }
         ensures file { Loads (files self.old) name.now max result }
@@ -38,9 +41,12 @@ pub trait Shelf {
         ensures fits { load_faults self.new < 2 ^ 64 }
         ensures no_store { store_faults self.new ≡ store_faults self.old };
 
-    /// Makes the file `name` hold `bytes`. Failed comes only where the count of stores' faults rose, or stands at its
-    /// end, and then the file holds a prefix of `bytes`. After Memory, at which the count is as before, it holds a
-    /// prefix or what it held. No other refusal comes. All other files stay.
+    /// Stores `bytes` in the file `name`. All other files stay the same.
+    ///
+    /// # Errors
+    ///
+    /// Failed only if the count of failed stores rose, or is at its maximum; the file then has a prefix of `bytes`.
+    /// After Memory, at which the count is unchanged, it has a prefix or its old contents. There are no other refusals.
     fn store(&mut self, alloc: Global, name: &str, bytes: &[u8]) -> Result<(), ShelfError>
         ensures file { Stores (files self.old) (files self.new) name.now bytes.now result }
         ensures counts { CountsStores result (store_faults self.old) (store_faults self.new) }

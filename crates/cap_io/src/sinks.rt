@@ -3,24 +3,24 @@ ghost use Rattle.std.specs.Prelude.{ℕ, ◌^◌, ◌<◌, ◌≤◌, List, leng
 ghost use Rattle.std.specs.Io.KnownBytes.{WriteAppends};
 ghost use Rattle.cap_io.specs.Writes.{CountsWrites};
 
-/// Why a sink refused a piece: it counted a fault, or found no memory to grow by.
+/// Why a sink refused a piece: it counted a fault, or an allocation failed.
 #[derive(Clone, Copy, PartialEq, Eq)]
 pub enum SinkError {
     Failed,
     Memory,
 }
 
-/// An object that takes bytes in order, as an open file or a pipe does.
+/// An object that takes bytes in order, like an open file or a pipe.
 ///
-/// `faults` is its count of faults, and `taken` the bytes that it took so far, where it tells them.
+/// `faults` is its count of faults, and `taken` has the bytes that it took so far, if it exposes them.
 pub trait Sink {
     ghost faults: { Self → ℕ };
 
     ghost taken: { Self → Option (List ℕ) };
 
-    /// Takes a prefix of `piece` and answers its length, as `std::io::Write::write` does. At 0 for a piece that is not
-    /// empty the count of faults rose, or stands at its end, and so at `SinkError::Failed`. At every other answer the
-    /// count is as before. After a refusal nothing is taken.
+    /// Takes a prefix of `piece` and returns its length, as `std::io::Write::write` does. If it returns 0 for a piece
+    /// that isn't empty, or `SinkError::Failed`, the count of faults rose, or is at its maximum; otherwise the count
+    /// is unchanged. After a refusal nothing is taken.
     fn write(&mut self, piece: &[u8]) -> Result<usize, SinkError>
         ensures bound { IfOk result (λ n. n ≤ length piece.now) }
         ensures bytes { WriteAppends (taken self.old) (taken self.new) result piece.now }

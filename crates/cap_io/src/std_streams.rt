@@ -1,12 +1,12 @@
-// Standard streams, and whatever else reads and writes as they do.
+// Sources and sinks over the streams of the standard library.
 ghost use Rattle.std.specs.Prelude.{◌≡◌};
 
 use super::{Failed, Sink, SinkError, Source};
 use std::io::{Read, Write};
 use std::marker::Model;
 
-/// A source over a stream of the system, as standard input. It tells nothing of the bytes. Contracts see its count of
-/// faults, which rises at each error of the stream, an interrupted call included.
+/// A source over a stream of the system, such as standard input. It doesn't expose its bytes. Contracts see its count
+/// of faults, which rises at each error of the stream, an interrupted call included.
 #[derive(Drop)]
 pub struct StdSource<R: Read + Drop> {
     stream: R,
@@ -24,7 +24,7 @@ impl<R: Read + Drop> Model for StdSource<R> {
 }
 
 impl<R: Read + Drop> StdSource<R> {
-    /// A source over that stream, with no faults so far.
+    /// Returns a source over that stream, with no faults so far.
     pub fn new(stream: R) -> Self
         ensures { result ≡ 0 }
     {
@@ -39,7 +39,7 @@ impl<R: Read + Drop> Source for StdSource<R> {
 
     ghost left = { λ _. None };
 
-    // The stream reads into a block of its own, so that a failed read leaves `buf` as it was.
+    // The stream reads into a separate block, so a failed read leaves `buf` unchanged.
     fn read(&mut self, buf: &mut [u8]) -> Result<usize, Failed> {
         let mut block = [0u8; 4096];
         let room = buf.len().min(block.len());
@@ -52,8 +52,8 @@ impl<R: Read + Drop> Source for StdSource<R> {
     }
 }
 
-/// A sink over a stream of the system, as standard output. It tells nothing of the bytes. Contracts see its count of
-/// faults, which rises at each error of the stream, and where the stream takes nothing of a piece that is not empty.
+/// A sink over a stream of the system, such as standard output. It doesn't expose its bytes. Contracts see its count
+/// of faults, which rises at each error of the stream, and if the stream takes nothing of a piece that isn't empty.
 #[derive(Drop)]
 pub struct StdSink<W: Write + Drop> {
     stream: W,
@@ -71,7 +71,7 @@ impl<W: Write + Drop> Model for StdSink<W> {
 }
 
 impl<W: Write + Drop> StdSink<W> {
-    /// A sink over that stream, with no faults so far.
+    /// Returns a sink over that stream, with no faults so far.
     pub fn new(stream: W) -> Self
         ensures { result ≡ 0 }
     {

@@ -7,7 +7,7 @@ use denote.Ref.{Bor}
 abbrev pub pieces : ℕ → List ℕ → List (List ℕ)
 pieces separator text = slice_split (λ byte. byte == separator) text
 
--- the pieces of what is left, and none where nothing is left
+-- the remaining pieces, or none if no text remains
 abbrev pub pieces_left : ℕ → Option (Bor (List ℕ)) → List (List ℕ)
 pieces_left separator None = []
 pieces_left separator (Some rest) = pieces separator rest.now
@@ -16,6 +16,6 @@ pieces_left separator (Some rest) = pieces separator rest.now
 abbrev pub Lacks : ℕ → List ℕ → Type 0
 Lacks separator text = AllByRecursion (λ byte. (byte == separator) ≡ false) text
 
--- fields, each after a separator
+-- fields, each preceded by a separator
 abbrev pub after_each : ℕ → List (List ℕ) → List ℕ
 after_each separator fields = flat_map (λ field. separator ∷ field) fields

@@ -7,10 +7,10 @@ ghost use Rattle.cap_text.specs.Pieces.{pieces, pieces_left};
 use crate::{read_dec, read_signed, read_wide};
 use std::marker::Model;
 
-/// The pieces of a text between separators, read one after another: contracts see the list of those that are left. An
-/// empty text is one empty piece, and of two separators side by side an empty piece stands between.
+/// An iterator over the pieces of a text between separators. Contracts see the list of the remaining pieces. An empty
+/// text is one empty piece, and between two adjacent separators there is an empty piece.
 ///
-/// No call takes memory. The calls that read a number take a piece whether or not it is one.
+/// No call allocates. The calls that read a number consume a piece, whether or not it is a number.
 #[derive(Drop)]
 pub struct Fields<'a> {
     rest: Option<&'a [u8]>,
@@ -24,7 +24,7 @@ impl<'a> Model for Fields<'a> {
 }
 
 impl<'a> Fields<'a> {
-    /// The pieces of `text` between the bytes `separator`.
+    /// Returns the pieces of `text` between the bytes `separator`.
     pub fn new(text: &'a [u8], separator: u8) -> Self
         ensures { result ≡ pieces separator text.now }
     {
@@ -34,14 +34,14 @@ impl<'a> Fields<'a> {
         }
     }
 
-    /// Tells whether no piece is left.
+    /// Returns whether no piece remains.
     pub fn is_over(&self) -> bool
         ensures { result ≡ (length self.now == 0) }
     {
         self.rest.is_none()
     }
 
-    /// The next piece, and None exactly where none is left.
+    /// Returns the next piece, or `None` exactly if no piece remains.
     pub fn next(&mut self) -> Option<&'a [u8]>
         ensures { MatchOption result ((self.old ≡ []) × (self.new ≡ [])) (λ field. self.old ≡ field.now ∷ self.new) }
     {
@@ -58,7 +58,8 @@ impl<'a> Fields<'a> {
         }
     }
 
-    /// The number from 0 to `max` of which the next piece is the canonical decimal; None exactly where there is none.
+    /// Returns the number from 0 to `max` of which the next piece is the canonical decimal; `None` exactly if there
+    /// is none.
     pub fn number(&mut self, max: u64) -> Option<u64>
         ensures found { IfSome result (λ n. (self.old ≡ canonical_decimal n ∷ self.new) × (n ≤ max)) }
         ensures none { IfNone result
@@ -68,7 +69,7 @@ impl<'a> Fields<'a> {
         read_dec(field, max).ok()
     }
 
-    /// The same of a number of 32 bits.
+    /// Returns the next piece as a number of 32 bits, like `number`.
     pub fn word(&mut self) -> Option<u32>
         ensures found { IfSome result (λ n. (self.old ≡ canonical_decimal n ∷ self.new) × (n < 2 ^ 32)) }
         ensures none { IfNone result
@@ -78,7 +79,7 @@ impl<'a> Fields<'a> {
         Some(number as u32)
     }
 
-    /// The same of a number of 64 bits.
+    /// Returns the next piece as a number of 64 bits, like `number`.
     pub fn count(&mut self) -> Option<u64>
         ensures found { IfSome result (λ n. (self.old ≡ canonical_decimal n ∷ self.new) × (n < 2 ^ 64)) }
         ensures none { IfNone result
@@ -87,7 +88,7 @@ impl<'a> Fields<'a> {
         self.number(0xffff_ffff_ffff_ffff)
     }
 
-    /// The same of a signed number of 32 bits.
+    /// Returns the next piece as a signed number of 32 bits, like `number`.
     pub fn signed(&mut self) -> Option<i32>
         ensures found { IfSome result (λ z. (self.old ≡ canonical_integer z ∷ self.new) × FitsSigned w32 z) }
         ensures none { IfNone result
@@ -97,7 +98,7 @@ impl<'a> Fields<'a> {
         read_signed(field).ok()
     }
 
-    /// The same of a signed number of 128 bits.
+    /// Returns the next piece as a signed number of 128 bits, like `number`.
     pub fn wide(&mut self) -> Option<i128>
         ensures found { IfSome result (λ z. (self.old ≡ canonical_integer z ∷ self.new) × FitsSigned w128 z) }
         ensures none { IfNone result
@@ -107,7 +108,7 @@ impl<'a> Fields<'a> {
         read_wide(field).ok()
     }
 
-    /// The end of the text: None exactly where a piece is left.
+    /// Returns `None` exactly if a piece remains.
     pub fn end(&self) -> Option<()>
         ensures found { IfSome result (λ _. self.now ≡ []) }
         ensures none { IfNone result (self.now ≡ [] → ⊥) }
@@ -116,7 +117,7 @@ impl<'a> Fields<'a> {
     }
 }
 
-// The first place of a byte.
+// The first index of a byte.
 fn place_of(text: &[u8], sought: u8) -> Option<usize>
     ensures { result ≡ position (λ byte. byte == sought) text.now }
 {

@@ -1,11 +1,12 @@
-// Whole numbers, fields and lines as bytes.
+// Integers, fields and lines as bytes.
 //
-// `read_dec`, `read_signed` and `read_wide` read a number from the bytes of a field, `put_dec` appends one to a line,
-// `Fields` gives the pieces between separators, and `Lines` those between line feeds. The number calls cite one
-// definition, the canonical decimal of a whole number: ASCII digits with no leading `0` but in `0` itself, after a `-`
-// where the number is negative. So a number has one spelling, what is put is read back, and what is read has just that
-// spelling. The crates above, whose formats are made of such fields and lines, use the laws beside these contracts. The
-// digits are those of ISO/IEC 9899:2018, 6.4.4.1, in base ten; a line ends with the newline of POSIX, LF.
+// `read_dec`, `read_signed` and `read_wide` read an integer from the bytes of a field, and `put_dec` appends one to a
+// line. `Fields` iterates over the pieces between separators, `Lines` over those between line feeds. The calls on
+// numbers cite one definition, the canonical decimal of an integer: its ASCII digits, with no leading `0` except in `0`
+// itself, after a `-` if the number is negative. So a number has exactly one spelling, and reading inverts writing. The
+// formats of the crates above consist of such fields and lines; these crates use the laws beside the contracts. The
+// digits are those of ISO/IEC 9899:2018, 6.4.4.1, in base ten; a line ends with the newline of POSIX, LF. A law has no
+// effect at run time: its contract is a theorem.
 #![tactic(auto)]
 
 mod fields;

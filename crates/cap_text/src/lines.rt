@@ -5,24 +5,24 @@ ghost use Rattle.cap_text.specs.TextLines.{lines_of};
 
 use std::marker::Model;
 
-/// The lines of a text in order: the pieces between its line feeds (LF, byte 10). A last piece that is empty is no line,
-/// so a text that ends with LF has as many lines as line feeds.
+/// An iterator over the lines of a text: the pieces between its line feeds (LF, byte 10). An empty last piece isn't a
+/// line, so a text that ends with LF has as many lines as line feeds.
 ///
-/// `next` gives the first line that is left. It gives `None` exactly at the end, and from then on, and takes no memory.
+/// `next` returns the first remaining line, and `None` exactly at the end and from then on. It doesn't allocate.
 #[derive(Drop)]
 pub struct Lines<'a> {
     rest: &'a [u8],
 }
 
 impl<'a> Model for Lines<'a> {
-    // The lines that are left.
+    // The remaining lines.
     ghost Value = { List (List ℕ) };
 
     ghost view = { λ lines. lines_of lines.rest.now };
 }
 
 impl<'a> Lines<'a> {
-    /// The lines of `bytes`.
+    /// Returns the lines of `bytes`.
     pub fn new(bytes: &'a [u8]) -> Self
         ensures { result ≡ lines_of bytes.now }
     {
@@ -56,7 +56,7 @@ impl<'a> Iterator for Lines<'a> {
     }
 }
 
-// The place of the first line feed.
+// The index of the first line feed.
 fn line_end(bytes: &[u8]) -> Option<usize>
     ensures { result ≡ position (λ byte. byte == 10) bytes.now }
 {

@@ -4,7 +4,7 @@ ghost use Rattle.std.specs.Bool.{MatchBool};
 ghost use Rattle.std.specs.Int.{w32, w128};
 ghost use Rattle.cap_text.specs.Decimals.{canonical_decimal, canonical_integer, IsDecimal, IsInteger};
 
-/// The most digits with which every number fits 64 bits.
+/// The maximum number of digits with which every number fits in 64 bits.
 const MOST_SHORT_DIGITS: usize = 19;
 
 /// Why bytes are refused as a number.
@@ -12,15 +12,17 @@ const MOST_SHORT_DIGITS: usize = 19;
 pub enum NumberError {
     /// The bytes are not a canonical decimal.
     NotANumber,
-    /// The bytes are a canonical decimal, of a number outside the range that is asked for.
+    /// The bytes are the canonical decimal of a number outside the requested range.
     TooLarge,
 }
 
-/// The number, at most `max`, of which `bytes` is the canonical decimal: ASCII digits only, with no leading `0` but in
-/// `0` itself.
+/// Returns the number, at most `max`, of which `bytes` is the canonical decimal: ASCII digits only, with no leading `0`
+/// except in `0` itself. It doesn't allocate.
 ///
-/// Takes no memory. `NotANumber` comes exactly where `bytes` is not a canonical decimal, and `TooLarge` exactly where it
-/// is one of a number above `max`, also above 64 bits.
+/// # Errors
+///
+/// `NotANumber` exactly if `bytes` isn't a canonical decimal; `TooLarge` exactly if it is one of a number above `max`,
+/// which may exceed 64 bits.
 pub fn read_dec(bytes: &[u8], max: u64) -> Result<u64, NumberError>
     ensures number { IfOk result (λ n. (bytes.now ≡ canonical_decimal n) × (n ≤ max)) }
     ensures reads { (n : ℕ) → n ≤ max → bytes.now ≡ canonical_decimal n → result ≡ Ok n }
@@ -40,7 +42,7 @@ pub fn read_dec(bytes: &[u8], max: u64) -> Result<u64, NumberError>
     }
 }
 
-// The same, however many digits there are.
+// `read_dec` for any number of digits.
 #[inline(never)]
 fn read_any_dec(bytes: &[u8], max: u64) -> Result<u64, NumberError>
     ensures number { IfOk result (λ n. (bytes.now ≡ canonical_decimal n) × (n ≤ max)) }
@@ -53,7 +55,8 @@ fn read_any_dec(bytes: &[u8], max: u64) -> Result<u64, NumberError>
     Ok(number as u64)
 }
 
-// The number of at most 19 digits of which the bytes are the canonical decimal: it fits 64 bits, so no step is tested.
+// The number of at most 19 digits of which the bytes are the canonical decimal: it fits in 64 bits, so no step tests
+// for overflow.
 fn short_number(bytes: &[u8]) -> Option<u64>
     ensures { IfSome result (λ n. (bytes.now ≡ canonical_decimal n) × (n < 2 ^ 64)) }
 {
@@ -79,7 +82,7 @@ fn short_number(bytes: &[u8]) -> Option<u64>
     Some(number)
 }
 
-// The same in 128 bits.
+// `read_dec` in 128 bits.
 fn read_up_to(bytes: &[u8], max: u128) -> Result<u128, NumberError>
     ensures number { IfOk result (λ n. (bytes.now ≡ canonical_decimal n) × (n ≤ max)) }
     ensures not_a_number { (result ≡ Err NumberError.NotANumber) ↔ (¬ IsDecimal bytes.now) }
@@ -116,7 +119,7 @@ fn all_digits(bytes: &[u8]) -> bool
     bytes.iter().all(|byte| (b'0'..=b'9').contains(byte))
 }
 
-// The number of a canonical decimal, if it fits 128 bits.
+// The number of a canonical decimal, if it fits in 128 bits.
 #[inline(never)]
 fn number_of(digits: &[u8]) -> Option<u128>
     requires { IsDecimal digits.now }
@@ -132,11 +135,12 @@ fn number_of(digits: &[u8]) -> Option<u128>
     Some(number)
 }
 
-/// The number in 32 signed bits of which `bytes` is the canonical decimal: as for `read_dec`, after one `-` where it is
-/// negative, so `0` has no sign.
+/// Returns the signed number of 32 bits of which `bytes` is the canonical decimal: as for `read_dec`, after one `-` if
+/// it is negative, so `0` has no sign. It doesn't allocate.
 ///
-/// Takes no memory. `NotANumber` comes exactly where `bytes` is no such decimal, and `TooLarge` exactly where it is one
-/// of a number outside 32 bits.
+/// # Errors
+///
+/// `NotANumber` exactly if `bytes` isn't such a decimal; `TooLarge` exactly if it is one of a number outside 32 bits.
 pub fn read_signed(bytes: &[u8]) -> Result<i32, NumberError>
     ensures number { IfOk result (λ z. bytes.now ≡ canonical_integer z) }
     ensures reads { (z : ℤ) → FitsSigned w32 z → bytes.now ≡ canonical_integer z → result ≡ Ok z }
@@ -151,10 +155,11 @@ pub fn read_signed(bytes: &[u8]) -> Result<i32, NumberError>
     }
 }
 
-/// The number in 128 signed bits of which `bytes` is the canonical decimal.
+/// Returns the signed number of 128 bits of which `bytes` is the canonical decimal. It doesn't allocate.
 ///
-/// Takes no memory. `NotANumber` comes exactly where `bytes` is no such decimal, and `TooLarge` exactly where it is one
-/// of a number outside 128 bits.
+/// # Errors
+///
+/// `NotANumber` exactly if `bytes` isn't such a decimal; `TooLarge` exactly if it is one of a number outside 128 bits.
 pub fn read_wide(bytes: &[u8]) -> Result<i128, NumberError>
     ensures number { IfOk result (λ z. bytes.now ≡ canonical_integer z) }
     ensures reads { (z : ℤ) → FitsSigned w128 z → bytes.now ≡ canonical_integer z → result ≡ Ok z }
@@ -172,7 +177,7 @@ pub fn read_wide(bytes: &[u8]) -> Result<i128, NumberError>
     }
 }
 
-// The number from 0 up, of 127 bits at most.
+// The number, at least 0 and of at most 127 bits.
 fn read_natural(bytes: &[u8]) -> Result<i128, NumberError>
     ensures number { IfOk result (λ z. (n : ℕ) × (z ≡ pos n) × (bytes.now ≡ canonical_decimal n)) }
     ensures not_a_number { (result ≡ Err NumberError.NotANumber) ↔ (¬ IsDecimal bytes.now) }
@@ -185,7 +190,7 @@ fn read_natural(bytes: &[u8]) -> Result<i128, NumberError>
     }
 }
 
-// The same, however many digits there are.
+// `read_natural` for any number of digits.
 #[inline(never)]
 fn read_any_natural(bytes: &[u8]) -> Result<i128, NumberError>
     ensures number { IfOk result (λ z. (n : ℕ) × (z ≡ pos n) × (bytes.now ≡ canonical_decimal n)) }
@@ -197,7 +202,7 @@ fn read_any_natural(bytes: &[u8]) -> Result<i128, NumberError>
     Ok(number as i128)
 }
 
-// The negative number whose size the bytes write.
+// The negative number with the magnitude that the bytes spell.
 fn read_negative(size: &[u8]) -> Result<i128, NumberError>
     ensures number { IfOk result (λ z. (n : ℕ) × (z ≡ negsuc n) × (size.now ≡ canonical_decimal (n + 1))) }
     ensures not_a_number { (result ≡ Err NumberError.NotANumber)

@@ -5,10 +5,12 @@ ghost use Rattle.cap_text.specs.Decimals.{canonical_integer};
 use itoa::Buffer;
 use std::alloc::AllocError;
 
-/// Appends the canonical decimal of `value` to `out`: its digits in base ten, after a `-` where it is negative.
+/// Appends the canonical decimal of `value` to `out`: its digits in base ten, after a `-` if it is negative.
 ///
-/// Where memory runs out, `out` stays as it was; this can happen only where the number does not fit `out`'s capacity,
-/// which never falls.
+/// # Errors
+///
+/// `AllocError` if an allocation fails; `out` is then unchanged. This happens only if the number doesn't fit the
+/// capacity of `out`, which never decreases.
 pub fn put_dec(out: &mut Vec<u8>, value: i128) -> Result<(), AllocError>
     ensures ok { OnOk result (out.new.items ≡ out.old.items ++ canonical_integer value) }
     ensures err { OnErr result (out.new.items ≡ out.old.items) }

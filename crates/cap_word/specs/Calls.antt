@@ -1,5 +1,5 @@
--- The calls that the thread package answers, and what a thread of a program shares with its world. Source, flat
--- code and machine mean them alike.
+-- The calls that the thread package answers, and what a thread of a program shares with its world. They mean the
+-- same in source, flat code and machine.
 use Rattle.std.specs.Prelude.{ℕ, Bool, true, false, List, length, Option, Some, None, option_and_then, if◌then◌else◌, nat_eq, slice_index_or}
 use Rattle.cap_word.specs.declared.calls.Ask.{Ask}
 use Rattle.cap_word.specs.declared.calls.Block.{Block}
@@ -16,7 +16,7 @@ abbrev pub is_blocking : Call → Bool
 is_blocking (Blocking block) = true
 is_blocking (Immediate ask) = false
 
--- a call of the table with its first and its second argument; a call that takes fewer doesn't look at the rest
+-- a call of the table with its first and its second argument; a call that takes fewer ignores the rest
 abbrev pub call_with : ModelledCall → ℕ → ℕ → Call
 call_with ModelledCall.Accept a b = Blocking Block.Accept
 call_with ModelledCall.Wait a b = Blocking (Block.Wait a)
@@ -28,12 +28,12 @@ call_with ModelledCall.Put a b = Immediate (Ask.Put a)
 call_with ModelledCall.Give a b = Immediate (Ask.Give a b)
 call_with ModelledCall.SelfNumber a b = Immediate Ask.SelfNumber
 
--- a call of the table with these arguments, where they are as many as it takes
+-- a call of the table with these arguments, if their number is its arity
 abbrev pub call_on : List ℕ → ModelledCall → Option Call
 call_on arguments call =
     if nat_eq (length arguments) (parameters_of call) then Some (call_with call (slice_index_or arguments 0 0) (slice_index_or arguments 1 0)) else None
 
--- the modelled call of a number with these arguments; `spawn` is none of them, since it names a function
+-- the modelled call with this number and these arguments; `spawn` isn't one, since it names a function
 abbrev pub call_of : ℕ → List ℕ → Option Call
 call_of number arguments = option_and_then (call_on arguments) (call_numbered number)
 
@@ -41,18 +41,18 @@ call_of number arguments = option_and_then (call_on arguments) (call_numbered nu
 abbrev pub spawn_of : ℕ → ℕ → Call
 spawn_of function argument = Immediate (Ask.Spawn function argument)
 
--- what a thread asks of its world: the call, and the globals as they stand at it
+-- what a thread asks of its world: the call, with the globals at that moment
 pub record Question : Type 0 where
   pub call : Call
   pub globals : List (List ℕ)
 
--- what the world answers when the thread may go on: the call's result, which is not looked at where it gives none,
--- and the globals as they stand then
+-- what the world answers when the thread resumes: the call's result, ignored if the call gives none, with the
+-- globals at that moment
 pub record Answer : Type 0 where
   pub result : ℕ
   pub globals : List (List ℕ)
 
--- how a thread stops, and the globals as they stand then: it ends, or it traps
+-- how a thread stops, with the globals at that moment: it ends, or it traps
 pub record Finish : Type 0 where
   pub trap : Option TrapKind
   pub globals : List (List ℕ)

@@ -3,7 +3,7 @@ use Rattle.std.specs.Prelude.{ℕ, List, codes}
 use Rattle.cap_word.specs.declared.limits.Which.{Which}
 use Rattle.cap_word.specs.declared.limits.Which.TheVariants.{Functions, Sites, Globals, Tables, Locals, Params, Code, Entries}
 
--- the name of a limit, in small letters
+-- the name of a limit, in lower case
 abbrev pub name_of : Which → List ℕ
 name_of Functions = codes "functions"
 name_of Sites = codes "sites"

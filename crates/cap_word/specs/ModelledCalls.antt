@@ -1,9 +1,9 @@
 -- The table of the calls that the thread package answers: name, number, parameters, whether they give a result, and
--- whether they block the thread. Every crate above takes them from here.
+-- whether they block the thread. No other crate has a copy of it.
 use Rattle.std.specs.Prelude.{ℕ, Bool, true, false, List, [], ◌∷◌, Option, codes, find, nat_eq}
 use Rattle.cap_word.specs.declared.modelled_calls.ModelledCall.{ModelledCall}
 
--- all of them
+-- all modelled calls
 abbrev pub all_calls : List ModelledCall
 all_calls =
     ModelledCall.Accept
@@ -39,7 +39,7 @@ number_of ModelledCall.Put = 3
 number_of ModelledCall.Give = 5
 number_of ModelledCall.SelfNumber = 6
 
--- the number of `spawn`, which is none of them, since it names a function
+-- the number of `spawn`, which isn't a modelled call, since it names a function
 abbrev pub spawn_number : ℕ
 spawn_number = 4
 
@@ -76,6 +76,6 @@ blocks ModelledCall.Put = false
 blocks ModelledCall.Give = false
 blocks ModelledCall.SelfNumber = false
 
--- the call of a number
+-- the modelled call with this number
 abbrev pub call_numbered : ℕ → Option ModelledCall
 call_numbered number = find (λ call. nat_eq number (number_of call)) all_calls

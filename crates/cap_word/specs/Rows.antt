@@ -1,11 +1,11 @@
--- The words of names: a row of words for each, by its number, which for a scalar is one word and for an array its size.
+-- The words of names: for each name, by its number, a row of words: one word for a scalar, and for an array its size.
 use Rattle.std.specs.Prelude.{ℕ, List, [], ◌∷◌, map, length, replicate, slice_index, slice_index_or, slice_set}
 
--- the row of name x; none is empty where x is a name
+-- the row of name x; the row of a name isn't empty
 abbrev pub row : List (List ℕ) → ℕ → List ℕ
 row rows x = slice_index_or rows x []
 
--- how many words name x has
+-- the number of words of name x
 abbrev pub width : List (List ℕ) → ℕ → ℕ
 width rows x = length (row rows x)
 
@@ -13,18 +13,18 @@ width rows x = length (row rows x)
 abbrev pub word_at : List (List ℕ) → ℕ → ℕ → ℕ
 word_at rows x i = slice_index (row rows x) i
 
--- the rows after that word is set; no other one changes
+-- the rows after that word is set; the others stay the same
 abbrev pub with_word : List (List ℕ) → ℕ → ℕ → ℕ → List (List ℕ)
 with_word rows x i value = slice_set rows x (slice_set (row rows x) i value)
 
--- the rows after all words of name x are 0
+-- the rows after all words of name x are set to 0
 abbrev pub with_zeros : List (List ℕ) → ℕ → List (List ℕ)
 with_zeros rows x = slice_set rows x (replicate (width rows x) 0)
 
--- rows of these widths, of 0
+-- rows of these widths, all words 0
 abbrev pub zeros : List ℕ → List (List ℕ)
 zeros widths = map (λ n. replicate n 0) widths
 
--- scalars of these values
+-- scalars with these values
 abbrev pub scalars : List ℕ → List (List ℕ)
 scalars values = map (λ v. v ∷ []) values

@@ -1,16 +1,16 @@
-/// Why an instruction can't be done (RISC-V unprivileged manual, "Exceptions, Traps, and
-/// Interrupts"). Nothing has changed then.
+/// Why an instruction can't be executed (RISC-V unprivileged manual, "Exceptions, Traps, and
+/// Interrupts"). A fault changes nothing.
 #[derive(Clone, Copy, Debug, PartialEq, Eq)]
 pub enum FaultKind {
-    /// The place of the instruction isn't in the code.
+    /// The pc isn't in the code.
     Fetch,
-    /// The word at that place is no instruction.
+    /// The word at the pc isn't an instruction.
     Illegal,
     /// A load from a byte that isn't readable.
     Load,
     /// A store to a byte that isn't writable.
     Store,
-    /// A place, a jump's target or an address that isn't a multiple of what it must be.
+    /// A pc, a jump's target or an address isn't a multiple of the size required.
     Misaligned,
     /// EBREAK.
     Break,

@@ -1,12 +1,13 @@
-// Words of 32 bits and the small types that the crates of Capriccio share.
+// Machine words and the small types that all crates of Capriccio share.
 //
-// Words: the arithmetic of RV32IM (RISC-V unprivileged manual, chapters "RV32I" and "M"), on whole
-// numbers from 0 to 2^32 - 1, which serves the meaning of CapC too. A call gets and gives `u32`, and
-// its contract names a formula over whole numbers, of `specs/Word.antt`, which the crates above cite.
-// The table of the modelled calls (`ModelledCall`), from which all crates above take them.
-// Shared types: who runs (`ThreadId`), where it blocked (`SiteKey`), what it asks for (`Block`, `Ask`),
-// how a run ends (`TrapKind`, `Stop`, `FaultKind`), which limit was exceeded (`Which`), a list of words
-// seen as a list (`Words`), and the trait `Ready`, by which the scheduler asks a world of threads.
+// Words: the arithmetic of RV32IM (RISC-V unprivileged manual, chapters "RV32I" and "M"), on integers
+// from 0 to 2^32 - 1; CapC's arithmetic is the same. A call takes and returns `u32`; its contract names
+// a formula over integers in `specs/Word.antt`, which the crates above cite. `ModelledCall` is the
+// table of the modelled calls; no other crate has a copy of it. Shared types: who runs (`ThreadId`),
+// where it blocked (`SiteKey`), what it asks for (`Block`, `Ask`), how a run ends (`TrapKind`, `Stop`,
+// `FaultKind`), which limit was exceeded (`Which`), a list of words (`Words`), and the trait `Ready`,
+// by which the scheduler asks a world of threads. A function documented as a law has no effect at run
+// time: its contract is a theorem.
 #![tactic(auto)]
 
 mod calls;

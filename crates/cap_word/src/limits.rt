@@ -3,7 +3,7 @@ ghost use Rattle.cap_word.specs.Limit.{name_of};
 
 use std::fmt;
 
-/// The quantity that exceeds its limit: of a program's text, or of an image.
+/// A quantity that exceeds its limit, of a program's text or of an image.
 #[derive(Clone, Copy, Debug, PartialEq, Eq)]
 pub enum Which {
     /// Functions of a program.
@@ -12,7 +12,7 @@ pub enum Which {
     Sites,
     /// Global words, of a program or an image.
     Globals,
-    /// Table members of a program, table words of an image.
+    /// Table members of a program, or table words of an image.
     Tables,
     /// Declared local words of one function.
     Locals,
@@ -25,7 +25,7 @@ pub enum Which {
 }
 
 impl Which {
-    /// The limit's name, in small letters.
+    /// Returns the limit's name, in lower case.
     pub fn name(self) -> &'static str
         ensures { result.now ≡ name_of self }
     {

@@ -1,13 +1,13 @@
 // The calls that the thread package answers: their table in code.
 //
-// Every crate above takes a call's name, its number, its arity and whether it gives a result or blocks
-// from here, and what the call asks of the world from `specs/Calls.antt`.
+// Every crate above takes a call's name, its number, its arity, and whether it gives a result or blocks
+// from here, and its request to the world from `specs/Calls.antt`.
 ghost use Rattle.std.specs.Prelude.{◌≡◌, ℕ, Some, None};
 ghost use Rattle.cap_word.specs.Calls.{call_with, is_blocking};
 ghost use Rattle.cap_word.specs.ModelledCalls.{blocks, call_numbered, gives_result, name_of, number_of, parameters_of, spawn_number};
 ghost use Rattle.cap_word.specs.declared.modelled_calls.ModelledCall.{ModelledCall};
 
-/// The number that the run time knows `spawn` by.
+/// The number by which the run time knows `spawn`.
 pub const SPAWN_NUMBER: u32 = 4;
 
 /// A call that the thread package answers, other than `spawn`, which names a function.
@@ -34,7 +34,7 @@ pub enum ModelledCall {
 }
 
 impl ModelledCall {
-    /// All of them.
+    /// All modelled calls.
     pub const ALL: [ModelledCall; 9] = [
         ModelledCall::Accept,
         ModelledCall::Wait,
@@ -47,7 +47,7 @@ impl ModelledCall {
         ModelledCall::SelfNumber,
     ];
 
-    /// The call's name in a source.
+    /// Returns the call's name in a source.
     pub fn name(self) -> &'static str
         ensures { result.now ≡ name_of self }
     {
@@ -64,7 +64,7 @@ impl ModelledCall {
         }
     }
 
-    /// The number that the run time knows the call by.
+    /// Returns the number by which the run time knows the call.
     pub fn number(self) -> u32
         ensures { result ≡ number_of self }
     {
@@ -81,7 +81,7 @@ impl ModelledCall {
         }
     }
 
-    /// The call that the run time knows by a number. `None` if no modelled call has that number.
+    /// Returns the call that has this number in the run time, or `None` if no modelled call has it.
     pub fn of_number(number: u32) -> Option<ModelledCall>
         ensures { result ≡ call_numbered number }
     {
@@ -99,7 +99,7 @@ impl ModelledCall {
         }
     }
 
-    /// How many arguments it has.
+    /// Returns the number of its arguments.
     pub fn parameters(self) -> usize
         ensures { result ≡ parameters_of self }
     {
@@ -110,7 +110,7 @@ impl ModelledCall {
         }
     }
 
-    /// Whether it gives a result.
+    /// Returns whether it gives a result.
     pub fn gives_result(self) -> bool
         ensures { result ≡ gives_result self }
     {
@@ -127,7 +127,7 @@ impl ModelledCall {
         }
     }
 
-    /// Whether it blocks the thread until it is ready to go on.
+    /// Returns whether it blocks the thread.
     pub fn blocks(self) -> bool
         ensures { result ≡ blocks self }
     {
@@ -143,8 +143,8 @@ impl ModelledCall {
     }
 }
 
-/// Each modelled call has a number of its own, which isn't that of `spawn`, and asks to block exactly where
-/// the table says so. Ghost law: no effect at run time.
+/// Law: modelled calls have different numbers, none of which is that of `spawn`, and a call asks to block
+/// exactly if the table says so.
 pub fn modelled_calls_have_numbers()
     ensures numbered { (call : ModelledCall) → call_numbered (number_of call) ≡ Some call }
     ensures only { (number : ℕ) (call : ModelledCall) → call_numbered number ≡ Some call → number ≡ number_of call }

@@ -8,8 +8,8 @@ ghost use Rattle.std.specs.Hash as fed;
 use std::hash::{Hash, Hasher};
 use std::marker::Model;
 
-/// Where a thread blocked: the site of the blocking call, and then those of the up to seven innermost
-/// calls above it, innermost first. A key is the list of its one to eight sites.
+/// Where a thread blocked: the site of the blocking call, followed by the sites of up to seven
+/// innermost calls that led to it, innermost first. A key is the list of its one to eight sites.
 #[derive(Clone, Copy)]
 pub struct SiteKey {
     used: u32,
@@ -32,10 +32,10 @@ impl Model for SiteKey {
 }
 
 impl SiteKey {
-    /// The most sites that a key has.
+    /// The maximum number of sites of a key.
     pub const MOST: usize = 8;
 
-    /// The key of these sites, innermost first.
+    /// Returns the key of these sites, innermost first.
     pub fn new(sites: &[u32]) -> SiteKey
         requires some { 1 ≤ length sites.now }
         requires fits { length sites.now ≤ 8 }
@@ -49,7 +49,7 @@ impl SiteKey {
         }
     }
 
-    /// The number of sites, from 1 to 8.
+    /// Returns the number of sites, from 1 to 8.
     pub fn length(&self) -> u32
         ensures count { result ≡ length self.now }
         ensures some { 1 ≤ result }
@@ -58,7 +58,7 @@ impl SiteKey {
         self.used
     }
 
-    /// The site at that place, from 0; the innermost comes first.
+    /// Returns the site at this index, counted from 0; the innermost comes first.
     pub fn site(&self, index: u32) -> u32
         requires { index < length self.now }
         ensures { result ≡ slice_index self.now index }
@@ -66,7 +66,7 @@ impl SiteKey {
         self.places[index as usize]
     }
 
-    /// The sites, innermost first.
+    /// Returns the sites, innermost first.
     pub fn sites(&self) -> &[u32]
         ensures all { result.now ≡ self.now }
         ensures some { 1 ≤ length result.now }

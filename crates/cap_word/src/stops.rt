@@ -1,14 +1,14 @@
 use crate::traps::TrapKind;
 
-/// What ends a whole run in the midst of a thread's segment.
+/// What ends a whole run in the middle of a thread's segment.
 #[derive(Clone, Copy, PartialEq, Eq)]
 pub enum Stop {
-    /// The program did what it may not do.
+    /// The program trapped.
     Trap(TrapKind),
-    /// A chunk was needed, and no free chunk fits.
+    /// A chunk is needed, and no free chunk fits.
     NoChunk,
-    /// The run has retired as many instructions as it may.
+    /// The run has retired the maximum number of instructions.
     Fuel,
-    /// A thread was to start, and as many live as may.
+    /// A thread is to start, and the maximum number of threads is live.
     Threads,
 }

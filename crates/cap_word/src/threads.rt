@@ -1,8 +1,8 @@
 /// A thread of the thread package.
 #[derive(Clone, Copy, PartialEq, Eq, Hash)]
 pub struct ThreadId {
-    /// The place of the thread's record, which a later thread may use again.
+    /// The slot of the thread's record, which a later thread may use again.
     pub slot: u32,
-    /// The thread's number, in order of starts from 0. No other thread of a run has it.
+    /// The thread's number, in order of starts, from 0. No other thread of a run has it.
     pub number: u32,
 }

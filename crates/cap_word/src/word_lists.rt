@@ -6,7 +6,7 @@ use std::marker::Model;
 
 /// A list of words: instruction words, starting values, places, arguments. Contracts see it as the list
 /// of its numbers, so that two of them are equal where these lists are, whatever their capacity. It is
-/// made from a `Vec` and gives it back without taking memory.
+/// made from a `Vec` without taking memory.
 #[derive(Drop)]
 pub struct Words {
     words: Vec<u32>,
@@ -21,18 +21,11 @@ impl Model for Words {
 }
 
 impl Words {
-    /// The list of these words. It takes no memory.
+    /// Returns the list of these words. It doesn't allocate.
     pub fn new(words: Vec<u32>) -> Words
         ensures { result ≡ words.items }
     {
         Words { words }
-    }
-
-    /// The words, in the `Vec` that holds them. It takes no memory.
-    pub fn into_vec(self) -> Vec<u32>
-        ensures { result.items ≡ self }
-    {
-        self.words
     }
 
     /// The words, in order.
@@ -42,14 +35,14 @@ impl Words {
         self.words.as_slice()
     }
 
-    /// The number of words.
+    /// Returns the number of words.
     pub fn len(&self) -> usize
         ensures { result ≡ length self.now }
     {
         self.words.len()
     }
 
-    /// Tells whether there is no word.
+    /// Returns whether the list is empty.
     pub fn is_empty(&self) -> bool
         ensures { result ≡ (length self.now == 0) }
     {

@@ -1,7 +1,7 @@
 ghost use Rattle.std.specs.Prelude.{◌≡◌, ◌^◌};
 ghost use Rattle.cap_word.specs.Word as word;
 
-/// The sum modulo 2^32 (RISC-V unprivileged manual, "RV32I", ADD).
+/// Returns the sum modulo 2^32 (RISC-V unprivileged manual, "RV32I", ADD).
 #[tactic(auto, unfolding(crate::specs::Word::add))]
 pub fn add(a: u32, b: u32) -> u32
     ensures { result ≡ word.add a b }
@@ -9,7 +9,7 @@ pub fn add(a: u32, b: u32) -> u32
     a.wrapping_add(b)
 }
 
-/// The difference modulo 2^32 ("RV32I", SUB).
+/// Returns the difference modulo 2^32 ("RV32I", SUB).
 #[tactic(auto, unfolding(crate::specs::Word::sub))]
 pub fn sub(a: u32, b: u32) -> u32
     ensures { result ≡ word.sub a b }
@@ -17,7 +17,7 @@ pub fn sub(a: u32, b: u32) -> u32
     a.wrapping_sub(b)
 }
 
-/// 1 where `a` is below `b`, both read as signed, and 0 elsewhere ("RV32I", SLT).
+/// Returns 1 if `a` is below `b`, both signed, and 0 otherwise ("RV32I", SLT).
 #[tactic(auto, unfolding(crate::specs::Word::slt, crate::specs::Word::flag))]
 pub fn slt(a: u32, b: u32) -> u32
     ensures { result ≡ word.slt a b }
@@ -25,7 +25,7 @@ pub fn slt(a: u32, b: u32) -> u32
     u32::from(signed(a) < signed(b))
 }
 
-/// 1 where `a` is below `b`, and 0 elsewhere ("RV32I", SLTU).
+/// Returns 1 if `a` is below `b`, and 0 otherwise ("RV32I", SLTU).
 #[tactic(auto, unfolding(crate::specs::Word::sltu, crate::specs::Word::flag))]
 pub fn sltu(a: u32, b: u32) -> u32
     ensures { result ≡ word.sltu a b }
@@ -33,7 +33,7 @@ pub fn sltu(a: u32, b: u32) -> u32
     u32::from(a < b)
 }
 
-/// `a` shifted left by `b` modulo 32, with zeros from the right ("RV32I", SLL).
+/// Returns `a` shifted left by `b` modulo 32, with zeros from the right ("RV32I", SLL).
 #[tactic(auto, unfolding(crate::specs::Word::sll))]
 pub fn sll(a: u32, b: u32) -> u32
     ensures { result ≡ word.sll a b }
@@ -41,7 +41,7 @@ pub fn sll(a: u32, b: u32) -> u32
     a.wrapping_shl(b)
 }
 
-/// `a` shifted right by `b` modulo 32, with zeros from the left ("RV32I", SRL).
+/// Returns `a` shifted right by `b` modulo 32, with zeros from the left ("RV32I", SRL).
 #[tactic(auto, unfolding(crate::specs::Word::srl))]
 pub fn srl(a: u32, b: u32) -> u32
     ensures { result ≡ word.srl a b }
@@ -49,7 +49,7 @@ pub fn srl(a: u32, b: u32) -> u32
     a.wrapping_shr(b)
 }
 
-/// `a` shifted right by `b` modulo 32, with copies of its sign from the left ("RV32I", SRA).
+/// Returns `a` shifted right by `b` modulo 32, with copies of its sign from the left ("RV32I", SRA).
 #[tactic(auto, unfolding(crate::specs::Word::sra))]
 pub fn sra(a: u32, b: u32) -> u32
     ensures { result ≡ word.sra a b }
@@ -57,7 +57,7 @@ pub fn sra(a: u32, b: u32) -> u32
     word_of(signed(a).wrapping_shr(b))
 }
 
-/// The low word of the product ("M", MUL).
+/// Returns the low word of the product ("M", MUL).
 #[tactic(auto, unfolding(crate::specs::Word::mul))]
 pub fn mul(a: u32, b: u32) -> u32
     ensures { result ≡ word.mul a b }
@@ -65,7 +65,7 @@ pub fn mul(a: u32, b: u32) -> u32
     a.wrapping_mul(b)
 }
 
-/// The high word of the product, both read as signed ("M", MULH).
+/// Returns the high word of the product of both as signed numbers ("M", MULH).
 #[tactic(auto, unfolding(crate::specs::Word::mulh))]
 pub fn mulh(a: u32, b: u32) -> u32
     ensures { result ≡ word.mulh a b }
@@ -73,7 +73,8 @@ pub fn mulh(a: u32, b: u32) -> u32
     high(i64::from(signed(a)) * i64::from(signed(b)))
 }
 
-/// The high word of the product, only `a` read as signed ("M", MULHSU).
+/// Returns the high word of the product of `a` as a signed number and `b` as an unsigned one ("M",
+/// MULHSU).
 #[tactic(auto, unfolding(crate::specs::Word::mulhsu))]
 pub fn mulhsu(a: u32, b: u32) -> u32
     ensures { result ≡ word.mulhsu a b }
@@ -81,7 +82,7 @@ pub fn mulhsu(a: u32, b: u32) -> u32
     high(i64::from(signed(a)) * i64::from(b))
 }
 
-/// The high word of the product ("M", MULHU).
+/// Returns the high word of the unsigned product ("M", MULHU).
 #[tactic(auto, unfolding(crate::specs::Word::mulhu))]
 pub fn mulhu(a: u32, b: u32) -> u32
     ensures { result ≡ word.mulhu a b }
@@ -89,8 +90,8 @@ pub fn mulhu(a: u32, b: u32) -> u32
     (u64::from(a) * u64::from(b) >> 32) as u32
 }
 
-/// The quotient of the signed readings, rounded toward zero ("M", DIV). By 0 it is all ones, and of
-/// -2^31 by -1 it is -2^31.
+/// Returns the quotient of both as signed numbers, rounded toward zero ("M", DIV). Division by 0 gives
+/// all ones, and -2^31 by -1 gives -2^31.
 #[tactic(auto, unfolding(crate::specs::Word::div))]
 pub fn div(a: u32, b: u32) -> u32
     ensures { result ≡ word.div a b }
@@ -102,7 +103,7 @@ pub fn div(a: u32, b: u32) -> u32
     }
 }
 
-/// The quotient ("M", DIVU). By 0 it is all ones.
+/// Returns the unsigned quotient ("M", DIVU). Division by 0 gives all ones.
 #[tactic(auto, unfolding(crate::specs::Word::divu))]
 pub fn divu(a: u32, b: u32) -> u32
     ensures { result ≡ word.divu a b }
@@ -110,8 +111,8 @@ pub fn divu(a: u32, b: u32) -> u32
     if b == 0 { u32::MAX } else { a / b }
 }
 
-/// What DIV leaves, with the sign of the dividend ("M", REM). By 0 it is the dividend, and of -2^31 by
-/// -1 it is 0.
+/// Returns the remainder of DIV, with the sign of the dividend ("M", REM). By 0 it is the dividend,
+/// and of -2^31 by -1 it is 0.
 #[tactic(auto, unfolding(crate::specs::Word::rem))]
 pub fn rem(a: u32, b: u32) -> u32
     ensures { result ≡ word.rem a b }
@@ -123,7 +124,7 @@ pub fn rem(a: u32, b: u32) -> u32
     }
 }
 
-/// What DIVU leaves ("M", REMU). By 0 it is the dividend.
+/// Returns the remainder of DIVU ("M", REMU). By 0 it is the dividend.
 #[tactic(auto, unfolding(crate::specs::Word::remu))]
 pub fn remu(a: u32, b: u32) -> u32
     ensures { result ≡ word.remu a b }
@@ -131,14 +132,14 @@ pub fn remu(a: u32, b: u32) -> u32
     if b == 0 { a } else { a % b }
 }
 
-// The signed reading of a word.
+// A word as a signed number.
 fn signed(a: u32) -> i32
     ensures { result ≡ word.signed a }
 {
     a.cast_signed()
 }
 
-// The word whose signed reading this is.
+// The word of a signed number.
 fn word_of(z: i32) -> u32
     ensures { result ≡ word.word_of z }
 {

@@ -1,7 +1,7 @@
 -- One outcome is due at most: two that are due for the same words, files and trace are one.
 use Rattle.std.proofs.Common.{◌≡◌, ◌⊎◌, ℕ, ◌+◌, ◌<◌, ◌≤◌, ◌*◌, List, [], ◌∷◌, ◌++◌, Option, Some, None, Result, Ok, Err, refl, sym, ap, subst, ◌∙◌, arith, inl, inr, ⊎_elim}
 use Rattle.std.proofs.lemmas.Bool.{cases_order}
-use Rattle.cap_io.specs.Faults.{Rose, Stayed}
+use Rattle.cap_io.specs.Faults.{IsRisen, Rose, Stayed}
 use Rattle.cap_io.specs.Files.{Files}
 use Rattle.c_tree.specs.Trees.{ProgramTree}
 use Rattle.c_tree.specs.WellScoped.{IsWellScoped}
@@ -48,7 +48,7 @@ use Rattle.command_audit.specs.Audits.{Audits, AuditsBytes, AuditsProgram, judge
 use Rattle.capriccio_call.specs.Due.{Does, IsDue}
 use Rattle.workload.specs.Programs.{program_text}
 use Rattle.workload.specs.Traces.{trace_text}
-use Rattle.command_outcomes.specs.Done.{Outside, IsRisen, IsDone, IsTraceTold, IsExact}
+use Rattle.command_outcomes.specs.Done.{Outside, IsDone, IsTraceTold, IsExact}
 use Rattle.c_hoist.proofs.EveryNested.{one_program, one_source_error, never}
 use Rattle.pair_commands.proofs.OneBuild.{plans-are-one, words-are-one, texts-are-one}
 use Rattle.capriccio_call.proofs.OneBudget.{one-budget, one-least}

@@ -1,6 +1,6 @@
--- What an audit's answer is worth. Where a log is the lawful log of a run that the checker accepts, under the policy of the audit's words and
--- on its trace, it isn't said to be unlawful. And what is said to be lawful is what the source does under the schedule that it prints, with
--- the choices of the priority rule.
+-- What the answer of an audit means. The lawful log of a run that the checker accepts, under the policy of the audit's
+-- words and on its trace, is never called unlawful. And a log that is called lawful is what the source does under the
+-- schedule that it prints, with the choices of the priority rule.
 use Rattle.std.specs.Prelude.{ℕ, ◌≡◌, ◌⊎◌, List, Some}
 use Rattle.std.specs.Io.KnownBytes.{Appends}
 use Rattle.audited_logs.specs.Audited.{read_policy}
@@ -31,8 +31,9 @@ use Rattle.pair_commands.specs.Runs.{IsAccepted}
 use Rattle.lawful_reading.specs.declared.judgement.Verdict.{Verdict}
 use Rattle.lawful_reading.specs.declared.judgement.Verdict.TheVariants.{Lawful, Steps}
 
--- The words ask for the audit of this log of this program, on this trace: the shelf tells its files, and the trace its bytes; the file of the
--- source is read as the program, and that of the log holds just these bytes, which are no more than a log may have (67,108,864).
+-- the words ask for the audit of this log of this program, on this trace: the shelf exposes its files, and the trace
+-- its bytes; the file of the source is read as the program, and that of the log has exactly these bytes, at most as
+-- many as a log may have (67,108,864)
 pub record AsksForAudit (words : List (List ℕ)) (before : Outside) (options : AuditOptions) (program : ProgramTree) (trace log : List ℕ) : Type 0 where
   pub source_name : List ℕ
   pub log_name : List ℕ
@@ -45,26 +46,28 @@ pub record AsksForAudit (words : List (List ℕ)) (before : Outside) (options : 
   pub reads : IsSourceText source program
   pub log_there : IsLoaded document.Log (Some files) log_name log
 
--- A run is made under the policy of an audit: the checker accepts its pair, its chunks make a pool, and of its policy the audit's words say
--- all but the sizes of the chunks and how many there are of each size: only how many there are of both together. The rule is the one by the graph.
+-- a run is made under the policy of an audit: the checker accepts its pair, its chunks make a pool, and its policy is
+-- that of the audit's words, except for the sizes of the chunks and the number of each size, of which the words give
+-- only the sum. The rule is the priority rule.
 pub record IsRunUnder (options : AuditOptions) (g : Setup) : Type 0 where
   pub accepted : IsAccepted g
   pub pool : IsPool (start_areas g).pool
   pub policy : read_policy g.policy ≡ reading_policy options
 
--- the output took the line of this verdict, and the status is its
+-- the output took the line of this verdict, and the status is the verdict's
 abbrev pub SaysOf : Verdict → (before after : Outside) → (status : ℕ) → Type 0
 SaysOf is before after status = (status ≡ judgement_status is) × Appends before.taken after.taken (judgement_line is)
 
--- `lawful` with status 0, or `steps LINE` with 16, or there was no memory
+-- `lawful` with status 0, or `steps LINE` with status 16, or out of memory
 abbrev pub SaysLawfulOrSteps : (before after : Outside) → (status : ℕ) → Type 0
 SaysLawfulOrSteps before after status =
     SaysOf Lawful before after status
     ⊎ (((line : ℕ) × SaysOf (Steps line) before after status) ⊎ (status ≡ fault_status Memory))
 
--- What `lawful` says of a log, of the bytes of a source, a policy and a trace: it is the text of these entries; under the schedule that they
--- print the source by itself, with no rewriting, puts, blocks, ends and stops as they say; and each `run` line among them names the choice of the
--- priority rule, by the costs, the clocks and the free chunks that are printed before it.
+-- what `lawful` says of a log, given the bytes of a source, a policy and a trace: the log is the text of these entries;
+-- under the schedule that they print, the source by itself, without rewriting, puts, blocks, ends and stops as they
+-- say; and each `run` line among them names the choice of the priority rule, by the costs, the clocks and the free
+-- chunks that are printed before it
 pub record IsSourcesLog (source : List ℕ) (g : Given) (trace log : List ℕ) : Type 0 where
   pub entries : List Entry
   pub log_is : log ≡ log_text entries
@@ -72,8 +75,9 @@ pub record IsSourcesLog (source : List ℕ) (g : Given) (trace log : List ℕ) :
   pub text : IsTextLog (deep_program read.tree) g.policy.caps entries
   pub choices : AreLawfulChoices g trace entries
 
--- An audit says of the text of each lawful log of each such run of the program, on the trace, that it is lawful, or that it needs too many steps,
--- where no count rose. And where it ends with the status of `lawful`, the log is the source's, under the words' policy and on the trace.
+-- if no count of faults rose, an audit calls the text of the lawful log of each run of its program, under its policy
+-- and on its trace, lawful, or says that it needs too many steps. And if the status is that of `lawful`, the log is the
+-- source's, under the words' policy and on the trace.
 pub record IsAudited (words : List (List ℕ)) (before after : Outside) (status : ℕ) : Type 0 where
   pub lawful_log : (options : AuditOptions) (g : Setup) (trace : List ℕ) (entries : List Entry) (stop : StopLine) (end : World) →
       AsksForAudit words before options g.program trace (log_text entries) → IsRunUnder options g → IsLawfulLog g trace entries stop end →

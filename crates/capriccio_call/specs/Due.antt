@@ -25,7 +25,7 @@ Does (Demo number) before = Demos number
 Does (Audit source log options) before = Audits before.files before.left source log options
 Does (Budget source image certificate) before = Budgets before.files source image certificate
 
--- what the words do: what they ask for, or a refusal where they are no word list
+-- what is due for the words: what they ask for, or a refusal if they aren't a word list
 abbrev pub IsDue : List (List ℕ) → Outside → Outcome → Type 0
 IsDue words before outcome =
     ((request : Request) × IsWordList words request × Does request before outcome)

@@ -1,5 +1,5 @@
--- When a run can't stop for want of a chunk: where it has an accepted budget, which says how many chunks a thread may need, no more threads
--- live than so many, and the pool has room for the budget of each of them.
+-- When a run can't stop because no free chunk fits: it has an accepted budget, which bounds the chunks of a thread, at
+-- most n threads are live, and the pool has room for the budgets of n threads.
 use Rattle.std.specs.Prelude.{ℕ, ◌≡◌, ◌≢◌, ◌*◌, ◌≤◌, ◌⊎◌, List, Option, IfSome, Some}
 use Rattle.accepted_pairs.specs.Accepting.{accepted_tree}
 use Rattle.log_laws.specs.Lives.{live}
@@ -27,7 +27,7 @@ use Rattle.pair_commands.specs.Runs.{policy_of}
 
 -- ---- the run that the words ask for
 
--- `run` of three files, which are there and are this program and its pair, under the policy of the words
+-- `run` of three files, which exist and are read as this program and its pair, under the policy of the words
 pub record RunsFiles (words : List (List ℕ)) (files : Files) (g : Setup) : Type 0 where
   pub source_name : List ℕ
   pub image_name : List ℕ
@@ -45,7 +45,8 @@ pub record RunsFiles (words : List (List ℕ)) (files : Files) (g : Setup) : Typ
   pub certificate_is : IsCertificateText certificate g.certificate
   pub policy_is : g.policy ≡ policy_of options
 
--- `serve` of a source, which is there and is this program; the pair is the one that is laid out for it under the sizes of the words
+-- `serve` of a source, which exists and is read as this program; the pair is the one that is laid out for it under the
+-- sizes of the words
 pub record ServesSource (words : List (List ℕ)) (files : Files) (g : Setup) : Type 0 where
   pub source_name : List ℕ
   pub placement : Placement
@@ -57,7 +58,7 @@ pub record ServesSource (words : List (List ℕ)) (files : Files) (g : Setup) : 
   pub laid_out : IsLaidOut (lowered g.program) (sizes_of placement) g.image g.certificate
   pub policy_is : g.policy ≡ policy_of options
 
--- the shelf tells its files, and the words ask for a run of this program and pair under this policy
+-- the shelf exposes its files, and the words ask for a run of this program and pair under this policy
 pub record AsksForRun (words : List (List ℕ)) (before : Outside) (g : Setup) : Type 0 where
   pub files : Files
   pub files_told : before.files ≡ Some files
@@ -65,13 +66,15 @@ pub record AsksForRun (words : List (List ℕ)) (before : Outside) (g : Setup) :
 
 -- ---- what is enough
 
--- The pool has room for so many chunks: the policy has as many of the certificate's size, or among all chunks, those of the second size
--- too, as many have a payload of at least the longest path. The second follows from the first of every pair that a checker accepts.
+-- the pool has room for this many chunks: the policy has as many of the certificate's size, or as many of all chunks,
+-- of both sizes, have a payload of at least the longest path. The second form follows from the first for every pair
+-- that a checker accepts.
 abbrev pub HasRoom : Setup → (chunks : ℕ) → Type 0
 HasRoom g chunks = (chunks ≤ g.policy.chunks) ⊎ (chunks ≤ roomy (start_areas g).pool g.certificate.max_path)
 
--- Where the run on the trace stops, at most so many threads live, the one that is about to start counted. So it is of every run that never
--- has or asks for more. Where the trace doesn't tell its bytes, it is asked of each that it could have.
+-- at the stop of the run on the trace, at most this many threads are live, counting one that is about to start. This
+-- holds of every run that never has or asks for more. If the trace doesn't expose its bytes, it has to hold for every
+-- trace that it could have.
 abbrev pub LivesWithin : Option (List ℕ) → Setup → (threads : ℕ) → Type 0
 LivesWithin left g threads =
     (trace : List ℕ) → IfSome left (λ its. its ≡ trace) → (entries : List Entry) (stop : StopLine) (end : World) → IsLawfulLog g trace entries stop end →
@@ -79,13 +82,13 @@ LivesWithin left g threads =
 
 -- ---- the whole
 
--- the status of a run that stops for want of a chunk
+-- the status of a run that stops because no free chunk fits
 abbrev pub no_chunk : ℕ
 no_chunk = 12
 
--- Whatever the rule of choice is, no call whose run has enough chunks ends with that status. `asked` says it by the words, the files and the trace,
--- which tell themselves. `ran` says it of the world that is handed out, whatever they tell: by the pair that was run, the pool, and the
--- threads that live in that world.
+-- whatever the rule of choice is, no call whose run has enough chunks ends with that status. `asked` depends on the
+-- words, the files and the trace, which expose their contents. `ran` depends on the world that is returned, whatever
+-- they expose: on the pair that was run, the pool, and the threads that are live in that world.
 pub record HasEnoughChunks (words : List (List ℕ)) (before : Outside) (last : Option Held) (status : ℕ) : Type 0 where
   pub asked : (g : Setup) (budget : Budget) (threads : ℕ) → AsksForRun words before g → IsBudget (lowered g.program) g.certificate budget →
       HasRoom g (threads * budget.per_thread) → LivesWithin before.left g threads → status ≢ no_chunk

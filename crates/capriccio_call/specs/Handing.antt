@@ -1,4 +1,4 @@
--- What the call hands on of a command that runs nothing: its status, and no world.
+-- The result of a command without a run: its status, and no world.
 use Rattle.std.specs.Prelude.{ℕ, None, Result, Ok, Err}
 use Rattle.command_outcomes.specs.declared.stops.Stop.{Stop}
 use Rattle.capriccio_commands.specs.declared.ended.Ended.{Ended}

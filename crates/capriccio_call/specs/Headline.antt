@@ -1,7 +1,7 @@
--- The headline: what a call of the program does, from what its objects tell before it to what they tell after it.
+-- The headline: what a call of the program does, from what its objects expose before it to what they expose after it.
 --
--- `IsAnswer` says what the command does: `IsDue` (specs/Due) has for the words, the files and the trace one outcome. `WasGood` says
--- that the run was good whose world is handed out. docs/HEADLINE.md reads both part by part.
+-- `IsAnswer` says what the command does: by `IsDue` (specs/Due) the words, the files and the trace have one outcome.
+-- `WasGood` says that the run of a returned world was good. docs/HEADLINE.md explains both part by part.
 use Rattle.std.specs.Prelude.{ℕ, ◌≡◌, List, Option, IfSome, Some, None, Result}
 use Rattle.std.specs.Io.KnownBytes.{Appends}
 use Rattle.choice_rules.specs.Policy.{Policy}
@@ -25,9 +25,9 @@ use Rattle.capriccio_call.specs.TheText.{IsLogOfText}
 use Rattle.workload.specs.Traces.{trace_text}
 use Rattle.workload.specs.Programs.{program_text}
 
--- What is due is done as a whole, or after a fault or a want of memory in part; where nothing failed it is just what is due. Standard
--- error takes the line, the status is that of the outcome or of the fault, and the world that was run is handed out exactly where
--- a run came to its stop.
+-- what is due is done completely, or in part after a fault or out of memory; if nothing failed, exactly that is done.
+-- Standard error takes the line, the status is that of the outcome or of the fault, and the world that was run is
+-- returned exactly if a run reached its stop.
 abbrev pub IsAnswerOf : (due : Outside → Outcome → Type 0) → (before after : Outside) → (err err' : Option (List ℕ)) → (faults faults' : ℕ) → (last : Option Held) → (status : ℕ) → Type 0
 IsAnswerOf due before after err err' faults faults' last status =
     (given : Result Outcome Fault)
@@ -40,10 +40,10 @@ IsAnswerOf due before after err err' faults faults' last status =
 abbrev pub IsAnswer : (words : List (List ℕ)) → (before after : Outside) → (err err' : Option (List ℕ)) → (faults faults' : ℕ) → (last : Option Held) → (status : ℕ) → Type 0
 IsAnswer words = IsAnswerOf (IsDue words)
 
--- What a run wrote, by what the words ask for: the entries are the lawful log of the run up to the stop, and that log is good. For `demo`
--- the program is the workload's of its number, the log is that on the workload's trace, and the output took the summary that is counted over it.
--- For every other request the log is that on the trace that is handed in, and the output took its lines; where the trace doesn't tell its
--- bytes, it is that on some bytes.
+-- what a run wrote, by what the words ask for: the entries are the lawful log of the run up to the stop, and that log
+-- is good. For `demo` the program is the workload of its number, the log is that on the workload's trace, and the
+-- output took the summary that is counted over it. For every other request the log is that on the trace that is passed,
+-- and the output took its lines; if the trace doesn't expose its bytes, it is the log on some bytes.
 abbrev pub IsLogFor : Request → Setup → (before after : Outside) → List Entry → StopLine → World → Type 0
 IsLogFor (Demo number) setup before after entries stop end =
     IsSourceText (program_text number) setup.program
@@ -54,8 +54,8 @@ IsLogFor request setup before after entries stop end =
     × Appends before.taken after.taken (log_text entries)
     × IsRunOfSome setup before.left entries stop end
 
--- The policy of a run is that of the options of its words, of which each that isn't given has its default. `demo` has no options, and one policy.
--- No other request runs a program.
+-- the policy of a run is that of its words' options, each with its default if it isn't given. `demo` has no options and
+-- a fixed policy. No other request runs a program.
 abbrev pub IsPolicyFor : Request → Policy → Type 0
 IsPolicyFor (Serve source placement options) policy = policy ≡ policy_of options
 IsPolicyFor (Run source image certificate options) policy = policy ≡ policy_of options
@@ -66,9 +66,9 @@ IsPolicyFor (Graph source placement) policy = ⊥
 IsPolicyFor (Audit source log options) policy = ⊥
 IsPolicyFor (Budget source image certificate) policy = ⊥
 
--- A run that the words ask for came to its stop in this world, and was good: its policy is that of the words' options; the checker accepts its
--- program, image and certificate; the output took its lawful log, which is good, or for `demo` a summary of it; that log is the one of the
--- text that was loaded; the status is that of the stop.
+-- a run that the words ask for reached its stop in this world, and was good: its policy is that of the words' options;
+-- the checker accepts its program, image and certificate; the output took its lawful log, which is good, or for `demo`
+-- a summary of it; that log is the one of the text that was loaded; the status is that of the stop
 pub record RanWell (words : List (List ℕ)) (before after : Outside) (world : Held) (status : ℕ) : Type 0 where
   pub request : Request
   pub asked : IsWordList words request
@@ -83,7 +83,7 @@ pub record RanWell (words : List (List ℕ)) (before after : Outside) (world : H
   pub stopped : status ≡ stop_status stop
   pub handed_out : IsWorldOf (record { setup = setup; end = end }) world
 
--- where a world is handed out, its run was good
+-- if a world is returned, its run was good
 abbrev pub WasGood : (words : List (List ℕ)) → (before after : Outside) → (last : Option Held) → (status : ℕ) → Type 0
 WasGood words before after None status = Unit {0}
 WasGood words before after (Some world) status = RanWell words before after world status

@@ -1,4 +1,4 @@
-// The program as a whole, over the objects that it is handed.
+// The program as a whole, over the objects that are passed to it.
 ghost use Rattle.std.specs.Prelude.{◌≡◌, map};
 ghost use Rattle.std.specs.String.{string_bytes};
 ghost use Rattle.command_outcomes.specs.Done.{outside_by};
@@ -14,14 +14,22 @@ use command_outcomes::finish;
 use std::alloc::Global;
 use thread_core::World;
 
-/// Does what the words ask for, and returns the status. If the command refuses or something fails, `err` takes the line that
-/// says so. `last` is the world of the run at its stop, if a run came to its stop, and otherwise `None`.
+/// Does what the words ask for, and returns the status. If the command refuses or something fails, `err` takes the line
+/// that says so. `last` is the world of the run at its stop, or `None` if no run reached its stop.
 ///
-/// The status is 0 if the command did what it is for; 1 if the words aren't a word list; 2 if the source is refused; 3 if the
-/// pair is; 4 if the image, the certificate, the log or the trace is; 5 if a frame, the code or the pool is too large; 6, 7 and 8
-/// after a failed read, a failed write and out of memory; 9 if a file doesn't exist. A run ends with 10 if it idles, 11 at a trap,
-/// 12 if no free chunk fits, 13 if the fuel is spent, 14 at too many threads. An audit ends with 15 if the log isn't lawful, and 16
-/// if a line needs too many steps. A budget ends with 17 if the program has a cycle of calls.
+/// | Status | When |
+/// |---|---|
+/// | 0 | the command succeeded |
+/// | 1 | the words aren't a word list |
+/// | 2 | the source is refused |
+/// | 3 | the pair is refused |
+/// | 4 | the image, the certificate, the log or the trace is refused |
+/// | 5 | a frame, the code or the pool is too large |
+/// | 6, 7, 8 | a read failed, a write failed, memory ran out |
+/// | 9 | a file doesn't exist |
+/// | 10 to 14 | a run idles, traps, finds no free chunk that fits, has spent its fuel, has too many threads |
+/// | 15, 16 | an audit finds that the log isn't lawful, that a line needs too many steps |
+/// | 17 | the program of a budget has a cycle of calls |
 pub fn capriccio<F: Shelf, S: Source, K: Sink, E: Sink>(
     alloc: Global,
     words: &Vec<String>,
@@ -72,7 +80,7 @@ pub fn capriccio<F: Shelf, S: Source, K: Sink, E: Sink>(
     }
 }
 
-/// Puts a value in the place of the one before.
+/// Replaces the value of a place, and drops the old one.
 fn put<T: Drop>(place: &mut T, value: T)
     ensures { place.new ≡ value }
 {

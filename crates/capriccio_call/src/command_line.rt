@@ -7,10 +7,14 @@ use std::env::{self, Args};
 use std::io::ErrorKind;
 use std::rt::Env;
 
-/// The words after the program's name. Where they can't be had, as where one is not UTF-8, the answer is no word at
-/// all, which is a faulty command line too. Refused only where memory is wanting.
+/// Returns the words after the program's name. If they aren't available, for instance because one isn't UTF-8, it
+/// returns no words, which is a faulty command line too.
 ///
-/// No clause says which they are: the contract of `std::env::args` doesn't.
+/// # Errors
+///
+/// `AllocError` if an allocation fails.
+///
+/// No clause says which words they are, since the contract of `std::env::args` doesn't.
 pub fn words_of<E: Env>(environment: &E, alloc: Global) -> Result<Vec<String>, AllocError> {
     match env::args(&(environment, alloc)) {
         Ok(arguments) => words_after_name(arguments, alloc),
@@ -19,7 +23,7 @@ pub fn words_of<E: Env>(environment: &E, alloc: Global) -> Result<Vec<String>, A
     }
 }
 
-/// All of the arguments but the first, which is the program's name.
+/// Returns all arguments except the first, which is the program's name.
 fn words_after_name(arguments: Args<Global>, alloc: Global) -> Result<Vec<String>, AllocError>
     ensures { IfOk result (λ words. words.items ≡ drop 1 (into_iter_items arguments)) }
 {

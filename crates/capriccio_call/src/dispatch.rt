@@ -1,4 +1,4 @@
-// Which command does what the words ask.
+// The command for which the words ask.
 ghost use Rattle.std.specs.Prelude.{List, ℕ, ◌≡◌, map};
 ghost use Rattle.std.specs.String.{string_bytes};
 ghost use Rattle.command_words.specs.WordList.{IsWordList, request_of};
@@ -18,7 +18,7 @@ use command_words::{Command, Placement, WordsError, read_words};
 use pair_commands::{do_budget, do_build, do_check, do_graph};
 use std::alloc::Global;
 
-/// Does what the words ask, and answers how that ended.
+/// Does what the words ask, and returns how it ended.
 pub(crate) fn do_words<F: Shelf, S: Source, K: Sink>(
     alloc: Global,
     words: &Vec<String>,
@@ -111,7 +111,7 @@ fn do_command<F: Shelf, S: Source, K: Sink>(
     }
 }
 
-/// The sizes that the words give.
+/// Returns the sizes that the words give.
 fn options_of(placement: Placement) -> Options
     ensures { result ≡ sizes_of placement }
 {
@@ -121,7 +121,7 @@ fn options_of(placement: Placement) -> Options
     }
 }
 
-/// How a command ended that runs nothing: no world is there.
+/// Returns the end of a command without a run: it has no world.
 fn ended_without_world(answer: Result<u8, Stop>) -> Result<Ended, Stop>
     ensures { result ≡ without_world answer }
 {

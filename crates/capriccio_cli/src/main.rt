@@ -1,8 +1,8 @@
 // Capriccio's program: linked stacks and blocking-graph scheduling for a subset of C on RV32IM.
 //
-// In: the words after the program's name, files in the present folder, and a trace on standard input. Out: text on
-// standard output, a refusal's line on standard error, and the status. `capriccio` of the crate `capriccio_call` is the whole
-// program over objects that it is handed; `main` makes the real ones.
+// In: the words after the program's name, files in the current folder, and a trace on standard input. Out: text on
+// standard output, a refusal's line on standard error, and the status. `capriccio` of the crate `capriccio_call` is the
+// whole program over objects that are passed to it; `main` makes the real ones.
 #![tactic(auto)]
 
 use cap_io::{DirShelf, StdSink, StdSource};

@@ -3,7 +3,7 @@ use Rattle.std.proofs.Common.{◌≡◌, ℕ, ◌≤◌, Bool, false, List, [], 
 use Rattle.std.specs.Prelude.{MatchResult, OnOk}
 use Rattle.std.specs.Io.KnownBytes.{Keeps, Appends}
 use Rattle.std.proofs.lemmas.Result.{on_ok_weaker}
-use Rattle.cap_io.specs.Faults.{Rose}
+use Rattle.cap_io.specs.Faults.{IsRisen, Rose}
 use Rattle.cap_io.specs.Files.{KeepsFiles}
 use Rattle.c_tree.specs.Trees.{ProgramTree}
 use Rattle.accepted_pairs.specs.Accepting.{accepted_tree}
@@ -21,7 +21,7 @@ use Rattle.command_outcomes.specs.declared.stops.Stop.TheVariants.{Refused, Fail
 use Rattle.capriccio_commands.specs.declared.ended.Ended.{Ended}
 use Rattle.command_outcomes.specs.Outcome.{Outcome, Ran, NoMore}
 use Rattle.command_outcomes.specs.CauseLines.{refusal}
-use Rattle.command_outcomes.specs.Done.{Outside, WhereTold, AreStored, IsRisen, IsTraceLeft}
+use Rattle.command_outcomes.specs.Done.{Outside, WhereTold, AreStored, IsTraceLeft}
 use Rattle.schedule_log.specs.Writing.{TakesPrefix}
 use Rattle.command_files.specs.Loads.{IsSourceText}
 use Rattle.command_outcomes.specs.Steps.{IsStop, IsPrinted, EndsAs, RunEnds}

@@ -1,4 +1,4 @@
--- How a command ends by the end of its run.
+-- The end of a command from the end of its run.
 use Rattle.std.specs.Prelude.{◌≡◌, Some, Result, Ok, Err}
 use Rattle.runner.specs.declared.ends.RunEnd.{RunEnd}
 use Rattle.runner.specs.declared.ends.RunEnd.TheVariants as end
@@ -8,7 +8,7 @@ use Rattle.command_outcomes.specs.declared.stops.Stop.TheVariants.{Failed}
 use Rattle.capriccio_commands.specs.declared.ended.Ended.{Ended}
 use Rattle.command_outcomes.specs.declared.faults.Fault.TheVariants.{Read, Write, Memory}
 
--- how a command ends by the end of its run: with the status of the stop and the world, or with a fault
+-- the status of the stop with the world, or a fault
 abbrev pub IsClosed : Held → RunEnd → Result Ended Stop → Type 0
 IsClosed world end.Done answer = answer ≡ Ok (record { status = 0; last = Some world })
 IsClosed world (end.BadTrace line) answer = answer ≡ Ok (record { status = 4; last = Some world })

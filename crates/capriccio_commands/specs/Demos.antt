@@ -1,5 +1,6 @@
--- What the command `demo` does: the source of the workload of a number is built as `serve` builds one and runs on the
--- workload's trace, and the output takes a summary of the run, counted over its log. The trace that is handed in isn't read.
+-- What the command `demo` does: the source of the workload of a number is built as by `serve` and runs on the
+-- workload's trace, and the output takes a summary of the run, counted over its log. The trace that is passed isn't
+-- read.
 use Rattle.std.specs.Prelude.{ℕ, ◌≡◌, false, List, [], replicate, Some}
 use Rattle.c_tree.specs.Trees.{ProgramTree}
 use Rattle.c_lower.specs.ProgramCode.{lowered}
@@ -45,38 +46,38 @@ shown_outcome setup entries stop end = record {
   reads_trace = false;
 }
 
--- a run of an accepted pair on a trace, of which the summary is shown
+-- a run of an accepted pair on a trace, whose summary is printed
 abbrev pub ShowsRun : List ℕ → Setup → Outcome → Type 0
 ShowsRun trace setup outcome =
     IsAccepted setup × (entries : List Entry) × (stop : StopLine) × (end : World)
     × IsRun setup trace entries stop end × (outcome ≡ shown_outcome setup entries stop end)
 
--- the pair that is laid out for the program runs
+-- the pair that is laid out for the program is run
 abbrev pub ShowsProgram : List ℕ → ProgramTree → Outcome → Type 0
 ShowsProgram trace program outcome =
     (i : Image) × (c : Certificate) × IsLaidOut (lowered program) demo_sizes i c × ShowsRun trace (setup_of program i c demo_policy) outcome
 
--- The program is the one that the source of the workload is. It is never refused: it reads as one (`program_is_read` of workload), and no
--- frame of it and not its code is too large (`workload_is_built`).
+-- the program is that of the workload's source. It is never refused: the source reads as a program (`program_is_read`
+-- of workload), no frame of it is too large, and neither is its code (`workload_is_built`).
 abbrev pub Demos : (number : ℕ) → Outcome → Type 0
 Demos number outcome = (program : ProgramTree) × IsSourceText (program_text number) program × ShowsProgram (trace_text number) program outcome
 
 -- ---- its steps
 
--- the workload is accepted: what its run on the workload's trace does is what `serve` would do with it
+-- the workload is accepted, and its run on the workload's trace does what `serve` does with it
 pub record IsAcceptedWorkload (number : ℕ) (accepted : Acceptance) : Type 0 where
   pub program : ProgramTree
   pub source : IsSourceText (program_text number) program
   pub leads : LeadsOn (Some (trace_text number)) demo_policy accepted (ServesProgram (Some (trace_text number)) demo_sizes demo_policy program)
   pub chunk : accepted.certificate.chunk ≡ demo_sizes.chunk
 
--- what is shown of a run that ended so, with the log of these entries
+-- the summary of a run that ended in this way with the log of these entries
 pub record ShowsEnd (ended : Ended) (census : Census) (entries : List Entry) (shown : Shown) : Type 0 where
   pub status : shown.status ≡ ended.status
   pub world : ended.last ≡ Some shown.world
   pub text : shown.text.items ≡ summary_text census (tally_of entries) (last_from [] entries)
 
--- what is shown of a run that did what is due, its summary counted over the entries of its log, whichever they are
+-- the summary of a run that did what is due, counted over the entries of its log, whatever they are
 pub record ShowsDue (due : Outcome → Type 0) (census : Census) (shown : Shown) : Type 0 where
   pub served : Outcome
   pub is_due : due served
@@ -84,7 +85,7 @@ pub record ShowsDue (due : Outcome → Type 0) (census : Census) (shown : Shown)
   pub last : IsLast served.last (Some shown.world)
   pub text : (entries : List Entry) → served.out ≡ log_text entries → shown.text.items ≡ summary_text census (tally_of entries) (last_from [] entries)
 
--- what is shown is due: the status, the text for the output and the world that was run
+-- what is printed is due: the status, the text for the output, and the world that was run
 pub record IsShown (due : Outcome → Type 0) (shown : Shown) : Type 0 where
   pub outcome : Outcome
   pub is_due : due outcome

@@ -1,4 +1,4 @@
--- The world that a run hands out, and what a command hands on that may have run one.
+-- The world that a run returns, and the result of a command that may have run one.
 use Rattle.std.specs.Prelude.{◌≡◌, ◌+◌, List, [], Option, Some, None}
 use Rattle.accepted_pairs.specs.Accepting.{accepted_tree}
 use Rattle.lawful_log.specs.Good.{checked_of}
@@ -29,12 +29,12 @@ pub record IsWorldOf (ran : Ran) (world : Held) : Type 0 where
   pub reached : IsReachable ran.setup world.machine
   pub sound : IsSound (checked_of ran.setup) world.machine
 
--- it is there exactly where a run came to its stop
+-- a world is returned exactly if a run reached its stop
 abbrev pub IsLast : Option Ran → Option Held → Type 0
 IsLast None None = Unit {0}
 IsLast (Some ran) (Some world) = IsWorldOf ran world
 IsLast _ _ = ⊥
 
--- the end of a command with an outcome for which standard error takes nothing: its status, and the world that was run
+-- the end of a command whose outcome has no line for standard error: its status, and the world that was run
 abbrev pub IsEnd : Outcome → Ended → Type 0
 IsEnd outcome ended = (outcome.status ≡ ended.status) × (outcome.line ≡ []) × IsLast outcome.last ended.last

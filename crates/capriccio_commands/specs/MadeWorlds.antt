@@ -1,4 +1,4 @@
--- What a world is made of for a run, and which one was just made.
+-- A newly made world, and the options that it depends on.
 use Rattle.c_lower.specs.ProgramCode.{lowered}
 use Rattle.certificate_rules.specs.Validity.{IsValid}
 use Rattle.accepted_pairs.specs.Accepting.{accepted_tree}
@@ -9,11 +9,11 @@ use Rattle.thread_core.specs.Worlds.{Held}
 use Rattle.thread_core.specs.declared.policy.WorldPolicy.{WorldPolicy}
 use Rattle.pair_commands.specs.Runs.{setup_of}
 
--- what a world is given of the options
+-- the part of the options that a world uses
 abbrev pub world_policy_of : RunOptions → WorldPolicy
 world_policy_of options = record { chunks = options.chunks; extra = options.extra; extra_bytes = options.extra_bytes; backlog = options.backlog; caps = options.caps }
 
--- a world that was just made under these options
+-- a newly made world under these options
 pub record IsMade (options : RunOptions) (held : Held) : Type 0 where
   pub ranges : IsPolicy held.accepted (world_policy_of options) options.fuel
   pub made : IsStart held.accepted (world_policy_of options) options.fuel held

@@ -1,4 +1,4 @@
--- The summary of a run: what is counted over its program, its certificate and its log, and how that is spelled.
+-- The summary of a run: counts over its program, its certificate and its log, and their text.
 use Rattle.std.specs.Prelude.{ℕ, ◌+◌, ℤ, ◌+ℤ◌, pos, Bool, true, false, List, [], ◌∷◌, ◌++◌, length, codes, count_by}
 use Rattle.cap_text.specs.Decimals.{canonical_decimal, canonical_integer}
 use Rattle.c_tree.specs.Trees.{ProgramTree}
@@ -30,16 +30,16 @@ census_of program certificate = record {
   checkpoints = count_by (λ (fact : SiteFact). links fact.kind) certificate.sites;
 }
 
--- nothing is counted yet
+-- the tally of no entries
 abbrev pub no_tally : Tally
 no_tally = record { choices = 0; outputs = 0; sum = pos 0; cost = 0 }
 
--- so many instructions more are retired
+-- the tally with more retired instructions
 abbrev pub with_cost : ℕ → Tally → Tally
 with_cost cost t = record { choices = t.choices; outputs = t.outputs; sum = t.sum; cost = t.cost + cost }
 
--- one entry more: a `run` line is a choice, an `out` line an output with its value, and the instructions of a segment stand in
--- the line that ends it
+-- the tally with one more entry: a `run` line is a choice, an `out` line is an output with its value, and the line that
+-- ends a segment has its instructions
 abbrev pub counted : Entry → Tally → Tally
 counted (Event clock item) t = t
 counted (Dropped clock item) t = t
@@ -53,7 +53,7 @@ counted (Stop Idle) t = t
 counted (Stop (Trace line)) t = t
 counted (Stop (Cut thread stop cost free)) t = with_cost cost t
 
--- what is counted over entries, after what was counted before
+-- the tally of some entries, added to an earlier tally
 abbrev pub tally_from : Tally → List Entry → Tally
 tally_from t [] = t
 tally_from t (entry ∷ entries) = tally_from (counted entry t) entries
@@ -61,7 +61,7 @@ tally_from t (entry ∷ entries) = tally_from (counted entry t) entries
 abbrev pub tally_of : List Entry → Tally
 tally_of entries = tally_from no_tally entries
 
--- the text of the last entry, after this text
+-- the text of the last entry, or the given text if there is none
 abbrev pub last_from : List ℕ → List Entry → List ℕ
 last_from text [] = text
 last_from text (entry ∷ entries) = last_from (entry_text entry) entries
@@ -79,7 +79,7 @@ census_text c = (count_line (codes "functions ") c.functions ++ count_line (code
 abbrev pub tally_text : Tally → List ℕ
 tally_text t = ((count_line (codes "choices ") t.choices ++ count_line (codes "outputs ") t.outputs) ++ sum_line (codes "sum ") t.sum) ++ count_line (codes "cost ") t.cost
 
--- the whole, with the stop line of the log
+-- the whole summary, with the stop line of the log
 abbrev pub summary_text : Census → Tally → List ℕ → List ℕ
 summary_text c t last = ((census_text c ++ tally_text t) ++ last) ++ 10 ∷ []
 

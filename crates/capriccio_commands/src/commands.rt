@@ -1,4 +1,4 @@
-// The commands that run a program, over the objects that they are handed.
+// The commands that run a program, over the objects that are passed to them.
 ghost use Rattle.std.specs.Prelude.{ℕ, List, Option, ◌+◌, ◌≤◌, ◌*◌};
 ghost use Rattle.codegen_link.specs.Plans.{AreInRange};
 ghost use Rattle.command_options.specs.Options.{IsRunPolicy};
@@ -19,7 +19,7 @@ use command_words::Policy;
 use pair_commands::{accept_files, accept_source};
 use std::alloc::Global;
 
-/// The command `serve`.
+/// Does the command `serve`.
 pub fn serve<F: Shelf, S: Source, K: Sink>(
     alloc: Global,
     shelf: &mut F,
@@ -42,7 +42,7 @@ pub fn serve<F: Shelf, S: Source, K: Sink>(
     run_accepted(alloc, accepted, policy, trace, out)
 }
 
-/// The command `run`.
+/// Does the command `run`.
 pub fn run_pair<F: Shelf, S: Source, K: Sink>(
     alloc: Global,
     shelf: &mut F,
@@ -65,7 +65,7 @@ pub fn run_pair<F: Shelf, S: Source, K: Sink>(
     run_accepted(alloc, accepted, policy, trace, out)
 }
 
-/// The command `demo`.
+/// Does the command `demo`.
 pub fn demo<K: Sink>(alloc: Global, out: &mut K, number: u32) -> Result<Ended, Stop>
     requires some { 1 ≤ number }
     requires few { number ≤ 1000 }

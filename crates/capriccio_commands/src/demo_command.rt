@@ -1,4 +1,4 @@
-// The command `demo`: the workload of a number is built, accepted and run, and a summary of the run is shown.
+// The command `demo`: builds, accepts and runs the workload of a number, and prints a summary of the run.
 ghost use Rattle.std.specs.Prelude.{◌≡◌, ◌≤◌, List, MatchResult, Some};
 ghost use Rattle.c_tree.specs.ProgramView.{program_tree};
 ghost use Rattle.accepted_pairs.specs.Accepting.{accepted_tree};
@@ -30,18 +30,18 @@ use std::alloc::{AllocError, Global};
 use thread_core::World;
 use workload::{make_program, make_trace};
 
-/// What is shown of a run that came to its stop.
+/// The summary of a run that reached its stop, with its status and its world.
 #[derive(Drop)]
 pub struct Shown {
     /// The status of its stop.
     pub status: u8,
     /// The summary.
     pub text: Vec<u8>,
-    /// The world, as it is at the stop.
+    /// The world at the stop.
     pub world: World,
 }
 
-/// The run of the workload of this number, from 1 to 1,000.
+/// Runs the workload of this number, from 1 to 1,000.
 pub(crate) fn show_workload(alloc: Global, number: u32) -> Result<Shown, Stop>
     requires some { 1 ≤ number }
     requires few { number ≤ 1000 }
@@ -52,7 +52,7 @@ pub(crate) fn show_workload(alloc: Global, number: u32) -> Result<Shown, Stop>
     show_run(alloc, accepted, trace)
 }
 
-/// The trace of the workload.
+/// Returns the trace of the workload.
 fn workload_trace(alloc: Global, number: u32) -> Result<Vec<u8>, Stop>
     requires some { 1 ≤ number }
     requires few { number ≤ 1000 }
@@ -65,7 +65,7 @@ fn workload_trace(alloc: Global, number: u32) -> Result<Vec<u8>, Stop>
     }
 }
 
-/// The workload, built and accepted. It is never refused for its source.
+/// Builds and accepts the workload. Its source is never refused.
 fn accept_workload(alloc: Global, number: u32) -> Result<Accepted, Stop>
     requires some { 1 ≤ number }
     requires few { number ≤ 1000 }
@@ -75,7 +75,7 @@ fn accept_workload(alloc: Global, number: u32) -> Result<Accepted, Stop>
     accept_program(alloc, program, workload_sizes())
 }
 
-/// The program that the source of the workload is. There is always one.
+/// Returns the program of the workload's source. There always is one.
 fn workload_program(alloc: Global, number: u32) -> Result<Program, Stop>
     requires some { 1 ≤ number }
     requires few { number ≤ 1000 }
@@ -88,7 +88,7 @@ fn workload_program(alloc: Global, number: u32) -> Result<Program, Stop>
     }
 }
 
-/// The sizes for the generator.
+/// Returns the sizes for the code generator.
 fn workload_sizes() -> Options
     ensures { result ≡ demo_sizes }
 {
@@ -98,7 +98,7 @@ fn workload_sizes() -> Options
     }
 }
 
-/// The policy of the run.
+/// Returns the policy of the run.
 fn workload_policy() -> Policy
     ensures { result ≡ demo_policy }
 {
@@ -116,7 +116,7 @@ fn workload_policy() -> Policy
     }
 }
 
-/// The run of an accepted workload on a trace.
+/// Runs an accepted workload on a trace.
 fn show_run(alloc: Global, accepted: Accepted, trace: Vec<u8>) -> Result<Shown, Stop>
     requires { accepted.certificate.chunk ≡ demo_sizes.chunk }
     ensures { MatchResult result
@@ -132,7 +132,7 @@ fn show_run(alloc: Global, accepted: Accepted, trace: Vec<u8>) -> Result<Shown, 
     show(alloc, ended, census, log.bytes())
 }
 
-/// What is shown of a run that ended so, with this log.
+/// Returns the summary of a run that ended in this way with this log.
 fn show(alloc: Global, ended: Ended, census: Census, log: &[u8]) -> Result<Shown, Stop>
     requires world { (world : Held) × (ended.last ≡ Some world) }
     requires fits { IsFitText log.now }

@@ -1,4 +1,4 @@
-// A run of an accepted program on the trace, under a policy.
+// Runs an accepted program on the trace, under a policy.
 ghost use Rattle.std.specs.Prelude.{◌≡◌, ◌≤◌, Some, IfOk, OnOk};
 ghost use Rattle.capriccio_commands.specs.Closings.{IsClosed};
 ghost use Rattle.capriccio_commands.specs.FitLogs.{TakesFit};
@@ -51,7 +51,11 @@ pub(crate) fn run_accepted<S: Source, K: Sink>(
     }
 }
 
-/// The world of an accepted program as a run by these options starts in it. The one refusal is want of memory; the program is gone then.
+/// Returns the world of an accepted program as a run by these options starts in it.
+///
+/// # Errors
+///
+/// `AllocError` if an allocation fails; the program is dropped then.
 pub fn made_world(alloc: Global, accepted: Accepted, policy: Policy) -> Result<World, AllocError>
     requires range { IsRunPolicy policy }
     requires pool { pool_bytes policy accepted.certificate ≤ 67108864 }
@@ -66,13 +70,13 @@ pub fn made_world(alloc: Global, accepted: Accepted, policy: Policy) -> Result<W
     }
 }
 
-/// Lets the world of a run go. How a world falls is proved with the runs, and by this call not once more where one is let go that was kept
-/// beyond them.
+/// Drops the world of a run. The drop of a world is proved once, with the runs; callers that kept a world use this
+/// function so that they needn't prove it again.
 pub fn let_go(world: World) {
     drop(world)
 }
 
-/// Runs a world that was just made, with the policy's knee in the pressures of all resources.
+/// Runs a newly made world, with the policy's knee in the pressure curves of all resources.
 fn run_world<S: Source, K: Sink>(
     alloc: Global,
     world: World,
@@ -95,7 +99,7 @@ fn run_world<S: Source, K: Sink>(
     run_measured(alloc, world, policy, trace, out, call)
 }
 
-/// Runs a world that was just made, with this way to measure pressures.
+/// Runs a newly made world, with this measure of pressure.
 fn run_measured<S: Source, K: Sink, C: Measure + Copy + Drop>(
     alloc: Global,
     world: World,
@@ -118,7 +122,7 @@ fn run_measured<S: Source, K: Sink, C: Measure + Copy + Drop>(
     }
 }
 
-/// Runs a world that was just made by the rule of its policy, with the policy's monitor.
+/// Runs a newly made world by the rule of its policy, with the policy's monitor.
 fn run_by_rule<S: Source, K: Sink, C: Measure + Drop>(
     alloc: Global,
     world: World,
@@ -147,7 +151,7 @@ fn run_by_rule<S: Source, K: Sink, C: Measure + Drop>(
     }
 }
 
-/// Runs a world that was just made by the graph.
+/// Runs a newly made world by the priority rule.
 fn run_by_graph<S: Source, K: Sink, C: Measure + Drop>(
     alloc: Global,
     mut world: World,
@@ -168,7 +172,7 @@ fn run_by_graph<S: Source, K: Sink, C: Measure + Drop>(
     close(world, end)
 }
 
-/// Runs a world that was just made by strides.
+/// Runs a newly made world by the stride rule.
 fn run_by_strides<S: Source, K: Sink, C: Measure + Drop>(
     alloc: Global,
     mut world: World,
@@ -191,7 +195,7 @@ fn run_by_strides<S: Source, K: Sink, C: Measure + Drop>(
     close(world, end)
 }
 
-/// What a world is given of a policy.
+/// Returns the part of a policy that a world uses.
 fn world_policy(policy: Policy) -> WorldPolicy
     ensures { result ≡ world_policy_of policy }
 {
@@ -205,7 +209,7 @@ fn world_policy(policy: Policy) -> WorldPolicy
     }
 }
 
-/// How the command ends by the end of its run.
+/// Returns the end of the command from the end of its run.
 fn close(world: World, end: RunEnd) -> Result<Ended, Stop>
     ensures { IsClosed world end result }
 {
@@ -223,7 +227,7 @@ fn close(world: World, end: RunEnd) -> Result<Ended, Stop>
     }
 }
 
-/// The end at a fault, with which the world is let go.
+/// Returns the end at a fault, and drops the world.
 fn failed<T: Drop>(world: T, fault: Fault) -> Stop
     ensures { result ≡ Failed fault }
 {
@@ -231,7 +235,7 @@ fn failed<T: Drop>(world: T, fault: Fault) -> Stop
     Stop::Failed(fault)
 }
 
-/// The end at a stop.
+/// Returns the end at a stop.
 fn at_stop(world: World, status: u8) -> Ended
     ensures { result ≡ record { status = status; last = Some world } }
 {

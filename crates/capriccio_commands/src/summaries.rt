@@ -1,4 +1,4 @@
-// The summary of a run: what is counted over its program, its certificate and its log.
+// The summary of a run: counts over its program, its certificate and its log.
 ghost use Rattle.std.specs.Prelude.{◌≡◌, ◌<◌, ◌^◌, ◌+◌, ◌+ℤ◌, ◌++◌, List, [], IfOk, OnOk, count_by, length, unsigned_abs};
 ghost use Rattle.accepted_pairs.specs.Accepting.{accepted_tree};
 ghost use Rattle.schedule_log.specs.EntryText.{log_text};
@@ -15,31 +15,31 @@ use schedule_log::{Entry, LogError, StopLine, read_entry};
 use stack_certificate::{LinkKind, SiteFact};
 use std::alloc::{AllocError, Global};
 
-/// What is counted over a program and its certificate.
+/// The counts over a program and its certificate.
 #[derive(Clone, Copy)]
 pub struct Census {
-    /// The functions.
+    /// The number of functions.
     pub functions: u64,
-    /// The call sites.
+    /// The number of call sites.
     pub sites: u64,
-    /// The checkpointed sites.
+    /// The number of checkpointed sites.
     pub checkpoints: u64,
 }
 
-/// What is counted over a log.
+/// The counts over a log.
 #[derive(Clone, Copy)]
 pub struct Tally {
-    /// The `run` lines.
+    /// The number of `run` lines.
     pub choices: u64,
-    /// The `out` lines.
+    /// The number of `out` lines.
     pub outputs: u64,
     /// The sum of their values.
     pub sum: i128,
-    /// The instructions of all segments.
+    /// The number of instructions of all segments.
     pub cost: u128,
 }
 
-/// The census of an accepted program.
+/// Returns the census of an accepted program.
 pub(crate) fn take_census(accepted: &Accepted) -> Census
     ensures { result ≡ census_of (accepted_tree accepted.now) accepted.now.certificate }
 {
@@ -51,14 +51,14 @@ pub(crate) fn take_census(accepted: &Accepted) -> Census
     }
 }
 
-/// How many of these sites are checkpointed.
+/// Returns the number of checkpointed sites among these.
 fn checkpoints_of(facts: &[SiteFact]) -> usize
     ensures { result ≡ count_by (λ (fact : SiteFact). links fact.kind) facts.now }
 {
     facts.iter().filter(|fact| is_linked(fact.kind)).count()
 }
 
-/// Whether a call there may link a chunk.
+/// Checks whether a call at a site of this kind may link a chunk.
 fn is_linked(kind: LinkKind) -> bool
     ensures { result ≡ links kind }
 {
@@ -69,7 +69,7 @@ fn is_linked(kind: LinkKind) -> bool
     }
 }
 
-/// What is counted over the log of these bytes.
+/// Counts over the log of these bytes.
 pub(crate) fn tally_log(log: &[u8]) -> Tally
     requires { IsFitText log.now }
     ensures counted { (entries : List Entry) → log.now ≡ log_text entries →
@@ -92,14 +92,14 @@ pub(crate) fn tally_log(log: &[u8]) -> Tally
     tally
 }
 
-/// A log has fewer bytes than half of the addresses.
+/// Shows that a log has fewer bytes than half of the addresses.
 fn few_bytes(log: &[u8])
     ensures { length log.now < 2 ^ 63 }
 {
     let _count = log.len();
 }
 
-/// One entry more.
+/// Counts one more entry.
 fn count_entry(tally: Tally, entry: Entry) -> Tally
     requires { HasRoom 1 tally }
     ensures { result ≡ counted entry tally }
@@ -119,7 +119,7 @@ fn count_entry(tally: Tally, entry: Entry) -> Tally
     }
 }
 
-/// One choice more.
+/// Counts one more choice.
 fn count_choice(tally: Tally) -> Tally
     requires { tally.choices < 2 ^ 63 }
     ensures { result ≡ record {
@@ -133,7 +133,7 @@ fn count_choice(tally: Tally) -> Tally
     Tally { choices, ..tally }
 }
 
-/// One output more.
+/// Counts one more output.
 fn count_output(tally: Tally, value: i32) -> Tally
     requires outputs { tally.outputs < 2 ^ 63 }
     requires sum { unsigned_abs tally.sum < 2 ^ 94 }
@@ -153,7 +153,7 @@ fn count_output(tally: Tally, value: i32) -> Tally
     }
 }
 
-/// The sum with one value more.
+/// Returns the sum with one more value.
 fn sum_with(sum: i128, value: i32) -> i128
     requires { unsigned_abs sum < 2 ^ 94 }
     ensures { result ≡ sum +ℤ value }
@@ -161,7 +161,7 @@ fn sum_with(sum: i128, value: i32) -> i128
     sum + i128::from(value)
 }
 
-/// The instructions of one segment more.
+/// Counts the instructions of one more segment.
 fn count_cost(tally: Tally, cost: u64) -> Tally
     requires { tally.cost < 2 ^ 127 }
     ensures { result ≡ with_cost cost tally }
@@ -170,7 +170,7 @@ fn count_cost(tally: Tally, cost: u64) -> Tally
     Tally { cost, ..tally }
 }
 
-/// The last line of the log of these bytes.
+/// Returns the last line of the log of these bytes.
 pub(crate) fn last_line(log: &[u8]) -> &[u8]
     ensures { (entries : List Entry) → log.now ≡ log_text entries →
         result.now ≡ last_from [] entries }
@@ -182,7 +182,7 @@ pub(crate) fn last_line(log: &[u8]) -> &[u8]
     last
 }
 
-/// The summary of the run that has this census and this log.
+/// Returns the summary of the run with this census and this log.
 pub(crate) fn summary(alloc: Global, census: Census, log: &[u8]) -> Result<Vec<u8>, AllocError>
     requires { IsFitText log.now }
     ensures { (entries : List Entry) → log.now ≡ log_text entries →
@@ -193,7 +193,7 @@ pub(crate) fn summary(alloc: Global, census: Census, log: &[u8]) -> Result<Vec<u
     summary_of(alloc, census, tally, last_line(log))
 }
 
-/// The summary of what was counted, with the last line of the log.
+/// Returns the summary of these counts, with the last line of the log.
 fn summary_of(
     alloc: Global,
     census: Census,
@@ -240,7 +240,7 @@ fn put_count(text: &mut Vec<u8>, name: &[u8], number: u64) -> Result<(), AllocEr
     put_text(text, b"\n")
 }
 
-/// Appends the line of a cost, which may be beyond a count.
+/// Appends the line of a cost, which may exceed the range of a count.
 fn put_cost(text: &mut Vec<u8>, name: &[u8], number: u128) -> Result<(), AllocError>
     requires { number < 2 ^ 127 }
     ensures { OnOk result (text.new.items ≡ text.old.items ++ count_line name.now number) }

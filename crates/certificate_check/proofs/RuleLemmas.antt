@@ -3,9 +3,9 @@ use Rattle.std.proofs.Common.{◌≡◌, ℕ, zero, ◌<◌, arith, refl, sym, s
 use Rattle.flat_code.specs.Codes.{FlatCode}
 use Rattle.stack_image.specs.declared.images.Image.{Image}
 use Rattle.stack_certificate.specs.declared.certificates.Certificate.{Certificate}
-use Rattle.certificate_rules.specs.Rules.{V1, V2, V3, V4, V5, V6, V7, V8, V9, V10, V11, V12}
+use Rattle.certificate_rules.specs.Rules.{V2, V3, V4, V5, V6, V7, V8, V9, V10, V11, V12}
 use Rattle.certificate_rules.specs.Validity.{Holds}
-use Rattle.certificate_rules.proofs.HoldsLemmas.{holds_v1, holds_v2, holds_v3, holds_v4, holds_v5, holds_v6, holds_v7, holds_v8, holds_v9, holds_v10, holds_v11, holds_v12}
+use Rattle.certificate_rules.proofs.HoldsLemmas.{holds_v2, holds_v3, holds_v4, holds_v5, holds_v6, holds_v7, holds_v8, holds_v9, holds_v10, holds_v11, holds_v12}
 use Rattle.rule_failures.specs.declared.spots.Spot.{Spot}
 use Rattle.rule_failures.specs.First.{IsFirst, IsFirstSpot}
 use Rattle.rule_failures.proofs.FirstLemmas.{first_same, spot_same}
@@ -50,11 +50,6 @@ pub first_v11 : (code : FlatCode) (image : Image) (certificate : Certificate) (r
 first_v11 code image certificate rule f r e h =
     subst (λ (n : ℕ). IsFirst (λ i. Holds code image certificate n f i) r) (sym e)
     (first_same (λ i. V11 code certificate f i) (λ i. Holds code image certificate 11 f i) (λ i v. holds_v11 code image certificate f i v) (λ i v. v.v11 refl) r h)
-
-pub spot_v1 : (code : FlatCode) (image : Image) (certificate : Certificate) (rule : ℕ) (r : Option Spot) → rule ≡ 1 → IsFirstSpot (λ f i. V1 code image certificate f i) r → IsFirstSpot (λ f i. Holds code image certificate rule f i) r
-spot_v1 code image certificate rule r e h =
-    subst (λ (n : ℕ). IsFirstSpot (λ f i. Holds code image certificate n f i) r) (sym e)
-    (spot_same (λ f i. V1 code image certificate f i) (λ f i. Holds code image certificate 1 f i) (λ f i v. holds_v1 code image certificate f i v) (λ f i v. v.v1 refl) r h)
 
 pub spot_v2 : (code : FlatCode) (image : Image) (certificate : Certificate) (rule : ℕ) (r : Option Spot) → rule ≡ 2 → IsFirstSpot (λ f i. V2 code image certificate f i) r → IsFirstSpot (λ f i. Holds code image certificate rule f i) r
 spot_v2 code image certificate rule r e h =

@@ -1,4 +1,4 @@
--- What the checker hands back.
+-- What the checker returns with a refusal.
 use Rattle.std.specs.Prelude.{◌≡◌}
 use Rattle.c_tree.specs.ProgramView.{program_tree}
 use Rattle.c_tree.specs.declared.programs.Program.{Program}
@@ -9,7 +9,7 @@ use Rattle.c_lower.specs.ProgramCode.{lowered}
 use Rattle.certificate_check.specs.declared.checking.CheckError.{CheckError}
 use Rattle.certificate_check.specs.declared.checking.CheckError.TheVariants.{Rejected, Memory}
 
--- a refusal hands the three values back, and where it is a rejection it names the first failure of the rules
+-- a refusal returns the three values, and a rejection names the first failure of the rules
 pub record HandsBack (program back : Program) (image image_back : Image) (certificate certificate_back : Certificate) : Type 0 where
   pub program_is : program_tree back ≡ program_tree program
   pub image_is : image_back ≡ image

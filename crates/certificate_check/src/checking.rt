@@ -16,11 +16,11 @@ use stack_certificate::Certificate;
 use stack_image::Image;
 use std::alloc::Global;
 
-/// Why a program isn't accepted with an image and a certificate. Each hands them back.
+/// Why a program isn't accepted with an image and a certificate. Each variant returns the three.
 #[derive(Drop)]
 pub enum CheckError {
-    /// This rule, from 1 to 12, fails first, at this function and index. What an index means depends on the
-    /// rule; where no function is meant, it is 0.
+    /// This rule, from 1 to 12, is the first to fail, at this function and index. The meaning of an index
+    /// depends on the rule; for a rule that isn't about functions, the function is 0.
     Rejected {
         rule: u32,
         function: u32,
@@ -29,7 +29,7 @@ pub enum CheckError {
         image: Image,
         certificate: Certificate,
     },
-    /// No memory.
+    /// An allocation failed.
     Memory {
         program: Program,
         image: Image,
@@ -37,9 +37,14 @@ pub enum CheckError {
     },
 }
 
-/// Accepts a program with an image and a certificate exactly where every rule holds of them, V1 to V12, unless
-/// memory runs out. Else it names the first failure: the least rule, in it the least function, and in it the
-/// least index. An index that is no word, of a program that no memory holds, counts as a want of memory.
+/// Accepts a program with an image and a certificate exactly if every rule V1 to V12 holds for them, unless an
+/// allocation fails.
+///
+/// # Errors
+///
+/// `Rejected` with the first failure: the least rule, in it the least function, and in it the least index.
+/// `Memory` if an allocation fails; also if the index isn't a word, which is possible only for a program too
+/// large for memory.
 pub fn check(
     alloc: Global,
     program: Program,
@@ -74,7 +79,7 @@ pub fn check(
     }
 }
 
-// Accepts a program of whose image and certificate every rule holds, unless memory runs out.
+// Accepts a program with an image and a certificate that meet every rule, unless an allocation fails.
 fn accept(
     alloc: Global,
     program: Program,

@@ -7,6 +7,9 @@ ghost use Rattle.accepted_pairs.specs.Held.{IsReadable};
 ghost use Rattle.rule_failures.specs.TablesOf.{AreTablesOf};
 
 use crate::failures::Failure;
+use crate::rules::{
+    BOUNDS, FIT, FRAME, GLOBALS, NEEDS, OPERATIONS, PLACES, PROLOGUE, RANGE, STUB, TABLES,
+};
 use crate::site_rules::{SiteRule, first_wrong_site};
 use crate::tables::tables_of;
 use flat_code::FlatProgram;
@@ -19,8 +22,9 @@ use stack_certificate::Certificate;
 use stack_image::Image;
 use std::alloc::{AllocError, Global};
 
-/// The first failure of the rules V1 to V12, or none where all of them hold: the least rule that fails, in it
-/// the least function, and in it the least index. It takes memory in the size of the program and of the code.
+/// Returns the first failure of the rules V1 to V12, or `None` if all of them hold: the least rule that
+/// fails, in it the least function, and in it the least index. Its memory is linear in the size of the
+/// program and of the code.
 pub fn first_failure(
     alloc: Global,
     flat: &FlatProgram,
@@ -32,7 +36,7 @@ pub fn first_failure(
 {
     if let Some(spot) = first_unfit(alloc, flat, image, certificate)? {
         return Ok(Some(Failure {
-            rule: 1,
+            rule: FIT,
             function: spot.function,
             index: spot.index,
         }));
@@ -52,7 +56,7 @@ fn first_behind_fit(
     ensures { IfOk result (λ answer. IsAnswer (program_code flat.now) image.now certificate.now answer) }
 {
     let tables = tables_of(alloc, flat, certificate)?;
-    for rule in 2..13 {
+    for rule in RANGE..GLOBALS + 1 {
         if let Some(spot) = first_in_rule(alloc, flat, image, certificate, &tables, rule)? {
             return Ok(Some(Failure {
                 rule,
@@ -64,7 +68,7 @@ fn first_behind_fit(
     Ok(None)
 }
 
-// Where a rule from V2 on fails first.
+// The first failure of a rule from V2 on.
 fn first_in_rule(
     alloc: Global,
     flat: &FlatProgram,
@@ -81,15 +85,15 @@ fn first_in_rule(
     ensures { IfOk result (λ spot. IsFirstSpot (λ f i. Holds (program_code flat.now) image.now certificate.now rule f i) spot) }
 {
     match rule {
-        2 => first_wrong_range(alloc, flat, image, certificate),
-        7 => Ok(everywhere(first_wrong_stub_word(image))),
-        8 => Ok(everywhere(first_wrong_member(flat, image, certificate))),
-        12 => Ok(everywhere(first_wrong_global(flat, image))),
+        RANGE => first_wrong_range(alloc, flat, image, certificate),
+        STUB => Ok(everywhere(first_wrong_stub_word(image))),
+        TABLES => Ok(everywhere(first_wrong_member(flat, image, certificate))),
+        GLOBALS => Ok(everywhere(first_wrong_global(flat, image))),
         _ => first_over_functions(alloc, flat, image, certificate, tables, rule),
     }
 }
 
-// Where a rule that means no function fails first.
+// The first failure of a rule that isn't about functions.
 fn everywhere(index: Option<u64>) -> Option<Spot>
     ensures { result ≡ at_zero index }
 {
@@ -99,7 +103,7 @@ fn everywhere(index: Option<u64>) -> Option<Spot>
     }
 }
 
-// Where a rule that looks at each function by itself fails first.
+// The first failure of a rule that concerns single functions.
 fn first_over_functions(
     alloc: Global,
     flat: &FlatProgram,
@@ -130,7 +134,7 @@ fn first_over_functions(
     Ok(None)
 }
 
-// At which index a rule fails first in a function.
+// The first index at which a rule fails in a function.
 fn first_in_function(
     alloc: Global,
     flat: &FlatProgram,
@@ -147,12 +151,13 @@ fn first_in_function(
     ensures { IfOk result (λ index. IsFirst (λ i. Holds (program_code flat.now) image.now certificate.now rule function i) index) }
 {
     match rule {
-        3 => Ok(first_wrong_frame(certificate, function)),
-        4 => first_wrong_place(alloc, flat, certificate, function),
-        5 => Ok(first_wrong_prologue_word(flat, image, certificate, function)),
-        6 => first_wrong_operation(alloc, flat, image, certificate, tables, function),
-        9 => Ok(first_wrong_site(flat, certificate, tables, SiteRule::Need, function)),
-        10 => Ok(first_wrong_site(flat, certificate, tables, SiteRule::Bound, function)),
+        FRAME => Ok(first_wrong_frame(certificate, function)),
+        PLACES => first_wrong_place(alloc, flat, certificate, function),
+        PROLOGUE => Ok(first_wrong_prologue_word(flat, image, certificate, function)),
+        OPERATIONS => first_wrong_operation(alloc, flat, image, certificate, tables, function),
+        NEEDS => Ok(first_wrong_site(flat, certificate, tables, SiteRule::Need, function)),
+        BOUNDS => Ok(first_wrong_site(flat, certificate, tables, SiteRule::Bound, function)),
+        // V11
         _ => Ok(first_outside_path(certificate, function)),
     }
 }

@@ -9,10 +9,10 @@ ghost use Rattle.certificate_check.specs.LeastSite.{IsLeastSite, HoldsAtSite};
 ghost use Rattle.accepted_pairs.specs.Held.{IsReadable};
 ghost use Rattle.rule_failures.specs.TablesOf.{AreTablesOf};
 
-use accepted_pairs::{fact_of, function_of, kind_of_operation, operation_of};
+use accepted_pairs::{function_of, kind_of_operation, operation_of};
 use flat_code::{FlatProgram, Op};
 use rule_failures::{Tables, certified_site_of};
-use stack_certificate::{Certificate, FunctionFact, LinkKind};
+use stack_certificate::{Certificate, FunctionFact, LinkKind, fact_of};
 
 // The two rules of sites: V9 and V10.
 #[derive(Clone, Copy)]
@@ -21,7 +21,7 @@ pub enum SiteRule {
     Bound,
 }
 
-// At which site V9 or V10 fails first in a function.
+// The first site at which V9 or V10 fails in a function.
 pub(crate) fn first_wrong_site(
     flat: &FlatProgram,
     certificate: &Certificate,
@@ -45,7 +45,8 @@ pub(crate) fn first_wrong_site(
     }
 }
 
-// The least site at which V9 or V10 fails among one operation more, by that among those before it.
+// The least site at which V9 or V10 fails among the operations so far, from that among those before
+// the last.
 fn least_site(
     flat: &FlatProgram,
     certificate: &Certificate,
@@ -74,7 +75,7 @@ fn least_site(
     }
 }
 
-// The lesser of a number that may be there and another.
+// The lesser of an optional number and another.
 fn lesser(first: Option<u32>, second: u32) -> u32
     ensures { MatchOption first (result ≡ second) (λ n. result ≡ min n second) }
 {
@@ -107,7 +108,7 @@ fn holds_at(
     }
 }
 
-// Whether the frame and the callees' bound are within the caller's, where the site is plain.
+// Whether the frame and the callees' bound are within the caller's bound, if the site is plain.
 fn is_within_bound(kind: LinkKind, fact: &FunctionFact, callees: u32) -> bool
     ensures { IsTrue result ↔ (kind ≡ LinkKind.Plain → fact.now.frame + callees ≤ fact.now.bound) }
 {
@@ -117,7 +118,7 @@ fn is_within_bound(kind: LinkKind, fact: &FunctionFact, callees: u32) -> bool
     }
 }
 
-// Whether the need, where there is one, is that number.
+// Whether the need, if there is one, is that number.
 fn is_need(kind: LinkKind, bytes: u32) -> bool
     ensures { IsTrue result ↔ IsNeed kind bytes }
 {

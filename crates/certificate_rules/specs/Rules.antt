@@ -1,9 +1,11 @@
--- The rules of a certificate, V1 to V12: what each says at a function f and an index i. What an index means stands beside
--- each rule. Where no function is meant, the rule says the same at every f, so that its first failure is at function 0.
+-- The rules of a certificate, V1 to V12: the condition of each at a function f and an index i. The meaning of an index
+-- is stated at each rule. If a rule isn't about a function, it says the same at every f, so its first failure is at
+-- function 0.
 use Rattle.std.specs.Prelude.{◌≡◌, ℕ, ◌+◌, ◌*◌, ◌%◌, ◌<◌, ◌≤◌, List, [], ◌∷◌, ◌++◌, length, map, flat_map, replicate, slice_get, slice_index, Some}
 use Rattle.rv_code.specs.declared.instructions.Instr.{Instr}
 use Rattle.flat_code.specs.declared.operations.Op.{Op}
 use Rattle.flat_code.specs.Codes.{FlatCode, function_at, operation_at}
+use Rattle.stack_image.specs.Addresses.{code_start}
 use Rattle.stack_image.specs.declared.images.Image.{Image}
 use Rattle.stack_certificate.specs.declared.certificates.Certificate.{Certificate}
 use Rattle.stack_certificate.specs.declared.functions.FunctionFact.{FunctionFact}
@@ -21,12 +23,12 @@ pub record V1 (code : FlatCode) (image : Image) (certificate : Certificate) (f i
   pub places : i ≡ 4 → f < length code.functions → length (fact_at certificate f).places ≡ length (function_at code f).sizes
   pub sites : i ≡ 5 → NamesSites code certificate
 
--- V2: where the function's words stand. They lie in the code past its first two words (1), the image's entry is the
--- certificate's (2), and they meet those of no lower function (3).
+-- V2: the place of the function's words. They are in the code after its first two words (1), the image's entry is the
+-- certificate's (2), and they are disjoint from those of each lower function (3).
 pub record V2 (code : FlatCode) (image : Image) (certificate : Certificate) (f i : ℕ) : Type 0 where
   pub inside : i ≡ 1 → f < length code.functions →
-      ((fact_at certificate f).entry % 4 ≡ 0) × (0x1008 ≤ (fact_at certificate f).entry) ×
-      ((fact_at certificate f).entry + 4 * (fact_at certificate f).words ≤ 0x1000 + 4 * length image.code)
+      ((fact_at certificate f).entry % 4 ≡ 0) × (code_start + 4 * 2 ≤ (fact_at certificate f).entry) ×
+      ((fact_at certificate f).entry + 4 * (fact_at certificate f).words ≤ code_start + 4 * length image.code)
   pub entry : i ≡ 2 → f < length code.functions → slice_get image.entries f ≡ Some (fact_at certificate f).entry
   pub apart : i ≡ 3 → f < length code.functions → (g : ℕ) → g < f →
       AreApart (fact_at certificate f).entry (fact_at certificate f).words (fact_at certificate g).entry (fact_at certificate g).words
@@ -38,14 +40,14 @@ pub record V3 (code : FlatCode) (certificate : Certificate) (f i : ℕ) : Type 0
 
 -- V4: the places in the frame. The index is a variable's number, or the number of variables for the return address.
 
--- the places and the words of a function's variables in order, and behind them the return address with one word
+-- the places and the words of a function's variables in order, and after them the return address with one word
 abbrev pub frame_places : FunctionFact → List ℕ
 frame_places fact = fact.places ++ fact.ra ∷ []
 
 abbrev pub frame_words : List ℕ → List ℕ
 frame_words sizes = sizes ++ 1 ∷ []
 
--- place x is a multiple of 4, and its words lie in the frame and meet no lower one's
+-- place x is a multiple of 4, and its words are in the frame and disjoint from those of each lower place
 pub record IsPlaced (fact : FunctionFact) (sizes : List ℕ) (x : ℕ) : Type 0 where
   pub aligned : slice_index (frame_places fact) x % 4 ≡ 0
   pub inside : slice_index (frame_places fact) x + 4 * slice_index (frame_words sizes) x ≤ fact.frame
@@ -60,8 +62,8 @@ pub record V5 (code : FlatCode) (image : Image) (certificate : Certificate) (f i
   pub word : f < length code.functions → (instr : Instr) → slice_get (prologue (fact_at certificate f) (function_at code f).params) i ≡ Some instr →
       (i < (fact_at certificate f).words) × Stands image ((fact_at certificate f).entry + 4 * i) instr
 
--- V6: behind the prologue stand the words of each operation in order, inside the function's words, and nothing follows the
--- last. The index is the number of the operation, or the number of operations for what follows.
+-- V6: after the prologue come the words of each operation in order, within the function's words, and nothing follows
+-- the last. The index is the number of the operation, or the number of operations for what follows.
 pub record V6 (code : FlatCode) (image : Image) (certificate : Certificate) (f i : ℕ) : Type 0 where
   pub inside : f < length code.functions → i < length (function_at code f).ops → words_before code certificate f (i + 1) ≤ (fact_at certificate f).words
   pub words : f < length code.functions → (w : ℕ) (instr : Instr) → slice_get (template code certificate f i) w ≡ Some instr →
@@ -70,20 +72,20 @@ pub record V6 (code : FlatCode) (image : Image) (certificate : Certificate) (f i
 
 -- V7: the code begins with the end stub. The index is the number of the word.
 pub record V7 (image : Image) (f i : ℕ) : Type 0 where
-  pub word : (instr : Instr) → slice_get end_stub i ≡ Some instr → Stands image (0x1000 + 4 * i) instr
+  pub word : (instr : Instr) → slice_get end_stub i ≡ Some instr → Stands image (code_start + 4 * i) instr
 
--- V8: the image's table words are the entries of the tables' members, in order, and no more. The index is the number of the
--- word: a missing word has its own, and the first one too many the number of members.
+-- V8: the image's table words are the entries of the tables' members, in order, and there are no more. The index is the
+-- number of the word: a missing word has its own, and the first one too many the number of members.
 abbrev pub member_entries : FlatCode → Certificate → List ℕ
 member_entries code certificate = flat_map (λ members. map (λ g. (fact_at certificate g).entry) members) code.tables
 
 pub record V8 (code : FlatCode) (image : Image) (certificate : Certificate) (f i : ℕ) : Type 0 where
   pub word : slice_get image.tables i ≡ slice_get (member_entries code certificate) i
 
--- V9: what a linked call or a new thread needs is the greatest bound of the functions that it may enter. The index is the
--- number of the site, and f the function in which it stands.
+-- V9: the need of a linked call or a new thread is the greatest bound of the functions that it may enter. The index is
+-- the number of the site, and f the function that contains it.
 
--- the need, where there is one, is that number
+-- the need, if there is one, is that number
 abbrev pub IsNeed : LinkKind → ℕ → Type 0
 IsNeed LinkKind.Plain bytes = Unit {0}
 IsNeed (LinkKind.Linked need) bytes = need ≡ bytes
@@ -106,8 +108,8 @@ pub record V11 (code : FlatCode) (certificate : Certificate) (f i : ℕ) : Type 
   pub bound : i ≡ 2 → f < length code.functions → (fact_at certificate f).bound ≤ certificate.max_path
   pub path : i ≡ 3 → certificate.max_path + 16 ≤ certificate.chunk
 
--- V12: the image's global words are the declared starting values, and no more. The index is the number of the word: a missing
--- word has its own, and the first one too many the number of words.
+-- V12: the image's global words are the declared initial values, and there are no more. The index is the number of the
+-- word: a missing word has its own, and the first one too many the number of words.
 abbrev pub starting_words : FlatCode → List ℕ
 starting_words code = flat_map (λ g. replicate g.words g.start) code.globals
 

@@ -1,4 +1,4 @@
--- The sites that a certificate speaks of: those at which a function or a table is called or a thread is started.
+-- The sites of a certificate: those at which a function or a table is called or a thread is started.
 use Rattle.std.specs.Prelude.{◌≡◌, ℕ, max, Bool, true, false, IsTrue, nat_eq, List, [], ◌∷◌, map, Option, Some, None}
 use Rattle.std.specs.List.{list_any}
 use Rattle.std.specs.List.Sorted.{IsStrictlyIncreasing}
@@ -10,7 +10,7 @@ use Rattle.stack_certificate.specs.declared.sites.SiteFact.{SiteFact}
 use Rattle.stack_certificate.specs.Certificates.{fact_at}
 use Rattle.stack_certificate.specs.Templates.{kind_of}
 
--- the number of an operation's site, where it calls a function or a table or starts a thread
+-- the number of an operation's site, if it calls a function or a table or starts a thread
 abbrev pub certified_site : Op → Option ℕ
 certified_site (Op.Call site d f args) = Some site
 certified_site (Op.CallTable site d t i s) = Some site
@@ -34,7 +34,7 @@ callees_of code (Op.CallTable site d t i s) = members_of code t
 callees_of code (Op.Spawn site d f s) = f ∷ []
 callees_of code _ = []
 
--- the greatest bound of some functions, or 0 where there is none
+-- the greatest bound of some functions, or 0 if there are none
 abbrev pub greatest_bound : Certificate → List ℕ → ℕ
 greatest_bound certificate [] = 0
 greatest_bound certificate (f ∷ fs) = max (fact_at certificate f).bound (greatest_bound certificate fs)
@@ -62,8 +62,8 @@ has_site code site = list_any (λ f. list_any (λ op. is_site site (certified_si
 abbrev pub fact_numbers : List SiteFact → List ℕ
 fact_numbers facts = map (λ fact. fact.number) facts
 
--- the certificate's sites, each once and with rising numbers, are exactly those of the program at which a function or a
--- table is called or a thread is started, and it calls just the last of these `spawn`
+-- the certificate's sites, each once and with increasing numbers, are exactly those of the program at which a function
+-- or a table is called or a thread is started, and exactly those that start a thread are marked `spawn`
 pub record NamesSites (code : FlatCode) (certificate : Certificate) : Type 0 where
   pub rising : IsStrictlyIncreasing (fact_numbers certificate.sites)
   pub each : (f i site : ℕ) (op : Op) → operation_at code f i ≡ Some op → certified_site op ≡ Some site →

@@ -1,4 +1,4 @@
--- When a pair of image and certificate is valid for a program, and which failure is named where it isn't.
+-- When a pair of image and certificate is valid for a program, and which failure is reported otherwise.
 use Rattle.std.specs.Prelude.{◌≡◌, ℕ, ◌<◌}
 use Rattle.flat_code.specs.Codes.{FlatCode}
 use Rattle.stack_image.specs.declared.images.Image.{Image}
@@ -24,8 +24,8 @@ pub record Holds (code : FlatCode) (image : Image) (certificate : Certificate) (
 pub record IsValid (code : FlatCode) (image : Image) (certificate : Certificate) : Type 0 where
   pub holds : (rule f i : ℕ) → Holds code image certificate rule f i
 
--- the first failure: the rule fails there, and holds at each lower index of the function and at each lower function, and
--- each lower rule holds everywhere
+-- the first failure: the rule fails there, and holds at each lower index of the function and at each lower function,
+-- and each lower rule holds everywhere
 pub record IsFirstFailure (code : FlatCode) (image : Image) (certificate : Certificate) (rule f i : ℕ) : Type 0 where
   pub fails : Holds code image certificate rule f i → ⊥
   pub lower_indices : (j : ℕ) → j < i → Holds code image certificate rule f j

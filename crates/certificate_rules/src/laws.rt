@@ -11,7 +11,7 @@ ghost use Rattle.certificate_rules.specs.Rules.{member_entries, starting_words};
 ghost use Rattle.certificate_rules.specs.Sites.{certified_site, callees_of};
 ghost use Rattle.certificate_rules.specs.Validity.{IsValid, IsFirstFailure};
 
-/// A pair is valid or has a first failure, never both, and it has at most one. It does nothing.
+/// Law: a pair is valid or has a first failure, never both, and it has at most one.
 pub fn failures_are_one()
     ensures not_both { (code : FlatCode) (image : Image) (certificate : Certificate) (rule f i : ℕ) →
         IsValid code image certificate → IsFirstFailure code image certificate rule f i → ⊥ }
@@ -20,9 +20,9 @@ pub fn failures_are_one()
         (rule ≡ other) × (f ≡ g) × (i ≡ j) }
 {}
 
-/// What validity gives: the image's tables and globals are the whole lists that the program declares; at a plain site
-/// the caller's bound has room for its frame and for each function that it may enter, and at a linked site or a new
-/// thread's the need has; and of two runs of words that meet nowhere, one ends before the other begins. It does nothing.
+/// Law: if a pair is valid, the image's tables and globals are exactly the lists that the program declares; at a plain
+/// site the caller's bound has room for its frame and for each function that the site may enter, and at a linked site
+/// or a new thread's the need has; and of two disjoint ranges of words, one ends before the other begins.
 pub fn valid_pairs_have_room()
     ensures tables { (code : FlatCode) (image : Image) (certificate : Certificate) → IsValid code image certificate →
         image.tables ≡ member_entries code certificate }

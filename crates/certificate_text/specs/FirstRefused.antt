@@ -1,4 +1,4 @@
--- The first line of a text that isn't as the format of certificates says.
+-- The first line of a text that breaks the format of certificates.
 use Rattle.std.specs.Prelude.{◌≡◌, ℕ, zero, suc, ◌+◌, ◌^◌, ◌<◌, ◌≤◌, List, [], ◌∷◌, ◌++◌, Option, None, Some}
 use Rattle.stack_certificate.specs.declared.functions.FunctionFact.{FunctionFact}
 use Rattle.stack_certificate.specs.declared.sites.SiteFact.{SiteFact}
@@ -6,8 +6,8 @@ use Rattle.certificate_text.specs.declared.errors.CertError.{CertError}
 use Rattle.certificate_text.specs.declared.errors.CertError.TheVariants.{Line, Memory}
 use Rattle.certificate_text.specs.Text.{title_line, chunk_line, max_path_line, functions_line, function_line, sites_line, site_line, HasFewPlaces, HoldsFunctionWords, HoldsSiteWords, IsAbove}
 
--- what is due next: a line of the head, one of so many lines of functions and the count of sites behind them, or one of
--- so many lines of sites, after the last number of a site
+-- what is expected next: a line of the head; one of several lines of functions, with the count of sites after them; or
+-- one of several lines of sites, after the last number of a site
 pub data Due : Type 0 where
   Title : Due
   Chunk : Due
@@ -16,7 +16,7 @@ pub data Due : Type 0 where
   Functions : ℕ → Due
   Sites : ℕ → Option ℕ → Due
 
--- the line is as said where that is due, and what is due then
+-- the line is as expected, and what is expected after it
 abbrev pub IsAsSaid : Due → List ℕ → Due → Type 0
 IsAsSaid Title line next = (line ≡ title_line) × (next ≡ Chunk)
 IsAsSaid Chunk line next = (n : ℕ) × (n < 2 ^ 32) × (line ≡ chunk_line n) × (next ≡ MaxPath)
@@ -29,7 +29,7 @@ IsAsSaid (Sites (suc left) last) line next =
     (fact : SiteFact) × IsAbove last fact.number × HoldsSiteWords fact × (line ≡ site_line fact) × (next ≡ Sites left (Some fact.number))
 IsAsSaid (Sites zero last) line next = ⊥
 
--- nothing more is due
+-- nothing more is expected
 abbrev pub IsOver : Due → Type 0
 IsOver Title = ⊥
 IsOver Chunk = ⊥
@@ -39,18 +39,18 @@ IsOver (Functions left) = ⊥
 IsOver (Sites (suc left) last) = ⊥
 IsOver (Sites zero last) = Unit {0}
 
--- where that is due, the text neither begins with a line as said, with its LF, nor is over as it should be
+-- the text neither begins with the expected line, with its LF, nor ends as expected
 pub record BeginsOtherwise (due : Due) (text : List ℕ) : Type 0 where
   pub no_line : (line more : List ℕ) (next : Due) → text ≡ line ++ 10 ∷ more → IsAsSaid due line next → ⊥
   pub not_over : IsOver due → text ≡ [] → ⊥
 
--- where that is due, so many lines are as said, and what follows them isn't
+-- this number of lines is as expected, and what follows them isn't
 abbrev pub BreaksAfter : ℕ → Due → List ℕ → Type 0
 BreaksAfter zero due text = BeginsOtherwise due text
 BreaksAfter (suc passed) due text =
     (line : List ℕ) × (more : List ℕ) × (next : Due) × (text ≡ line ++ 10 ∷ more) × IsAsSaid due line next × BreaksAfter passed next more
 
--- the number, from 1, of the first line that isn't as said: also where it is missing, is one too many or lacks its LF
+-- the number, from 1, of the first line that isn't as expected, is missing, is one too many or lacks its LF
 abbrev pub IsFirstRefused : List ℕ → ℕ → Type 0
 IsFirstRefused text number = (passed : ℕ) × (number ≡ passed + 1) × BreaksAfter passed Title text
 

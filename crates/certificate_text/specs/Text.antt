@@ -27,7 +27,7 @@ functions_line n = codes "functions " ++ canonical_decimal n
 abbrev pub sites_line : ℕ → List ℕ
 sites_line n = codes "sites " ++ canonical_decimal n
 
--- the numbers of a function's line: its entry, words, frame, ra and bound, and then its places
+-- the numbers of a function's line: its entry, words, frame, ra and bound, followed by its places
 abbrev pub function_numbers : FunctionFact → List ℕ
 function_numbers fact = fact.entry ∷ fact.words ∷ fact.frame ∷ fact.ra ∷ fact.bound ∷ fact.places
 
@@ -54,12 +54,12 @@ spelling c = ended_lines (certificate_lines c)
 
 -- The limits.
 
--- a number above the last, where there is a last
+-- a number above the last, if there is a last
 abbrev pub IsAbove : Option ℕ → ℕ → Type 0
 IsAbove None number = Unit {0}
 IsAbove (Some last) number = last < number
 
--- the numbers of the sites rise strictly, from above the last
+-- the numbers of the sites strictly increase, from above the last
 abbrev pub Rises : Option ℕ → List SiteFact → Type 0
 Rises last [] = Unit {0}
 Rises last (fact ∷ facts) = IsAbove last fact.number × Rises (Some fact.number) facts

@@ -1,16 +1,16 @@
-// Why a text is refused as a certificate.
+// Why a text isn't a certificate.
 ghost use Rattle.std.specs.Prelude.{◌≡◌};
 ghost use Rattle.certificate_text.specs.declared.errors.CertError.TheVariants.{Memory};
 
 use std::alloc::{AllocError, AllocFailed};
 
-/// Why bytes are not read as a certificate.
+/// Why bytes aren't read as a certificate.
 #[derive(Clone, Copy)]
 pub enum CertError {
-    /// The line of this number, counted from 1, is the first that isn't as the format says, is missing, is one too many,
-    /// or lacks its LF.
+    /// The line with this number, counted from 1, is the first that breaks the format, is missing, is one too many, or
+    /// lacks its LF.
     Line { number: u32 },
-    /// No memory for the facts.
+    /// An allocation failed.
     Memory,
 }
 

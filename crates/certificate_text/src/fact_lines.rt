@@ -1,4 +1,4 @@
-// A line of a function and a line of a site, read.
+// Reading the line of a function and the line of a site.
 ghost use Rattle.std.specs.Prelude.{◌≡◌, ℕ, List, [], ◌∷◌, ◌++◌, ◌^◌, ◌<◌, ◌≤◌, IfSome, IfNone, IfOk, length, map};
 ghost use Rattle.std.specs.Bool.{MatchBool};
 ghost use Rattle.cap_text.specs.Decimals.{canonical_decimal};
@@ -14,10 +14,10 @@ use cap_word::Words;
 use stack_certificate::{FunctionFact, LinkKind, SiteFact};
 use std::alloc::{AllocError, Global};
 
-/// The most places of a function.
+/// The maximum number of places of a function.
 const MOST_PLACES: usize = 4_096;
 
-/// The fact of the function that a line spells, if it spells one.
+/// Returns the fact of the function that a line spells, if it spells one.
 pub(crate) fn read_function(alloc: Global, line: &[u8]) -> Result<Option<FunctionFact>, AllocError>
     ensures found { IfOk result (λ read. IfSome read (λ fact.
         HasFewPlaces fact × HoldsFunctionWords fact × (line.now ≡ function_line fact))) }
@@ -44,7 +44,7 @@ struct FunctionHead {
     bound: u32,
 }
 
-// The fact whose numbers are the fields that are left.
+// The fact with the numbers in the remaining fields.
 fn read_function_numbers(
     alloc: Global,
     fields: &mut Fields,
@@ -70,7 +70,7 @@ fn read_function_numbers(
     }))
 }
 
-// The numbers that the next five fields are.
+// The numbers in the next five fields.
 fn read_head(fields: &mut Fields) -> Option<FunctionHead>
     ensures found { IfSome result (λ head. AreWords (head_numbers head) × (fields.old ≡ map canonical_decimal (head_numbers head) ++ fields.new)) }
     ensures none { IfNone result ((head : FunctionHead) (rest : List (List ℕ)) → AreWords (head_numbers head)
@@ -90,7 +90,7 @@ fn read_head(fields: &mut Fields) -> Option<FunctionHead>
     })
 }
 
-// The places that all fields that are left are, 4,096 at most.
+// The places in all remaining fields, at most 4,096.
 fn read_places(alloc: Global, fields: &mut Fields) -> Result<Option<Words>, AllocError>
     ensures found { IfOk result (λ read. IfSome read (λ places.
         (length places ≤ 4096) × AreWords places × (fields.old ≡ map canonical_decimal places))) }
@@ -110,7 +110,8 @@ fn read_places(alloc: Global, fields: &mut Fields) -> Result<Option<Words>, Allo
     Ok(Some(Words::new(places)))
 }
 
-/// The fact of the site that a line spells, if it spells one whose number is above the last.
+/// Returns the fact of the site that a line spells, if it spells one whose number is above the
+/// last.
 pub(crate) fn read_site(line: &[u8], last: Option<u32>) -> Option<SiteFact>
     ensures found { IfSome result (λ fact. IsAbove last fact.number × HoldsSiteWords fact × (line.now ≡ site_line fact)) }
     ensures none { IfNone result
@@ -129,7 +130,7 @@ pub(crate) fn read_site(line: &[u8], last: Option<u32>) -> Option<SiteFact>
     Some(SiteFact { number, kind })
 }
 
-// Whether a number is above the last, where there is a last.
+// Whether a number is above the last, if there is a last.
 fn is_above(last: Option<u32>, number: u32) -> bool
     ensures { MatchBool result (IsAbove last number) (¬ IsAbove last number) }
 {
@@ -139,7 +140,7 @@ fn is_above(last: Option<u32>, number: u32) -> bool
     }
 }
 
-// How a site is linked, which all fields that are left say.
+// The link kind of a site, which all remaining fields spell.
 fn read_kind(fields: &mut Fields) -> Option<LinkKind>
     ensures found { IfSome result (λ kind. HoldsKindWords kind × (fields.old ≡ kind_fields kind)) }
     ensures none { IfNone result ((kind : LinkKind) → HoldsKindWords kind → fields.old ≡ kind_fields kind → ⊥) }
@@ -159,7 +160,7 @@ fn read_kind(fields: &mut Fields) -> Option<LinkKind>
     }
 }
 
-// A number that ends the line.
+// A number in the last field of the line.
 fn read_need(fields: &mut Fields) -> Option<u32>
     ensures found { IfSome result (λ n. (n < 2 ^ 32) × (fields.old ≡ canonical_decimal n ∷ [])) }
     ensures none { IfNone result ((n : ℕ) → n < 2 ^ 32 → fields.old ≡ canonical_decimal n ∷ [] → ⊥) }
@@ -169,7 +170,7 @@ fn read_need(fields: &mut Fields) -> Option<u32>
     Some(need)
 }
 
-/// Whether two texts are the same.
+/// Returns whether two texts are equal.
 pub(crate) fn is_same(text: &[u8], other: &[u8]) -> bool
     ensures { MatchBool result (text.now ≡ other.now) (text.now ≡ other.now → ⊥) }
 {

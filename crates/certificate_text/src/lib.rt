@@ -1,10 +1,10 @@
-// The text of a certificate of stack use, read and written.
+// Reading and writing the text of a certificate of stack use.
 //
-// `read_cert` turns bytes into a `Certificate`, or names the first line that isn't as the format says, and
-// `write_cert` turns a certificate into its text. specs/Text.antt has the lines and limits, and
-// specs/FirstRefused.antt which line of another text is refused. The commands read and write certificates
-// by those two calls. That a text is that of one certificate at most, and has one first refused line at
-// most, is the contract of `texts_mean_one_thing`. The format is Capriccio's own.
+// `read_cert` converts bytes to a `Certificate`, or returns the first line that breaks the format, and
+// `write_cert` converts a certificate to its text. specs/Text.antt has the lines and limits, and
+// specs/FirstRefused.antt defines which line of another text is refused. The commands read and write
+// certificates by these two calls. The law `texts_mean_one_thing` says that a text is that of at most one
+// certificate, and has at most one first refused line. The format is Capriccio's own.
 #![tactic(auto)]
 
 mod errors;

@@ -1,4 +1,4 @@
-// A certificate, read from its text.
+// Reading a certificate from its text.
 ghost use Rattle.std.specs.Prelude.{◌≡◌, ℕ, ◌+◌, ◌^◌, ◌<◌, ◌≤◌, List, [], ◌∷◌, ◌++◌, length, map, IfOk, IfErr, MatchResult, ◌⊎◌, None};
 ghost use Rattle.std.specs.Bool.{MatchBool};
 ghost use Rattle.std.specs.List.{AllByRecursion};
@@ -16,31 +16,33 @@ use crate::text_rest::TextRest;
 use stack_certificate::{Certificate, FunctionFact, FunctionFacts, SiteFact, SiteFacts};
 use std::alloc::Global;
 
-/// The most functions.
+/// The maximum number of functions.
 const MOST_FUNCTIONS: u32 = 4_096;
 
-/// The most sites.
+/// The maximum number of sites.
 const MOST_SITES: u32 = 65_535;
 
 /// The number of the first line of a function.
 const FIRST_FUNCTION_LINE: u32 = 5;
 
-/// Reads a certificate from all of the bytes.
+/// Reads a certificate from all of the bytes. The format is Capriccio's own.
 ///
-/// `Line` names the first line, from 1, that isn't as the format says; a line that is missing or one too many has the
-/// number where it would stand, and a last line without LF is refused by its number. Only `Memory` may come in its place,
-/// and in place of a certificate. The format is Capriccio's own.
+/// # Errors
+///
+/// `Line` with the first line, counted from 1, that breaks the format; a line that is missing or one too many has the
+/// number of its place, and a last line without LF is refused by its number. `Memory` if an allocation fails, instead
+/// of either.
 pub fn read_cert(alloc: Global, bytes: &[u8]) -> Result<Certificate, CertError>
-    // What is read is spelled so, each byte of it.
+    // The bytes are the spelling of the certificate.
     ensures spelled { IfOk result (λ certificate. bytes.now ≡ spelling certificate) }
     ensures limits { IfOk result IsWithinLimits }
     ensures words { IfOk result HoldsWords }
 
-    // What is spelled so is read, unless memory runs out.
+    // The spelling of a certificate is read as that certificate, unless an allocation fails.
     ensures again { (certificate : Certificate) → IsWithinLimits certificate → HoldsWords certificate → bytes.now ≡ spelling certificate →
         MatchResult result (λ read. read ≡ certificate) (λ error. error ≡ Memory) }
 
-    // Which line is refused, and that it is, unless memory runs out.
+    // The refused line, if there is one and no allocation fails.
     ensures refused { IfErr result (IsCauseOf bytes.now) }
     ensures exact { (number : ℕ) → IsFirstRefused bytes.now number →
         MatchResult result (λ _. ⊥) (λ error. (error ≡ Line number) ⊎ (error ≡ Memory)) }
@@ -75,7 +77,7 @@ fn read_parts(alloc: Global, bytes: &[u8]) -> Result<Certificate, CertError>
     })
 }
 
-// The numbers of the first lines.
+// The numbers in the first lines.
 #[derive(Clone, Copy)]
 struct Head {
     chunk: u32,
@@ -83,7 +85,7 @@ struct Head {
     functions: u32,
 }
 
-// The lines before the functions'.
+// The lines before those of the functions.
 fn read_head(rest: &mut TextRest) -> Result<Head, CertError>
     ensures found { IfOk result (λ head. (head.chunk < 2 ^ 32) × (head.max_path < 2 ^ 32) × (head.functions ≤ 4096)
         × (rest.old ≡ ended_lines (head_lines head) ++ rest.new)) }
@@ -108,7 +110,7 @@ fn read_head(rest: &mut TextRest) -> Result<Head, CertError>
     })
 }
 
-// Reads the first line, and tells whether it was there.
+// Reads the first line, and returns whether it was right.
 fn read_title(rest: &mut TextRest) -> bool
     ensures { MatchBool result (rest.old ≡ title_line ++ 10 ∷ rest.new) ((more : List ℕ) → rest.old ≡ title_line ++ 10 ∷ more → ⊥) }
 {
@@ -118,7 +120,7 @@ fn read_title(rest: &mut TextRest) -> bool
     }
 }
 
-// So many lines of functions.
+// The lines of this number of functions.
 fn read_functions(
     alloc: Global,
     rest: &mut TextRest,
@@ -142,7 +144,7 @@ fn read_functions(
     Ok(facts)
 }
 
-// So many lines of sites, of which the first has that number.
+// The lines of this number of sites, from the line with this number on.
 fn read_sites(
     alloc: Global,
     rest: &mut TextRest,

@@ -1,4 +1,4 @@
-// A certificate, written as its text.
+// Writing a certificate as its text.
 ghost use Rattle.std.specs.Prelude.{◌≡◌, ◌^◌, ◌<◌, ◌∷◌, [], ◌++◌, OnOk, IfOk, map};
 ghost use Rattle.std.specs.List.{AllByRecursion};
 ghost use Rattle.cap_text.specs.Decimals.{canonical_decimal};
@@ -10,9 +10,10 @@ use cap_text::put_dec;
 use stack_certificate::{Certificate, FunctionFact, LinkKind, SiteFact};
 use std::alloc::{AllocError, Global};
 
-/// Writes a certificate as its text, which `read_cert` reads back: a line of title, the bytes of a chunk, the greatest
-/// bound, the number of functions and a line of each, the number of sites and a line of each. It keeps the limits: at most
-/// 4,096 functions with 4,096 places each, and 65,535 sites, whose numbers rise. The format is Capriccio's own.
+/// Returns the text of a certificate, from which `read_cert` reads it: a title line, the size of a chunk in bytes, the
+/// maximum bound, the number of functions and a line for each, the number of sites and a line for each. The certificate
+/// keeps the limits: at most 4,096 functions with 4,096 places each, and 65,535 sites, whose numbers increase. The
+/// format is Capriccio's own.
 #[tactic(auto, unfolding(crate::specs::Text::spelling))]
 pub fn write_cert(alloc: Global, certificate: &Certificate) -> Result<Vec<u8>, AllocError>
     requires { IsWithinLimits certificate.now }
@@ -31,7 +32,7 @@ pub fn write_cert(alloc: Global, certificate: &Certificate) -> Result<Vec<u8>, A
     Ok(text)
 }
 
-// Appends a line of its start and a number.
+// Appends a line that consists of a start and a number.
 fn put_number_line(text: &mut Vec<u8>, start: &[u8], number: u32) -> Result<(), AllocError>
     ensures line { OnOk result (text.new.items ≡ text.old.items ++ ((start.now ++ canonical_decimal number) ++ 10 ∷ [])) }
     ensures word { number < 2 ^ 32 }
@@ -48,7 +49,7 @@ fn put_number(text: &mut Vec<u8>, number: u32) -> Result<(), AllocError>
     put_dec(text, i128::from(number))
 }
 
-// Appends a field: a blank and a number.
+// Appends a field: a space and a number.
 fn put_field(text: &mut Vec<u8>, number: u32) -> Result<(), AllocError>
     ensures { OnOk result (text.new.items ≡ text.old.items ++ 32 ∷ canonical_decimal number) }
 {
@@ -114,7 +115,7 @@ fn put_site(text: &mut Vec<u8>, fact: &SiteFact) -> Result<(), AllocError>
     Ok(text.push(b'\n')?)
 }
 
-// Appends how a site is linked.
+// Appends the link kind of a site.
 fn put_kind(text: &mut Vec<u8>, kind: &LinkKind) -> Result<(), AllocError>
     ensures fields { OnOk result (text.new.items ≡ text.old.items ++ after_each 32 (kind_fields kind.now)) }
     ensures words { OnOk result (HoldsKindWords kind.now) }

@@ -1,4 +1,4 @@
--- The greatest bounds of tables' members, kept once they were asked for.
+-- The greatest bounds of tables' members, stored when first computed.
 use Rattle.std.specs.Prelude.{ℕ, ◌≡◌, true, Option, Some, None, List, [], length}
 use Rattle.std.specs.List.{AllByRecursion, slice_index_or}
 use Rattle.call_graph.specs.declared.sites.GraphSite.{GraphSite}
@@ -18,11 +18,11 @@ pub record IsKnown (tables : List (List ℕ)) (bound : ℕ → ℕ) (known : Lis
 abbrev pub AreAmong : List ℕ → List ℕ → Type 0
 AreAmong others functions = AllByRecursion (λ f. has f others ≡ true) functions
 
--- so is each callee of some sites
+-- each callee of some sites is among these
 abbrev pub CallAmong : List (List ℕ) → List ℕ → List GraphSite → Type 0
 CallAmong tables others sites = AllByRecursion (λ site. AreAmong others (callees tables site.target)) sites
 
--- so is each member of a table of which something is known
+-- each member of a table with a known bound is among these
 abbrev pub AreKnownAmong : List (List ℕ) → List ℕ → List (Option ℕ) → Type 0
 AreKnownAmong tables others known =
     (table value : ℕ) → known_at known table ≡ Some value → AreAmong others (slice_index_or tables table [])

@@ -1,4 +1,4 @@
--- Where checkpoints stand.
+-- The placement of checkpoints.
 use Rattle.std.specs.Prelude.{ℕ, ◌≡◌, ◌+◌, ◌<◌, ◌||◌, nat_le, not, Bool, List, map, filter, length, slice_index}
 use Rattle.call_graph.specs.declared.sites.GraphSite.{GraphSite}
 use Rattle.call_graph.specs.Callees.{callees, greatest}

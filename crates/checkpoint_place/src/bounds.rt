@@ -11,7 +11,8 @@ use crate::callee_bounds::callee_bound;
 use call_graph::{CallGraph, Callees, CallerIndex};
 use std::alloc::{AllocError, Global};
 
-/// The bound of a function, from those of the functions that it calls at the sites of the index.
+/// Returns the bound of a function, from those of the functions that it calls at the sites of the
+/// index.
 pub(crate) fn bound_of(
     function: u32,
     weight: u32,
@@ -44,7 +45,7 @@ pub(crate) fn bound_of(
     weight + most
 }
 
-/// The bound of each function, taken in an order from the bottom up.
+/// Returns the bound of each function, computed in a bottom-up order.
 pub(crate) fn bounds_of(
     alloc: Global,
     graph: &CallGraph,

@@ -7,8 +7,8 @@ ghost use Rattle.checkpoint_place.specs.KnownTables.{AreAmong, AreKnownAmong, Is
 use call_graph::{Callees, Target};
 use std::alloc::{AllocError, Global};
 
-/// The greatest bound of these functions.
-fn greatest_of(functions: &[u32], bounds: &[u32]) -> u32
+/// The greatest bound of these functions, or 0 where there is none. It takes no memory.
+pub fn greatest_of(functions: &[u32], bounds: &[u32]) -> u32
     requires { AllByRecursion (λ f. f < length bounds.now) functions.now }
     ensures { result ≡ greatest (slice_index bounds.now) functions.now }
 {
@@ -19,7 +19,7 @@ fn greatest_of(functions: &[u32], bounds: &[u32]) -> u32
     most
 }
 
-/// The greatest bound of a table's members, which are looked at only where it isn't known.
+/// Returns the greatest bound of a table's members, which are read only if it isn't known yet.
 fn table_bound(table: usize, tables: &[Callees], bounds: &[u32], known: &mut [Option<u32>]) -> u32
     requires table { table < length tables.now }
     requires members { AllByRecursion (λ f. f < length bounds.now) (slice_index_or tables.now table []) }
@@ -36,7 +36,8 @@ fn table_bound(table: usize, tables: &[Callees], bounds: &[u32], known: &mut [Op
     most
 }
 
-/// The greatest bound of what a call may enter. A table's is then known.
+/// Returns the greatest bound of the functions that a call may enter. That of a table is then
+/// known.
 pub(crate) fn callee_bound(
     target: Target,
     tables: &[Callees],
@@ -55,7 +56,7 @@ pub(crate) fn callee_bound(
     }
 }
 
-/// The greatest bound of each table's members.
+/// Returns the greatest bound of each table's members.
 pub(crate) fn greatest_of_tables(
     alloc: Global,
     tables: &[Callees],
@@ -71,7 +72,7 @@ pub(crate) fn greatest_of_tables(
     Ok(most)
 }
 
-/// The greatest bound of what a call may enter, where each table's is known.
+/// Returns the greatest bound of the functions that a call may enter, given that of each table.
 pub(crate) fn known_callee_bound(
     target: Target,
     tables: &[Callees],

@@ -6,19 +6,19 @@ ghost use Rattle.call_graph.specs.Lists.{has};
 ghost use Rattle.checkpoint_place.specs.Placement.{is_checkpointed};
 
 use crate::callee_bounds::{greatest_of_tables, known_callee_bound};
-use call_graph::{CallGraph, is_kept};
+use call_graph::{CallGraph, is_among};
 use std::alloc::{AllocError, Global};
 
-/// Whether a site is checkpointed: it is a back edge, or its caller's weight plus the greatest bound below
-/// it exceeds the most that a path may weigh.
+/// Returns whether a site is checkpointed: it is a back edge, or its caller's weight plus the greatest
+/// bound of its callees exceeds max path.
 fn is_over(number: u32, back: &[u32], weight: u32, below: u32, max_path: u32) -> bool
     requires { IsStrictlyIncreasing back.now }
     ensures { result ≡ (has number back.now || not (nat_le (weight + below) max_path)) }
 {
-    !is_kept(number, back) || u64::from(weight) + u64::from(below) > u64::from(max_path)
+    is_among(number, back) || u64::from(weight) + u64::from(below) > u64::from(max_path)
 }
 
-/// The numbers of the checkpointed sites, in order.
+/// Returns the numbers of the checkpointed sites, in order.
 pub(crate) fn checkpointed_sites(
     alloc: Global,
     graph: &CallGraph,

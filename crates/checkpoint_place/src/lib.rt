@@ -1,11 +1,11 @@
-// Checkpoint placement: at which calls a thread tests whether its chunk has room.
+// Checkpoint placement: the calls at which a thread tests whether its chunk has enough space.
 //
-// A call graph comes in with sites that break every cycle, and the most bytes that a path of calls may
-// need without a test. A `Plan` goes out: a bound for each function, and the numbers of the sites that are
-// checkpointed, or the first function whose frame is too large. `specs/Placement.antt` has the rule;
-// the contract of `place` says that the plan meets it, and that a function's bound is the greatest weight
-// of a path of calls from it that passes no checkpoint. Code generation stands on that. Source: the idea
-// alone is of Capriccio (von Behren et al., SOSP 2003), the rule is this project's.
+// In: a call graph with sites that break every cycle, and max path, the maximum weight of a path of calls
+// without a test. Out: a `Plan`, which has a bound for each function and the numbers of the checkpointed
+// sites; or the first function whose frame is too large. `specs/Placement.antt` has the rule; the contract
+// of `place` says that the plan follows it, and that a function's bound is the greatest weight of a path
+// of calls from it without a checkpoint. Code generation relies on that. Source: only the idea is
+// Capriccio's (von Behren et al., SOSP 2003), the rule is this project's.
 #![tactic(auto)]
 
 mod bounds;
@@ -15,6 +15,7 @@ mod placing;
 mod plans;
 mod refusals;
 
+pub use callee_bounds::greatest_of;
 pub use placing::place;
 pub use plans::Plan;
 pub use refusals::PlaceError;

@@ -15,10 +15,10 @@ use cap_word::Words;
 use cycle_break::leaving_order;
 use std::alloc::{AllocError, Global};
 
-/// The most bytes of a frame: a store at a register's address reaches an offset of at most 2,047.
+/// The maximum size of a frame in bytes: the offset of a store to a register's address is at most 2,047.
 const MOST_BYTES: u32 = 2032;
 
-/// The first function whose frame is too large.
+/// Returns the first function whose frame is too large.
 fn refusal(weights: &[u32], max_path: u32) -> Option<PlaceError>
     requires { length weights.now ≤ 2 ^ 32 }
     ensures { result ≡ refusal_from max_path 0 weights.now }
@@ -34,7 +34,7 @@ fn refusal(weights: &[u32], max_path: u32) -> Option<PlaceError>
     None
 }
 
-/// The plan, where no frame is too large.
+/// Returns the plan, if no frame is too large.
 fn plan(alloc: Global, graph: &CallGraph, back: &[u32], max_path: u32) -> Result<Plan, AllocError>
     requires rising { IsStrictlyIncreasing back.now }
     requires breaks { BreaksEveryCycle graph.now back.now }
@@ -53,14 +53,16 @@ fn plan(alloc: Global, graph: &CallGraph, back: &[u32], max_path: u32) -> Result
     })
 }
 
-/// The plan of a graph with these back edges, whose numbers rise and which break every cycle, for a greatest
-/// weight of a path of `max_path` bytes. Over the sites that aren't back edges, a function's bound is its
-/// weight plus the greatest callee bound among its plain sites, or its weight alone. A site is checkpointed
-/// exactly where it is a back edge or its caller's weight plus its greatest callee bound exceeds `max_path`;
+/// Returns the plan of a graph with these back edges, whose numbers increase and which break every cycle,
+/// for paths of at most `max_path` bytes. Over the sites that aren't back edges, a function's bound is its
+/// weight plus the greatest callee bound of its plain sites, or its weight alone. A site is checkpointed
+/// exactly if it is a back edge or its caller's weight plus its greatest callee bound exceeds `max_path`;
 /// any other site is plain. So a function's bound is the greatest weight of a path of plain calls from it.
 ///
-/// It refuses with `FrameTooLarge` exactly where a weight exceeds `max_path` or 2,032, and names the first
-/// such function.
+/// # Errors
+///
+/// `FrameTooLarge` exactly if a weight exceeds `max_path` or 2,032, with the first such function; `Memory`
+/// if an allocation fails.
 pub fn place(
     alloc: Global,
     graph: &CallGraph,
@@ -69,7 +71,7 @@ pub fn place(
 ) -> Result<Plan, PlaceError>
     requires rising { IsStrictlyIncreasing back.now }
     requires breaks { BreaksEveryCycle graph.now back.now }
-    // Which refusal it is. It comes even where memory is out.
+    // The refusal. It is returned even if there is no memory.
     ensures refused { IfSome (refusal_from max_path 0 graph.now.weights) (λ refusal. result ≡ Err refusal) }
     ensures only_memory { IfNone (refusal_from max_path 0 graph.now.weights) (IsOkUnless result PlaceError.Memory) }
     ensures placed { IfOk result (λ plan. IsPlacement graph.now back.now max_path plan) }

@@ -7,10 +7,10 @@ use thiserror::Error;
 /// Why there is no plan.
 #[derive(Clone, Copy, Debug, PartialEq, Eq, Error)]
 pub enum PlaceError {
-    /// The frame of this function, the first such one, exceeds the most bytes of a path or 2,032.
+    /// The frame of this function, the first such one, exceeds max path or 2,032 bytes.
     #[error("the frame of function {function} is {bytes} bytes, too large")]
     FrameTooLarge { function: u32, bytes: u32 },
-    /// No memory for the plan.
+    /// An allocation failed.
     #[error("out of memory")]
     Memory,
 }

@@ -2,10 +2,12 @@
 use Rattle.std.proofs.Common.{◌≡◌, ◌≢◌, ℕ, ◌+◌, ◌<◌, ◌≤◌, Bool, true, false, ◌||◌, inl, inr, List, [], length, Option, Some, None, refl, sym, ◌∙◌, ap, subst, arith}
 use Rattle.std.specs.Prelude.{Contains, IsTrue, IsSome, find, ℤ, nat_eq}
 use Rattle.std.proofs.lemmas.Bool.Decides.{nat_tests}
+use Rattle.std.proofs.lemmas.Bool.{eqb-true}
 use Rattle.std.proofs.lemmas.List.Elements.{All-contains}
 use Rattle.event_trace.specs.declared.events.Event.{Event}
 use Rattle.schedule_log.specs.declared.entries.Item.{Item}
 use Rattle.scheduler.specs.Scores.{comes_before}
+use Rattle.scheduler.proofs.ChoiceLemmas.{by_test}
 use Rattle.scheduler.proofs.OrderLemmas.{comes_before-asym}
 use Rattle.choice_rules.specs.Policy.{Rule, by_graph, by_stride, Policy}
 use Rattle.choice_rules.specs.Trace.{Trace, IsNext, IsRefused}
@@ -23,13 +25,6 @@ use Rattle.stride_rule.proofs.OrderLemmas.{goes_before-asym}
 
 false_true : (b : Bool) → b ≡ false → IsTrue b → ⊥
 false_true b e h = let both : false ≡ true = sym e ∙ h in absurd (cc)
-
-by_test : (b : Bool) (P : Type 0) → (b ≡ true → P) → (b ≡ false → P) → P
-by_test true P first second = first refl
-by_test false P first second = second refl
-
-same_number : (a b : ℕ) → nat_eq a b ≡ true → a ≡ b
-same_number a b h = grind (arith, nat_tests)
 
 other_number : (a b : ℕ) → nat_eq a b ≡ false → a ≢ b
 other_number a b h e = grind (arith, nat_tests)
@@ -116,7 +111,7 @@ none_both : (score : ℕ → ℤ) (last : ℕ → ℕ) (a b : ℕ) → IsTrue (c
 none_both score last a b p q = let e : comes_before score last b a ≡ false = comes_before-asym score last a b p in absurd (false_true _ e q)
 
 by_node : (a b : ℕ) (P : Type 0) → (a ≡ b → P) → (a ≢ b → P) → P
-by_node a b P first second = by_test (nat_eq a b) P (λ e. first (same_number a b e)) (λ e. second (other_number a b e))
+by_node a b P first second = by_test (nat_eq a b) P (λ e. first (eqb-true a b e)) (λ e. second (other_number a b e))
 
 module _ (policy : Policy) (seen : Seen) (clock : ℕ) where
   one_graph_choice : (a b : Waiter) → IsGraphChoice policy seen clock a → IsGraphChoice policy seen clock b → a ≡ b

@@ -14,6 +14,3 @@ module _ (policy : Policy) (seen : Seen) (clock : ℕ) (chosen : Waiter) (rule_i
 module _ (tickets : List (ℕ × ℕ)) (policy : Policy) (seen : Seen) (clock : ℕ) (chosen : Waiter) (rule_is : policy.rule ≡ by_stride tickets) where
   pub lawful_by_stride : IsStrideChoice tickets policy seen clock chosen → IsLawful policy seen clock chosen
   lawful_by_stride is = subst (λ (r : Rule). IsLawfulBy r policy seen clock chosen) (sym rule_is) is
-
-  pub stride_choice_of : IsLawful policy seen clock chosen → IsStrideChoice tickets policy seen clock chosen
-  stride_choice_of is = subst (λ (r : Rule). IsLawfulBy r policy seen clock chosen) rule_is is

@@ -5,13 +5,10 @@ use Rattle.std.specs.List.{AllByRecursion, list_any}
 use Rattle.std.proofs.lemmas.Bool.Decides.{nat_tests}
 use Rattle.choice_rules.specs.Seen.{Waiter, PastChoice}
 use Rattle.choice_rules.specs.Strides.{pass_of, latest_pass}
+use Rattle.scheduler.proofs.ChoiceLemmas.{by_test}
 use Rattle.stride_rule.specs.Clients.{goes_before}
 use Rattle.stride_rule.specs.Tickets.{stride_of}
 use Rattle.stride_rule.proofs.OrderLemmas.{goes_before-asym, goes_before-total, goes_before-cotrans}
-
-by_test : (b : Bool) (P : Type 0) → (b ≡ true → P) → (b ≡ false → P) → P
-by_test true P first second = first refl
-by_test false P first second = second refl
 
 -- ---- what is found
 
@@ -23,7 +20,7 @@ all_found P test (x ∷ xs) w all e =
     (λ here. let it : Some x ≡ Some w = rw here at e in let is : x ≡ w = cc in subst (λ (v : Waiter). P v) is all.0)
     (λ later. let rest : find test xs ≡ Some w = rw later at e in all_found P test xs w all.1 rest)
 
-found_passes : (test : Waiter → Bool) (waiting : List Waiter) (w : Waiter) → find test waiting ≡ Some w → test w ≡ true
+pub found_passes : (test : Waiter → Bool) (waiting : List Waiter) (w : Waiter) → find test waiting ≡ Some w → test w ≡ true
 found_passes test [] w e = absurd cc
 found_passes test (x ∷ xs) w e =
     by_test (test x) _

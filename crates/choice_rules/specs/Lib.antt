@@ -5,6 +5,7 @@ pub mod Readiness
 pub mod Clock
 pub mod Deliveries
 pub mod Strides
+pub mod Waiting
 pub mod Choice
 pub mod Stops
 pub mod SourceRuns

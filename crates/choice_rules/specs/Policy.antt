@@ -6,24 +6,26 @@ use Rattle.resource_monitor.specs.declared.curves.Curve.{Curve}
 pub data Rule : Type 0 where
   -- by the blocking graph and the pressure on the resources
   by_graph : Rule
-  -- by strides, of the tickets that threads have, by their numbers; every other thread has one
+  -- by strides, by the tickets of threads with these numbers; every other thread has one
   by_stride : (tickets : List (ℕ × ℕ)) → Rule
 
 pub record Policy : Type 0 where
-  -- the number of chunks of the certificate's size, how many are added and their bytes, the most instructions, and how many
-  -- items may wait in a queue
+  -- the number of chunks of the certificate's size, the number of added chunks and their size in bytes, the maximum
+  -- number of instructions, and the maximum number of items in a queue
   pub chunks : ℕ
   pub extra : ℕ
   pub extra_bytes : ℕ
   pub fuel : ℕ
   pub backlog : ℕ
-  -- the caps of the resources by their numbers, of which 0 isn't read; a cap of 0 says that it isn't given
+  -- the caps of the resources by their numbers; number 0 isn't read, and a cap of 0 means that the resource doesn't
+  -- exist
   pub caps : List ℕ
-  -- the curve of each resource's pressure, and the pressures from which the gate closes and down to which it opens
+  -- the curve of each resource's pressure, the least pressure at which the gate closes, and the greatest at which
+  -- it opens
   pub curves : List Curve
   pub high : ℕ
   pub low : ℕ
-  -- how a thread is chosen
+  -- the rule of choice
   pub rule : Rule
 
 -- the caps of all eight resources: that of resource 0 is the number of all chunks

@@ -1,4 +1,4 @@
--- Which threads are ready, by the table of the modelled calls: by the queues and uses of the source world, and by the
+-- Which threads are ready, by the table of the modelled calls, from the queues and uses of the source world and the
 -- clock. A thread that hasn't run yet is always ready.
 use Rattle.std.specs.Prelude.{ℕ, Bool, true, false, not, ◌&&◌, List, Option, Some, None, filter_map, slice_get}
 use Rattle.std.specs.List.{list_any}
@@ -9,7 +9,7 @@ use Rattle.c_mean.specs.World.{Rest, Fresh, Blocked, Ended}
 use Rattle.choice_rules.specs.Policy.{Policy}
 use Rattle.choice_rules.specs.Seen.{Waiter, Seen}
 
--- where a thread rests, if it has started
+-- the state of a thread at rest, if it has started
 abbrev pub rest_of : Seen → ℕ → Option Rest
 rest_of seen thread = slice_get seen.source.threads thread
 
@@ -19,7 +19,7 @@ is_ready_at caps x clock since (Some (Blocked block waiting)) = table.is_ready c
 is_ready_at caps x clock since (Some Ended) = false
 is_ready_at caps x clock since None = false
 
--- a thread that waits is ready at a clock
+-- a waiting thread is ready at a clock
 abbrev pub is_ready : Policy → Seen → ℕ → Waiter → Bool
 is_ready policy seen clock w = is_ready_at policy.caps seen.source.exchange clock w.since (rest_of seen w.thread)
 
@@ -43,15 +43,15 @@ at_accept seen w = is_accepting (rest_of seen w.thread)
 abbrev pub any_ready : Policy → Seen → ℕ → Bool
 any_ready policy seen clock = list_any (is_ready policy seen clock) seen.waiting
 
--- a thread elsewhere than at `accept` is ready
+-- a thread that isn't at `accept` is ready
 abbrev pub any_elsewhere : Policy → Seen → ℕ → Bool
 any_elsewhere policy seen clock = list_any (λ w. is_ready policy seen clock w && not (at_accept seen w)) seen.waiting
 
--- the clock at which a thread is ready whatever comes, if there is one: where it isn't ready before, it sleeps until then
+-- the clock from which a thread is ready in any case, if there is one: if it isn't ready before, it sleeps until then
 abbrev pub wakes : ℕ → Option Rest → Option ℕ
 wakes since (Some (Blocked block waiting)) = wakes_at since block
 wakes since _ = None
 
--- and of all threads: where none is ready, these are the times of those that sleep
+-- the same for all threads: if none is ready, these are the times at which sleeping threads wake
 abbrev pub waking_times : Seen → List ℕ
 waking_times seen = filter_map (λ w. wakes w.since (rest_of seen w.thread)) seen.waiting

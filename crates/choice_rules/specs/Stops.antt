@@ -1,4 +1,4 @@
--- Where a run stops that has come to a choice point.
+-- The stops of a run at a choice point.
 use Rattle.std.specs.Prelude.{◌≡◌, ◌≢◌, ℕ, false, [], None}
 use Rattle.choice_rules.specs.Policy.{Policy}
 use Rattle.choice_rules.specs.Trace.{IsNext, IsRefused}
@@ -16,7 +16,7 @@ pub record IsBadTrace (seen : Seen) (line : ℕ) : Type 0 where
   pub live : seen.live ≢ 0
   pub refused : IsRefused seen.trace line
 
--- some thread is live, the trace is over, no thread is ready and none sleeps
+-- some thread is live, the trace has ended, no thread is ready and none sleeps
 pub record IsIdle (policy : Policy) (seen : Seen) : Type 0 where
   pub between : seen.under_way ≡ false
   pub live : seen.live ≢ 0

@@ -1,10 +1,11 @@
--- The passes of threads under strides, after the choices that were made.
+-- The passes of threads under strides, after the past choices.
 use Rattle.std.specs.Prelude.{ℕ, ◌+◌, nat_eq, nat_le, if◌then◌else◌, List, [], ◌∷◌}
 use Rattle.choice_rules.specs.Seen.{PastChoice}
 use Rattle.stride_rule.specs.Tickets.{stride_of}
 
--- The pass of a thread after these choices, the latest first. A thread that hadn't been started by a choice starts, if it starts before
--- the next one, at the pass that the chosen thread had then; the pass of the chosen thread grows by its stride; every other pass stays.
+-- The pass of a thread after these choices, the latest first. A thread that is started after a choice and before the
+-- next one starts at the pass that the chosen thread had at that choice; the pass of the chosen thread grows by its
+-- stride; every other pass stays the same.
 abbrev pub pass_of : List (ℕ × ℕ) → List PastChoice → ℕ → ℕ
 pass_of tickets [] thread = 0
 pass_of tickets (latest ∷ earlier) thread =

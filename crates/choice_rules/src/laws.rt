@@ -8,9 +8,9 @@ ghost use Rattle.choice_rules.specs.Stops.{IsBadTrace, IsDone, IsIdle};
 ghost use Rattle.event_trace.specs.declared.events.Event.{Event};
 ghost use Rattle.schedule_log.specs.declared.entries.Item.{Item};
 
-/// At a choice point at most one thing happens, whatever the rule: its next event and its clock are one, and so
-/// is the lawful choice; where an event is delivered no thread is chosen; and where it goes on the run doesn't
-/// stop. It does nothing: the laws are the contract.
+/// Law: at a choice point at most one thing happens, under either rule. The next event, the clock and the
+/// lawful choice are unique; if an event is delivered, no thread is chosen; and the run either continues or
+/// stops, not both. It has no effect at run time.
 pub fn choice_point_laws()
     ensures point { (policy : Policy) (seen : Seen) (next other : Option Event) (clock time : ℕ) →
         IsChoicePoint policy seen next clock → IsChoicePoint policy seen other time →

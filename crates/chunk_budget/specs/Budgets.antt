@@ -16,7 +16,7 @@ use Rattle.chunk_budget.specs.declared.budgets.BudgetError.TheVariants.{Length, 
 abbrev pub height_of : List ℕ → ℕ → ℕ
 height_of heights f = slice_index heights f
 
--- how many chunks a call adds to those that its caller's thread holds: a linked one adds one, a plain one none
+-- the number of chunks that a call adds to those of its caller's thread: one if it is linked, and none if it is plain
 abbrev pub chunks_added : LinkKind → ℕ
 chunks_added LinkKind.Plain = 0
 chunks_added (LinkKind.Linked need) = 1
@@ -41,19 +41,19 @@ pub record IsSpawned (code : FlatCode) (g : ℕ) : Type 0 where
   pub argument : ℕ
   pub there : operation_at code f k ≡ Some (Op.Spawn site result g argument)
 
--- the first function of some thread: main, or one that a thread is started with
+-- the first function of some thread: main, or one with which a thread is started
 abbrev pub IsRoot : FlatCode → ℕ → Type 0
 IsRoot code g = (g ≡ code.main) ⊎ IsSpawned code g
 
--- a budget: each function has a height, a thread has some chunk, every call is covered, and the first function of each
--- thread is at most one below the thread's chunks, since the thread starts in a chunk
+-- a budget: each function has a height, a thread has at least one chunk, every call is covered, and the height of each
+-- thread's first function is below the number of the thread's chunks, since the thread starts in a chunk
 pub record IsBudget (code : FlatCode) (certificate : Certificate) (budget : Budget) : Type 0 where
   pub heights : length budget.heights ≡ length code.functions
   pub chunks : 1 ≤ budget.per_thread
   pub calls : AreCovered code certificate budget.heights
   pub roots : (g : ℕ) → IsRoot code g → height_of budget.heights g ≤ budget.per_thread - 1
 
--- ---- which refusal comes
+-- ---- which refusal is returned
 
 -- a call at this site isn't covered
 pub record IsLow (code : FlatCode) (certificate : Certificate) (heights : List ℕ) (site : ℕ) : Type 0 where
@@ -68,7 +68,7 @@ pub record IsLow (code : FlatCode) (certificate : Certificate) (heights : List �
 abbrev pub IsHighRoot : FlatCode → Budget → ℕ → Type 0
 IsHighRoot code budget g = IsRoot code g × (budget.per_thread - 1 < height_of budget.heights g)
 
--- the refusals: each where it holds and no earlier one does
+-- the refusals: each applies if no earlier one does
 abbrev pub IsRefusal : FlatCode → Certificate → Budget → BudgetError → Type 0
 IsRefusal code certificate budget (Length heights functions) =
     (heights ≡ length budget.heights) × (functions ≡ length code.functions) × (heights ≢ functions)

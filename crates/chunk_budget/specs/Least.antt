@@ -1,9 +1,9 @@
--- The least of the numbers that the operations of a program have, each of them one or none.
+-- The least of the numbers that the operations of a program have; each of them has at most one.
 use Rattle.std.specs.Prelude.{ℕ, zero, suc, min, Option, Some, None, List, [], ◌∷◌}
 use Rattle.flat_code.specs.declared.operations.Op.{Op}
 use Rattle.flat_code.specs.Codes.{FlatCode, function_at}
 
--- the lesser of two numbers, each of which may be absent
+-- the lesser of two optional numbers
 abbrev pub lesser : Option ℕ → Option ℕ → Option ℕ
 lesser None second = second
 lesser (Some first) None = Some first

@@ -13,13 +13,15 @@ use accepted_pairs::Accepted;
 use flat_code::FlatProgram;
 use stack_certificate::Certificate;
 
-/// Whether a budget holds of an accepted program. At each call of a function or a table the caller's height is at least
-/// that of each function that may be called, and one more where the site is linked; `main` and each function that a thread
-/// is started with are lower than the chunks of a thread. It takes no memory.
+/// Checks a budget of an accepted program. At each call of a function or a table the caller's height is at least that
+/// of each function that may be called, and one more if the site is linked; the heights of `main` and each function
+/// with which a thread is started are below the number of chunks per thread. It doesn't allocate.
 ///
-/// It refuses, in this order: with `Length` exactly where there isn't one height for each function; with `Zero` exactly
-/// where a thread has no chunk; with `Low` the least site, by number, at which the caller is too low; with `Root` the least
-/// of `main` and the functions that threads are started with that is too high.
+/// # Errors
+///
+/// The first of these that applies: `Length` exactly if the number of heights isn't the number of functions; `Zero`
+/// exactly if a thread has no chunk; `Low` with the least site, by number, at which the caller is too low; `Root` with
+/// the least of `main` and the functions with which threads are started that is too high.
 pub fn check_budget(accepted: &Accepted, budget: &Budget) -> Result<(), BudgetError>
     ensures budget { IfOk result (λ _. IsBudget (lowered (accepted_tree accepted.now)) accepted.now.certificate budget.now) }
     ensures refused { IfErr result (IsRefusal (lowered (accepted_tree accepted.now)) accepted.now.certificate budget.now) }
@@ -28,7 +30,7 @@ pub fn check_budget(accepted: &Accepted, budget: &Budget) -> Result<(), BudgetEr
     check_code(accepted.flat(), accepted.certificate(), budget)
 }
 
-// Whether a budget holds of a program with a certificate.
+// Checks a budget of a program with a certificate.
 fn check_code(
     flat: &FlatProgram,
     certificate: &Certificate,

@@ -14,7 +14,7 @@ pub(crate) struct Highest {
     pub(crate) height: u32,
 }
 
-// The greatest height of some functions, or 0 where there is none.
+// The greatest height of some functions, or 0 if there are none.
 fn greatest_height(functions: &[u32], heights: &[u32]) -> u32
     requires { AllByRecursion (λ f. f < length heights.now) functions.now }
     ensures { result ≡ highest heights.now functions.now }
@@ -26,15 +26,15 @@ fn greatest_height(functions: &[u32], heights: &[u32]) -> u32
     most
 }
 
-// What is known of tables: the greatest heights of those that were looked at last.
+// A cache: the greatest heights of the most recent tables.
 #[derive(Clone, Copy)]
 pub(crate) struct Known {
     pub(crate) kept: [Option<Highest>; 64],
-    // The place of the one that makes room for the next.
+    // The index of the entry to be replaced next.
     pub(crate) oldest: usize,
 }
 
-// Nothing is known.
+// An empty cache.
 pub(crate) fn nothing_known() -> Known
     ensures { (code : FlatCode) → (heights : List ℕ) → IsKnown code heights result }
 {
@@ -44,7 +44,7 @@ pub(crate) fn nothing_known() -> Known
     }
 }
 
-// The greatest height of a table's members, where it is kept.
+// The greatest height of a table's members, if it is cached.
 fn kept_height(known: &Known, table: u32) -> Option<u32>
     ensures { (code : FlatCode) → (heights : List ℕ) → IsKnown code heights known.now → IfSome result (λ height. height ≡ highest heights (members_of code table)) }
 {
@@ -58,7 +58,7 @@ fn kept_height(known: &Known, table: u32) -> Option<u32>
     None
 }
 
-// Keeps the greatest height of one table more, in place of the oldest.
+// Caches the greatest height of one more table, in place of the oldest entry.
 fn keep(known: &mut Known, newest: Highest)
     requires { known.old.oldest < 64 }
     ensures { (code : FlatCode) → (heights : List ℕ) → IsKnown code heights known.old → newest.height ≡ highest heights (members_of code newest.table) → IsKnown code heights known.new }
@@ -67,7 +67,7 @@ fn keep(known: &mut Known, newest: Highest)
     known.oldest = (known.oldest + 1) % 64;
 }
 
-// The greatest height of a table's members, each looked at.
+// The greatest height of a table's members, computed.
 fn height_of_members(flat: &FlatProgram, heights: &[u32], table: u32) -> u32
     requires table { table < length (program_code flat.now).tables }
     requires heights { length heights.now ≡ length (program_code flat.now).functions }
@@ -76,7 +76,7 @@ fn height_of_members(flat: &FlatProgram, heights: &[u32], table: u32) -> u32
     greatest_height(flat.tables()[table as usize].as_slice(), heights)
 }
 
-// The greatest height of a table's members. They are looked at unless the table is one of the 64 that were last looked at.
+// The greatest height of a table's members. It is computed unless the table is one of the last 64.
 pub(crate) fn table_height(
     flat: &FlatProgram,
     heights: &[u32],

@@ -1,7 +1,7 @@
 ghost use Rattle.std.specs.Prelude.{◌≡◌};
 ghost use Rattle.chunk_budget.specs.Least.{lesser};
 
-// The lesser of two numbers, each of which may be absent.
+// The lesser of two optional numbers.
 pub(crate) fn lesser(first: Option<u32>, second: Option<u32>) -> Option<u32>
     ensures { result ≡ lesser first second }
 {

@@ -18,7 +18,7 @@ use flat_code::{FlatProgram, Op};
 use stack_certificate::Certificate;
 use std::alloc::{AllocError, Global};
 
-// How high an operation's function has to be for it, by the heights of the functions that it calls.
+// The height that an operation requires of its function, by the heights of the functions that it calls.
 fn height_asked(
     flat: &FlatProgram,
     certificate: &Certificate,
@@ -46,7 +46,7 @@ fn height_asked(
     }
 }
 
-// How high a function has to be, by the heights of the functions that it calls.
+// The height that a function needs, by the heights of the functions that it calls.
 fn height_over(
     flat: &FlatProgram,
     certificate: &Certificate,
@@ -68,8 +68,8 @@ fn height_over(
     most
 }
 
-// The least heights, made in an order in which each function stands behind those that it calls. A height past 32 bits
-// counts as want of memory.
+// The least heights, computed in an order in which each function comes after those that it calls. A height beyond 32
+// bits is reported as out of memory.
 pub(crate) fn least_heights(
     alloc: Global,
     flat: &FlatProgram,
@@ -96,7 +96,7 @@ pub(crate) fn least_heights(
     Ok(heights)
 }
 
-// The height of the function that an operation starts a thread with, or 0 where it starts none.
+// The height of the function with which an operation starts a thread, or 0 if it starts none.
 fn height_spawned(flat: &FlatProgram, heights: &[u32], function: usize, op: &Op) -> u32
     requires heights { length heights.now ≡ length (program_code flat.now).functions }
     requires formed { IsOperation (context_of (program_code flat.now) (function_at (program_code flat.now) function)) op.now }
@@ -108,7 +108,7 @@ fn height_spawned(flat: &FlatProgram, heights: &[u32], function: usize, op: &Op)
     }
 }
 
-// The greatest height of the functions that a function's operations start threads with.
+// The greatest height of the functions with which a function's operations start threads.
 fn highest_in(flat: &FlatProgram, heights: &[u32], function: usize) -> u32
     requires heights { length heights.now ≡ length (program_code flat.now).functions }
     requires function { function < length (program_code flat.now).functions }
@@ -123,7 +123,7 @@ fn highest_in(flat: &FlatProgram, heights: &[u32], function: usize) -> u32
     most
 }
 
-// The greatest height of `main` and the functions that threads are started with.
+// The greatest height of `main` and the functions with which threads are started.
 pub(crate) fn highest_root(flat: &FlatProgram, heights: &[u32]) -> u32
     requires { length heights.now ≡ length (program_code flat.now).functions }
     ensures { result ≡ max (height_of heights.now (program_code flat.now).main) (greatest_below (λ f. greatest (height_spawned heights.now) (function_at (program_code flat.now) f).ops) (length (program_code flat.now).functions)) }

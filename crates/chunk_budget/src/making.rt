@@ -18,12 +18,14 @@ use flat_code::FlatProgram;
 use stack_certificate::Certificate;
 use std::alloc::{AllocError, Global};
 
-/// The least budget of an accepted program: no other budget of it has a lesser number of chunks for a thread, or a lesser
+/// Returns the least budget of an accepted program: no other budget of it has fewer chunks per thread, or a lesser
 /// height of a function.
 ///
-/// It refuses with `Cycle` exactly where some function lies on a cycle of calls of functions and tables, and names the
-/// least; with `Memory` where memory is lacking. A program with more than 2^32 functions or a height of 2^32 or more, which
-/// no accepted one has, counts as want of memory.
+/// # Errors
+///
+/// `Cycle` exactly if some function is on a cycle of calls of functions and tables, with the least one, unless memory
+/// runs out; `Memory` if an allocation fails, or if there are more than 2^32 functions or a height is 2^32 or more,
+/// which is impossible for an accepted program.
 pub fn make_budget(alloc: Global, accepted: &Accepted) -> Result<Budget, MakeBudgetError>
     ensures least { IfOk result (IsLeastBudget (lowered (accepted_tree accepted.now)) accepted.now.certificate) }
     ensures acyclic { IfOk result (λ _. (f : ℕ) → IsOnCycle (lowered (accepted_tree accepted.now)) f → ⊥) }
@@ -54,7 +56,7 @@ fn made_of(
     }
 }
 
-// The least budget, made in an order in which each function stands behind those that it calls.
+// The least budget, computed in an order in which each function comes after those that it calls.
 fn budget_over(
     alloc: Global,
     flat: &FlatProgram,

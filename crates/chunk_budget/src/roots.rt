@@ -12,7 +12,7 @@ use crate::least::lesser;
 use crate::sites::function_of;
 use flat_code::{FlatProgram, Op};
 
-// A function, where its height is too high for a thread of so many chunks that starts with it.
+// A function, if its height is too high for a thread with this number of chunks that starts with it.
 fn high_function(chunks: u32, heights: &[u32], function: u32) -> Option<u32>
     requires { function < length heights.now }
     ensures { result ≡ high_function chunks heights.now function }
@@ -24,7 +24,7 @@ fn high_function(chunks: u32, heights: &[u32], function: u32) -> Option<u32>
     }
 }
 
-// The function that an operation starts a thread with, where it is too high.
+// The function with which an operation starts a thread, if it is too high.
 fn high_root(
     flat: &FlatProgram,
     chunks: u32,
@@ -42,7 +42,8 @@ fn high_root(
     }
 }
 
-// The least of a number and the functions that a function's operations start threads with and that are too high.
+// The least of a number and the functions that are too high and with which a function's operations start
+// threads.
 fn least_in_function(
     flat: &FlatProgram,
     chunks: u32,
@@ -63,7 +64,8 @@ fn least_in_function(
     least
 }
 
-// The least of `main` and the functions that operations start threads with which is too high for so many chunks.
+// The least of `main` and the functions with which operations start threads that is too high for this number of
+// chunks.
 fn least_of_roots(flat: &FlatProgram, chunks: u32, heights: &[u32]) -> Option<u32>
     requires { length heights.now ≡ length (program_code flat.now).functions }
     ensures { result ≡ least_below (high_root chunks heights.now) (program_code flat.now) (high_function chunks heights.now (program_code flat.now).main) (length (program_code flat.now).functions) }

@@ -25,7 +25,7 @@ pub(crate) fn function_of(flat: &FlatProgram, function: usize) -> &FlatFunction
     &flat.functions()[function]
 }
 
-// How many chunks a call adds to those that its caller's thread holds.
+// The number of chunks that a call adds to those of its caller's thread.
 pub(crate) fn chunks_added(kind: LinkKind) -> u64
     ensures { result ≡ chunks_added kind }
 {
@@ -35,7 +35,7 @@ pub(crate) fn chunks_added(kind: LinkKind) -> u64
     }
 }
 
-// The site of a call from one height to another, where that is too high for it.
+// The site of a call between functions of these heights, if the callee's is too high.
 fn low_call(site: u32, caller: u32, callee: u32, kind: LinkKind) -> Option<u32>
     ensures { result ≡ low_call site caller callee kind }
 {
@@ -46,7 +46,7 @@ fn low_call(site: u32, caller: u32, callee: u32, kind: LinkKind) -> Option<u32>
     }
 }
 
-// The site of an operation, where the caller's height is too low for it.
+// The site of an operation, if the caller's height is too low for it.
 fn low_site(
     flat: &FlatProgram,
     certificate: &Certificate,

@@ -1,4 +1,5 @@
--- How a pool lies in its region: the chunks side by side, and the free lists through the first words of the free chunks.
+-- How a pool is kept in its region: the chunks side by side, and the free lists through the first words of the free
+-- chunks.
 use Rattle.std.specs.Prelude.{◌≡◌, ℕ, zero, suc, List, [], ◌∷◌, length, map, take, drop, slice_index}
 use Rattle.std.specs.List.{range_with_len}
 use Rattle.chunk_pool.specs.declared.pool.ChunkPool.TheInside.{Inside}
@@ -13,7 +14,7 @@ chunk_in shape region id = take (words_in shape id) (drop (start_in shape id) re
 abbrev pub chunks_in : Shape → List ℕ → List (List ℕ)
 chunks_in shape region = map (chunk_in shape region) (range_with_len 0 shape.count)
 
--- so many numbers, from the first on, each the first word of the chunk before it
+-- a number of chunk numbers from the first on, each the first word of the chunk before it
 abbrev pub followed : Shape → List ℕ → ℕ → ℕ → List ℕ
 followed shape region first zero = []
 followed shape region first (suc more) = first ∷ followed shape region (slice_index region (start_in shape first)) more
@@ -29,7 +30,7 @@ pool_of a = record {
   extra_free = followed a.shape a.region a.extra_first a.extra_free;
 }
 
--- the pool is sound, the region has its words and no more, and each first number is that of its free list
+-- the pool meets its invariant, the region has exactly its words, and each first number is that of its free list
 pub record IsKept (a : Inside) : Type 0 where
   pub pool : IsPool (pool_of a)
   pub size : length a.region ≡ size_in a.shape

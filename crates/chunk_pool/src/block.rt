@@ -1,5 +1,5 @@
-// A block of memory as words: where it begins, who owns its words, and the right to give it back. All raw pointers of
-// the crate are here, and each function is proved by hand.
+// A block of memory as words: its start, the owner of its words, and the right to deallocate it. All raw pointers of
+// the crate are in this file, and each function is proved by hand.
 ghost use Rattle.std.specs.Prelude.{◌≡◌, ℕ, ◌+◌, ◌^◌, ◌<◌, ◌≤◌, List, [], ◌∷◌, ◌++◌, length, take, drop, slice_set, IfOk};
 ghost use base.Fml.{ftrue};
 ghost use denote.RawPtr.{Ptr};
@@ -9,16 +9,17 @@ use std::alloc::{AllocError, Allocator};
 use std::marker::{Model, PhantomData};
 use std::slice;
 
-// How many bytes a word has, and to which multiple its place is.
+// The size and the alignment of a word, in bytes.
 const WORD_BYTES: usize = 4;
 
-/// Where a block begins. It owns nothing.
+/// The address of a block. It owns nothing.
 #[derive(Clone, Copy)]
 pub(crate) struct Start {
     at: *mut u32,
 }
 
-/// The owner of a block's words, those that are written and then the room for so many more. It takes no space.
+/// The owner of a block's words: the words that are written, then room for a number of further words. It takes no
+/// space.
 pub(crate) struct Words {
     ghost at: { Ptr },
     ghost items: { List ℕ },
@@ -31,7 +32,7 @@ impl Model for Words {
     ghost also_shares = { λ words _ κ. words_lent words.at words.items words.spare κ };
 }
 
-/// The right to give a block of so many words back to its allocator. It takes no space.
+/// The right to deallocate a block of a number of words. It takes no space.
 pub(crate) struct Deed<A: Allocator> {
     mark: PhantomData<*const A>,
     ghost alloc: { A },
@@ -45,7 +46,7 @@ impl<A: Allocator> Model for Deed<A> {
     ghost also_shares = { λ _ _ _. ftrue };
 }
 
-/// A block with room for `len` words.
+/// Allocates a block with room for `len` words.
 pub(crate) fn allocate<A: Allocator>(
     alloc: &A,
     len: usize,
@@ -66,7 +67,7 @@ pub(crate) fn allocate<A: Allocator>(
     }
 }
 
-/// Gives the block back. Each of its words is written.
+/// Deallocates the block, all words of which are written.
 pub(crate) fn deallocate<A: Allocator>(
     alloc: &A,
     start: Start,
@@ -85,7 +86,7 @@ pub(crate) fn deallocate<A: Allocator>(
 }
 
 impl Words {
-    /// Writes the first word of the room, which is at `index`.
+    /// Writes the first word of the room, which has the index `index`.
     pub(crate) fn push(&mut self, start: Start, index: usize, word: u32)
         requires { (start.at ≡ self.old.at) × (index ≡ length self.old.items) ×
             (0 < self.old.spare) }
@@ -95,7 +96,7 @@ impl Words {
         unsafe { start.at.add(index).write(word) }
     }
 
-    /// Writes the word at `index` again.
+    /// Overwrites the word at `index`.
     pub(crate) fn write(&mut self, start: Start, index: usize, word: u32)
         requires { (start.at ≡ self.old.at) × (index < length self.old.items) }
         ensures { (self.new.at ≡ self.old.at) ×
@@ -105,7 +106,7 @@ impl Words {
         unsafe { start.at.add(index).write(word) }
     }
 
-    /// The `len` words from `from` on.
+    /// Returns the `len` words from index `from` on.
     pub(crate) fn slice(&self, start: Start, from: usize, len: usize) -> &[u32]
         requires { (start.at ≡ self.now.at) × (from + len ≤ length self.now.items) }
         ensures { result.now ≡ take len (drop from self.now.items) }

@@ -2,9 +2,8 @@ ghost use Rattle.std.specs.Prelude.{◌≡◌, ℕ, ◌*◌, ◌%◌, ◌<◌, �
 ghost use Rattle.std.specs.List.{count_by};
 ghost use Rattle.chunk_pool.specs.Pool.{Pool, Taken, shape_of, words_of, chunk_of, all_free, with_free_of, bytes_of, first_bytes, place_of, end_of, HasAddress, chunk_at, fits, FitsNone, taken_for, IsFree, IsHeld, IsChunk, IsPool, start_pool};
 
-/// The laws of what a need takes, for any pool: nothing exactly where no free chunk fits; else a free chunk that fits,
-/// and none that fits is smaller. It leaves the free chunks while all other numbers and all words stay, and is then held.
-/// It does nothing.
+/// Laws: for any pool, a need takes nothing exactly if no free chunk fits. Otherwise it takes a free chunk that fits,
+/// and no smaller one fits. That chunk leaves the free chunks and is then held; all other numbers and all words stay.
 pub fn need_laws()
     ensures none { (p : Pool) (need : ℕ) → IsPool p → (taken_for p need ≡ None) ↔ FitsNone p need }
     ensures fits { (p : Pool) (need : ℕ) (taken : Taken) → IsPool p → taken_for p need ≡ Some taken →
@@ -19,10 +18,9 @@ pub fn need_laws()
         IsPool taken.pool × IsHeld taken.pool taken.chunk }
 {}
 
-/// The laws of where chunks stand, for any pool: a chunk has as many words as its list, and more than its header; its
-/// place and its size are multiples of 16, and it ends at or below 0x84000000. An address lies in one chunk at most, and
-/// `chunk_at` finds just that one. The numbers below the first count have the first size. Pools of one shape agree on all
-/// of this. It does nothing.
+/// Laws: for any pool, a chunk has as many words as its list, and more than its header. Its address and its size are
+/// multiples of 16, and it ends at or below 0x84000000. An address lies in at most one chunk, and `chunk_at` finds
+/// exactly that one. The numbers below the first count have the first size. Pools of one shape agree on all of this.
 pub fn place_laws()
     ensures words { (p : Pool) (id : ℕ) → IsPool p → id < p.count → IsChunk (words_of p id) (chunk_of p id) × (4 < words_of p id) }
     ensures aligned { (p : Pool) (id : ℕ) → IsPool p → (place_of p id % 16 ≡ 0) × (bytes_of p id % 16 ≡ 0) }

@@ -8,12 +8,11 @@ use crate::shape::{Class, FIRST_PLACE, Shape};
 use std::alloc::{AllocError, Global};
 use std::marker::Model;
 
-/// A pool of 1 to 65,536 chunks of one size and at most 65,536 of a second, numbered from 0, those of the first size in
-/// front, and of each size the list of those that are free.
+/// A pool of 1 to 65,536 chunks of one size and at most 65,536 of a second size, with a free list for each size. Chunks
+/// are numbered from 0, those of the first size first.
 ///
-/// The first four words of a chunk are its header, the other words its payload. While a chunk is free, its first word
-/// holds the number of the next free chunk of its size, or the count of all chunks where there is none. No call but `new`
-/// takes memory.
+/// The first four words of a chunk are its header, the others its payload. The first word of a free chunk is the number
+/// of the next free chunk of its size, or the count of all chunks if there is none. Only `new` allocates memory.
 #[derive(Drop)]
 pub struct ChunkPool {
     shape: Shape,
@@ -40,8 +39,9 @@ impl ChunkPool {
     /// The address of the first byte of chunk 0.
     pub const FIRST_PLACE: u32 = FIRST_PLACE;
 
-    /// A pool of `count` chunks of `bytes` bytes each and `extra` chunks of `extra_bytes` bytes each behind them, all free,
-    /// the numbers in order. All words are 0 but the first of each chunk, which links the free list of its size.
+    /// Returns a pool of `count` chunks of `bytes` bytes each, followed by `extra` chunks of `extra_bytes` bytes each.
+    /// All are free, in the order of their numbers. All words are 0 except the first word of each chunk, which links
+    /// its free list.
     pub fn new(
         alloc: Global,
         count: u32,
@@ -81,8 +81,8 @@ impl ChunkPool {
         })
     }
 
-    /// Takes a chunk whose payload has at least `need` bytes, or answers `None` where no free chunk has. It is of the
-    /// smaller size that has one, of the first where both sizes are one, and the first of its free list. No word changes.
+    /// Takes the first free chunk of the smaller size that has a free chunk with a payload of at least `need` bytes, or
+    /// of the first size if both sizes are equal. Returns `None` if no free chunk fits. No word changes.
     pub fn take(&mut self, need: u32) -> Option<u32>
         ensures taken { IsTaken (taken_for self.old need) result self.old self.new }
         ensures none { IsNone result ↔ FitsNone self.old need }
@@ -96,7 +96,7 @@ impl ChunkPool {
         }
     }
 
-    /// Whether a free chunk has a payload of at least `need` bytes, so that `take` finds one for it.
+    /// Checks whether a free chunk has a payload of at least `need` bytes, so that `take` would return one.
     pub fn fits(&self, need: u32) -> bool
         ensures fits { (result ≡ false) ↔ FitsNone self.now need }
         ensures sound { IsPool self.now }
@@ -104,7 +104,7 @@ impl ChunkPool {
         self.class_for(need).is_some()
     }
 
-    /// Of which size a need takes.
+    /// Returns the size from which a need is taken.
     fn class_for(&self, need: u32) -> Option<Class>
         ensures value { result ≡ class_for self.now need }
         ensures sound { IsPool self.now }
@@ -112,7 +112,7 @@ impl ChunkPool {
         self.shape.class_for(self.free, self.extra_free, need)
     }
 
-    /// Takes the first free number of the first size.
+    /// Takes the first free chunk of the first size.
     fn take_first(&mut self) -> u32
         requires some { 0 < length self.old.free }
         ensures first { result ≡ first_or self.old.free self.old.count }
@@ -125,7 +125,7 @@ impl ChunkPool {
         id
     }
 
-    /// Takes the first free number of the second size.
+    /// Takes the first free chunk of the second size.
     fn take_extra(&mut self) -> u32
         requires some { 0 < length self.old.extra_free }
         ensures first { result ≡ first_or self.old.extra_free self.old.count }
@@ -138,8 +138,8 @@ impl ChunkPool {
         id
     }
 
-    /// Gives chunk `id` back: its first word is the first free number of its size, or the count where there is none, and
-    /// its number is in front of that list.
+    /// Gives chunk `id` back: writes the first free number of its size, or the count if there is none, into its first
+    /// word, and puts its number at the front of that list.
     pub fn give(&mut self, id: u32)
         requires { IsHeld self.old id }
 
@@ -156,7 +156,7 @@ impl ChunkPool {
         }
     }
 
-    /// Gives back chunk `id` of the first size.
+    /// Gives chunk `id` of the first size back.
     fn give_first(&mut self, id: u32)
         requires held { IsHeld self.old id }
         requires class { id < self.old.first_count }
@@ -168,7 +168,7 @@ impl ChunkPool {
         self.free += 1;
     }
 
-    /// Gives back chunk `id` of the second size.
+    /// Gives chunk `id` of the second size back.
     fn give_extra(&mut self, id: u32)
         requires held { IsHeld self.old id }
         requires class { self.old.first_count ≤ id }
@@ -180,7 +180,7 @@ impl ChunkPool {
         self.extra_free += 1;
     }
 
-    /// The word `word`, from 0, of chunk `id`.
+    /// Returns word `word`, counted from 0, of chunk `id`.
     pub fn read(&self, id: u32, word: u32) -> u32
         requires id_in_range { id < self.now.count }
         requires word_in_range { word < words_of self.now id }
@@ -190,7 +190,7 @@ impl ChunkPool {
         self.region.read(self.position(id, word))
     }
 
-    /// Writes the word `word`, from 0, of chunk `id`. The header of a free chunk is not written.
+    /// Writes word `word`, counted from 0, of chunk `id`, which isn't in the header of a free chunk.
     pub fn write(&mut self, id: u32, word: u32, value: u32)
         requires id_in_range { id < self.old.count }
         requires word_in_range { word < words_of self.old id }
@@ -206,7 +206,7 @@ impl ChunkPool {
         self.region.write(position, value);
     }
 
-    /// The word of chunk `id` in which its byte at `address` lies.
+    /// Returns the word of chunk `id` that contains its byte at `address`.
     pub fn read_at(&self, id: u32, address: u32) -> u32
         requires { HasAddress self.now id address }
         ensures value { result ≡ word_of self.now id ((address - place_of self.now id) / 4) }
@@ -215,7 +215,7 @@ impl ChunkPool {
         self.region.read(position_at(address))
     }
 
-    /// Writes the word of chunk `id` in which its byte at `address` lies. The header of a free chunk is not written.
+    /// Writes the word of chunk `id` that contains its byte at `address`, which isn't in the header of a free chunk.
     pub fn write_at(&mut self, id: u32, address: u32, value: u32)
         requires address_in_range { HasAddress self.old id address }
         requires link_kept { IsHeld self.old id ⊎ (payload_place_of self.old id ≤ address) }
@@ -227,7 +227,7 @@ impl ChunkPool {
         self.region.write(position, value);
     }
 
-    /// The words of chunk `id` behind its header, from word 4 on.
+    /// Returns the payload of chunk `id`: its words from word 4 on.
     pub fn payload(&self, id: u32) -> &[u32]
         requires { id < self.now.count }
         ensures value { result.now ≡ payload_of self.now id }
@@ -237,7 +237,7 @@ impl ChunkPool {
             .slice(self.position(id, 4), self.shape.words_of(id) as usize - 4)
     }
 
-    /// Where the word `word` of chunk `id` lies in the region.
+    /// Returns the index in the region of word `word` of chunk `id`.
     fn position(&self, id: u32, word: u32) -> usize
         requires id_in_range { id < self.now.count }
         requires word_in_range { word < words_of self.now id }
@@ -248,7 +248,7 @@ impl ChunkPool {
         self.shape.start_of(id) + word as usize
     }
 
-    /// How many chunks are free, of both sizes.
+    /// Returns the number of free chunks, of both sizes.
     pub fn free(&self) -> u32
         ensures count { result ≡ free_count self.now }
         ensures bounded { result ≤ self.now.count }
@@ -257,7 +257,7 @@ impl ChunkPool {
         self.free + self.extra_free
     }
 
-    /// The address of the first byte of chunk `id`.
+    /// Returns the address of the first byte of chunk `id`.
     pub fn place_of(&self, id: u32) -> u32
         requires { id < self.now.count }
         ensures place { result ≡ place_of self.now id }
@@ -268,7 +268,7 @@ impl ChunkPool {
         FIRST_PLACE + 4 * self.shape.start_of(id) as u32
     }
 
-    /// How many bytes chunk `id` has.
+    /// Returns the size of chunk `id` in bytes.
     pub fn bytes_of(&self, id: u32) -> u32
         requires { id < self.now.count }
         ensures value { result ≡ bytes_of self.now id }
@@ -277,7 +277,7 @@ impl ChunkPool {
         4 * self.shape.words_of(id)
     }
 
-    /// The number of the chunk that has a byte at `address`, or `None` where none has.
+    /// Returns the number of the chunk that has a byte at `address`, or `None` if no chunk has.
     pub fn chunk_at(&self, address: u32) -> Option<u32>
         ensures value { result ≡ chunk_at self.now address }
         ensures holds { IfSome result (λ id. HasAddress self.now id address) }
@@ -289,8 +289,8 @@ impl ChunkPool {
     }
 }
 
-/// Where the word stands in a region in which a byte at `address` lies. The chunks stand side by side in the order of their
-/// addresses, so the address alone tells it.
+/// Returns the index in the region of the word that contains the byte at `address`. Chunks lie side by side in the
+/// order of their addresses, so the address alone determines it.
 fn position_at(address: u32) -> usize
     requires { 0x8000_0000 ≤ address }
     ensures { result ≡ (address - 0x8000_0000) / 4 }
@@ -298,7 +298,7 @@ fn position_at(address: u32) -> usize
     ((address - FIRST_PLACE) / 4) as usize
 }
 
-/// Links the chunks of a region of zeros: the first word of each is the number behind its own among those of its size.
+/// Links the chunks of a region of zeros: writes the number of the next chunk of its size into the first word of each.
 fn link_all(region: &mut Region, shape: Shape)
     requires sound { IsShape shape }
     requires zeros { region.old ≡ replicate (size_in shape) 0 }

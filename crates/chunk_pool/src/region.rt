@@ -5,7 +5,7 @@ use crate::block::{Deed, Start, Words, allocate, deallocate};
 use std::alloc::{AllocError, Global};
 use std::marker::Model;
 
-/// One block of memory, each of its words written. Dropped, it goes back once to the allocator.
+/// One block of memory, all words of which are written. `drop` deallocates it once.
 pub(crate) struct Region {
     start: Start,
     len: usize,
@@ -27,7 +27,7 @@ impl Model for Region {
 }
 
 impl Region {
-    /// A region of `len` words, all 0.
+    /// Returns a region of `len` words, all 0.
     pub(crate) fn new(alloc: Global, len: usize) -> Result<Region, AllocError>
         requires { len < 2 ^ 60 }
         ensures { IfOk result (λ region. region ≡ replicate len 0) }
@@ -43,7 +43,7 @@ impl Region {
         })
     }
 
-    /// The word at `index`.
+    /// Returns the word at `index`.
     pub(crate) fn read(&self, index: usize) -> u32
         requires { index < length self.now }
         ensures { result ≡ slice_index self.now index }
@@ -59,7 +59,7 @@ impl Region {
         self.words.write(self.start, index, word);
     }
 
-    /// The `len` words from `from` on.
+    /// Returns the `len` words from index `from` on.
     pub(crate) fn slice(&self, from: usize, len: usize) -> &[u32]
         requires { from + len ≤ length self.now }
         ensures { result.now ≡ take len (drop from self.now) }
@@ -81,7 +81,7 @@ impl Drop for Region {
     }
 }
 
-/// The words with zeros in the room for `len` of them.
+/// Returns the words with zeros in the room for `len` of them.
 fn zeroed(mut words: Words, start: Start, len: usize) -> Words
     requires { (words.at ≡ start.at) × (words.items ≡ []) × (words.spare ≡ len) }
     ensures { (result.at ≡ start.at) × (result.items ≡ replicate len 0) × (result.spare ≡ 0) }

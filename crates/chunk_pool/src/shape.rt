@@ -1,25 +1,25 @@
-// Where the chunks of a pool stand, by how many there are of each size.
+// The places of a pool's chunks, by the number of chunks of each size.
 ghost use Rattle.std.specs.Prelude.{◌≡◌, ◌+◌, ◌-◌, ◌*◌, ◌<◌, ◌≤◌, ◌&&◌, nat_le};
 ghost use Rattle.chunk_pool.specs.Pool.{IsShape, words_in, start_in, size_in, next_in, chunk_in, offers, choice};
 
 /// The address of the first byte of chunk 0.
 pub(crate) const FIRST_PLACE: u32 = 0x8000_0000;
 
-/// One of the two sizes of a pool's chunks. The numbers of the first come before those of the second.
+/// One of the two sizes of a pool's chunks. The numbers of the first size come before those of the second.
 #[derive(Clone, Copy)]
 pub(crate) enum Class {
-    /// The size that the certificate speaks of.
+    /// The size in the certificate.
     First,
     /// The size of the chunks that a policy adds.
     Extra,
 }
 
-/// How many chunks there are of each size.
+/// The numbers and sizes of a pool's chunks.
 #[derive(Clone, Copy)]
 pub(crate) struct Shape {
-    /// How many chunks there are, of both sizes.
+    /// The number of chunks, of both sizes.
     pub(crate) count: u32,
-    /// How many of them have the first size.
+    /// The number of chunks of the first size.
     pub(crate) first_count: u32,
     /// The words of a chunk of the first size.
     pub(crate) words: u32,
@@ -28,7 +28,7 @@ pub(crate) struct Shape {
 }
 
 impl Shape {
-    /// How many words chunk `id` has.
+    /// Returns the number of words of chunk `id`.
     #[tactic(auto, unfolding(crate::specs::Pool::words_in))]
     pub(crate) fn words_of(self, id: u32) -> u32
         ensures { result ≡ words_in self id }
@@ -40,7 +40,7 @@ impl Shape {
         }
     }
 
-    /// How many words stand before the first of chunk `id`.
+    /// Returns the number of words before the first word of chunk `id`.
     #[tactic(auto, unfolding(crate::specs::Pool::words_in, crate::specs::Pool::start_in))]
     pub(crate) fn start_of(self, id: u32) -> usize
         requires sound { IsShape self }
@@ -56,7 +56,7 @@ impl Shape {
         }
     }
 
-    /// How many words all chunks have.
+    /// Returns the number of words of all chunks.
     pub(crate) fn size(self) -> usize
         requires { IsShape self }
         ensures { result ≡ size_in self }
@@ -65,7 +65,7 @@ impl Shape {
         self.first_count as usize * self.words as usize + extra
     }
 
-    /// The number behind `id` among the chunks of its size: of the last the count.
+    /// Returns the number of the next chunk of the same size after `id`, or the count after the last one.
     pub(crate) fn next(self, id: u32) -> u32
         requires { id < self.count }
         ensures { result ≡ next_in self id }
@@ -77,8 +77,8 @@ impl Shape {
         }
     }
 
-    /// The number of the chunk that has a byte at `address`, or `None` where none has. `checked_div` has no trap, so the compiler
-    /// leaves out a search whose answer isn't used.
+    /// Returns the number of the chunk that has a byte at `address`, or `None` if no chunk has. `checked_div` has no
+    /// trap, so the compiler can remove a search whose result isn't used.
     pub(crate) fn chunk_at(self, address: u32) -> Option<u32>
         requires { IsShape self }
         ensures { result ≡ chunk_in self address }
@@ -96,8 +96,8 @@ impl Shape {
         }
     }
 
-    /// Of which size a need of so many bytes takes, where so many chunks of each are free: the smaller that has a free
-    /// chunk which fits, the first where both are one; `None` where no free chunk fits.
+    /// Returns the size from which a need of `need` bytes is taken, given the number of free chunks of each size: the
+    /// smaller size with a free chunk that fits, or the first if both are equal. Returns `None` if no free chunk fits.
     pub(crate) fn class_for(self, free: u32, extra_free: u32, need: u32) -> Option<Class>
         requires { IsShape self }
         ensures { result ≡ choice (offers self.words free need) (offers self.extra_words extra_free need) (nat_le self.words self.extra_words) }

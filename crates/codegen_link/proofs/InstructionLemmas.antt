@@ -11,6 +11,7 @@ use Rattle.flat_code.specs.declared.operators.BinOp.{BinOp}
 use Rattle.stack_certificate.specs.declared.functions.FunctionFact.{FunctionFact}
 use Rattle.stack_certificate.specs.declared.sites.LinkKind.{LinkKind}
 use Rattle.stack_certificate.specs.Parts.{upper_part, lower_part, load, store, system_call, guard, middle, zeroes, arguments, result, jump, call_instruction, transfer, saves, epilogue}
+use Rattle.stack_certificate.specs.Registers.{zero_, ra, sp, tp, t0, t1, a0, a7}
 
 abbrev pub Fit : List Instr → Type 0
 Fit instrs = AllByRecursion IsInRange instrs
@@ -37,7 +38,7 @@ pub addi-fits : (rd rs n : ℕ) → rd < 32 → rs < 32 → n ≤ 2047 → IsInR
 unfolding IsInRange
 addi-fits rd rs n a b le = (a, b, immediate n le)
 
-pub lower-fits : (n : ℕ) → n ≤ 2047 → IsInRange (Instr.Addi 2 2 (pos 0 -ℤ pos n))
+pub lower-fits : (n : ℕ) → n ≤ 2047 → IsInRange (Instr.Addi sp sp (pos 0 -ℤ pos n))
 unfolding IsInRange
 lower-fits n le = (omega arith, omega arith, negated n le)
 
@@ -54,7 +55,7 @@ unfolding IsInRange
 ecall-fits = tt
 
 pub call-fits : (n : ℕ) → n ≤ 2047 → Fit (system_call n)
-call-fits n le = (addi-fits 17 0 n (omega arith) (omega arith) le, (ecall-fits, tt))
+call-fits n le = (addi-fits a7 zero_ n (omega arith) (omega arith) le, (ecall-fits, tt))
 
 pub middle-fits : (op : BinOp) → Fit (middle op)
 unfolding IsInRange
@@ -92,17 +93,17 @@ IsNearEntry (Some entry) = (a : ℕ) × (entry ≡ 4 * a) × (a ≤ 240000)
 pub instruction-fits : (callee : Option ℕ) (from b : ℕ) → IsNearEntry callee → from ≡ 4 * b → b ≤ 240000 → IsInRange (call_instruction callee from)
 unfolding IsInRange
 instruction-fits None from b near eb lb = (omega arith, omega arith, immediate 0 (omega arith))
-instruction-fits (Some entry) from b near eb lb = jump-fits 1 entry from near.0 b (omega arith) near.1 eb near.2 lb
+instruction-fits (Some entry) from b near eb lb = jump-fits ra entry from near.0 b (omega arith) near.1 eb near.2 lb
 
-sub-fits : IsInRange (Instr.Sub 5 2 6)
+sub-fits : IsInRange (Instr.Sub t0 sp t1)
 unfolding IsInRange
 sub-fits = (omega arith, omega arith, omega arith)
 
-bltu-fits : IsInRange (Instr.Bltu 5 4 (pos 12))
+bltu-fits : IsInRange (Instr.Bltu t0 tp (pos 12))
 unfolding IsInRange
 bltu-fits = (omega arith, omega arith, (omega (arith, ints), omega (arith, ints), refl))
 
-skip-fits : IsInRange (Instr.Jal 0 (pos 24))
+skip-fits : IsInRange (Instr.Jal zero_ (pos 24))
 unfolding IsInRange
 skip-fits = (omega arith, (omega (arith, ints), omega (arith, ints), refl))
 
@@ -112,9 +113,9 @@ transfer-fits (LinkKind.Spawned need) callee here b near eb lb = (instruction-fi
 transfer-fits (LinkKind.Linked need) callee here b near eb lb =
     let first : here + 16 ≡ 4 * (b + 4) = omega arith in
     let second : here + 32 ≡ 4 * (b + 8) = omega arith in (
-      lui-fits 6 need (omega arith),
+      lui-fits t1 need (omega arith),
       (
-        low-fits 6 need (omega arith),
+        low-fits t1 need (omega arith),
         (
           sub-fits,
           (
@@ -124,7 +125,7 @@ transfer-fits (LinkKind.Linked need) callee here b near eb lb =
               (
                 skip-fits,
                 (
-                  addi-fits 17 0 1 (omega arith) (omega arith) (omega arith),
+                  addi-fits a7 zero_ 1 (omega arith) (omega arith) (omega arith),
                   (
                     ecall-fits,
                     (
@@ -144,14 +145,14 @@ transfer-fits (LinkKind.Linked need) callee here b near eb lb =
 
 module _ (fact : FunctionFact) (small : (x : ℕ) → slice_index fact.places x ≤ 2047) where
   pub load-fits : (r x : ℕ) → r < 32 → IsInRange (load fact r x)
-  load-fits r x lt = lw-fits r 2 (slice_index fact.places x) lt (omega arith) (small x)
+  load-fits r x lt = lw-fits r sp (slice_index fact.places x) lt (omega arith) (small x)
 
   pub store-fits : (r x : ℕ) → r < 32 → IsInRange (store fact r x)
-  store-fits r x lt = sw-fits 2 r (slice_index fact.places x) (omega arith) lt (small x)
+  store-fits r x lt = sw-fits sp r (slice_index fact.places x) (omega arith) lt (small x)
 
   pub result-fits : (d : Option ℕ) → Fit (result fact d)
   result-fits None = tt
-  result-fits (Some d) = (store-fits 10 d (omega arith), tt)
+  result-fits (Some d) = (store-fits a0 d (omega arith), tt)
 
   pub arguments-fit : (r : ℕ) (xs : List ℕ) → r + length xs ≤ 32 → Fit (arguments fact r xs)
   arguments-fit r [] le = tt
@@ -161,21 +162,21 @@ module _ (fact : FunctionFact) (small : (x : ℕ) → slice_index fact.places x 
   saves-fit r k zero le = tt
   saves-fit r k (suc n) le = (store-fits r k (omega arith), saves-fit (r + 1) (k + 1) n (omega arith))
 
-  branch-fits : IsInRange (Instr.Bltu 5 6 (pos 16))
+  branch-fits : IsInRange (Instr.Bltu t0 t1 (pos 16))
   unfolding IsInRange
   branch-fits = (omega arith, omega arith, (omega (arith, ints), omega (arith, ints), refl))
 
   pub guard-fits : (i n kind : ℕ) → kind ≤ 2047 → Fit (guard fact i n kind)
   guard-fits i n kind le = (
-    load-fits 5 i (omega arith),
+    load-fits t0 i (omega arith),
     (
-      lui-fits 6 n (omega arith),
+      lui-fits t1 n (omega arith),
       (
-        low-fits 6 n (omega arith),
+        low-fits t1 n (omega arith),
         (
           branch-fits,
           (
-            addi-fits 10 0 kind (omega arith) (omega arith) le,
+            addi-fits a0 zero_ kind (omega arith) (omega arith) le,
             call-fits 31 (omega arith),
           ),
         ),
@@ -185,11 +186,11 @@ module _ (fact : FunctionFact) (small : (x : ℕ) → slice_index fact.places x 
 
 pub zeroes-fit : (place n : ℕ) → place + 4 * n ≤ 2047 → Fit (zeroes place n)
 zeroes-fit place zero le = tt
-zeroes-fit place (suc n) le = (sw-fits 2 0 place (omega arith) (omega arith) (omega arith), zeroes-fit (place + 4) n (omega arith))
+zeroes-fit place (suc n) le = (sw-fits sp zero_ place (omega arith) (omega arith) (omega arith), zeroes-fit (place + 4) n (omega arith))
 
-return-fits : IsInRange (Instr.Jalr 0 1 (pos 0))
+return-fits : IsInRange (Instr.Jalr zero_ ra (pos 0))
 unfolding IsInRange
 return-fits = (omega arith, omega arith, immediate 0 (omega arith))
 
 pub epilogue-fits : (fact : FunctionFact) → fact.ra ≤ 2047 → fact.frame ≤ 2047 → Fit (epilogue fact)
-epilogue-fits fact ra frame = (lw-fits 1 2 fact.ra (omega arith) (omega arith) ra, (addi-fits 2 2 fact.frame (omega arith) (omega arith) frame, (return-fits, tt)))
+epilogue-fits fact place frame = (lw-fits ra sp fact.ra (omega arith) (omega arith) place, (addi-fits sp sp fact.frame (omega arith) (omega arith) frame, (return-fits, tt)))

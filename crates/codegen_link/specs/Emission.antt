@@ -1,4 +1,4 @@
--- What the making of words stands on.
+-- The conditions under which words are written.
 use Rattle.std.specs.Prelude.{ℕ, ◌≡◌, ◌<◌, ◌≤◌, List, [], length, map, slice_index, slice_index_or}
 use Rattle.std.specs.List.{range_with_len}
 use Rattle.flat_code.specs.declared.operations.Op.{Op}
@@ -11,7 +11,7 @@ use Rattle.stack_certificate.specs.Certificates.{global_address, table_address}
 use Rattle.codegen_link.specs.Layout.{HasFacts, code_words}
 use Rattle.codegen_link.specs.Plans.{IsPlanFor}
 
--- the function, table or global that an operation names is there
+-- the function, table or global that an operation names exists
 abbrev pub NamesThere : FlatCode → Op → Type 0
 NamesThere code (Op.LoadGlobal d g) = g < length code.globals
 NamesThere code (Op.StoreGlobal g s) = g < length code.globals
@@ -22,7 +22,7 @@ NamesThere code (Op.CallTable site d t i s) = t < length code.tables
 NamesThere code (Op.Spawn site d f s) = f < length code.functions
 NamesThere code _ = Unit {0}
 
--- where an operation jumps, among so many operations, there is one
+-- the operation to which an operation jumps, among this number of operations, exists
 abbrev pub JumpsInside : ℕ → Op → Type 0
 JumpsInside count (Op.Jump to) = to < count
 JumpsInside count (Op.JumpZero s to) = to < count
@@ -32,7 +32,8 @@ JumpsInside count _ = Unit {0}
 abbrev pub AreNeeds : FlatCode → Plan → List ℕ → Type 0
 AreNeeds code plan needs = needs ≡ map (greatest (slice_index plan.bounds)) code.tables
 
--- the certificate is the plan's, the code has at most 200,000 words, and needs and addresses are those of the program
+-- the certificate is that of the plan, the code has at most 200,000 words, and needs and addresses are those of the
+-- program
 pub record IsReady (code : FlatCode) (plan : Plan) (certificate : Certificate) (needs globals tables : List ℕ) : Type 0 where
   pub max_path : ℕ
   pub planned : IsPlanFor code plan max_path
@@ -42,12 +43,12 @@ pub record IsReady (code : FlatCode) (plan : Plan) (certificate : Certificate) (
   pub global_addresses : globals ≡ map (global_address code) (range_with_len 0 (length code.globals))
   pub table_addresses : tables ≡ map (table_address code) (range_with_len 0 (length code.tables))
 
--- the number at the place to which an operation jumps, if it jumps
+-- the number at the index to which an operation jumps, if it jumps
 abbrev pub target_in : List ℕ → Op → ℕ
 target_in begins (Op.Jump to) = slice_index begins to
 target_in begins (Op.JumpZero s to) = slice_index begins to
 target_in begins _ = 0
 
--- the entry that the fact of function f says, which is there
+-- the entry in the fact of function f, which exists
 abbrev pub entry_in : List FunctionFact → ℕ → ℕ
 entry_in facts f = (slice_index_or facts f (record { entry = 0; words = 0; frame = 0; ra = 0; bound = 0; places = [] })).entry

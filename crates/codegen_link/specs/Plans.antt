@@ -1,4 +1,4 @@
--- When chunks and a plan are what code can be made for.
+-- The chunks and plans for which code can be generated.
 use Rattle.std.specs.Prelude.{ℕ, ◌≡◌, ◌+◌, ◌%◌, ◌<◌, ◌≤◌, length, slice_index, Some}
 use Rattle.std.specs.List.Sorted.{IsStrictlyIncreasing}
 use Rattle.flat_code.specs.declared.operations.Op.{Op}
@@ -9,7 +9,7 @@ use Rattle.stack_certificate.specs.declared.sites.LinkKind.{LinkKind}
 use Rattle.codegen_link.specs.declared.options.Options.{Options}
 use Rattle.codegen_link.specs.Links.{link, need}
 
--- a chunk is a multiple of 16 from 64 to 65,536 bytes, and a path has at most what a chunk holds beside its header
+-- a chunk is a multiple of 16 from 64 to 65,536 bytes, and max path is at most the payload of a chunk
 pub record AreInRange (options : Options) : Type 0 where
   pub aligned : options.chunk % 16 ≡ 0
   pub least : 64 ≤ options.chunk
@@ -17,9 +17,9 @@ pub record AreInRange (options : Options) : Type 0 where
   pub path : 16 ≤ options.max_path
   pub room : options.max_path + 16 ≤ options.chunk
 
--- a plan for a program: it has a bound for each function, its checkpointed numbers rise, no frame exceeds 2,032 bytes or
--- its function's bound, no bound exceeds the most bytes of a path, and where a call is plain, the caller's frame and what
--- is called are within the caller's bound
+-- a plan for a program: it has a bound for each function, its checkpointed numbers increase, no frame exceeds 2,032
+-- bytes or its function's bound, no bound exceeds max path, and at each plain call the caller's frame plus the bound of
+-- each callee is within the caller's bound
 pub record IsPlanFor (code : FlatCode) (plan : Plan) (max_path : ℕ) : Type 0 where
   pub each : length plan.bounds ≡ length code.functions
   pub rising : IsStrictlyIncreasing plan.checkpointed

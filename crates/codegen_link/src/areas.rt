@@ -1,4 +1,4 @@
-// The words of an image beside its code.
+// The words of an image other than its code.
 
 ghost use Rattle.std.specs.Prelude.{◌≡◌, ◌<◌, ◌++◌, length, map, flat_map, replicate, IfOk, OnOk};
 ghost use Rattle.std.specs.List.{AllByRecursion};
@@ -11,7 +11,7 @@ use flat_code::FlatProgram;
 use stack_certificate::{Certificate, FunctionFact};
 use std::alloc::{AllocError, Global};
 
-// Adds a word so many times.
+// Appends a word a number of times.
 fn push_copies(word: u32, count: u32, words: &mut Vec<u32>) -> Result<(), AllocError>
     ensures { OnOk result (words.new.items ≡ words.old.items ++ replicate count word) }
 {
@@ -21,7 +21,7 @@ fn push_copies(word: u32, count: u32, words: &mut Vec<u32>) -> Result<(), AllocE
     Ok(())
 }
 
-// The words at which the globals start, one after another.
+// The initial words of the globals, one after another.
 pub(crate) fn global_words(alloc: Global, flat: &FlatProgram) -> Result<Words, AllocError>
     ensures { IfOk result (λ words. words ≡ flat_map (λ g. replicate g.words g.start) (program_code flat.now).globals) }
 {
@@ -32,7 +32,7 @@ pub(crate) fn global_words(alloc: Global, flat: &FlatProgram) -> Result<Words, A
     Ok(Words::new(words))
 }
 
-// The entries of these members of a table, after others.
+// Appends the entries of these members of a table.
 fn push_members(
     members: &[u32],
     facts: &[FunctionFact],

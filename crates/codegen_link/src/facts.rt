@@ -1,4 +1,4 @@
-// What a certificate says of the functions.
+// The facts of functions in a certificate.
 
 ghost use Rattle.std.specs.Prelude.{◌≡◌, ◌+◌, ◌*◌, ◌<◌, ◌≤◌, ◌^◌, length, map, sum, IfOk};
 ghost use Rattle.std.specs.List.{range_with_len};
@@ -7,15 +7,15 @@ ghost use Rattle.flat_code.specs.Codes.{function_at};
 ghost use Rattle.flat_code.specs.ProgramView.{program_code};
 ghost use Rattle.codegen_link.specs.Layout.{code_words, fact_of, function_words, places_from, words_to};
 
-use crate::lookups::function_of;
 use crate::sizes::function_size;
 use cap_word::Words;
 use checkpoint_place::Plan;
 use flat_code::{FlatProgram, weight};
-use stack_certificate::FunctionFact;
+use stack_certificate::{FunctionFact, function_of};
+use stack_image::CODE_START;
 use std::alloc::{AllocError, Global};
 
-// The places of variables of so many words, from 0 upward.
+// The places of variables with these numbers of words, from 0 upward.
 fn places(alloc: Global, sizes: &[u32]) -> Result<Words, AllocError>
     requires { sum sizes.now ≤ 2 ^ 20 }
     ensures { IfOk result (λ places. places ≡ places_from 0 sizes.now) }
@@ -29,7 +29,7 @@ fn places(alloc: Global, sizes: &[u32]) -> Result<Words, AllocError>
     Ok(Words::new(places))
 }
 
-// What is said of a function whose code has so many words, behind so many others.
+// The fact of a function whose code has this number of words, after those of other functions.
 fn fact(
     alloc: Global,
     flat: &FlatProgram,
@@ -48,7 +48,7 @@ fn fact(
     let body = function_of(flat, function);
     let frame = weight(body);
     Ok(FunctionFact {
-        entry: 0x1000 + 4 * before,
+        entry: CODE_START + 4 * before,
         words,
         frame,
         ra: frame - 4,
@@ -57,7 +57,7 @@ fn fact(
     })
 }
 
-// What is said of all functions, in order of numbers.
+// The facts of all functions, in order of numbers.
 pub(crate) fn facts_of(
     alloc: Global,
     flat: &FlatProgram,

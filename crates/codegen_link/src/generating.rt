@@ -5,7 +5,6 @@ ghost use Rattle.codegen_link.specs.Emission.{AreNeeds};
 ghost use Rattle.codegen_link.specs.Layout.{code_words, HasFacts, IsCertificateOf, IsImageOf};
 ghost use Rattle.codegen_link.specs.Plans.{AreInRange, IsPlanFor};
 
-use crate::addresses::{global_addresses, table_addresses};
 use crate::areas::{entries, global_words, table_words};
 use crate::facts::facts_of;
 use crate::layouts::Layout;
@@ -17,11 +16,11 @@ use crate::sizes::code_size;
 use crate::words::code_of;
 use checkpoint_place::Plan;
 use flat_code::FlatProgram;
-use stack_certificate::{Certificate, FunctionFacts, SiteFacts};
+use stack_certificate::{Certificate, FunctionFacts, SiteFacts, global_addresses, table_addresses};
 use stack_image::Image;
 use std::alloc::{AllocError, Global};
 
-// The most words that code may have.
+// The maximum number of words of code.
 const MOST_WORDS: u64 = 200_000;
 
 // The certificate.
@@ -77,11 +76,13 @@ fn image_of(
     })
 }
 
-/// The image and the certificate of a program of flat code, by a plan, for chunks and paths of so many bytes:
-/// those of specs/Layout.antt.
+/// Returns the image and the certificate of a program of flat code, by a plan, for chunks and paths of these
+/// sizes in bytes: those of specs/Layout.antt.
 ///
-/// It refuses with `CodeTooLarge` exactly where the code has more than 200,000 words. More than 2^32
-/// functions count as want of memory.
+/// # Errors
+///
+/// `CodeTooLarge` exactly if the code has more than 200,000 words; `Memory` if an allocation fails, or if
+/// there are more than 2^32 functions.
 pub fn generate(
     alloc: Global,
     flat: &FlatProgram,
@@ -90,7 +91,7 @@ pub fn generate(
 ) -> Result<(Image, Certificate), GenError>
     requires options { AreInRange options }
     requires plan { IsPlanFor (program_code flat.now) plan.now options.max_path }
-    // Which refusal it is. It comes even where memory is out.
+    // The refusal. It is returned even if there is no memory.
     ensures refused { length (program_code flat.now).functions ≤ 2 ^ 32 → 200000 < code_words (program_code flat.now) plan.now →
         result ≡ Err (GenError.CodeTooLarge (min (code_words (program_code flat.now) plan.now) (2 ^ 64 - 1))) }
     ensures only_memory { code_words (program_code flat.now) plan.now ≤ 200000 → IsOkUnless result GenError.Memory }

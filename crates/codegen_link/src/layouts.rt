@@ -2,7 +2,7 @@ use checkpoint_place::Plan;
 use flat_code::FlatProgram;
 use stack_certificate::Certificate;
 
-// A program with its plan and certificate, and what the words of its code take from all of it.
+// A program with its plan and certificate, and what the words of its code need from all of it.
 #[derive(Drop)]
 pub(crate) struct Layout<'a> {
     pub(crate) flat: &'a FlatProgram,

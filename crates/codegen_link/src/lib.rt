@@ -1,14 +1,13 @@
 // Machine code with linked stacks, and its certificate, from flat code and a placement of checkpoints.
 //
-// A program of flat code comes in with a plan: a bound for each function, and the call sites that are
-// checkpointed. `generate` gives the image and the certificate that specs/Layout.antt lays out: functions
-// one after another behind the end stub, a frame as large as its function's weight, variables from its
-// start upward, and a test of the stack at each checkpointed call. The words are those of the templates of
-// `stack_certificate`, each made once, in order. Linked chunks and checks at chosen calls are Capriccio's
+// In: a program of flat code and a plan, which has a bound for each function and the checkpointed call sites.
+// Out: `generate` returns the image and the certificate that specs/Layout.antt lays out: functions one after
+// another behind the end stub, a frame as large as its function's weight, variables from its start upward,
+// and a test of the stack at each checkpointed call. The words are those of the templates of
+// `stack_certificate`, each written once, in order. Linked chunks and tests at chosen calls are Capriccio's
 // (von Behren, Condit, Zhou, Necula, Brewer, "Capriccio: Scalable Threads for Internet Services", SOSP 2003).
 #![tactic(auto)]
 
-mod addresses;
 mod areas;
 mod facts;
 mod generating;

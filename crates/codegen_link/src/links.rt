@@ -1,18 +1,16 @@
-// How operations link.
+// The link kinds of operations.
 
-ghost use Rattle.std.specs.Prelude.{◌≡◌, ℕ, ◌<◌, List, length, map, slice_index, IfOk};
-ghost use Rattle.std.specs.List.{AllByRecursion};
+ghost use Rattle.std.specs.Prelude.{◌≡◌, ℕ, List, length, IfOk};
 ghost use Rattle.std.specs.List.Sorted.{IsStrictlyIncreasing};
 ghost use Rattle.flat_code.specs.Codes.{FlatCode};
 ghost use Rattle.flat_code.specs.ProgramView.{program_code};
-ghost use Rattle.call_graph.specs.Callees.{greatest};
 ghost use Rattle.call_graph.specs.Lists.{has};
 ghost use Rattle.stack_certificate.specs.Templates.{size};
 ghost use Rattle.codegen_link.specs.Emission.{AreNeeds, NamesThere};
 ghost use Rattle.codegen_link.specs.Links.{link, linked_if};
 
-use call_graph::is_kept;
-use checkpoint_place::Plan;
+use call_graph::is_among;
+use checkpoint_place::{Plan, greatest_of};
 use flat_code::{FlatProgram, Op};
 use stack_certificate::LinkKind;
 use std::alloc::{AllocError, Global};
@@ -22,10 +20,11 @@ fn is_checkpointed(plan: &Plan, site: u32) -> bool
     requires { IsStrictlyIncreasing plan.now.checkpointed }
     ensures { result ≡ has site plan.now.checkpointed }
 {
-    !is_kept(site, plan.checkpointed.as_slice())
+    is_among(site, plan.checkpointed.as_slice())
 }
 
-// How an operation links, with a need of 0: as many words are made for it as with its own need.
+// The link kind of an operation, with a need of 0, which gives the same number of words as the true
+// need.
 pub(crate) fn shape(plan: &Plan, op: &Op) -> LinkKind
     requires { IsStrictlyIncreasing plan.now.checkpointed }
     ensures { (code : FlatCode) (sizes : List ℕ) → size sizes result op.now ≡ size sizes (link code plan.now op.now) op.now }
@@ -42,7 +41,7 @@ pub(crate) fn shape(plan: &Plan, op: &Op) -> LinkKind
     }
 }
 
-// How a call at a site links, by the greatest bound of what it may enter.
+// The link kind of a call at a site, by the greatest bound of its callees.
 fn call_link(plan: &Plan, site: u32, need: u32) -> LinkKind
     requires { IsStrictlyIncreasing plan.now.checkpointed }
     ensures { result ≡ linked_if (has site plan.now.checkpointed) need }
@@ -54,7 +53,7 @@ fn call_link(plan: &Plan, site: u32, need: u32) -> LinkKind
     }
 }
 
-// How an operation links.
+// The link kind of an operation.
 pub(crate) fn link_of(flat: &FlatProgram, plan: &Plan, needs: &[u32], op: &Op) -> LinkKind
     requires rising { IsStrictlyIncreasing plan.now.checkpointed }
     requires each { length plan.now.bounds ≡ length (program_code flat.now).functions }
@@ -72,18 +71,6 @@ pub(crate) fn link_of(flat: &FlatProgram, plan: &Plan, needs: &[u32], op: &Op) -
         },
         _ => LinkKind::Plain,
     }
-}
-
-// The greatest bound of these functions.
-fn greatest_of(functions: &[u32], bounds: &[u32]) -> u32
-    requires { AllByRecursion (λ f. f < length bounds.now) functions.now }
-    ensures { result ≡ greatest (slice_index bounds.now) functions.now }
-{
-    let mut most = 0;
-    for function in functions {
-        most = most.max(bounds[*function as usize]);
-    }
-    most
 }
 
 // The greatest bound of each table's members.

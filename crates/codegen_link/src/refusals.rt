@@ -3,12 +3,13 @@ ghost use Rattle.codegen_link.specs.declared.refusals.GenError.TheVariants.{Memo
 
 use std::alloc::AllocError;
 
-/// Why there is no code.
+/// Why no code was generated.
 #[derive(Clone, Copy)]
 pub enum GenError {
-    /// The code has so many words, more than 200,000. The count stands still at the end of its type.
+    /// The code has this number of words, more than 200,000. The count saturates at the maximum of
+    /// its type.
     CodeTooLarge { words: u64 },
-    /// No memory for the code.
+    /// An allocation failed.
     Memory,
 }
 

@@ -1,21 +1,23 @@
-// What the template of an operation takes from the rest of the program.
+// What the template of an operation needs from the rest of the program.
 
-ghost use Rattle.std.specs.Prelude.{◌≡◌, ◌<◌, ◌^◌, length, map, slice_index, IfOk};
+ghost use Rattle.std.specs.Prelude.{◌≡◌, ◌<◌, ◌^◌, length, map, IfOk};
 ghost use Rattle.std.specs.List.{range_with_len};
 ghost use Rattle.flat_code.specs.Codes.{function_at, operation_at};
 ghost use Rattle.flat_code.specs.ProgramView.{program_code};
 ghost use Rattle.stack_certificate.specs.Certificates.{fact_at, global_address as address_of_global, table_address as address_of_table};
-ghost use Rattle.stack_certificate.specs.Templates.{begin, goes_to, named_address, named_count, named_entry, setting_at};
+ghost use Rattle.stack_certificate.specs.Templates.{begin, named_address, named_count, named_entry, setting_at};
 ghost use Rattle.codegen_link.specs.Emission.{IsReady, JumpsInside, NamesThere, target_in};
 
 use crate::layouts::Layout;
 use crate::links::{link_of, shape};
-use crate::lookups::{fact_of, function_of, members_of_table, operation_of, words_of_global};
+use crate::lookups::operation_of;
 use flat_code::{FlatProgram, Op};
-use stack_certificate::{Setting, operation_size};
+use stack_certificate::{
+    Setting, fact_of, function_of, members_of_table, operation_size, words_of_global,
+};
 use std::alloc::{AllocError, Global};
 
-// The address at which each operation of a function begins.
+// The address of the first word of each operation of a function.
 pub(crate) fn begins(
     alloc: Global,
     layout: &Layout<'_>,
@@ -47,7 +49,7 @@ pub(crate) fn entry_of(layout: &Layout<'_>, function: u32) -> u32
     fact_of(layout.certificate, function).entry
 }
 
-// Where the operation begins to which another jumps.
+// The address of the operation to which another jumps.
 fn target(begins: &[u64], op: &Op) -> u64
     requires { JumpsInside (length begins.now) op.now }
     ensures { result ≡ target_in begins.now op.now }
@@ -106,7 +108,7 @@ fn address(layout: &Layout<'_>, op: &Op) -> u32
     }
 }
 
-// The words of the array or the members of the table that an operation names.
+// The size in words of the array, or the number of members of the table, that an operation names.
 fn count(flat: &FlatProgram, op: &Op) -> u32
     requires names { NamesThere (program_code flat.now) op.now }
     ensures { result ≡ named_count (program_code flat.now) op.now }
@@ -119,7 +121,7 @@ fn count(flat: &FlatProgram, op: &Op) -> u32
     }
 }
 
-// What the template of an operation takes, where it is known at which address each of its function begins.
+// The setting of an operation's template, given the address of each operation of its function.
 pub(crate) fn setting(layout: &Layout<'_>, begins: &[u64], function: u32, op: u32) -> Setting
     requires ready { IsReady (program_code layout.now.flat.now) layout.now.plan.now layout.now.certificate.now layout.now.needs.items layout.now.globals.items layout.now.tables.items }
     requires function { function < length (program_code layout.now.flat.now).functions }

@@ -1,4 +1,4 @@
-// What a certificate says of the sites.
+// The facts of sites in a certificate.
 
 ghost use Rattle.std.specs.Prelude.{◌≡◌, ◌<◌, ◌≤◌, [], ◌++◌, ◌^◌, filter_map, length, map, IfOk, OnOk};
 ghost use Rattle.std.specs.List.{cons_option};
@@ -9,13 +9,13 @@ ghost use Rattle.codegen_link.specs.Emission.{AreNeeds, NamesThere};
 ghost use Rattle.codegen_link.specs.Links.{site_fact, site_facts};
 
 use crate::links::link_of;
-use crate::lookups::{function_of, operation_of};
+use crate::lookups::operation_of;
 use checkpoint_place::Plan;
 use flat_code::{FlatProgram, Op};
-use stack_certificate::SiteFact;
+use stack_certificate::{SiteFact, function_of};
 use std::alloc::{AllocError, Global};
 
-// What is said of an operation's site, where it is a call of a function or a table, or starts a thread.
+// The fact of an operation's site, if it is a call of a function or a table, or starts a thread.
 fn fact_of_site(flat: &FlatProgram, plan: &Plan, needs: &[u32], op: &Op) -> Option<SiteFact>
     requires rising { IsStrictlyIncreasing plan.now.checkpointed }
     requires each { length plan.now.bounds ≡ length (program_code flat.now).functions }
@@ -35,7 +35,7 @@ fn fact_of_site(flat: &FlatProgram, plan: &Plan, needs: &[u32], op: &Op) -> Opti
     }
 }
 
-// Adds what is said of an operation's site, if anything is.
+// Appends the fact of an operation's site, if it has one.
 fn push_site(
     flat: &FlatProgram,
     plan: &Plan,
@@ -55,7 +55,7 @@ fn push_site(
     Ok(())
 }
 
-// Adds what is said of the sites of a function.
+// Appends the facts of the sites of a function.
 fn push_sites(
     flat: &FlatProgram,
     plan: &Plan,
@@ -76,7 +76,7 @@ fn push_sites(
     Ok(())
 }
 
-// What is said of all sites, in the order of the text.
+// The facts of all sites, in the order of the text.
 fn unsorted_sites(
     alloc: Global,
     flat: &FlatProgram,
@@ -96,7 +96,7 @@ fn unsorted_sites(
     Ok(sites)
 }
 
-// What is said of all sites, in order of numbers.
+// The facts of all sites, in order of numbers.
 pub(crate) fn sites_of(
     alloc: Global,
     flat: &FlatProgram,

@@ -1,4 +1,4 @@
-// How many words code has.
+// The number of words of code.
 
 ghost use Rattle.std.specs.Prelude.{◌≡◌, ◌-◌, ◌<◌, ◌≤◌, ◌^◌, length, min};
 ghost use Rattle.std.specs.List.Sorted.{IsStrictlyIncreasing};
@@ -7,12 +7,12 @@ ghost use Rattle.flat_code.specs.ProgramView.{program_code};
 ghost use Rattle.codegen_link.specs.Layout.{code_words, function_words};
 
 use crate::links::shape;
-use crate::lookups::{function_of, operation_of};
+use crate::lookups::operation_of;
 use checkpoint_place::Plan;
 use flat_code::FlatProgram;
-use stack_certificate::operation_size;
+use stack_certificate::{function_of, operation_size};
 
-// How many words a function's code has.
+// The number of words of a function's code.
 pub(crate) fn function_size(flat: &FlatProgram, plan: &Plan, function: u32) -> u64
     requires rising { IsStrictlyIncreasing plan.now.checkpointed }
     requires function { function < length (program_code flat.now).functions }
@@ -28,7 +28,7 @@ pub(crate) fn function_size(flat: &FlatProgram, plan: &Plan, function: u32) -> u
     words
 }
 
-// How many words all code has. The count stands still at the end of its type.
+// The number of words of all code. The count saturates at the maximum of its type.
 pub(crate) fn code_size(flat: &FlatProgram, plan: &Plan) -> u64
     requires rising { IsStrictlyIncreasing plan.now.checkpointed }
     requires few { length (program_code flat.now).functions ≤ 2 ^ 32 }

@@ -1,4 +1,4 @@
-// The words of code, each made once, in order.
+// The words of code, each written once, in order.
 
 ghost use Rattle.std.specs.Prelude.{◌≡◌, ◌<◌, ◌≤◌, ◌++◌, ◌^◌, length, map, IfOk, OnOk};
 ghost use Rattle.std.specs.List.{AllByRecursion};
@@ -6,17 +6,16 @@ ghost use Rattle.rv_code.specs.Operands.{IsInRange};
 ghost use Rattle.rv_code.specs.Table.{encoding};
 ghost use Rattle.flat_code.specs.Codes.{function_at, operation_at};
 ghost use Rattle.flat_code.specs.ProgramView.{program_code};
-ghost use Rattle.stack_certificate.specs.Certificates.{fact_at};
 ghost use Rattle.stack_certificate.specs.Templates.{begin, end_stub, prologue, setting_at, template, IsFor};
 ghost use Rattle.codegen_link.specs.Emission.{IsReady};
 ghost use Rattle.codegen_link.specs.Layout.{function_code, functions_before};
 
 use crate::layouts::Layout;
-use crate::lookups::{fact_of, function_of};
 use crate::settings::{begins, setting};
 use cap_word::Words;
 use stack_certificate::{
-    FunctionFact, Setting, operation_size, operation_word, prologue_word, stub_word,
+    FunctionFact, Setting, fact_of, function_of, operation_size, operation_word, prologue_word,
+    stub_word,
 };
 use std::alloc::{AllocError, Global};
 

@@ -1,4 +1,4 @@
--- What the command `audit` does: a log is judged on the trace, without a machine.
+-- What the command `audit` does: it judges a log on the trace, without a machine.
 use Rattle.std.specs.Prelude.{ℕ, ◌≡◌, ◌+◌, true, List, [], ◌∷◌, ◌++◌, codes, replicate, Option, None, Result, Ok, Err}
 use Rattle.cap_io.specs.Files.{Files}
 use Rattle.cap_text.specs.Decimals.{canonical_decimal}
@@ -21,8 +21,8 @@ use Rattle.command_outcomes.specs.Steps.{IsReadStop}
 
 -- ---- what a log is read against
 
--- The policy of an audit. The chunks are those of both options together, since only their number is read; the rule is by the graph, and
--- the pressures of all resources have one knee.
+-- the policy of an audit. The chunks are those of both options together, since only their number matters. The rule is
+-- the priority rule, and the pressure curves of all resources have one knee.
 abbrev pub reading_policy : AuditOptions → Policy
 reading_policy options = record {
   chunks = options.policy.chunks + options.policy.extra;
@@ -40,9 +40,9 @@ reading_policy options = record {
 abbrev pub reading_of : ProgramTree → AuditOptions → Given
 reading_of program options = record { program = program; policy = reading_policy options; most_steps = options.steps }
 
--- ---- what is said
+-- ---- verdicts
 
--- the status and the line of what is said of a log
+-- the status and the line of a verdict on a log
 abbrev pub judgement_status : Verdict → ℕ
 judgement_status Verdict.Lawful = 0
 judgement_status (Verdict.Unlawful line) = 15
@@ -53,7 +53,7 @@ judgement_line Verdict.Lawful = codes "lawful" ++ 10 ∷ []
 judgement_line (Verdict.Unlawful line) = (codes "unlawful " ++ canonical_decimal line) ++ 10 ∷ []
 judgement_line (Verdict.Steps line) = (codes "steps " ++ canonical_decimal line) ++ 10 ∷ []
 
--- the outcome: the output takes the line, and no run is handed out
+-- the outcome: the line for the output, and no run
 abbrev pub judged_outcome : Verdict → Outcome
 judged_outcome is = record {
   status = judgement_status is;
@@ -66,6 +66,7 @@ judged_outcome is = record {
 
 -- ---- the command
 
+-- what is due for a program and a log, and for the bytes of a source and a log
 abbrev pub AuditsProgram : Option (List ℕ) → AuditOptions → (log : List ℕ) → ProgramTree → Outcome → Type 0
 AuditsProgram trace options log program outcome =
     (is : Verdict) × IsVerdictOf (reading_of program options) trace log is × (outcome ≡ judged_outcome is)
@@ -73,14 +74,14 @@ AuditsProgram trace options log program outcome =
 abbrev pub AuditsBytes : Option (List ℕ) → AuditOptions → (source log : List ℕ) → Outcome → Type 0
 AuditsBytes trace options source log = AfterSource source (AuditsProgram trace options log)
 
--- the source is loaded and then the log, before the source is read
+-- what is due for the words of `audit`; source and log are loaded in this order, before the source is read
 abbrev pub Audits : Option Files → Option (List ℕ) → (source_name log_name : List ℕ) → AuditOptions → Outcome → Type 0
 Audits files trace source_name log_name options =
     AfterLoad document.Source files source_name (λ source. AfterLoad document.Log files log_name (AuditsBytes trace options source))
 
 -- ---- its steps
 
--- what an audit is given of the options
+-- the limits of an audit, from the options
 abbrev pub audit_limits : AuditOptions → AuditPolicy
 audit_limits options = record {
   chunks = options.policy.chunks + options.policy.extra;
@@ -90,19 +91,19 @@ audit_limits options = record {
   steps = options.steps;
 }
 
--- what the answer of an audit is to the command
+-- the command's answer, from that of an audit
 abbrev pub judged_as : Result Verdict Failure → Result Verdict Stop
 judged_as (Ok verdict) = Ok verdict
 judged_as (Err Failure.Read) = Err (Failed Read)
 judged_as (Err Failure.Memory) = Err (Failed Memory)
 
--- a log is judged, and no read failed; or a read failed, or memory was wanting
+-- a log was judged, and no read failed; or a read failed, or memory ran out
 abbrev pub IsJudged : Given → Option (List ℕ) → (log : List ℕ) → (reads reads' : ℕ) → Result Verdict Stop → Type 0
 IsJudged g trace log reads reads' (Ok is) = IsVerdictOf g trace log is × (reads' ≡ reads)
 IsJudged g trace log reads reads' (Err (Failed fault)) = IsReadStop fault reads reads'
 IsJudged g trace log reads reads' (Err (Refused cause)) = ⊥
 
--- what is said of this log of this program is what the command does
+-- the verdict on this log of this program is what is due
 abbrev pub LeadsToAudit : Option Files → (source_name log_name log : List ℕ) → ProgramTree → Type 0
 LeadsToAudit files source_name log_name log program =
     (trace : Option (List ℕ)) (options : AuditOptions) (outcome : Outcome) → AuditsProgram trace options log program outcome

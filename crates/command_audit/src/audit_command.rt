@@ -1,4 +1,4 @@
-// The command `audit`: a log of a source is judged on the trace.
+// The command `audit`: judges a log of a source on the trace.
 ghost use Rattle.std.specs.Prelude.{◌≡◌, ◌≤◌, ℕ, List, Option, MatchResult};
 ghost use Rattle.cap_io.specs.Files.{KeepsFiles};
 ghost use Rattle.c_tree.specs.ProgramView.{program_tree};
@@ -21,7 +21,7 @@ use resource_monitor::{Measure, past_knee};
 use schedule_audit::{AuditPolicy, Failure, Verdict, audit};
 use std::alloc::{AllocError, Global};
 
-/// The command `audit`.
+/// Does the command `audit`.
 pub fn do_audit<F: Shelf, S: Source, K: Sink>(
     alloc: Global,
     shelf: &mut F,
@@ -51,7 +51,7 @@ pub fn do_audit<F: Shelf, S: Source, K: Sink>(
     status
 }
 
-/// A program, and a log that is said to be one of its own.
+/// A program, and a log to be judged.
 #[derive(Drop)]
 struct LoadedLog {
     /// The program.
@@ -60,7 +60,7 @@ struct LoadedLog {
     log: Vec<u8>,
 }
 
-/// The program of the source of this name, with the log of that one.
+/// Loads the source of this name and the log, and reads the source.
 fn load_log<F: Shelf>(
     alloc: Global,
     shelf: &mut F,
@@ -81,7 +81,7 @@ fn load_log<F: Shelf>(
     Ok(LoadedLog { program, log })
 }
 
-/// Judges a log of a program, and writes the line that tells what is said of it.
+/// Judges a log of a program, and writes the line with the verdict.
 fn tell_judgement<S: Source, K: Sink>(
     alloc: Global,
     trace: &mut S,
@@ -100,7 +100,7 @@ fn tell_judgement<S: Source, K: Sink>(
     print_judgement(alloc, out, verdict)
 }
 
-/// Writes the line that tells what is said of a log.
+/// Writes the line with the verdict on a log.
 fn print_judgement<K: Sink>(alloc: Global, out: &mut K, verdict: Verdict) -> Result<u8, Stop>
     ensures { IsPrinted (judgement_status verdict) (judgement_line verdict) (K.taken out.old)
         (K.taken out.new) (K.faults out.old) (K.faults out.new) result }
@@ -111,7 +111,7 @@ fn print_judgement<K: Sink>(alloc: Global, out: &mut K, verdict: Verdict) -> Res
     }
 }
 
-/// Judges a log of a program, with the options' knee in the pressures of all resources.
+/// Judges a log of a program, with the options' knee in the pressure curves of all resources.
 fn audit_program<S: Source>(
     alloc: Global,
     trace: &mut S,
@@ -131,7 +131,7 @@ fn audit_program<S: Source>(
     audit_measured(alloc, trace, program, log, options, call)
 }
 
-/// Judges a log of a program, with this way to measure pressures.
+/// Judges a log of a program, with this measure of pressure.
 fn audit_measured<S: Source, C: Measure + Copy + Drop>(
     alloc: Global,
     trace: &mut S,
@@ -151,7 +151,7 @@ fn audit_measured<S: Source, C: Measure + Copy + Drop>(
     }
 }
 
-/// What the answer of an audit is to the command.
+/// Returns the verdict, or the stop of the command if the audit failed.
 fn judgement_of(answer: Result<Verdict, Failure>) -> Result<Verdict, Stop>
     ensures { result ≡ judged_as answer }
 {
@@ -162,7 +162,7 @@ fn judgement_of(answer: Result<Verdict, Failure>) -> Result<Verdict, Stop>
     }
 }
 
-/// The limits of an audit.
+/// Returns the limits of an audit.
 fn limits_of(options: Audit) -> AuditPolicy
     requires { AreAuditOptions options }
     ensures { result ≡ audit_limits options }

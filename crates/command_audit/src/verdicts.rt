@@ -1,4 +1,4 @@
-// What the command `audit` writes of a log.
+// The statuses and lines of the command `audit`.
 ghost use Rattle.std.specs.Prelude.{◌≡◌, IfOk};
 ghost use Rattle.command_audit.specs.Audits.{judgement_line, judgement_status};
 
@@ -6,7 +6,7 @@ use command_outcomes::{put_number, put_text};
 use schedule_audit::Verdict;
 use std::alloc::{AllocError, Global};
 
-/// The status that the command ends with.
+/// Returns the status of a command with this verdict.
 pub(crate) fn status_of(verdict: Verdict) -> u8
     ensures { result ≡ judgement_status verdict }
 {
@@ -17,7 +17,7 @@ pub(crate) fn status_of(verdict: Verdict) -> u8
     }
 }
 
-/// The line that tells what is said.
+/// Returns the line with the verdict.
 pub(crate) fn line_of(alloc: Global, verdict: Verdict) -> Result<Vec<u8>, AllocError>
     ensures { IfOk result (λ line. line.items ≡ judgement_line verdict) }
 {

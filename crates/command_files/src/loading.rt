@@ -1,4 +1,4 @@
-// The files that a command loads, and what it reads in them.
+// Loads the files of a command and reads them.
 ghost use Rattle.std.specs.Prelude.{◌≡◌, ◌≤◌, length, MatchResult};
 ghost use Rattle.cap_io.specs.Files.{KeepsFiles};
 ghost use Rattle.c_tree.specs.ProgramView.{program_tree};
@@ -18,7 +18,11 @@ use stack_certificate::Certificate;
 use stack_image::{Image, ImageError, read_image};
 use std::alloc::Global;
 
-/// The bytes of the file of this name.
+/// Loads the file of this name.
+///
+/// # Errors
+///
+/// A refusal if the file doesn't exist or is too large; a fault if the load fails or memory runs out.
 pub fn load<F: Shelf>(
     alloc: Global,
     shelf: &mut F,
@@ -50,7 +54,7 @@ pub struct LoadedFiles {
     pub certificate: Vec<u8>,
 }
 
-/// The bytes of the three files of these names, which are loaded in this order.
+/// Loads the three files of these names, in this order.
 pub fn load_three<F: Shelf>(
     alloc: Global,
     shelf: &mut F,
@@ -73,7 +77,7 @@ pub fn load_three<F: Shelf>(
     })
 }
 
-/// The program that the bytes of a source are.
+/// Reads the bytes of a source as a program.
 pub fn read_source(alloc: Global, source: &[u8]) -> Result<Program, Stop>
     requires { length source.now ≤ 1048576 }
     ensures { MatchResult result (λ program. IsSourceText source.now (program_tree program))
@@ -86,7 +90,7 @@ pub fn read_source(alloc: Global, source: &[u8]) -> Result<Program, Stop>
     }
 }
 
-/// The image that these bytes spell.
+/// Reads bytes as an image.
 pub fn read_image_bytes(alloc: Global, bytes: &[u8]) -> Result<Image, Stop>
     ensures { MatchResult result (IsImageText bytes.now) (IsStop (AfterImage bytes.now NoMore)) }
 {
@@ -97,7 +101,7 @@ pub fn read_image_bytes(alloc: Global, bytes: &[u8]) -> Result<Image, Stop>
     }
 }
 
-/// The certificate that these bytes spell.
+/// Reads bytes as a certificate.
 pub fn read_certificate_bytes(alloc: Global, bytes: &[u8]) -> Result<Certificate, Stop>
     ensures { MatchResult result (IsCertificateText bytes.now)
         (IsStop (AfterCertificate bytes.now NoMore)) }

@@ -1,4 +1,4 @@
-// The files that a command stores.
+// Stores the files of a command.
 ghost use Rattle.std.specs.Prelude.{◌≡◌, ◌∷◌, []};
 ghost use Rattle.command_outcomes.specs.Steps.{AreStores};
 

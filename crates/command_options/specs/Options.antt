@@ -1,4 +1,4 @@
--- What the options of a command are in their ranges, and what is made of them.
+-- The ranges of a command's options, and what is made from them.
 use Rattle.std.specs.Prelude.{ℕ, ⊤, ◌≡◌, ◌+◌, ◌%◌, ◌<◌, ◌≤◌, IsTrue, ◌∷◌, drop, length, replicate, slice_index}
 use Rattle.codegen_link.specs.declared.options.Options.{Options}
 use Rattle.command_words.specs.Values.{pairs_of}
@@ -11,11 +11,11 @@ use Rattle.resource_monitor.specs.Monitor.{MonitorState}
 use Rattle.resource_monitor.specs.declared.curves.Curve.TheVariants.{Knee}
 use Rattle.stride_rule.specs.Tickets.{AreTickets}
 
--- the sizes that the words give, for the generator
+-- the sizes of the words' placement, for the code generator
 abbrev pub sizes_of : Placement → Options
 sizes_of placement = record { chunk = placement.chunk; max_path = placement.max_path }
 
--- the tickets of a rule by strides are in their ranges
+-- the tickets of a stride rule are in their ranges
 abbrev pub IsRuleInRange : RuleOption → Type 0
 IsRuleInRange option.Graph = ⊤
 IsRuleInRange (option.Stride tickets) = (tickets.count ≤ 64) × AreTickets (pairs_of tickets)
@@ -37,7 +37,7 @@ pub record IsRunPolicy (options : RunOptions) : Type 0 where
   pub rule : IsRuleInRange options.rule
   pub knee : options.knee ≤ 999
 
--- a monitor of these options, whose gate is open
+-- a monitor with these options, whose gate is open
 pub record IsNewMonitor (options : RunOptions) (monitor : MonitorState) : Type 0 where
   pub curves : monitor.curves ≡ replicate 8 (Knee options.knee)
   pub caps : monitor.caps ≡ (options.chunks + options.extra) ∷ drop 1 options.caps

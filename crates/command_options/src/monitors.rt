@@ -1,4 +1,4 @@
-// The monitor of pressures, as the options give it.
+// The monitor of pressures, from the options.
 ghost use Rattle.std.specs.Prelude.{IfOk};
 ghost use Rattle.command_options.specs.Options.{IsNewMonitor, IsRunPolicy};
 ghost use Rattle.resource_monitor.specs.Pressure.{AnswersCurve};
@@ -8,7 +8,7 @@ use command_words::Policy;
 use resource_monitor::{Curve, Gauge, Measure, Monitor};
 use std::alloc::{AllocError, Global};
 
-/// The monitor of a policy, with eight gauges of this way to measure.
+/// Returns the monitor of a policy, with eight gauges of this measure.
 pub fn monitor_of<C: Measure + Copy>(
     alloc: Global,
     policy: Policy,

@@ -1,4 +1,4 @@
-// The rule of choices by strides, as the options give it.
+// The stride rule, from the options.
 ghost use Rattle.std.specs.Prelude.{◌≡◌, ◌≤◌, IfOk};
 ghost use Rattle.command_words.specs.Values.{pairs_of};
 ghost use Rattle.stride_rule.specs.State.{new_rule};
@@ -8,7 +8,7 @@ use command_words::Tickets;
 use std::alloc::{AllocError, Global};
 use stride_rule::StrideRule;
 
-/// The rule by strides with these tickets, before a thread is started.
+/// Returns the stride rule with these tickets, before any thread is started.
 pub fn stride_rule_of(alloc: Global, tickets: &Tickets) -> Result<StrideRule, AllocError>
     requires few { tickets.now.count ≤ 64 }
     requires in_range { AreTickets (pairs_of tickets.now) }

@@ -2,6 +2,7 @@
 use Rattle.std.proofs.Common.{◌≡◌, ◌≢◌, ℕ, true, List, [], ◌∷◌, Option, Some, None, Result, Ok, Err, refl, sym, ◌∙◌, subst, inl, inr, ⊎_elim}
 use Rattle.std.proofs.lemmas.List.{append-nil}
 use Rattle.std.specs.Io.KnownBytes.{Keeps, Appends}
+use Rattle.cap_io.specs.Faults.{IsRisen}
 use Rattle.cap_io.specs.Files.{Files, KeepsFiles, KeepsOthers}
 use Rattle.command_outcomes.specs.declared.stops.Cause.{Cause}
 use Rattle.command_outcomes.specs.declared.stops.Stop.{Stop}
@@ -10,7 +11,7 @@ use Rattle.command_outcomes.specs.declared.faults.Fault.{Fault}
 use Rattle.command_outcomes.specs.declared.faults.Fault.TheVariants.{Read, Write, Memory}
 use Rattle.command_outcomes.specs.Outcome.{Outcome, printed}
 use Rattle.command_outcomes.specs.CauseLines.{refusal}
-use Rattle.command_outcomes.specs.Done.{Outside, WhereTold, AreStored, AreCutShort, IsRisen, IsDone, IsOnlyRead, IsTraceLeft}
+use Rattle.command_outcomes.specs.Done.{Outside, WhereTold, AreStored, AreCutShort, IsDone, IsOnlyRead, IsTraceLeft}
 use Rattle.command_outcomes.specs.Steps.{IsReadStop, IsShelfStop, IsPrinted, IsStatus, AreStores, EndsAs, RunEnds}
 
 pub keeps-itself : (bytes : Option (List ℕ)) → Keeps bytes bytes

@@ -12,19 +12,21 @@ use Rattle.command_outcomes.specs.declared.stops.Cause.{Cause}
 use Rattle.command_outcomes.specs.declared.stops.Cause.TheVariants.{Usage, Absent, TooLong, Source, Image, CertificateLine, Rejected, Frame, Code, Pool, Cycle}
 use Rattle.command_outcomes.specs.Outcome.{Outcome, refused}
 
+-- the name of a file in refusals
 abbrev pub document_name : Document → List ℕ
 document_name document.Source = codes "source"
 document_name document.Image = codes "image"
 document_name document.Certificate = codes "certificate"
 document_name document.Log = codes "log"
 
--- the most bytes of each
+-- the maximum size of each in bytes
 abbrev pub most_bytes : Document → ℕ
 most_bytes document.Source = 1048576
 most_bytes document.Image = 2097152
 most_bytes document.Certificate = 8388608
 most_bytes document.Log = 67108864
 
+-- the status if a file exceeds its maximum size
 abbrev pub too_long_status : Document → ℕ
 too_long_status document.Source = 2
 too_long_status document.Image = 4
@@ -68,11 +70,11 @@ abbrev pub rejected_words : ℕ → ℕ → ℕ → List ℕ
 rejected_words rule function index =
     ((((codes "rejected V" ++ canonical_decimal rule) ++ codes " function ") ++ canonical_decimal function) ++ codes " index ") ++ canonical_decimal index
 
--- the function of this name lies on a cycle of calls
+-- the function of this name is on a cycle of calls
 abbrev pub cycle_words : List ℕ → List ℕ
 cycle_words name = codes "budget: cycle at " ++ name
 
--- a cause, without its line feed
+-- the text of a cause, without a line feed
 abbrev pub cause_words : Cause → List ℕ
 cause_words Usage = codes "usage: capriccio serve SRC, run SRC IMG CRT, build SRC IMG CRT, check SRC IMG CRT, graph SRC, demo N, audit SRC LOG, budget SRC IMG CRT"
 cause_words (Absent document) = codes "absent: " ++ document_name document
@@ -86,6 +88,7 @@ cause_words (Pool bytes) = (codes "limit: pool is " ++ canonical_decimal bytes) 
 cause_words (Cycle name) = cycle_words name.items
 cause_words (Code words) = (codes "limit: code is " ++ canonical_decimal words) ++ codes " words"
 
+-- the status of a cause
 abbrev pub cause_status : Cause → ℕ
 cause_status Usage = 1
 cause_status (Absent document) = 9
@@ -99,6 +102,6 @@ cause_status (Rejected rule function index) = 3
 cause_status (Pool bytes) = 5
 cause_status (Cycle name) = 17
 
--- what a command does where it refuses
+-- the outcome of a command that refuses
 abbrev pub refusal : Cause → Outcome
 refusal cause = refused (cause_status cause) (cause_words cause ++ 10 ∷ [])

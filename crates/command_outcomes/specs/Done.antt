@@ -1,7 +1,7 @@
--- What a call leaves outside: of an outcome that is due all, or after a fault or where memory is wanting a part.
+-- What a call changes outside: everything that a due outcome says, or a part of it after a fault or out of memory.
 use Rattle.std.specs.Prelude.{ℕ, ◌≡◌, ◌≢◌, ◌≤◌, ◌⊎◌, Bool, true, false, List, [], ◌∷◌, Option, Some, None, Result, Ok, Err}
 use Rattle.std.specs.Io.KnownBytes.{Keeps, Appends}
-use Rattle.cap_io.specs.Faults.{Rose, Stayed}
+use Rattle.cap_io.specs.Faults.{IsRisen, Rose, Stayed}
 use Rattle.cap_io.specs.Files.{Files, KeepsFiles, KeepsOthers}
 use Rattle.cap_io.specs.Shelves.{HoldsPrefix}
 use Rattle.command_outcomes.specs.declared.faults.Fault.{Fault}
@@ -10,8 +10,8 @@ use Rattle.command_outcomes.specs.FaultLines.{fault_status, fault_line}
 use Rattle.command_outcomes.specs.Outcome.{Outcome, Ran}
 use Rattle.buffered_writer.specs.Writing.{TakesPrefix}
 
--- what a shelf, a trace and the output tell at a moment: the files and the counts of faults of loads and of stores, the bytes
--- left of the trace and its count, and the bytes that the output took and its count
+-- what a shelf, a trace and the output expose at a moment: the files, the counts of failed loads and failed stores, the
+-- bytes left of the trace and its count of faults, and the bytes that the output took and its count of faults
 pub record Outside : Type 0 where
   pub files : Option Files
   pub loads : ℕ
@@ -21,19 +21,19 @@ pub record Outside : Type 0 where
   pub taken : Option (List ℕ)
   pub writes : ℕ
 
--- what these objects tell of themselves, each by what it tells
+-- what these objects expose, each by its ghost members
 abbrev pub outside_by : {F S K : Type 0} → (files : F → Option Files) → (loads stores : F → ℕ) → (left : S → Option (List ℕ)) → (reads : S → ℕ) → (taken : K → Option (List ℕ)) → (writes : K → ℕ) → F → S → K → Outside
 outside_by files loads stores left reads taken writes shelf trace out =
     record { files = files shelf; loads = loads shelf; stores = stores shelf; left = left trace; reads = reads trace; taken = taken out; writes = writes out }
 
--- the same of a shelf and an output, beside a trace that isn't touched
+-- the same for a shelf and an output, with a trace that isn't read
 abbrev pub outside_beside : {F K : Type 0} → (files : F → Option Files) → (loads stores : F → ℕ) → (left : Option (List ℕ)) → (reads : ℕ) → (taken : K → Option (List ℕ)) → (writes : K → ℕ) → F → K → Outside
 outside_beside files loads stores left reads taken writes shelf out =
     record { files = files shelf; loads = loads shelf; stores = stores shelf; left = left; reads = reads; taken = taken out; writes = writes out }
 
 -- Files.
 
--- a file was stored: it holds the bytes, and the others are as they were
+-- a file was stored: it has these bytes, and the others are unchanged
 pub record IsStored (old new : Files) (name bytes : List ℕ) : Type 0 where
   pub holds : new name ≡ Some bytes
   pub others : KeepsOthers old new name
@@ -43,18 +43,18 @@ abbrev pub AreStored : List (List ℕ × List ℕ) → Files → Files → Type 
 AreStored [] old new = (name : List ℕ) → new name ≡ old name
 AreStored (file ∷ files) old new = (next : Files) × IsStored old next file.0 file.1 × AreStored files next new
 
--- a store was cut short: the file holds what it held or a prefix of the bytes, and the others are as they were
+-- a store was cut short: the file has its old contents or a prefix of the bytes, and the others are unchanged
 pub record IsCutShort (old new : Files) (name bytes : List ℕ) : Type 0 where
   pub holds : HoldsPrefix (new name) bytes ⊎ (new name ≡ old name)
   pub others : KeepsOthers old new name
 
--- the first of the files were stored, and the next store was cut short
+-- the first of these files were stored, and the next store was cut short
 abbrev pub AreCutShort : List (List ℕ × List ℕ) → Files → Files → Type 0
 AreCutShort [] old new = ⊥
 AreCutShort (file ∷ files) old new =
     IsCutShort old new file.0 file.1 ⊎ ((next : Files) × IsStored old next file.0 file.1 × AreCutShort files next new)
 
--- that is so of the files of a shelf that tells them
+-- this holds of the files, if the shelf exposes them
 abbrev pub WhereTold : (Files → Files → Type 0) → Option Files → Option Files → Type 0
 WhereTold P None new = Unit {0}
 WhereTold P (Some old) None = ⊥
@@ -62,11 +62,7 @@ WhereTold P (Some old) (Some new) = P old new
 
 -- Counts of faults.
 
--- a count rose, or stands at its end
-pub record IsRisen (old new : ℕ) : Type 0 where
-  pub rose : Rose old new
-  pub never_falls : old ≤ new
-
+-- no count has changed
 pub record NoneCounted (before after : Outside) : Type 0 where
   pub loads : after.loads ≡ before.loads
   pub stores : after.stores ≡ before.stores
@@ -101,20 +97,20 @@ pub record TraceCounted (before after : Outside) : Type 0 where
   pub reads : IsRisen before.reads after.reads
   pub writes : after.writes ≡ before.writes
 
--- a read of the trace failed before anything was printed: its count rose, or stands at its end
+-- a read of the trace failed before anything was printed: its count rose, or is at its maximum
 pub record ReadCounted (before after : Outside) : Type 0 where
   pub loads : after.loads ≡ before.loads
   pub stores : after.stores ≡ before.stores
   pub reads : Rose before.reads after.reads
   pub writes : after.writes ≡ before.writes
 
--- no count but that of the trace rose
+-- no count rose, except possibly that of the trace
 pub record NoneElseCounted (before after : Outside) : Type 0 where
   pub loads : after.loads ≡ before.loads
   pub stores : after.stores ≡ before.stores
   pub writes : after.writes ≡ before.writes
 
--- no count rose or stands at its end
+-- no count rose or is at its maximum
 pub record NoFault (before after : Outside) : Type 0 where
   pub loads : Stayed before.loads after.loads
   pub stores : Stayed before.stores after.stores
@@ -123,7 +119,7 @@ pub record NoFault (before after : Outside) : Type 0 where
 
 -- What was done.
 
--- the trace is left as it is where the outcome doesn't read it
+-- the trace is unchanged if the outcome doesn't read it
 abbrev pub IsTraceLeft : (reads_trace : Bool) → Option (List ℕ) → Option (List ℕ) → Type 0
 IsTraceLeft false left left' = Keeps left left'
 IsTraceLeft true left left' = Unit {0}
@@ -134,8 +130,8 @@ pub record IsNothing (before after : Outside) : Type 0 where
   pub trace : Keeps before.left after.left
   pub out : Keeps before.taken after.taken
 
--- the trace alone was read: no file has changed, and the output took nothing. It comes only where what is due may read the trace
--- without a run: not of each outcome that reads it a world is handed out
+-- only the trace was read: no file has changed, and the output took nothing. This is possible only if some due outcome
+-- reads the trace without a run, that is, not if every outcome that reads it returns a world
 pub record IsOnlyRead (due : Outcome → Type 0) (before after : Outside) : Type 0 where
   pub reads : ((outcome : Outcome) → due outcome → outcome.reads_trace ≡ true → outcome.last ≢ None) → ⊥
   pub files : KeepsFiles before.files after.files
@@ -160,7 +156,7 @@ pub record IsCutInOut (outcome : Outcome) (before after : Outside) : Type 0 wher
   pub trace : IsTraceLeft outcome.reads_trace before.left after.left
   pub out : TakesPrefix before.taken after.taken outcome.out
 
--- what was done where that is due: `Ok` is the whole outcome
+-- what was done, given the due outcomes: `Ok` is the whole outcome
 abbrev pub IsDone : (Outcome → Type 0) → (before after : Outside) → Result Outcome Fault → Type 0
 IsDone due before after (Ok outcome) = due outcome × IsWhole outcome before after × NoneCounted before after
 IsDone due before after (Err Read) =
@@ -176,6 +172,7 @@ IsDone due before after (Err Memory) =
 
 -- The status and standard error.
 
+-- the status of what was done, and its line for standard error
 abbrev pub status_of : Result Outcome Fault → ℕ
 status_of (Ok outcome) = outcome.status
 status_of (Err fault) = fault_status fault
@@ -184,33 +181,34 @@ abbrev pub line_of : Result Outcome Fault → List ℕ
 line_of (Ok outcome) = outcome.line
 line_of (Err fault) = fault_line fault
 
--- The status that is answered, and what standard error took: the line; or a prefix, where a write to it failed, which changes
--- nothing else, or found no memory, which makes the status that of a want of memory.
+-- the status that is returned, and what standard error took: the line, or a prefix of it. After a failed write the
+-- status stays; out of memory, it is that of out of memory.
 abbrev pub IsTold : ℕ → List ℕ → (old new : Option (List ℕ)) → (faults faults' : ℕ) → ℕ → Type 0
 IsTold status line old new faults faults' answer =
     ((answer ≡ status) × Appends old new line × (faults' ≡ faults))
     ⊎ ((line ≢ []) × TakesPrefix old new line
     × (((answer ≡ status) × IsRisen faults faults') ⊎ ((answer ≡ fault_status Memory) × (faults' ≡ faults))))
 
--- the run that came to its stop, if one did
+-- the run that reached its stop, if there was one
 abbrev pub last_of : Result Outcome Fault → Option Ran
 last_of (Ok outcome) = outcome.last
 last_of (Err fault) = None
 
 -- What is exact.
 
--- this outcome was done, or memory was wanting
+-- this outcome was done, or memory ran out
 abbrev pub IsThisCase : Outcome → Result Outcome Fault → Type 0
 IsThisCase outcome (Ok given) = given ≡ outcome
 IsThisCase outcome (Err Memory) = Unit {0}
 IsThisCase outcome (Err Read) = ⊥
 IsThisCase outcome (Err Write) = ⊥
 
--- the trace is told where the outcome reads it
+-- the trace is exposed if the outcome reads it
 abbrev pub IsTraceTold : Option (List ℕ) → Outcome → Type 0
 IsTraceTold left outcome = outcome.reads_trace ≡ true → (trace : List ℕ) × (left ≡ Some trace)
 
--- where the files are told, and the trace where what is due reads it, and no fault was counted, what is due is done
+-- if the files are exposed, and also the trace if the due outcome reads it, and no fault was counted, what is due was
+-- done
 abbrev pub IsExact : (Outside → Outcome → Type 0) → (before after : Outside) → Result Outcome Fault → Type 0
 IsExact due before after given =
     NoFault before after → (files : Files) (outcome : Outcome) → before.files ≡ Some files → IsTraceTold before.left outcome → due before outcome → IsThisCase outcome given

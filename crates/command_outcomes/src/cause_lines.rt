@@ -12,11 +12,11 @@ use cap_word::Which;
 use stack_image::ImageError;
 use std::alloc::{AllocError, Global};
 
-/// What the words may be.
+/// The usage line of the program.
 const USAGE: &[u8] =
     b"usage: capriccio serve SRC, run SRC IMG CRT, build SRC IMG CRT, check SRC IMG CRT, graph SRC, demo N, audit SRC LOG, budget SRC IMG CRT";
 
-/// The line of a refusal, with its line feed.
+/// Returns the line of a refusal, with its line feed.
 pub(crate) fn line_of(alloc: Global, cause: &Cause) -> Result<Vec<u8>, AllocError>
     ensures { IfOk result (λ line. line.items ≡ cause_words cause.now ++ 10 ∷ []) }
 {
@@ -26,7 +26,7 @@ pub(crate) fn line_of(alloc: Global, cause: &Cause) -> Result<Vec<u8>, AllocErro
     Ok(line)
 }
 
-/// Appends a refusal.
+/// Appends the text of a refusal.
 fn put_cause(line: &mut Vec<u8>, cause: &Cause) -> Result<(), AllocError>
     ensures { OnOk result (line.new.items ≡ line.old.items ++ cause_words cause.now) }
 {
@@ -114,7 +114,7 @@ fn put_cycle(line: &mut Vec<u8>, name: &[u8]) -> Result<(), AllocError>
     put_text(line, name)
 }
 
-/// Appends a rejection.
+/// Appends the text of a rejection by the checker.
 pub fn put_rejected(
     line: &mut Vec<u8>,
     rule: u32,
@@ -167,7 +167,7 @@ fn put_image(line: &mut Vec<u8>, error: ImageError) -> Result<(), AllocError>
     }
 }
 
-/// Appends a limit that is exceeded.
+/// Appends the name of a limit that is exceeded.
 fn put_limit(line: &mut Vec<u8>, which: Which) -> Result<(), AllocError>
     ensures { OnOk result (line.new.items ≡ line.old.items ++ (codes "Limit " ++ name_of which)) }
 {
@@ -175,7 +175,7 @@ fn put_limit(line: &mut Vec<u8>, which: Which) -> Result<(), AllocError>
     put_text(line, which.name().as_bytes())
 }
 
-/// Appends a refusal with its place.
+/// Appends a name with its place.
 fn put_place(line: &mut Vec<u8>, name: &[u8], place: u32) -> Result<(), AllocError>
     ensures { OnOk result (line.new.items ≡ line.old.items ++ at_place name.now place) }
 {

@@ -9,14 +9,14 @@ pub enum Document {
     Source,
     /// The image of a program.
     Image,
-    /// What is claimed of an image.
+    /// The certificate of an image.
     Certificate,
     /// The log of a run.
     Log,
 }
 
 impl Document {
-    /// Its name in refusals.
+    /// Returns the name of the file in refusals.
     pub(crate) fn name(self) -> &'static [u8]
         ensures { result.now ≡ document_name self }
     {
@@ -28,7 +28,7 @@ impl Document {
         }
     }
 
-    /// The most bytes that it may have.
+    /// Returns the maximum size of the file in bytes.
     pub fn most_bytes(self) -> u32
         ensures { result ≡ most_bytes self }
     {

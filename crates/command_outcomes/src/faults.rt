@@ -1,20 +1,20 @@
-// What fails outside a command, and what it says of that.
+// Faults outside a command, with their lines and statuses.
 ghost use Rattle.std.specs.Prelude.{◌≡◌};
 ghost use Rattle.command_outcomes.specs.FaultLines.{fault_status, fault_line};
 
-/// What failed outside.
+/// A fault outside the command.
 #[derive(Clone, Copy)]
 pub enum Fault {
-    /// A file could not be loaded, or the trace could not be read.
+    /// A file couldn't be loaded, or the trace couldn't be read.
     Read,
-    /// A file could not be stored, or the output took not all.
+    /// A file couldn't be stored, or the output couldn't be written completely.
     Write,
-    /// There was no memory.
+    /// Out of memory.
     Memory,
 }
 
 impl Fault {
-    /// The status that the command ends with.
+    /// Returns the status of a command that ends with this fault.
     pub fn status(self) -> u8
         ensures { result ≡ fault_status self }
     {
@@ -25,7 +25,7 @@ impl Fault {
         }
     }
 
-    /// The line that standard error takes, with its line feed.
+    /// Returns the fault's line for standard error, with its line feed.
     pub fn line(self) -> &'static [u8]
         ensures { result.now ≡ fault_line self }
     {

@@ -1,4 +1,4 @@
-// What the commands of the program share: how they end, and what they print.
+// What the commands of the program share: their ends, and the texts that they print.
 //
 // In: an output and standard error. Out: the status of a text that was printed (`print`), or the
 // `Stop` that ends a command, whose line `finish` writes to standard error. specs/Outcome.antt

@@ -1,4 +1,4 @@
-// How a command ends that does not do what its words ask: the status, and what standard error takes.
+// The end of a command that doesn't do what its words ask: the status, and the line on standard error.
 ghost use Rattle.command_outcomes.specs.declared.stops.Stop.TheVariants.{Refused};
 ghost use Rattle.command_outcomes.specs.Steps.{IsFinished};
 
@@ -9,8 +9,7 @@ use crate::telling::tell;
 use cap_io::Sink;
 use std::alloc::Global;
 
-/// Tells why a command ended before it had done what its words ask: standard error takes the line, and the answer is the
-/// status.
+/// Writes to standard error why a command ended early, and returns the status.
 pub fn finish<E: Sink>(alloc: Global, err: &mut E, stop: Stop) -> u8
     ensures { IsFinished stop (E.taken err.old) (E.taken err.new) (E.faults err.old)
         (E.faults err.new) result }
@@ -21,7 +20,7 @@ pub fn finish<E: Sink>(alloc: Global, err: &mut E, stop: Stop) -> u8
     }
 }
 
-/// Writes the line of a refusal, and answers the status.
+/// Writes the line of a refusal, and returns the status.
 fn tell_cause<E: Sink>(alloc: Global, err: &mut E, cause: &Cause) -> u8
     ensures { IsFinished (Refused cause.now) (E.taken err.old) (E.taken err.new) (E.faults err.old)
         (E.faults err.new) result }

@@ -7,48 +7,48 @@ use crate::faults::Fault;
 use c_scope::SourceError;
 use stack_image::ImageError;
 
-/// Why a command refuses what it was given.
+/// Why a command refuses its words or files.
 #[derive(Drop)]
 pub enum Cause {
-    /// The words are no word list.
+    /// The words aren't a word list.
     Usage,
-    /// A file that the command loads isn't there.
+    /// A file that the command loads doesn't exist.
     Absent(Document),
-    /// A file has more bytes than it may.
+    /// A file exceeds its maximum size.
     TooLong(Document),
-    /// The source is no program.
+    /// The source isn't a program.
     Source(SourceError),
-    /// The bytes are no image.
+    /// The bytes aren't an image.
     Image(ImageError),
-    /// This line of the certificate is the first that isn't as the format says.
+    /// This line of the certificate is the first that doesn't have the format.
     CertificateLine(u32),
-    /// The certificate is rejected: this rule fails first, at this function and index.
+    /// The checker rejects the pair: this rule fails first, at this function and index.
     Rejected {
         /// The number of the rule, from 1 to 12.
         rule: u32,
         /// The number of the function.
         function: u32,
-        /// What the index means depends on the rule.
+        /// An index, whose meaning depends on the rule.
         index: u32,
     },
-    /// The frame of the function of this name has so many bytes, too many.
+    /// A frame is too large: that of the function of this name.
     Frame {
         /// The function's name.
         name: Vec<u8>,
-        /// The bytes of its frame.
+        /// The size of its frame in bytes.
         bytes: u32,
     },
-    /// The code has so many words, too many.
+    /// The code is too large.
     Code {
-        /// The words of the code.
+        /// The number of words of the code.
         words: u64,
     },
-    /// The pool has so many bytes, too many.
+    /// The pool is too large.
     Pool {
-        /// The bytes of all chunks.
+        /// The size of all chunks together in bytes.
         bytes: u64,
     },
-    /// From the function of this name calls lead back to it, so that the program has no budget.
+    /// The function of this name is on a cycle of calls, so the program has no budget.
     Cycle {
         /// The function's name.
         name: Vec<u8>,
@@ -56,7 +56,7 @@ pub enum Cause {
 }
 
 impl Cause {
-    /// The status that the command ends with.
+    /// Returns the status of a command that ends with this refusal.
     pub(crate) fn status(&self) -> u8
         ensures { result ≡ cause_status self.now }
     {
@@ -74,11 +74,11 @@ impl Cause {
     }
 }
 
-/// Why a step of a command is its last.
+/// Why a command ends at some step.
 #[derive(Drop)]
 pub enum Stop {
-    /// The command refuses what it was given.
+    /// The command refuses its words or files.
     Refused(Cause),
-    /// Something failed outside.
+    /// A fault outside the command.
     Failed(Fault),
 }

@@ -15,7 +15,7 @@ const AUDIT: &[&str] = &["audit", "P", "L"];
 
 const AUDIT_OF_SERVER: &[&str] = &["audit", "P", "L", "--caps", "1=1"];
 
-/// The words, the source and the log that they name, the trace, the status, and what the output takes.
+/// The words, the source and the log that they name, the trace, the status, and the output.
 type AuditRow<'a> = (&'a [&'a str], &'a [u8], &'a [u8], &'a [u8], u8, &'a [u8]);
 
 const AUDITS: [AuditRow<'static>; 9] = [
@@ -28,7 +28,7 @@ const AUDITS: [AuditRow<'static>; 9] = [
         0,
         b"lawful\n",
     ),
-    // Another number is put than the source's.
+    // Another number is put than by the source.
     (
         AUDIT_OF_SERVER,
         SERVER,
@@ -37,7 +37,7 @@ const AUDITS: [AuditRow<'static>; 9] = [
         15,
         b"unlawful 14\n",
     ),
-    // A thread is chosen that waits where a node stands that was taken from later.
+    // A thread is chosen that waits at a node from which a thread was taken later.
     (
         AUDIT_OF_SERVER,
         SERVER,
@@ -46,7 +46,7 @@ const AUDITS: [AuditRow<'static>; 9] = [
         15,
         b"unlawful 20\n",
     ),
-    // Another cost may be, but the clock goes by it.
+    // Another cost is possible, but the clock depends on it.
     (
         AUDIT_OF_SERVER,
         SERVER,
@@ -63,7 +63,7 @@ const AUDITS: [AuditRow<'static>; 9] = [
         16,
         b"steps 2\n",
     ),
-    // A run that stops for want of chunks, which the source alone doesn't do.
+    // A run that stops because no free chunk fits, which the source alone doesn't do.
     (
         &["audit", "P", "L", "--chunks", "2"],
         ENDLESS,
@@ -135,11 +135,12 @@ const EXAMPLES_OF_SERVERS: [AuditRow<'static>; 2] = [
 
 const REFUSED: [Row<'static>; 2] = [
     (AUDIT, PUT_SEVEN, NONE, 9, NONE, b"absent: log\n"),
-    // Both files are loaded before one of them is read.
+    // Both files are loaded before either of them is read.
     (AUDIT, NONE, NONE, 9, NONE, b"absent: log\n"),
 ];
 
-/// Whether the command says this of a log of a source, where these calls fail and standard error takes this.
+/// Checks whether the command gives this answer on a log of a source, with these failing calls and this line on
+/// standard error.
 fn is_audited(alloc: Global, row: &AuditRow, fails: Fails, err: &[u8]) -> bool {
     let (words, source, log, trace, status, out) = *row;
     let given = Given {
@@ -160,7 +161,7 @@ fn is_audited(alloc: Global, row: &AuditRow, fails: Fails, err: &[u8]) -> bool {
     is_so(alloc, &given, &wanted)
 }
 
-/// Whether each row holds.
+/// Checks whether each row holds.
 fn all_are_audited(alloc: Global, rows: &[AuditRow]) -> bool {
     for row in rows {
         if !is_audited(alloc, row, NO_FAULT, NONE) {

@@ -14,8 +14,8 @@ use stack_build::build;
 use std::alloc::Global;
 use thread_core::{World, WorldError, WorldPolicy};
 
-/// The stack and the policy of a world: the size of a chunk, the most bytes of a path, how many chunks, how many instructions,
-/// how many items may wait in a queue, and the cap of resource 1; no other is given.
+/// The stack and the policy of a world: the size of a chunk, the maximum path in bytes, the number of chunks, the fuel,
+/// the maximum length of a queue, and the cap of resource 1; no other resource has a cap.
 #[derive(Clone, Copy)]
 pub(crate) struct Setup {
     pub(crate) chunk: u32,
@@ -36,7 +36,7 @@ pub(crate) const USUAL: Setup = Setup {
     cap: 1,
 };
 
-/// As many instructions as a run may have.
+/// The maximum fuel of a run.
 pub(crate) const FUEL: u64 = 1_000_000_000;
 
 fn program_of(alloc: Global, source: &[u8]) -> Option<Program> {
@@ -52,7 +52,7 @@ fn program_of(alloc: Global, source: &[u8]) -> Option<Program> {
     }
 }
 
-// The sizes of a setup, where they are in their ranges.
+// Returns the sizes of a setup, if they are in their ranges.
 fn options_of(setup: Setup) -> Option<Options>
     ensures { IfSome result AreInRange }
 {
@@ -67,7 +67,7 @@ fn options_of(setup: Setup) -> Option<Options>
     Some(Options { chunk, max_path })
 }
 
-// Whether the policy of a setup, for chunks of so many bytes, is in its ranges.
+// Checks whether the policy of a setup, for chunks of this size, is in its ranges.
 fn is_given(setup: Setup, chunk: u32) -> bool
     ensures { IsTrue result → IsGiven chunk setup.chunks setup.fuel setup.backlog setup.cap }
 {
@@ -80,7 +80,7 @@ fn is_given(setup: Setup, chunk: u32) -> bool
     setup.fuel <= FUEL
 }
 
-// What the world of a setup is given.
+// Returns the policy of a setup's world.
 fn policy(setup: Setup) -> WorldPolicy
     ensures { result ≡ policy_of setup.chunks setup.backlog setup.cap }
 {
@@ -93,7 +93,7 @@ fn policy(setup: Setup) -> WorldPolicy
     }
 }
 
-// The accepted program that `build` makes of a source.
+// Returns the accepted program that `build` makes of a source.
 fn accepted_of(alloc: Global, source: &[u8], options: Options) -> Option<Accepted>
     requires { AreInRange options }
 {
@@ -104,7 +104,7 @@ fn accepted_of(alloc: Global, source: &[u8], options: Options) -> Option<Accepte
     }
 }
 
-// The world in which an accepted program starts.
+// Returns the world in which an accepted program starts.
 fn world_made(alloc: Global, accepted: Accepted, setup: Setup) -> Option<World>
     requires { IsGiven accepted.certificate.chunk setup.chunks setup.fuel setup.backlog setup.cap }
     ensures made { IfSome result (IsMade setup.chunks setup.fuel setup.backlog setup.cap) }
@@ -119,7 +119,7 @@ fn world_made(alloc: Global, accepted: Accepted, setup: Setup) -> Option<World>
     }
 }
 
-// The world in which an accepted program starts, where the setup is one.
+// Returns the world in which an accepted program starts, if the setup is in its ranges.
 fn start_of(alloc: Global, accepted: Accepted, setup: Setup) -> Option<World>
     ensures made { IfSome result (IsMade setup.chunks setup.fuel setup.backlog setup.cap) }
     ensures between { IfSome result (IsAt Between) }
@@ -133,7 +133,7 @@ fn start_of(alloc: Global, accepted: Accepted, setup: Setup) -> Option<World>
     }
 }
 
-/// The world of a source.
+/// Returns the world of a source.
 pub(crate) fn world_of(alloc: Global, source: &[u8], setup: Setup) -> Option<World>
     ensures made { IfSome result (IsMade setup.chunks setup.fuel setup.backlog setup.cap) }
     ensures between { IfSome result (IsAt Between) }

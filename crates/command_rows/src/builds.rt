@@ -1,4 +1,4 @@
-// The command `build`, and what it leaves where it is refused.
+// The command `build`, and the files after a refusal.
 use crate::calls::{Given, NO_FAULT, NONE, Wanted, is_so};
 use crate::checks::{CERTIFICATE_OF_SEVEN, PUT_SEVEN, TWO};
 use crate::images::{IMAGE_OF_SEVEN, IMAGE_OF_TWO};
@@ -7,13 +7,13 @@ use std::alloc::Global;
 const CERTIFICATE_OF_TWO: &[u8] =
     b"capriccio certificate 1\nchunk 64\nmax-path 32\nfunctions 2\nfunction 4104 16 16 12 16 0 4\nfunction 4168 27 16 12 32 0 4 8\nsites 1\nsite 0 plain\n";
 
-/// What I and C hold before.
+/// The contents of I and C before.
 pub(crate) const OLD: &[u8] = b"old";
 
-/// A file with what it holds.
+/// The name of a file and its contents.
 type Held<'a> = (&'a str, &'a [u8]);
 
-/// Words, the files before, the status, what the output and standard error take, and what files hold then.
+/// Words, the files before, the status, the output, the line on standard error, and the files after.
 type BuildRow<'a> = (
     &'a [&'a str],
     &'a [Held<'a>],
@@ -25,7 +25,7 @@ type BuildRow<'a> = (
 
 const SMALL: &[&str] = &["build", "P", "I", "C", "--chunk", "64", "--max-path", "32"];
 
-// A build that is refused leaves the files as they were.
+// A build that is refused leaves the files unchanged.
 const BUILDS: [BuildRow<'static>; 7] = [
     (
         &["build", "P", "I", "C"],
@@ -90,7 +90,7 @@ const BUILDS: [BuildRow<'static>; 7] = [
     ),
 ];
 
-/// Whether the words leave this.
+/// Checks whether the words have this result.
 fn is_built(alloc: Global, row: &BuildRow) -> bool {
     let (words, files, status, out, err, left) = *row;
     let given = Given {
@@ -111,7 +111,7 @@ fn is_built(alloc: Global, row: &BuildRow) -> bool {
     is_so(alloc, &given, &wanted)
 }
 
-/// Whether each row holds.
+/// Checks whether each row holds.
 fn all_are_built(alloc: Global, rows: &[BuildRow]) -> bool {
     for row in rows {
         if !is_built(alloc, row) {

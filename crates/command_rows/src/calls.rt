@@ -1,4 +1,4 @@
-// Calls of the program over objects in memory, and what they leave.
+// Calls of the program over objects in memory, and their results.
 ghost use Rattle.std.specs.Prelude.{◌≤◌};
 
 use cap_io::{MemShelf, MemSink, MemSource, Shelf, Sink, Source};
@@ -8,15 +8,15 @@ use thread_core::World;
 
 pub(crate) const NONE: &[u8] = b"";
 
-/// The words, the file `P`, the trace, the status, and what the output and standard error take.
+/// The words, the file `P`, the trace, the status, the output, and the line on standard error.
 pub(crate) type Row<'a> = (&'a [&'a str], &'a [u8], &'a [u8], u8, &'a [u8], &'a [u8]);
 
-/// The calls of the shelf, the trace, the output and standard error that fail: 0 stands for none.
+/// The calls of the shelf, the trace, the output and standard error that fail; 0 for none.
 pub(crate) type Fails = [u64; 4];
 
 pub(crate) const NO_FAULT: Fails = [0, 0, 0, 0];
 
-/// What a call is given.
+/// The input of a call.
 #[derive(Clone, Copy)]
 pub(crate) struct Given<'a> {
     /// The words after the program's name.
@@ -27,28 +27,29 @@ pub(crate) struct Given<'a> {
     pub(crate) trace: &'a [u8],
     /// The calls that fail.
     pub(crate) fails: Fails,
-    /// How many bytes a store leaves that fails.
+    /// The number of bytes that a failing store writes.
     pub(crate) stored: u32,
-    /// How many bytes the output takes a call, at least 1.
+    /// The number of bytes that the output takes a call, at least 1.
     pub(crate) taken: u32,
 }
 
-/// What a call is to leave.
+/// The expected result of a call.
 #[derive(Clone, Copy)]
 pub(crate) struct Wanted<'a> {
     /// The status.
     pub(crate) status: u8,
-    /// What the output takes.
+    /// The expected output.
     pub(crate) out: &'a [u8],
-    /// Where this is given, the output takes so many bytes of it at most, and all of them where the status is 0 alone.
+    /// If given, the output takes a prefix of it of at most this length, and all of it only if the status is 0.
     pub(crate) most: Option<usize>,
-    /// What standard error takes.
+    /// The expected line on standard error.
     pub(crate) err: &'a [u8],
-    /// What these files hold then.
+    /// The expected contents of these files.
     pub(crate) files: &'a [(&'a str, &'a [u8])],
 }
 
-/// The status of a call. It has no clause, so that the clauses of `capriccio` aren't among what its callers know.
+/// Returns the status of a call. It has no clauses, so that proof search in its callers doesn't try those of
+/// `capriccio`.
 pub(crate) fn status_of<F: Shelf, S: Source, K: Sink, E: Sink>(
     alloc: Global,
     words: &Vec<String>,
@@ -61,7 +62,7 @@ pub(crate) fn status_of<F: Shelf, S: Source, K: Sink, E: Sink>(
     capriccio(alloc, words, shelf, trace, out, err, last)
 }
 
-/// Words of a command line.
+/// Returns the words of a command line.
 pub(crate) fn words_of(alloc: Global, words: &[&str]) -> Result<Vec<String>, AllocError> {
     let mut all = Vec::new(alloc);
     for word in words {
@@ -70,13 +71,13 @@ pub(crate) fn words_of(alloc: Global, words: &[&str]) -> Result<Vec<String>, All
     Ok(all)
 }
 
-/// A file with its name.
+/// Returns a file with its name.
 fn file_of(alloc: Global, name: &str, bytes: &[u8]) -> Result<(String, Vec<u8>), AllocError> {
     let name = String::from_str(alloc, name)?;
     Ok((name, bytes.to_vec(alloc)?))
 }
 
-/// Files, each with its name.
+/// Returns files, each with its name.
 pub(crate) fn files_of(
     alloc: Global,
     files: &[(&str, &[u8])],
@@ -88,7 +89,7 @@ pub(crate) fn files_of(
     Ok(all)
 }
 
-/// The calls of a stream that fail.
+/// Returns the calls of a stream that fail.
 fn failing(alloc: Global, call: u64) -> Result<Vec<u64>, AllocError> {
     let mut calls = Vec::new(alloc);
     if call > 0 {
@@ -97,7 +98,7 @@ fn failing(alloc: Global, call: u64) -> Result<Vec<u64>, AllocError> {
     Ok(calls)
 }
 
-/// The calls of a shelf that fail, each with the bytes that a store leaves.
+/// Returns the calls of a shelf that fail, each with the number of bytes that a store writes.
 fn failing_stores(alloc: Global, call: u64, bytes: u32) -> Result<Vec<(u64, u32)>, AllocError> {
     let mut calls = Vec::new(alloc);
     if call > 0 {
@@ -118,13 +119,13 @@ fn trace_of(alloc: Global, given: &Given) -> Result<MemSource, AllocError> {
     Ok(MemSource::new(bytes, 16, fails))
 }
 
-/// A sink that takes so many bytes a call, and at least one.
+/// Returns a sink that takes `taken` bytes a call, at least one.
 fn sink_of(alloc: Global, taken: u32, call: u64) -> Result<MemSink, AllocError> {
     let fails = failing(alloc, call)?;
     Ok(MemSink::new(alloc, taken.max(1), fails))
 }
 
-/// Whether the output took what it is to take.
+/// Checks whether the output took what is expected.
 fn is_taken(wanted: &Wanted, status: u8, bytes: &[u8]) -> bool {
     match wanted.most {
         None => bytes == wanted.out,
@@ -136,7 +137,7 @@ fn is_taken(wanted: &Wanted, status: u8, bytes: &[u8]) -> bool {
     }
 }
 
-/// Whether a file holds these bytes; one that can't be loaded holds none.
+/// Checks whether a file has these bytes; a file that can't be loaded hasn't.
 pub(crate) fn holds<F: Shelf>(alloc: Global, shelf: &mut F, name: &str, bytes: &[u8]) -> bool {
     match shelf.load(alloc, name, u32::MAX) {
         Ok(given) => {
@@ -148,7 +149,7 @@ pub(crate) fn holds<F: Shelf>(alloc: Global, shelf: &mut F, name: &str, bytes: &
     }
 }
 
-/// Whether the files hold these bytes.
+/// Checks whether the files have these bytes.
 pub(crate) fn hold_files<F: Shelf>(alloc: Global, shelf: &mut F, files: &[(&str, &[u8])]) -> bool {
     for (name, bytes) in files {
         if !holds(alloc, shelf, name, bytes) {
@@ -158,7 +159,7 @@ pub(crate) fn hold_files<F: Shelf>(alloc: Global, shelf: &mut F, files: &[(&str,
     true
 }
 
-/// The status of a call whose world nobody looks at.
+/// Returns the status of a call and drops its world.
 fn status_alone(
     alloc: Global,
     words: &[&str],
@@ -175,7 +176,7 @@ fn status_alone(
     Ok(status)
 }
 
-/// Whether a call over these objects leaves what it is to leave, beside the files.
+/// Checks whether a call over these objects has its expected result, except for the files.
 fn is_answer(
     alloc: Global,
     given: &Given,
@@ -192,7 +193,7 @@ fn is_answer(
     Ok(status == wanted.status && is_told && is_taken(wanted, status, out.bytes()))
 }
 
-/// The same with an output.
+/// Does the same with an output.
 fn with_out(
     alloc: Global,
     given: &Given,
@@ -206,7 +207,7 @@ fn with_out(
     is_so
 }
 
-/// The same with a trace.
+/// Does the same with a trace.
 fn with_trace(
     alloc: Global,
     given: &Given,
@@ -219,7 +220,7 @@ fn with_trace(
     is_so
 }
 
-/// Whether a call leaves what it is to leave, where there is memory.
+/// Checks whether a call has its expected result.
 fn leaves(alloc: Global, given: &Given, wanted: &Wanted) -> Result<bool, AllocError> {
     let mut shelf = shelf_of(alloc, given)?;
     let answer = with_trace(alloc, given, wanted, &mut shelf);
@@ -228,12 +229,12 @@ fn leaves(alloc: Global, given: &Given, wanted: &Wanted) -> Result<bool, AllocEr
     Ok(answer? && is_held)
 }
 
-/// Whether a call leaves what it is to leave.
+/// Checks whether a call has its expected result; if memory runs out, it hasn't.
 pub(crate) fn is_so(alloc: Global, given: &Given, wanted: &Wanted) -> bool {
     matches!(leaves(alloc, given, wanted), Ok(true))
 }
 
-/// Whether a call answers and writes as the row says.
+/// Checks whether a call returns and writes what the row says.
 pub(crate) fn is_row(alloc: Global, row: &Row) -> bool {
     let (words, source, trace, status, out, err) = *row;
     let given = Given {
@@ -254,7 +255,7 @@ pub(crate) fn is_row(alloc: Global, row: &Row) -> bool {
     is_so(alloc, &given, &wanted)
 }
 
-/// Whether each row holds.
+/// Checks whether each row holds.
 pub(crate) fn all_hold(alloc: Global, rows: &[Row]) -> bool {
     for row in rows {
         if !is_row(alloc, row) {

@@ -16,7 +16,7 @@ const CHECK: &[&str] = &["check", "P", "I", "C"];
 
 const BUDGET: &[&str] = &["budget", "P", "I", "C"];
 
-/// The words, the source, image and certificate that they name, the status, and what the output and standard error take.
+/// The words, the source, image and certificate that they name, the status, the output, and the line on standard error.
 type CheckRow<'a> = (
     &'a [&'a str],
     &'a [u8],
@@ -150,7 +150,7 @@ const BUDGETS: [CheckRow<'static>; 4] = [
     ),
 ];
 
-/// Whether the command says this of a source, an image and a certificate.
+/// Checks whether the command gives this answer on a source, an image and a certificate.
 fn is_checked(alloc: Global, row: &CheckRow) -> bool {
     let (words, source, image, certificate, status, out, err) = *row;
     let given = Given {
@@ -171,7 +171,7 @@ fn is_checked(alloc: Global, row: &CheckRow) -> bool {
     is_so(alloc, &given, &wanted)
 }
 
-/// Whether each row holds.
+/// Checks whether each row holds.
 fn all_are_checked(alloc: Global, rows: &[CheckRow]) -> bool {
     for row in rows {
         if !is_checked(alloc, row) {

@@ -42,7 +42,7 @@ fn fill(buf: &mut [u8], word: &[u8]) -> Result<usize, FillError>
     Ok(word.len())
 }
 
-/// Whether a command line has so many words.
+/// Checks whether a command line has this number of words.
 fn has_count(alloc: Global, last: &'static [u8], count: usize) -> bool {
     match words_of(&CommandLine { last }, alloc) {
         Ok(words) => {
@@ -54,7 +54,7 @@ fn has_count(alloc: Global, last: &'static [u8], count: usize) -> bool {
     }
 }
 
-// Where a word is not UTF-8, there is none.
+// If a word isn't UTF-8, there are no words.
 #[test]
 fn words_of_the_command_line(rt: HostRuntime) {
     let alloc = rt.alloc();

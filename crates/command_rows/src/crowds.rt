@@ -1,4 +1,4 @@
-// Rows of as many threads as may live, and of as many as there are chunks.
+// Rows with the maximum number of live threads, and with as many threads as there are chunks.
 
 ghost use Rattle.std.specs.Prelude.{IfSome};
 ghost use Rattle.command_rows.specs.Moments.{IsAt, after_turn};
@@ -11,7 +11,7 @@ use cap_word::Stop;
 use std::alloc::Global;
 use thread_core::{Turn, World};
 
-// It goes on where it has started the thread of that number.
+// Returns the next turn, if thread 0 has started the thread of that number.
 fn next(world: &mut World, turn: Turn, number: u32) -> Option<Turn>
     requires { IsAt (after_turn turn) world.old }
     ensures { IfSome result (λ turn. IsAt (after_turn turn) world.new) }
@@ -27,7 +27,7 @@ fn next(world: &mut World, turn: Turn, number: u32) -> Option<Turn>
     }
 }
 
-// What the turn is with which thread 0 has started all others, so that so many live.
+// Returns the turn after thread 0 has started all others, up to `live` threads.
 fn last(world: &mut World, live: u32) -> Option<Turn>
     requires { IsAt Between world.old }
     ensures { IfSome result (λ turn. IsAt (after_turn turn) world.new) }
@@ -39,7 +39,7 @@ fn last(world: &mut World, live: u32) -> Option<Turn>
     Some(turn)
 }
 
-// Whether thread 0 has started all others, then the run stops so, and answers so again.
+// Checks whether thread 0 starts all others, then the run stops in this way, and returns the same again.
 fn stops(world: &mut World, live: u32, stop: Stop, cost: u64) -> bool
     requires { IsAt Between world.old }
 {
@@ -49,7 +49,7 @@ fn stops(world: &mut World, live: u32, stop: Stop, cost: u64) -> bool
     }
 }
 
-// Whether the run stops so, with so many threads and free chunks.
+// Checks whether the run stops in this way, with this number of threads and of free chunks.
 fn is_row(alloc: Global, chunks: u32, live: u32, stop: Stop, cost: u64, free: u32) -> bool {
     let setup = Setup {
         chunk: 64,
@@ -70,10 +70,11 @@ fn is_row(alloc: Global, chunks: u32, live: u32, stop: Stop, cost: u64, free: u3
     }
 }
 
-// How many chunks there are, how many threads live at the stop, the stop with its cost, and how many chunks are free.
+// The number of chunks, the number of live threads at the stop, the stop with its cost, and the number of free chunks.
 //
-// As many threads live as may, and one chunk is free: a round of the loop that starts threads has 16 instructions up to the call.
-// Then no chunk is free either: the number of threads comes first. At last no chunk is free for a thread.
+// First the maximum number of threads is live, and one chunk is free: a round of the loop that starts threads has 16
+// instructions up to the call. Then no chunk is free either: the number of threads is tested first. At last no chunk is
+// free for a thread.
 const ROWS: [(u32, u32, Stop, u64, u32); 3] = [
     (65_536, 65_535, Stop::Threads, 1_048_560, 1),
     (65_535, 65_535, Stop::Threads, 1_048_560, 0),

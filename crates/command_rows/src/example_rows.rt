@@ -1,4 +1,4 @@
-// The servers of examples/ at the top of the repository: what each writes on its trace is the log that lies beside it.
+// The servers of examples/ at the top of the repository: the output of each on its trace is the log in its folder.
 // tools/check_examples compares these texts with those files.
 use crate::calls::{NONE, Row, all_hold};
 
@@ -51,7 +51,7 @@ pub(crate) const TRACE_OF_TIMERS: &[u8] = b"arrive 0 900\narrive 0 300\narrive 1
 pub(crate) const LOG_OF_TIMERS: &[u8] =
     b"event 0 arrive 900\nevent 0 arrive 300\nrun 0 0 0\nblock 0 2 2 12 1023\nrun 12 0 2\nblock 0 2 2 18 1022\nrun 30 1 0\nblock 1 3 0 8 1022\nrun 38 0 2\nblock 0 2 2 18 1021\nrun 56 2 0\nblock 2 3 0 8 1021\nevent 100 arrive 500\nrun 100 0 2\nblock 0 2 2 18 1020\nrun 118 3 0\nblock 3 3 0 8 1020\nrun 364 2 3\nout 2 300\nend 2 10 1021\nrun 626 3 3\nout 3 500\nend 3 10 1022\nrun 938 1 3\nout 1 900\nend 1 10 1023\nedge 0 2 1 3072 0\nedge 0 3 3 2048 0\nedge 2 2 3 4608 256\nedge 3 1 3 2560 -256\nstop idle\n";
 
-/// A peer that is given up.
+/// A peer that doesn't answer in time.
 const SILENT: &[u8] =
     b"// An arrival is the number of a channel. On it come the length of a list and then its numbers; the answer is their sum. A\n// peer that is silent for 500 ticks is given up: the answer is -1, and the worker takes the next one.\nint sum_of_list(int channel) {\n  int left;\n  int part;\n  int sum;\n  int heard;\n  heard = waitfor(channel, 500);\n  if (!heard) return -1;\n  left = wait(channel);\n  sum = 0;\n  while (left > 0) {\n    heard = waitfor(channel, 500);\n    if (!heard) return -1;\n    part = wait(channel);\n    sum = sum + part;\n    left = left - 1;\n  }\n  return sum;\n}\n\nvoid worker(int n) {\n  int channel;\n  int sum;\n  while (1) {\n    channel = accept();\n    sum = sum_of_list(channel);\n    put(sum);\n  }\n}\n\nint main() {\n  spawn(worker, 1);\n  return 0;\n}\n";
 
@@ -71,7 +71,7 @@ const TRACE_OF_ORDERS: &[u8] =
 const LOG_OF_ORDERS: &[u8] =
     b"run 0 0 0\nend 0 31 1022\nrun 31 1 0\nblock 1 2 3 10 1022\nrun 41 2 0\nblock 2 2 3 10 1022\nevent 100 arrive 5\nrun 100 1 2\nblock 1 3 0<2 30 1022\nevent 200 data 5 2\nrun 200 1 3\nblock 1 4 1<2 18 1022\nrun 218 1 4\nblock 1 3 0<2 26 1022\nevent 300 arrive 6\nrun 300 2 2\nblock 2 3 0<2 30 1022\nevent 400 data 6 7\nrun 400 2 3\nblock 2 4 1<2 18 1022\nrun 418 2 4\nblock 2 3 0<2 26 1022\nevent 500 data 5 10\nrun 500 1 3\nblock 1 4 1<2 18 1022\nrun 518 1 4\nblock 1 3 0<2 26 1022\nevent 600 data 6 1\nrun 600 2 3\nblock 2 4 1<2 18 1022\nrun 618 2 4\nblock 2 3 0<2 26 1022\nrun 1044 1 3\nout 1 12\nblock 1 2 3 45 1022\nrun 1144 2 3\nout 2 20\nblock 2 2 3 45 1022\nedge 0 1 1 7936 256\nedge 0 2 2 2560 0\nedge 2 3 2 7680 0\nedge 3 2 2 11520 0\nedge 3 4 4 4608 0\nedge 4 3 4 6656 0\nstop idle\n";
 
-/// Two tenants, by strides and by the graph.
+/// Two tenants, by the stride rule and by the priority rule.
 const TENANTS: &[u8] =
     b"// Two tenants share the machine. Each puts its number and lets the other have a turn, again and again.\nvoid tenant(int number) {\n  while (1) {\n    put(number);\n    yield();\n  }\n}\n\nint main() {\n  spawn(tenant, 1);\n  spawn(tenant, 2);\n  return 0;\n}\n";
 
@@ -136,7 +136,7 @@ const TRACE_OF_RELAY: &[u8] = b"arrive 500 3\narrive 500 4\narrive 900 5\n";
 const LOG_OF_RELAY: &[u8] =
     b"run 0 0 0\nblock 0 2 10 12 1023\nrun 12 0 2\nblock 0 3 11 10 1023\nrun 22 0 3\nend 0 39 1021\nrun 61 1 0\nblock 1 4 5 10 1021\nrun 71 2 0\nblock 2 5 2<7 42 1021\nrun 113 3 0\nblock 3 6 2<9 42 1021\nevent 500 arrive 3\nevent 500 arrive 4\nrun 500 1 4\nblock 1 7 0<4 36 1021\nrun 536 1 7\nblock 1 4 5 48 1021\nrun 584 2 5\nblock 2 8 0<6 86 1021\nrun 670 2 8\nblock 2 5 2<7 80 1021\nrun 750 3 6\nout 3 6\nblock 3 6 2<9 89 1021\nrun 839 1 4\nblock 1 7 0<4 36 1021\nrun 875 1 7\nblock 1 4 5 48 1021\nevent 923 arrive 5\nrun 923 2 5\nblock 2 8 0<6 86 1021\nrun 1009 2 8\nblock 2 5 2<7 80 1021\nrun 1089 3 6\nout 3 8\nblock 3 6 2<9 89 1021\nrun 1178 1 4\nblock 1 7 0<4 36 1021\nrun 1214 1 7\nblock 1 4 5 48 1021\nrun 1262 2 5\nblock 2 8 0<6 86 1021\nrun 1348 2 8\nblock 2 5 2<7 80 1021\nrun 1428 3 6\nout 3 10\nblock 3 6 2<9 89 1021\nedge 0 2 1 3072 0 0 0 0 0\nedge 0 4 1 2560 0 0 0 0 0\nedge 0 5 1 10752 0 0 0 0 0\nedge 0 6 1 10752 0 0 0 0 0\nedge 2 3 1 2560 0 256 0 0 0\nedge 3 1 1 9984 512 0 0 256 0\nedge 4 7 3 9216 0 0 0 0 0\nedge 5 8 3 22016 0 256 -256 0 0\nedge 6 6 3 22784 0 0 0 256 -256\nedge 7 4 3 12288 0 -256 256 0 0\nedge 8 5 3 20480 0 0 0 -256 256\nstop idle\n";
 
-/// Two accounts and two tellers that wait for each other.
+/// Two accounts and two tellers that wait for one another.
 const BANK: &[u8] =
     b"// Transfers between two accounts. Each account is a resource of one unit, which a transfer holds while it changes the balance: the first\n// account first. Two transfers in opposite directions, at the same time, wait for each other for ever.\nint balances[3];\n\nvoid transfer(int from, int to, int amount) {\n  take(from, 1);\n  sleep(100);\n  take(to, 1);\n  balances[from] = balances[from] - amount;\n  balances[to] = balances[to] + amount;\n  put(balances[to]);\n  give(to, 1);\n  give(from, 1);\n}\n\nvoid teller(int n) {\n  int request;\n  while (1) {\n    request = accept();\n    transfer(request / 10, request % 10, 5);\n  }\n}\n\nint main() {\n  spawn(teller, 1);\n  spawn(teller, 2);\n  return 0;\n}\n";
 
@@ -247,7 +247,7 @@ const EXAMPLES_OF_RULES: [Row<'static>; 2] = [
     ),
 ];
 
-// On chunks of one size the fourth waiting thread finds none: the status is 12.
+// With chunks of one size the fourth waiting thread finds none: the status is 12.
 const EXAMPLES_OF_SIZES: [Row<'static>; 2] = [
     (
         &[
@@ -347,7 +347,7 @@ const EXAMPLES_OF_CIRCLES: [Row<'static>; 1] = [(
     NONE,
 )];
 
-// What each server writes on its trace is its log.
+// The output of each server on its trace is its log.
 
 #[test]
 fn examples_have_their_logs(rt: HostRuntime) {

@@ -6,8 +6,8 @@ use crate::serving::{LOG_OF_SERVER, SERVER, SERVER_TRACE};
 use runner::RunEnd;
 use std::alloc::Global;
 
-// Whether the server's run ends so and writes so much of its log, where this read and this write fail, 0 standing for none, and
-// each has so many bytes.
+// Checks whether the server's run ends in this way and writes this share of its log, with this failing read and this
+// failing write, 0 for none, and this number of bytes a call.
 fn serves(alloc: Global, read: u64, write: u64, bytes: u32, end: RunEnd, share: Share) -> bool {
     let given = Given {
         source: SERVER,
@@ -20,15 +20,16 @@ fn serves(alloc: Global, read: u64, write: u64, bytes: u32, end: RunEnd, share: 
     ends(alloc, &given, end, share, LOG_OF_SERVER)
 }
 
-/// The first and the last call that fails, how many bytes a call has, how the run ends, and how much of the log is written.
+/// The first and the last call that fails, the number of bytes a call, the end of the run, and the share of the log
+/// that is written.
 type Row = (u64, u64, u32, RunEnd, Share);
 
-// A run ends with the failure, and what was written is a beginning of the log; where there is no such read or write, the run is
-// as ever. The log has 632 bytes, which are held to its end: where a read fails, none of them were written.
+// A run ends with the failure, and what was written is a prefix of the log; if there is no such read or write, the run
+// succeeds. The log has 632 bytes, which are buffered up to its end: if a read fails, none of them has been written.
 //
-// The trace has 78 bytes, which are read one by one, and then its end once. In blocks of at most 64 bytes they are two, and then
-// the end. The last four have no read that fails: the trace gives its bytes one by one, by two, by three and all at once, and
-// the log is the same.
+// The trace has 78 bytes, which are read one by one, followed by one read of its end. In blocks of at most 64 bytes
+// they are two reads, followed by the end. The last four have no failing read: the trace returns its bytes one by one,
+// by two, by three and all at once, and the log is the same.
 const READS: [Row; 8] = [
     (1, 79, 1, RunEnd::ReadFault, Share::Nothing),
     (80, 80, 1, RunEnd::Idle, Share::Whole),

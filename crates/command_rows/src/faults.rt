@@ -1,4 +1,4 @@
-// Objects that fail: what `serve`, `check` and `build` of `put(7)` leave then.
+// Objects that fail: the results of `serve`, `check` and `build` of `put(7)`.
 use crate::builds::OLD;
 use crate::calls::{Fails, Given, NONE, Wanted, is_so};
 use crate::checks::{CERTIFICATE_OF_SEVEN, PUT_SEVEN};
@@ -10,10 +10,10 @@ pub(crate) const READ: &[u8] = b"fault: read\n";
 
 pub(crate) const WRITE: &[u8] = b"fault: write\n";
 
-/// The calls that fail, the status, the most bytes that the output takes, and the line then.
+/// The calls that fail, the status, the maximum number of bytes of the output, and the line on standard error.
 type ServingRow = (Fails, u8, usize, &'static [u8]);
 
-// What the output took is a prefix of the log, and all of it only where nothing failed.
+// The output took a prefix of the log, and all of it only if nothing failed.
 const SERVING: [ServingRow; 8] = [
     ([0, 0, 0, 0], 0, 63, NONE),
     ([1, 0, 0, 0], 6, 0, READ),
@@ -25,7 +25,7 @@ const SERVING: [ServingRow; 8] = [
     ([0, 0, 1, 1], 7, 0, NONE),
 ];
 
-/// Whether `serve` answers and writes so where these calls fail. The output takes 10 bytes a call.
+/// Checks whether `serve` returns and writes this with these failing calls. The output takes 10 bytes a call.
 fn is_served(alloc: Global, row: &ServingRow) -> bool {
     let (fails, status, most, err) = *row;
     let given = Given {
@@ -46,7 +46,7 @@ fn is_served(alloc: Global, row: &ServingRow) -> bool {
     is_so(alloc, &given, &wanted)
 }
 
-/// Whether each row holds.
+/// Checks whether each row holds.
 fn all_are_served(alloc: Global, rows: &[ServingRow]) -> bool {
     for row in rows {
         if !is_served(alloc, row) {
@@ -61,7 +61,7 @@ fn failing_objects(rt: HostRuntime) {
     assert!(rt; all_are_served(rt.alloc(), &SERVING));
 }
 
-/// The load and the write to the output that fail, the status, what the output takes, and the line.
+/// The load and the write to the output that fail, the status, the output, and the line on standard error.
 type CheckRow = (u64, u64, u8, &'static [u8], &'static [u8]);
 
 const CHECKS: [CheckRow; 6] = [
@@ -73,7 +73,7 @@ const CHECKS: [CheckRow; 6] = [
     (4, 0, 0, b"accepted\n", NONE),
 ];
 
-/// Whether `check` answers and writes so where that load or that write fails. The output takes 4 bytes a call.
+/// Checks whether `check` returns and writes this with that failing load or write. The output takes 4 bytes a call.
 fn is_checked(alloc: Global, row: &CheckRow) -> bool {
     let (load, write, status, out, err) = *row;
     let given = Given {
@@ -98,7 +98,7 @@ fn is_checked(alloc: Global, row: &CheckRow) -> bool {
     is_so(alloc, &given, &wanted)
 }
 
-/// Whether each row holds.
+/// Checks whether each row holds.
 fn all_are_checked(alloc: Global, rows: &[CheckRow]) -> bool {
     for row in rows {
         if !is_checked(alloc, row) {
@@ -113,8 +113,8 @@ fn failing_checks(rt: HostRuntime) {
     assert!(rt; all_are_checked(rt.alloc(), &CHECKS));
 }
 
-/// The call of the shelf that fails and the bytes that it leaves, the write that fails, and the status, output, line, image and
-/// certificate then.
+/// The call of the shelf that fails and the bytes that it writes, the write that fails, and the status, output, line,
+/// image and certificate then.
 type BuildRow<'a> = (u64, u32, u64, u8, &'a [u8], &'a [u8], &'a [u8], &'a [u8]);
 
 const BUILDS: [BuildRow<'static>; 6] = [
@@ -144,7 +144,8 @@ const BUILDS: [BuildRow<'static>; 6] = [
     ),
 ];
 
-/// Whether `build` leaves this where that call of the shelf or that write fails. The output takes 4 bytes a call.
+/// Checks whether `build` has this result with that failing call of the shelf or write. The output takes 4 bytes a
+/// call.
 fn is_built(alloc: Global, row: &BuildRow) -> bool {
     let (call, stored, write, status, out, err, image, certificate) = *row;
     let given = Given {
@@ -165,7 +166,7 @@ fn is_built(alloc: Global, row: &BuildRow) -> bool {
     is_so(alloc, &given, &wanted)
 }
 
-/// Whether each row holds.
+/// Checks whether each row holds.
 fn all_are_built(alloc: Global, rows: &[BuildRow]) -> bool {
     for row in rows {
         if !is_built(alloc, row) {
@@ -180,7 +181,7 @@ fn failing_builds(rt: HostRuntime) {
     assert!(rt; all_are_built(rt.alloc(), &BUILDS));
 }
 
-/// Whether `build` leaves so many bytes of the certificate where its store fails after them.
+/// Checks whether `build` leaves this number of bytes of the certificate if its store fails after them.
 fn is_cut(alloc: Global, stored: u32) -> bool {
     match CERTIFICATE_OF_SEVEN.get(..stored as usize) {
         Some(part) => is_built(alloc, &(3, stored, 0, 7, NONE, WRITE, IMAGE_OF_SEVEN, part)),
@@ -188,7 +189,7 @@ fn is_cut(alloc: Global, stored: u32) -> bool {
     }
 }
 
-/// The same after each of its bytes.
+/// Does the same after each of its bytes.
 fn all_are_cut(alloc: Global) -> bool {
     for stored in 0..CERTIFICATE_OF_SEVEN.len() + 1 {
         if !is_cut(alloc, stored as u32) {

@@ -21,6 +21,6 @@ edge 0 1 1 7936 256
 stop trace 5
 ";
 
-/// A trace of two arrivals at once, two messages, and a line whose time falls.
+/// A trace of two arrivals at once, two messages, and a line whose time is below that of the line before.
 pub(crate) const FALLING_TRACE: &[u8] =
     b"arrive 0 0\narrive 0 1\ndata 5 0 7\ndata 6 0 8\ndata 4 0 9\n";

@@ -1,5 +1,5 @@
-// Want of memory, which a segment meets only where it starts a thread. The tests find ample memory; where their requests for
-// it are refused in turn, this one sees what is then said.
+// Out of memory in a segment, which is only possible at the start of a thread. In a test run memory is ample; a run
+// that refuses each allocation in turn checks the answers.
 
 ghost use Rattle.command_rows.specs.Moments.{IsAt};
 ghost use Rattle.command_rows.specs.declared.moments.Moment.TheVariants.{Between};
@@ -10,7 +10,8 @@ use crate::turns::{again, begin_main};
 use std::alloc::Global;
 use thread_core::{Turn, World};
 
-// Whether a thread starts, or there is no memory for it: then the run has stopped, and no thread and no chunk has changed.
+// Checks whether a thread starts, or memory runs out for it: then the run has stopped, and no thread and no chunk has
+// changed.
 fn starts_or_stops(world: &mut World) -> bool
     requires { IsAt Between world.old }
 {
@@ -24,7 +25,7 @@ fn starts_or_stops(world: &mut World) -> bool
     }
 }
 
-// The same of a world that is made, where there is memory for that.
+// Does the same with a new world, unless memory runs out for that.
 fn is_row(alloc: Global) -> bool {
     match world_of(alloc, SERVER, USUAL) {
         None => true,

@@ -1,9 +1,9 @@
-/// Where a run stands: between two segments, within one, or it has stopped.
+/// The state of a run: between two segments, within one, or stopped.
 #[derive(Clone, Copy, PartialEq, Eq)]
 pub enum Moment {
-    /// No segment is under way.
+    /// No segment is in progress.
     Between,
-    /// A segment is under way.
+    /// A segment is in progress.
     Within,
     /// The run has stopped.
     Over,

@@ -1,11 +1,11 @@
-// A whole run that stops in a thread whose record stands where another one's stood: its slot isn't its number.
+// A whole run that stops in a thread whose record is at the place of an earlier one: its slot isn't its number.
 
 use crate::run_rows::ONE_UNIT;
 use crate::runs::{Given, Share, ends};
 use cap_word::{ThreadId, TrapKind};
 use runner::RunEnd;
 
-/// The first worker has ended when the second starts, which names a resource that isn't there.
+/// The first worker has ended when the second starts, which names a resource that doesn't exist.
 const WORKERS: &[u8] =
     b"void w(int n) { give(n, 0); } int main() { spawn(w, 1); sleep(1000); spawn(w, 9); sleep(1000); return 0; }";
 

@@ -1,4 +1,4 @@
-// The steps of a row, and what each is to answer.
+// The steps of a row, and their expected answers.
 
 ghost use Rattle.std.specs.Prelude.{◌≡◌, IfSome, IsTrue};
 ghost use Rattle.thread_core.specs.Making.{IsEventInRange};
@@ -11,22 +11,22 @@ use cap_word::{Ready, SiteKey, Stop, ThreadId};
 use event_trace::{Event, EventKind};
 use thread_core::{Delivered, Turn, World};
 
-/// What a turn is to tell.
+/// The expected turn.
 #[derive(Clone, Copy)]
 pub(crate) enum Told {
     /// A value.
     Out(u32),
     /// A thread of that number has started.
     Spawned(u32),
-    /// It is blocked at that site, which is the key, after so many instructions.
+    /// It is blocked at that site, which is the key, after this number of instructions.
     Blocked(u32, u64),
     /// It is blocked at that site.
     Waits(u32),
-    /// It has ended after so many instructions.
+    /// It has ended after this number of instructions.
     Ended(u64),
     /// It has ended.
     Ends,
-    /// The run has stopped in the midst of a segment of so many instructions.
+    /// The run has stopped within a segment, after this number of instructions.
     Cut(Stop, u64),
     /// The run has stopped.
     Stops(Stop),
@@ -37,13 +37,13 @@ pub(crate) enum Told {
 pub(crate) enum Step {
     /// A segment of the thread begins.
     Begin(u32, Told),
-    /// The segment under way goes on.
+    /// The segment in progress continues.
     Proceed(Told),
-    /// A value arrives, and is queued or not.
+    /// A value arrives; whether it is queued.
     Arrive(u32, bool),
-    /// A message comes on a channel, and is queued or not.
+    /// A message comes on a channel; whether it is queued.
     Send(u32, u32, bool),
-    /// The clock goes on to so much after the thread blocked last.
+    /// The clock advances to this long after the thread blocked last.
     Advance(u32, u64),
     /// Whether the thread is ready.
     IsReady(u32, bool),
@@ -51,23 +51,24 @@ pub(crate) enum Step {
     AtAccept(u32, bool),
     /// Whether any thread is ready.
     AnyReady(bool),
-    /// Whether any is that isn't at `accept`.
+    /// Whether any thread is ready that isn't at `accept`.
     AnyElsewhere(bool),
-    /// The next sleeper to wake does so at that much after the thread blocked last.
+    /// The next sleeping thread wakes this long after the thread blocked last.
     Wakes(u32, u64),
-    /// No sleeper is still to wake.
+    /// No sleeping thread is yet to wake.
     NoneWakes,
     /// The use of resource 1.
     Used(u32),
-    /// How many chunks are free.
+    /// The number of free chunks.
     Free(u32),
-    /// How many threads live.
+    /// The number of live threads.
     Live(u32),
     /// The clock.
     Clock(u64),
 }
 
-/// A run: where it stands, whose segment began last, and of each thread by its number its name and when it blocked last.
+/// A run: its state, the thread whose segment began last, and for each thread by number its id and the clock at which
+/// it blocked last.
 #[derive(Drop)]
 pub(crate) struct Run {
     pub moment: Moment,
@@ -76,7 +77,7 @@ pub(crate) struct Run {
     pub since: [u64; 8],
 }
 
-// Whether a turn is as told.
+// Checks whether a turn is the expected one.
 fn is_told(turn: &Turn, told: Told) -> bool {
     match told {
         Told::Out(value) => *turn == Turn::Out { value },
@@ -108,7 +109,7 @@ fn is_told(turn: &Turn, told: Told) -> bool {
     }
 }
 
-// Where a run stands after a turn, if it stood there before: a run that has stopped has stopped.
+// Returns the state of a run after a turn; a run that has stopped stays stopped.
 fn then(moment: Moment, turn: &Turn) -> Moment
     ensures { result ≡ then_at moment turn.now }
 {
@@ -118,7 +119,7 @@ fn then(moment: Moment, turn: &Turn) -> Moment
     }
 }
 
-// A segment of a thread begins, where that may be.
+// Begins a segment of a thread, if that is possible.
 fn begin(world: &mut World, moment: Moment, thread: ThreadId) -> Option<Turn>
     requires { IsAt moment world.old }
     ensures { IfSome result (λ turn. IsAt (then_at moment turn) world.new) }
@@ -135,7 +136,7 @@ fn begin(world: &mut World, moment: Moment, thread: ThreadId) -> Option<Turn>
     }
 }
 
-// The segment under way goes on, where one is.
+// Continues the segment in progress, if there is one.
 fn proceed(world: &mut World, moment: Moment) -> Option<Turn>
     requires { IsAt moment world.old }
     ensures { IfSome result (λ turn. IsAt (then_at moment turn) world.new) }
@@ -148,7 +149,7 @@ fn proceed(world: &mut World, moment: Moment) -> Option<Turn>
 }
 
 impl Run {
-    /// A run that begins: thread 0 is the first.
+    /// Returns a run at its start: thread 0 is the first.
     pub(crate) fn new(world: &World) -> Run
         ensures { result.moment ≡ Between }
     {
@@ -160,17 +161,17 @@ impl Run {
         }
     }
 
-    // The name of a thread.
+    // Returns the id of a thread.
     fn named(&self, number: u32) -> ThreadId {
         self.threads[(number % 8) as usize]
     }
 
-    // When a thread blocked last, and so much later.
+    // Returns the clock at which a thread blocked last, plus these ticks.
     fn later(&self, number: u32, ticks: u64) -> u64 {
         self.since[(number % 8) as usize].wrapping_add(ticks)
     }
 
-    // Keeps what a turn tells.
+    // Keeps the facts of a turn.
     fn keep(&mut self, turn: &Turn, clock: u64)
         ensures { self.new.moment ≡ then_at self.old.moment turn.now }
     {
@@ -182,7 +183,7 @@ impl Run {
         }
     }
 
-    // A turn was made, and tells this.
+    // Takes up a turn, and checks whether it is the expected one.
     fn takes(&mut self, world: &World, made: Option<Turn>, told: Told) -> bool
         requires { IfSome made (λ turn. IsAt (then_at self.old.moment turn) world.now) }
         ensures { IsTrue result → IsAt self.new.moment world.now }
@@ -197,7 +198,7 @@ impl Run {
         }
     }
 
-    // A segment of a thread begins, and tells this.
+    // Begins a segment of a thread, and checks its turn.
     fn begins(&mut self, world: &mut World, number: u32, told: Told) -> bool
         requires { IsAt self.old.moment world.old }
         ensures { IsTrue result → IsAt self.new.moment world.new }
@@ -208,7 +209,7 @@ impl Run {
         self.takes(world, made, told)
     }
 
-    // The segment under way goes on, and tells this.
+    // Continues the segment in progress, and checks its turn.
     fn proceeds(&mut self, world: &mut World, told: Told) -> bool
         requires { IsAt self.old.moment world.old }
         ensures { IsTrue result → IsAt self.new.moment world.new }
@@ -217,7 +218,7 @@ impl Run {
         self.takes(world, made, told)
     }
 
-    // An event comes, and is queued or not.
+    // Delivers an event, and checks whether it is queued.
     fn comes(&self, world: &mut World, kind: EventKind, queued: bool) -> bool
         requires at { IsAt self.now.moment world.old }
         requires range { IsEventInRange kind }
@@ -232,7 +233,7 @@ impl Run {
         }
     }
 
-    // The clock goes on to a time, which isn't past.
+    // Advances the clock to a time, which isn't past.
     fn waits(&self, world: &mut World, to: u64) -> bool
         requires { IsAt self.now.moment world.old }
         ensures { IsTrue result → IsAt self.now.moment world.new }
@@ -249,7 +250,7 @@ impl Run {
         }
     }
 
-    // What is told of a world.
+    // Checks a fact about a world.
     fn is(&self, world: &World, step: Step) -> bool {
         match step {
             Step::IsReady(number, ready) => world.is_ready(self.named(number)) == ready,
@@ -266,7 +267,7 @@ impl Run {
         }
     }
 
-    // Does a step; tells whether all was answered as the step says.
+    // Does a step, and checks its answers.
     fn does(&mut self, world: &mut World, step: Step) -> bool
         requires { IsAt self.old.moment world.old }
         ensures { IsTrue result → IsAt self.new.moment world.new }
@@ -284,7 +285,7 @@ impl Run {
     }
 }
 
-/// Whether a world answers at each step as the step says.
+/// Checks whether a world gives the expected answers at each step.
 pub(crate) fn plays(world: &mut World, steps: &[Step]) -> bool
     requires { IsAt Between world.old }
 {

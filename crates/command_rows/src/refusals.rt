@@ -1,4 +1,4 @@
-// What `serve` refuses, and words that are no word list.
+// Refusals of `serve`, and words that aren't a word list.
 use crate::calls::{NONE, Row, all_hold, is_row};
 use crate::checks::PUT_SEVEN;
 use crate::serving::SERVE;
@@ -7,7 +7,7 @@ use std::alloc::Global;
 const USAGE: &[u8] =
     b"usage: capriccio serve SRC, run SRC IMG CRT, build SRC IMG CRT, check SRC IMG CRT, graph SRC, demo N, audit SRC LOG, budget SRC IMG CRT\n";
 
-// Sources that are refused, words that are no word list, and a file that isn't there.
+// Sources that are refused, words that aren't a word list, and a file that doesn't exist.
 const REFUSALS: [Row<'static>; 27] = [
     (SERVE, NONE, NONE, 2, NONE, b"source: NoMain\n"),
     (SERVE, b"/* x", NONE, 2, NONE, b"source: OpenComment at 0\n"),
@@ -148,7 +148,7 @@ fn refusals(rt: HostRuntime) {
     assert!(rt; all_hold(rt.alloc(), &REFUSALS));
 }
 
-/// Whether a source of so many spaces is refused as too long.
+/// Checks whether a source of `count` spaces is refused as too long.
 fn is_too_long(alloc: Global, count: usize) -> bool {
     match vec![in alloc; b' '; count] {
         Ok(long) => {
@@ -163,7 +163,7 @@ fn is_too_long(alloc: Global, count: usize) -> bool {
     }
 }
 
-// A source of one byte more than it may have.
+// A source of one byte more than the maximum.
 #[test]
 fn a_long_source_is_refused(rt: HostRuntime) {
     assert!(rt; is_too_long(rt.alloc(), 1_048_577));

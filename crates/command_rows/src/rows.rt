@@ -1,4 +1,4 @@
-// Rows of worlds: who is ready when, what comes and is dropped, what is taken, who sleeps, who starts and ends.
+// Rows of worlds: which threads are ready when, deliveries and drops, what is taken, sleeping threads, starts and ends.
 
 use crate::building::{FUEL, Setup, USUAL, world_of};
 use crate::playing::Step::{
@@ -71,7 +71,7 @@ const SECOND_FIRST: &[Step] = &[
     Clock(63),
 ];
 
-// An arrival, a message and a use are taken as the thread goes on, and not before.
+// An arrival, a message and a use are taken when the thread resumes, and not before.
 const TAKEN_ON_RESUMING: &[Step] = &[
     Begin(0, Spawned(1)),
     Proceed(Spawned(2)),
@@ -103,7 +103,7 @@ const TAKEN_ON_RESUMING: &[Step] = &[
     IsReady(2, false),
 ];
 
-// A queue with as many items as may wait takes no more; another one does.
+// A full queue takes no more items; another queue does.
 const FULL_QUEUES: &[Step] = &[
     Arrive(0, true),
     Arrive(1, false),
@@ -120,7 +120,7 @@ const FULL_QUEUES: &[Step] = &[
     Arrive(4, false),
 ];
 
-// As much as the cap may be in use.
+// The use may reach the cap.
 const UP_TO_THE_CAP: &[Step] = &[
     Begin(0, Waits(0)),
     Used(0),
@@ -135,7 +135,7 @@ const UP_TO_THE_CAP: &[Step] = &[
     NoneWakes,
 ];
 
-// A sleeper is ready when the clock is its time.
+// A sleeping thread is ready when the clock is its time.
 const JUST_IN_TIME: &[Step] = &[
     Begin(0, Blocked(0, 8)),
     Free(1023),
@@ -157,7 +157,7 @@ const JUST_IN_TIME: &[Step] = &[
     Live(0),
 ];
 
-// A sleep of a negative number is over at once.
+// A sleep for a negative number of ticks is over at once.
 const NO_TIME: &[Step] = &[
     Begin(0, Waits(0)),
     IsReady(0, true),
@@ -167,7 +167,7 @@ const NO_TIME: &[Step] = &[
     Live(0),
 ];
 
-// The earliest sleeper counts that isn't ready.
+// The earliest sleeping thread that isn't ready counts.
 const SOME_ASLEEP: &[Step] = &[
     Begin(0, Spawned(1)),
     Proceed(Spawned(2)),
@@ -200,7 +200,7 @@ const SOME_ASLEEP: &[Step] = &[
     Live(2),
 ];
 
-// Who waits for a message with a time is ready when the clock is its time, and is told that there is none.
+// A thread that waits for a message with a time is ready when the clock is its time, and gets no message.
 const NOBODY_SPOKE: &[Step] = &[
     Begin(0, Blocked(0, 15)),
     Free(1023),
@@ -236,7 +236,7 @@ const NO_TIME_TO_SPEAK: &[Step] = &[
     Live(0),
 ];
 
-// Who is told of a message finds it: nothing was taken.
+// A thread that is woken by a message finds it: nothing was taken.
 const MESSAGE_STAYS: &[Step] = &[
     Begin(0, Waits(0)),
     Send(0, 7, true),
@@ -250,7 +250,7 @@ const MESSAGE_STAYS: &[Step] = &[
     Proceed(Ends),
 ];
 
-// Where another one takes the message first, who was ready by it is so no more, and sleeps until its time.
+// If another thread takes the message first, the one that was ready by it no longer is, and sleeps until its time.
 const TAKEN_BY_ANOTHER: &[Step] = &[
     Begin(0, Spawned(1)),
     Proceed(Spawned(2)),
@@ -278,7 +278,7 @@ const TAKEN_BY_ANOTHER: &[Step] = &[
     Live(0),
 ];
 
-// A message wakes all who wait on its channel with a time, and the earliest of the others counts.
+// A message wakes all threads that wait on its channel with a time, and the earliest of the others counts.
 const SOME_SPOKE: &[Step] = &[
     Begin(0, Spawned(1)),
     Proceed(Spawned(2)),
@@ -309,7 +309,7 @@ const SOME_SPOKE: &[Step] = &[
     Live(0),
 ];
 
-// The number of a thread that has ended is not used again.
+// The number of a thread that has ended isn't used again.
 const NEW_NUMBERS: &[Step] = &[
     Begin(0, Spawned(1)),
     Proceed(Waits(2)),
@@ -326,7 +326,7 @@ const NEW_NUMBERS: &[Step] = &[
     Free(1024),
 ];
 
-// Channel 63 is one.
+// Channel 63 exists.
 const LAST_CHANNEL: &[Step] = &[
     Begin(0, Waits(0)),
     IsReady(0, false),
@@ -340,7 +340,7 @@ const LAST_CHANNEL: &[Step] = &[
     Proceed(Ends),
 ];
 
-// Whether the world of a program answers at each step as it is to.
+// Checks whether the world of a program gives the expected answer at each step.
 fn is_row(alloc: Global, source: &[u8], setup: Setup, steps: &[Step]) -> bool {
     match world_of(alloc, source, setup) {
         None => false,

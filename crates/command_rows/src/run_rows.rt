@@ -1,4 +1,4 @@
-// Rows of whole runs: a source, what it is given, its trace, how its run ends and the log that it writes.
+// Rows of whole runs: a source, its setup, its trace, the end of its run, and its log.
 
 use crate::building::Setup;
 use crate::checks::PUT_SEVEN;
@@ -9,12 +9,12 @@ use cap_word::ThreadId;
 use runner::RunEnd;
 use std::alloc::Global;
 
-/// A source, what it is given, its trace, how its run ends, and its log.
+/// A source, its setup, its trace, the end of its run, and its log.
 type Row = (&'static [u8], Setup, &'static [u8], RunEnd, &'static [u8]);
 
 const MAIN: ThreadId = ThreadId { slot: 0, number: 0 };
 
-/// The options as they are where none is given.
+/// The default options.
 const USUAL: Setup = Setup {
     chunk: 4096,
     max_path: 2032,
@@ -24,7 +24,7 @@ const USUAL: Setup = Setup {
     cap: 0,
 };
 
-/// With one unit of resource 1.
+/// One unit of resource 1.
 pub(crate) const ONE_UNIT: Setup = Setup {
     chunk: 4096,
     max_path: 2032,
@@ -34,7 +34,7 @@ pub(crate) const ONE_UNIT: Setup = Setup {
     cap: 1,
 };
 
-/// With one place in each queue.
+/// One place in each queue.
 const ONE_PLACE: Setup = Setup {
     chunk: 4096,
     max_path: 2032,
@@ -62,9 +62,9 @@ const TWO_CHUNKS: Setup = Setup {
     cap: 0,
 };
 
-// One row for each way in which a run ends here: the trace ends while threads wait; a line of it is refused; every thread has ended,
-// and a line that is refused stands in what is left; no fuel; no chunk. Whole runs of many sources stand in the rows of the program's
-// one call (`serving.rt`): here it is told what `run` answers, which tells runs apart that end for two causes with one text.
+// One row for each way in which a run ends here: the trace ends while threads wait; a line of it is refused; every
+// thread has ended before a refused line; no fuel; no chunk. The rows of the program's call (`serving.rt`) have whole
+// runs of many sources; here the answer of `run` is tested, which distinguishes two causes with the same text.
 const ROWS: [Row; 5] = [
     (SERVER, ONE_UNIT, SERVER_TRACE, RunEnd::Idle, LOG_OF_SERVER),
     (
@@ -97,7 +97,7 @@ const ROWS: [Row; 5] = [
     ),
 ];
 
-// Whether a run ends so, with that log.
+// Checks whether a run ends in this way, with that log.
 fn holds(alloc: Global, row: &Row) -> bool {
     let (source, setup, trace, end, log) = *row;
     let given = Given {

@@ -1,4 +1,4 @@
-// A source is read and built, and its program is run in memory.
+// Reads and builds a source, and runs its program in memory.
 ghost use Rattle.std.specs.Prelude.{◌∷◌, ◌≡◌, ◌≤◌, drop, IfOk, IsTrue, replicate};
 ghost use Rattle.resource_monitor.specs.Pressure.{AnswersCurve, IsReading, curve_value};
 ghost use Rattle.resource_monitor.specs.declared.curves.Curve.TheVariants.{Linear};
@@ -11,8 +11,8 @@ use runner::{RunEnd, run};
 use std::alloc::{AllocError, Global};
 use thread_core::World;
 
-/// What a run is given: its source, setup and trace, the reads and the writes that fail (0 stands for none), and how many bytes
-/// a read or a write has, at least 1.
+/// The input of a run: its source, setup and trace, the reads and the writes that fail (0 for none), and the number of
+/// bytes of a read or a write, at least 1.
 #[derive(Clone, Copy)]
 pub(crate) struct Given<'a> {
     pub(crate) source: &'a [u8],
@@ -23,25 +23,25 @@ pub(crate) struct Given<'a> {
     pub(crate) bytes: u32,
 }
 
-/// How much of a log was written.
+/// The share of a log that was written.
 #[derive(Clone, Copy, PartialEq, Eq)]
 pub(crate) enum Share {
     /// All of it.
     Whole,
-    /// A beginning, and not all.
+    /// A proper prefix.
     Beginning,
     /// None of it.
     Nothing,
-    /// What isn't a beginning.
+    /// Something that isn't a prefix.
     Other,
 }
 
-/// The bounds of the gate.
+/// The thresholds of the gate.
 const HIGH: u32 = 900;
 
 const LOW: u32 = 700;
 
-// How much of a log these bytes are.
+// Returns the share of a log that these bytes are.
 fn share_of(bytes: &[u8], log: &[u8]) -> Share {
     if bytes == log {
         Share::Whole
@@ -54,7 +54,7 @@ fn share_of(bytes: &[u8], log: &[u8]) -> Share {
     }
 }
 
-// The calls of a stream that fail.
+// Returns the calls of a stream that fail.
 fn failing(alloc: Global, call: u64) -> Result<Vec<u64>, AllocError> {
     let mut calls = Vec::new(alloc);
     if call > 0 {
@@ -74,7 +74,7 @@ fn log_of(alloc: Global, given: &Given) -> Result<MemSink, AllocError> {
     Ok(MemSink::new(alloc, given.bytes.max(1), fails))
 }
 
-/// Whether a run ends so, and writes so much of this log.
+/// Checks whether a run ends in this way, and writes this share of this log.
 pub(crate) fn ends(alloc: Global, given: &Given, end: RunEnd, share: Share, log: &[u8]) -> bool {
     match trace_of(alloc, given) {
         Ok(mut trace) => {
@@ -86,7 +86,7 @@ pub(crate) fn ends(alloc: Global, given: &Given, end: RunEnd, share: Share, log:
     }
 }
 
-// The same on a trace.
+// Does the same on a trace.
 fn writes(
     alloc: Global,
     given: &Given,
@@ -113,7 +113,7 @@ fn is_end(came: Option<RunEnd>, end: RunEnd) -> bool {
     }
 }
 
-// Runs what is built of a source on a trace, and tells how the run ended; None where it isn't built.
+// Runs what is built of a source on a trace, and returns how the run ended, or `None` if the source isn't built.
 fn run_source(
     alloc: Global,
     source: &[u8],
@@ -125,7 +125,7 @@ fn run_source(
     run_world(alloc, world, setup, trace, out)
 }
 
-// Runs a world that was just made, with the pressures of all resources linear in their uses.
+// Runs a newly made world, with linear pressure curves of all resources.
 fn run_world(
     alloc: Global,
     world: World,
@@ -142,7 +142,7 @@ fn run_world(
     run_measured(alloc, world, setup, trace, out, linear)
 }
 
-// Runs it with this way to measure pressures.
+// Runs it with this measure of pressure.
 fn run_measured<C: Measure + Copy + Drop>(
     alloc: Global,
     mut world: World,
@@ -167,7 +167,7 @@ fn run_measured<C: Measure + Copy + Drop>(
     }
 }
 
-// The monitor of a setup, with eight gauges of this way to measure.
+// Returns the monitor of a setup, with eight gauges of this measure.
 fn monitor_of<C: Measure + Copy>(
     alloc: Global,
     setup: Setup,

@@ -1,5 +1,5 @@
-// One shelf that never fails: a program is served, built, checked and run, and the world that it hands out is looked at. Two more
-// are built for their budgets: one gets a budget; the other calls itself, so that none is made of it.
+// One shelf that never fails: a program is served, built, checked and run, and the returned world is examined. Two more
+// are built for their budgets: one gets a budget; the other calls itself, so it has none.
 use crate::calls::{NONE, files_of, hold_files, status_of, words_of};
 use crate::checks::{CERTIFICATE_OF_SEVEN, PUT_SEVEN};
 use crate::images::IMAGE_OF_SEVEN;
@@ -12,11 +12,11 @@ use thread_core::World;
 const LOG_OF_SEVEN_AND_ONE: &[u8] =
     b"run 0 0 0\nout 0 7\nend 0 17 1025\nedge 0 1 1 4352 -256\nstop done\n";
 
-/// A file with what it holds.
+/// The name of a file and its contents.
 type Held<'a> = (&'a str, &'a [u8]);
 
-/// The world of the log at its end: how many chunks are free, all of the pool's, and words of chunks, each as its chunk, its
-/// place in that and its value.
+/// The world at the end of the log: the number of free chunks, all of the pool's, and words of chunks, each as its
+/// chunk, its place in that and its value.
 #[derive(Clone, Copy)]
 struct AtEnd {
     free: u32,
@@ -35,7 +35,7 @@ const ON_EXTRA: AtEnd = AtEnd {
     words: &[(1024, 7, 4096), (1024, 0, 1025), (0, 1023, 0)],
 };
 
-/// Words, the status, what the output and standard error take, the world that is handed out, and files that are there then.
+/// Words, the status, the output, the line on standard error, the returned world, and the files that exist then.
 type Row<'a> = (
     &'a [&'a str],
     u8,
@@ -47,7 +47,7 @@ type Row<'a> = (
 
 const SEQUENCE: [Row<'static>; 9] = [
     (&["serve", "P"], 0, LOG_OF_SEVEN, NONE, Some(ON_FIRST), &[]),
-    // a second size that fits and is smaller, and one that is as large as the first
+    // a second size that fits and is smaller, and one that is equal to the first
     (
         &["serve", "P", "--extra", "1", "--extra-size", "32"],
         0,
@@ -119,7 +119,8 @@ const SEQUENCE: [Row<'static>; 9] = [
     ),
 ];
 
-/// Whether the world is that of the log at its end: 17 instructions, all chunks free again, no thread, and these words.
+/// Checks whether the world is that at the end of the log: 17 instructions, all chunks free again, no thread, and these
+/// words.
 fn is_at_end(last: &Option<World>, wanted: &AtEnd) -> bool {
     match last {
         None => false,
@@ -133,7 +134,7 @@ fn is_at_end(last: &Option<World>, wanted: &AtEnd) -> bool {
     }
 }
 
-/// Whether words of chunks have these values.
+/// Checks whether words of chunks have these values.
 fn has_words(world: &World, wanted: &[(u32, u32, u32)]) -> bool {
     for &(chunk, word, value) in wanted {
         if !has_word(world, chunk, word, value) {
@@ -143,12 +144,12 @@ fn has_words(world: &World, wanted: &[(u32, u32, u32)]) -> bool {
     true
 }
 
-/// Whether a word of a chunk has this value.
+/// Checks whether a word of a chunk has this value.
 fn has_word(world: &World, chunk: u32, word: u32, value: u32) -> bool {
     chunk < world.cap(0) && word < world.chunk_words(chunk) && world.word_at(chunk, word) == value
 }
 
-/// Whether the world that is handed out, or that none is, is as wanted.
+/// Checks whether the returned world, or its absence, is as expected.
 fn is_left(last: &Option<World>, wanted: &Option<AtEnd>) -> bool {
     match wanted {
         None => last.is_none(),
@@ -156,7 +157,8 @@ fn is_left(last: &Option<World>, wanted: &Option<AtEnd>) -> bool {
     }
 }
 
-/// Whether a call without a trace ends with this status, writes this, and hands out the world of the log at its end or none.
+/// Checks whether a call without a trace ends with this status, writes this, and returns the world at the end of the
+/// log or none.
 fn leaves(alloc: Global, words: &Vec<String>, shelf: &mut CleanShelf, row: &Row) -> bool {
     let mut trace = CleanSource::new(Vec::new(alloc));
     let mut out = CleanSink::new(alloc);
@@ -174,7 +176,7 @@ fn leaves(alloc: Global, words: &Vec<String>, shelf: &mut CleanShelf, row: &Row)
     is_so
 }
 
-/// Whether a call leaves what the row says, files too.
+/// Checks whether a call has the result of the row, including files.
 fn is_row(alloc: Global, shelf: &mut CleanShelf, row: &Row) -> Result<bool, AllocError> {
     let words = words_of(alloc, row.0)?;
     let is_so = leaves(alloc, &words, shelf, row);
@@ -184,7 +186,8 @@ fn is_row(alloc: Global, shelf: &mut CleanShelf, row: &Row) -> Result<bool, Allo
 
 const SMALL: &[&str] = &["build", "P", "I", "C", "--chunk", "64", "--max-path", "32"];
 
-/// A program whose one call is at a checkpoint where the longest path is 32 bytes: the frames of `g` and `main` take 16 and 32.
+/// A program whose only call is at a checkpoint if the longest path is 32 bytes: the frames of `g` and `main` take 16
+/// and 32.
 const LINKED: &[u8] =
     b"int g(int x) { return x; } int main() { int a; int b; int c; a = g(1); return a; }";
 
@@ -230,7 +233,7 @@ const CYCLE: [Row<'static>; 2] = [
     ),
 ];
 
-/// Whether the rows hold, one after another.
+/// Checks whether the rows hold, one after another.
 fn all_hold(alloc: Global, shelf: &mut CleanShelf, rows: &[Row]) -> Result<bool, AllocError> {
     for row in rows {
         if !is_row(alloc, shelf, row)? {
@@ -240,7 +243,7 @@ fn all_hold(alloc: Global, shelf: &mut CleanShelf, rows: &[Row]) -> Result<bool,
     Ok(true)
 }
 
-/// The same of a shelf that has the source alone.
+/// Does the same for a shelf that has only the source.
 fn all_hold_of_source(alloc: Global, source: &[u8], rows: &[Row]) -> Result<bool, AllocError> {
     let mut shelf = CleanShelf::new(alloc, files_of(alloc, &[("P", source)])?);
     let is_so = all_hold(alloc, &mut shelf, rows);

@@ -1,4 +1,4 @@
-// The server's run with objects that fail, a trace that is cut, a pool of one chunk and twenty thousand threads.
+// The server's run with objects that fail, a trace that is cut, a pool of one chunk, and twenty thousand threads.
 use crate::calls::{
     Fails, Given, NONE, Row, Wanted, all_hold, files_of, is_row, is_so, status_of, words_of,
 };
@@ -9,10 +9,10 @@ use std::alloc::{AllocError, Global};
 
 const SERVES: &[&str] = &["serve", "P", "--caps", "1=1"];
 
-/// The bytes that the output takes a call.
+/// The number of bytes that the output takes a call.
 const TAKEN: usize = 64;
 
-/// Whether the server answers and writes so where these calls fail. The trace gives 16 bytes a read.
+/// Checks whether the server returns and writes this with these failing calls. The trace returns 16 bytes a read.
 fn is_served(alloc: Global, fails: Fails, status: u8, out: &[u8], err: &[u8]) -> bool {
     let given = Given {
         words: SERVES,
@@ -32,14 +32,14 @@ fn is_served(alloc: Global, fails: Fails, status: u8, out: &[u8], err: &[u8]) ->
     is_so(alloc, &given, &wanted)
 }
 
-/// Whether the failure of a read is told, where standard error takes that and where it fails too. The log is held till the stop,
-/// so none of it was written.
+/// Checks whether the failure of a read is reported, with standard error working and failing. The log is buffered up to
+/// the stop, so none of it has been written.
 fn read_is_told(alloc: Global, call: u64) -> bool {
     is_served(alloc, [0, call, 0, 0], 6, NONE, READ)
         && is_served(alloc, [0, call, 0, 1], 6, NONE, NONE)
 }
 
-/// The same of each read: the trace has 78 bytes, which are five, and one at its end.
+/// Does the same for each read: the trace has 78 bytes, which are five reads, and one at its end.
 fn each_read_is_told(alloc: Global) -> bool {
     for call in 1..=6u64 {
         if !read_is_told(alloc, call) {
@@ -57,13 +57,14 @@ fn each_read_fails(rt: HostRuntime) {
     );
 }
 
-/// Whether the failure of a write is told, where standard error takes that and where it fails too, and just this part was written.
+/// Checks whether the failure of a write is reported, with standard error working and failing, and exactly this part
+/// was written.
 fn write_is_told(alloc: Global, call: u64, part: &[u8]) -> bool {
     is_served(alloc, [0, 0, call, 0], 7, part, WRITE)
         && is_served(alloc, [0, 0, call, 1], 7, part, NONE)
 }
 
-/// Whether what was written before so many writes and no more is there where the next one fails.
+/// Checks whether exactly the bytes of `writes` writes have been written if the next one fails.
 fn write_fails_after(alloc: Global, writes: u32) -> bool {
     match LOG_OF_SERVER.get(..TAKEN * writes as usize) {
         Some(part) => write_is_told(alloc, u64::from(writes) + 1, part),
@@ -71,7 +72,7 @@ fn write_fails_after(alloc: Global, writes: u32) -> bool {
     }
 }
 
-/// The same of each write: the log has 632 bytes, which are ten.
+/// Does the same for each write: the log has 632 bytes, which are ten writes.
 fn each_write_is_told(alloc: Global) -> bool {
     for writes in 0..10 {
         if !write_fails_after(alloc, writes) {
@@ -89,8 +90,8 @@ fn each_write_fails(rt: HostRuntime) {
     );
 }
 
-/// The least and the greatest place at which the trace is cut, the status, and the log: up to the line that is cut, which is refused when
-/// it is looked at, unless its line feed alone is missing.
+/// The least and the greatest place at which the trace is cut, the status, and the log: up to the line that is cut,
+/// which is refused when it is examined, unless only its line feed is missing.
 type CutRow = (usize, usize, u8, &'static [u8]);
 
 const CUT_TRACES: [CutRow; 13] = [
@@ -164,7 +165,7 @@ const CUT_TRACES: [CutRow; 13] = [
     (77, 78, 10, LOG_OF_SERVER),
 ];
 
-/// Whether a run on the trace's first bytes, so many, is as the row says.
+/// Checks whether a run on the first `cut` bytes of the trace is as the row says.
 fn is_cut(alloc: Global, cut: usize, row: &CutRow) -> bool {
     match SERVER_TRACE.get(..cut) {
         Some(trace) => is_row(alloc, &(SERVES, SERVER, trace, row.2, row.3, NONE)),
@@ -172,7 +173,7 @@ fn is_cut(alloc: Global, cut: usize, row: &CutRow) -> bool {
     }
 }
 
-/// The same on each cut of a row.
+/// Does the same for each cut of a row.
 fn are_cut(alloc: Global, row: &CutRow) -> bool {
     for cut in row.0..=row.1 {
         if !is_cut(alloc, cut, row) {
@@ -182,7 +183,7 @@ fn are_cut(alloc: Global, row: &CutRow) -> bool {
     true
 }
 
-/// Whether each row holds.
+/// Checks whether each row holds.
 fn all_are_cut(alloc: Global, rows: &[CutRow]) -> bool {
     for row in rows {
         if !are_cut(alloc, row) {
@@ -212,7 +213,7 @@ fn a_pool_of_one_chunk(rt: HostRuntime) {
     assert!(rt; all_hold(rt.alloc(), &ONE_CHUNK));
 }
 
-/// Twenty thousand threads that wait for ever.
+/// Twenty thousand threads that wait forever.
 const CROWD: &[u8] =
     b"void w(int n) { int v; v = wait(n); } int main() { int i; for (i = 0; i < 20000; i = i + 1) spawn(w, 0); return 0; }";
 
@@ -220,7 +221,7 @@ const FIRST_LINES: &[u8] = b"run 0 0 0\nend 0 660031 1\n";
 
 const LAST_LINES: &[u8] = b"\nedge 0 1 1 168967936 5119744\nedge 0 2 20000 2816 0\nstop idle\n";
 
-/// Whether a call of these words ends idle, with the log's first and last lines.
+/// Checks whether a call of these words ends as idle, with the log's first and last lines.
 fn waits(alloc: Global, words: &Vec<String>, shelf: &mut CleanShelf) -> bool {
     let mut trace = CleanSource::new(Vec::new(alloc));
     let mut out = CleanSink::new(alloc);
@@ -240,7 +241,7 @@ fn waits(alloc: Global, words: &Vec<String>, shelf: &mut CleanShelf) -> bool {
     is_so
 }
 
-/// The same of the words that give each thread a chunk of 64 bytes.
+/// Does the same with the words that give each thread a chunk of 64 bytes.
 fn serves_crowd(alloc: Global, shelf: &mut CleanShelf) -> Result<bool, AllocError> {
     let words = words_of(alloc, &["serve", "P", "--chunk", "64", "--chunks", "20001"])?;
     let is_so = waits(alloc, &words, shelf);
@@ -248,7 +249,7 @@ fn serves_crowd(alloc: Global, shelf: &mut CleanShelf) -> Result<bool, AllocErro
     Ok(is_so)
 }
 
-/// The same of a shelf that has the source alone.
+/// Does the same for a shelf that has only the source.
 fn crowd_is_served(alloc: Global) -> Result<bool, AllocError> {
     let mut shelf = CleanShelf::new(alloc, files_of(alloc, &[("P", CROWD)])?);
     let is_so = serves_crowd(alloc, &mut shelf);

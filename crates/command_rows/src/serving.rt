@@ -28,7 +28,7 @@ pub(crate) const SERVER_TRACE: &[u8] =
 pub(crate) const LOG_OF_SERVER: &[u8] =
     b"run 0 0 0\nend 0 31 1022\nrun 31 1 0\nblock 1 2 0 16 1022\nrun 47 2 0\nblock 2 2 0 16 1022\nevent 100 arrive 0\nrun 100 1 2\nblock 1 3 1 11 1022\nrun 111 1 3\nblock 1 4 2 5 1022\nevent 150 data 0 7\nrun 150 1 4\nout 1 107\nblock 1 2 0 30 1022\nevent 200 arrive 1\nrun 200 2 2\nblock 2 3 1 11 1022\nevent 211 arrive 2\nrun 211 2 3\nblock 2 4 2 5 1022\nrun 216 1 2\nblock 1 3 1 11 1022\nevent 400 data 1 8\nrun 400 2 4\nout 2 208\nblock 2 2 0 30 1022\nrun 430 1 3\nblock 1 4 2 5 1022\nevent 500 data 2 9\nrun 500 1 4\nout 1 109\nblock 1 2 0 30 1022\nedge 0 1 1 7936 256 0\nedge 0 2 2 4096 0 0\nedge 2 3 3 2816 0 0\nedge 3 4 3 1280 0 256\nedge 4 2 3 7680 0 -256\nstop idle\n";
 
-/// The same with a `yield` while the resource is held.
+/// The same with a `yield` while the resource is in use.
 const SLOW_SERVER: &[u8] =
     b"void worker(int n) { int c; int k; while (1) { c = accept(); take(1, 1); for (k = 0; k < 2; k = k + 1) yield(); put(c); give(1, 1); } } int main() { spawn(worker, 0); spawn(worker, 0); return 0; }";
 
@@ -38,7 +38,7 @@ const LOG_OF_SLOW_SERVER: &[u8] =
 /// It waits for a message for 50 ticks.
 const WAITING: &[u8] = b"int main() { int x; x = waitfor(0, 50); put(x); return 0; }";
 
-/// Nothing came in time.
+/// No message came in time.
 const LOG_OF_SILENCE: &[u8] =
     b"run 0 0 0\nblock 0 2 0 15 1023\nrun 65 0 2\nout 0 0\nend 0 15 1024\nedge 0 2 1 3840 0\nedge 2 1 1 3840 -256\nstop done\n";
 
@@ -119,7 +119,7 @@ const RUNS_TO_THE_END: [Row<'static>; 20] = [
         b"run 0 0 0\nout 0 1\nend 0 100 2\nedge 0 1 1 25600 -256\nstop done\n",
         NONE,
     ),
-    // the second chunk is of a second size, which the call's need of 32 bytes fits
+    // the second chunk is of a second size, which fits the call's need of 32 bytes
     (
         &[
             "serve",
@@ -183,7 +183,7 @@ const RUNS_TO_THE_END: [Row<'static>; 20] = [
         b"run 0 0 0\nblock 0 2 0 15 1023\nevent 40 data 0 7\nrun 40 0 2\nout 0 1\nend 0 15 1024\nedge 0 2 1 3840 0\nedge 2 1 1 3840 -256\nstop done\n",
         NONE,
     ),
-    // at the very time a message is in time, and a tick later it isn't
+    // a message at exactly that time is in time, and a tick later it isn't
     (
         SERVE,
         WAITING,
@@ -209,7 +209,7 @@ const RUNS_TO_THE_END: [Row<'static>; 20] = [
         LOG_OF_SLOW_SERVER,
         NONE,
     ),
-    // with a knee at half of each cap the gate moves just so
+    // the gate with a knee at half of each cap
     (
         &["serve", "P", "--caps", "1=1", "--knee", "500"],
         SLOW_SERVER,
@@ -229,7 +229,7 @@ const RUNS_TO_THE_END: [Row<'static>; 20] = [
     (SERVE, SERVER, b"arrive x 1\n", 4, b"stop trace 1\n", NONE),
 ];
 
-// Runs that come to the end of all threads, or wait for ever.
+// Runs in which every thread ends, or which wait forever.
 #[test]
 fn runs_to_the_end(rt: HostRuntime) {
     assert!(rt; all_hold(rt.alloc(), &RUNS_TO_THE_END));
@@ -269,7 +269,7 @@ const CUT_RUNS: [Row<'static>; 13] = [
         b"run 0 0 0\nstop nochunk 0 43 0\n",
         NONE,
     ),
-    // one chunk is free, and too small
+    // one chunk is free, but too small
     (
         &[
             "serve",
@@ -364,7 +364,7 @@ const CUT_RUNS: [Row<'static>; 13] = [
         b"run 0 0 0\nstop threads 0 1048560 1\n",
         NONE,
     ),
-    // by strides a thread with two tickets has two turns to one
+    // by the stride rule a thread with two tickets has two turns for one of the other
     (
         &[
             "serve",
@@ -384,7 +384,7 @@ const CUT_RUNS: [Row<'static>; 13] = [
     ),
 ];
 
-// Runs that are cut short.
+// Runs that are cut off.
 #[test]
 fn runs_that_are_cut(rt: HostRuntime) {
     assert!(rt; all_hold(rt.alloc(), &CUT_RUNS));

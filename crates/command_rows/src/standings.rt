@@ -1,4 +1,4 @@
-// Where a thread stands at the start of a run, by the rules of a new thread, and that nobody stands where no thread lives.
+// The pc and registers of a thread at the start of a run, by the rules of a new thread, and of no thread.
 
 use crate::building::{USUAL, world_of};
 use cap_word::ThreadId;
@@ -7,7 +7,7 @@ use thread_core::World;
 
 const MAIN: &[u8] = b"int main() { return 0; }";
 
-/// The first function's entry, behind the two words of the end stub at 0x1000.
+/// The first function's entry, after the two words of the end stub at 0x1000.
 const ENTRY: u32 = 0x1008;
 
 /// The end of chunk 0, which has 4,096 bytes from 0x80000000.
@@ -20,7 +20,7 @@ fn standing_in(world: &World, slot: u32, number: u32) -> Option<(u32, u32, u32, 
     }
 }
 
-// The pc, sp, t0 and t1 of a thread of that number whose record stands at that place.
+// Returns pc, sp, t0 and t1 of a thread of that number whose record is at that place.
 fn standing(alloc: Global, slot: u32, number: u32) -> Option<(u32, u32, u32, u32)> {
     match world_of(alloc, MAIN, USUAL) {
         None => None,

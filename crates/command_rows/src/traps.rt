@@ -1,4 +1,5 @@
-// Rows of the traps of modelled calls, each at the border of its condition, and that a run that has stopped answers as it did.
+// Rows of the traps of modelled calls, each at the limit of its condition; a run that has stopped returns the same
+// again.
 
 ghost use Rattle.command_rows.specs.Moments.{IsAt};
 ghost use Rattle.command_rows.specs.declared.moments.Moment.TheVariants.{Between};
@@ -15,7 +16,7 @@ const RESOURCE: Told = Stops(Stop::Trap(TrapKind::Resource));
 
 const CHANNEL: Told = Stops(Stop::Trap(TrapKind::Channel));
 
-// A program with the cap of resource 1, what its first turn tells, and how many of its 4 chunks are free after it.
+// A program with the cap of resource 1, its first turn, and how many of its 4 chunks are free after it.
 const ROWS: [(&[u8], u32, Told, u32); 18] = [
     // more than the cap
     (
@@ -28,7 +29,7 @@ const ROWS: [(&[u8], u32, Told, u32); 18] = [
     // a negative number
     (b"int main() { take(1, 0 - 1); return 0; }", 1, RESOURCE, 3),
     (b"int main() { take(1, 0); return 0; }", 1, Waits(0), 3),
-    // no cap is given
+    // no cap
     (b"int main() { take(1, 0); return 0; }", 0, RESOURCE, 3),
     (b"int main() { take(0, 0); return 0; }", 1, RESOURCE, 3),
     (b"int main() { take(8, 0); return 0; }", 1, RESOURCE, 3),
@@ -38,7 +39,7 @@ const ROWS: [(&[u8], u32, Told, u32); 18] = [
     (b"int main() { give(1, 0); return 0; }", 1, Ends, 4),
     (b"int main() { give(1, 0 - 1); return 0; }", 1, RESOURCE, 3),
     (b"int main() { give(2, 0); return 0; }", 1, RESOURCE, 3),
-    // no channel
+    // no such channel
     (
         b"int main() { int x; x = wait(64); return x; }",
         1,
@@ -77,7 +78,8 @@ const ROWS: [(&[u8], u32, Told, u32); 18] = [
     ),
 ];
 
-// Whether the first segment of a world ends so, with so many chunks free; a run that has stopped answers so again.
+// Checks whether the first segment of a world ends in this way, with this number of free chunks; a run that has stopped
+// returns the same again.
 fn tells(world: &mut World, told: Told, free: u32) -> bool
     requires { IsAt Between world.old }
 {
@@ -90,7 +92,7 @@ fn tells(world: &mut World, told: Told, free: u32) -> bool
     }
 }
 
-// Whether the first segment of a program ends so.
+// Checks whether the first segment of a program ends in this way.
 fn is_row(alloc: Global, source: &[u8], cap: u32, told: Told, free: u32) -> bool {
     let setup = Setup {
         chunk: 4096,

@@ -1,4 +1,4 @@
-// The two calls that run a segment, by where the run stands.
+// The two calls that run a segment, by the state of the run.
 
 ghost use Rattle.std.specs.Prelude.{◌≡◌, IfSome, IsTrue};
 ghost use Rattle.thread_core.specs.Ready.{is_ready_in};
@@ -9,7 +9,7 @@ use crate::moments::Moment;
 use cap_word::{Ready, ThreadId};
 use thread_core::{Turn, World};
 
-/// Where a run stands after a turn, if it hadn't stopped before.
+/// Returns the state of a run after a turn, if it hadn't stopped before.
 pub(crate) fn after(turn: &Turn) -> Moment
     ensures { result ≡ after_turn turn.now }
 {
@@ -20,7 +20,7 @@ pub(crate) fn after(turn: &Turn) -> Moment
     }
 }
 
-/// A segment of a thread that is ready begins.
+/// Begins a segment of a thread that is ready.
 pub(crate) fn begin_ready(world: &mut World, thread: ThreadId) -> Turn
     requires at { IsAt Between world.old }
     requires ready { IsTrue (is_ready_in world.old thread) }
@@ -29,7 +29,7 @@ pub(crate) fn begin_ready(world: &mut World, thread: ThreadId) -> Turn
     world.begin(thread)
 }
 
-/// The first segment of thread 0 begins, where that is ready.
+/// Begins the first segment of thread 0, if that is ready.
 pub(crate) fn begin_main(world: &mut World) -> Option<Turn>
     requires { IsAt Between world.old }
     ensures { IfSome result (λ turn. IsAt (after_turn turn) world.new) }
@@ -41,7 +41,7 @@ pub(crate) fn begin_main(world: &mut World) -> Option<Turn>
     Some(begin_ready(world, main))
 }
 
-/// The segment under way goes on.
+/// Continues the segment in progress.
 pub(crate) fn go_on(world: &mut World) -> Turn
     requires { IsAt Within world.old }
     ensures { IsAt (after_turn result) world.new }
@@ -49,7 +49,7 @@ pub(crate) fn go_on(world: &mut World) -> Turn
     world.proceed()
 }
 
-/// A segment of a thread is to begin, but the run has stopped.
+/// Tries to begin a segment of a thread after the run has stopped.
 pub(crate) fn begin_over(world: &mut World, thread: ThreadId) -> Turn
     requires { IsAt Over world.old }
     ensures { IsAt Over world.new }
@@ -57,7 +57,7 @@ pub(crate) fn begin_over(world: &mut World, thread: ThreadId) -> Turn
     world.begin(thread)
 }
 
-/// A segment is to go on, but the run has stopped.
+/// Tries to continue a segment after the run has stopped.
 pub(crate) fn go_on_over(world: &mut World) -> Turn
     requires { IsAt Over world.old }
     ensures { IsAt Over world.new }
@@ -65,7 +65,7 @@ pub(crate) fn go_on_over(world: &mut World) -> Turn
     world.proceed()
 }
 
-/// Whether a run that has stopped so answers so to both calls.
+/// Checks whether a run that has stopped in this way returns the same to both calls.
 pub(crate) fn again(world: &mut World, turn: &Turn) -> bool
     requires { IsAt (after_turn turn.now) world.old }
 {

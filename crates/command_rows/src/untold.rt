@@ -1,11 +1,12 @@
-// A run on a trace that tells nothing of its bytes, as the real standard input.
+// A run on a trace that doesn't expose its bytes, like the real standard input.
 use crate::calls::{NONE, files_of, status_of, words_of};
 use crate::serving::{LOG_OF_SERVER, SERVER, SERVER_TRACE};
 use cap_io::{CleanShelf, CleanSink, StdSource};
 use std::alloc::{AllocError, Global};
 use thread_core::World;
 
-/// Whether the world is that of the server's log at its end: two workers live, on a chunk each, after 201 instructions.
+/// Checks whether the world is that at the end of the server's log: two workers live, on a chunk each, after 201
+/// instructions.
 fn is_at_end(last: &Option<World>) -> bool {
     match last {
         None => false,
@@ -13,7 +14,7 @@ fn is_at_end(last: &Option<World>) -> bool {
     }
 }
 
-/// Whether a call on the server's trace leaves what it leaves on one that tells its bytes.
+/// Checks whether a call on the server's trace has the same result as on one that exposes its bytes.
 fn leaves(alloc: Global, words: &Vec<String>, shelf: &mut CleanShelf) -> bool {
     let mut trace = StdSource::new(SERVER_TRACE);
     let mut out = CleanSink::new(alloc);
@@ -31,7 +32,7 @@ fn leaves(alloc: Global, words: &Vec<String>, shelf: &mut CleanShelf) -> bool {
     is_so
 }
 
-/// The same of the words of a `serve` of that server.
+/// Does the same with the words of a `serve` of that server.
 fn serves(alloc: Global, shelf: &mut CleanShelf) -> Result<bool, AllocError> {
     let words = words_of(alloc, &["serve", "P", "--caps", "1=1"])?;
     let is_so = leaves(alloc, &words, shelf);
@@ -39,7 +40,7 @@ fn serves(alloc: Global, shelf: &mut CleanShelf) -> Result<bool, AllocError> {
     Ok(is_so)
 }
 
-/// The same of a shelf that has the source alone.
+/// Does the same for a shelf that has only the source.
 fn is_served(alloc: Global) -> Result<bool, AllocError> {
     let mut shelf = CleanShelf::new(alloc, files_of(alloc, &[("P", SERVER)])?);
     let is_so = serves(alloc, &mut shelf);

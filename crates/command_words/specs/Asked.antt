@@ -1,5 +1,5 @@
--- The command that texts by name ask for: those of the options, and of the positional words `command`, `first`,
--- `second` and `third`.
+-- The command for which named texts ask: the texts of the options, and those of the positional words `command`,
+-- `first`, `second` and `third`.
 use Rattle.std.specs.Prelude.{ℕ, ◌≡◌, ◌+◌, ◌*◌, ◌≤◌, List, codes, Option, Some, None}
 use Rattle.std.specs.List.{AllByRecursion}
 use Rattle.cap_text.specs.Decimals.{canonical_decimal}

@@ -3,10 +3,10 @@ use Rattle.std.specs.Prelude.{ℕ, List, [], ◌∷◌, ◌++◌, drop, map, cod
 use Rattle.command_words.specs.declared.option_table.CommandOption.{CommandOption}
 use Rattle.command_words.specs.declared.option_table.CommandOption.TheVariants as option
 
--- the name with its dashes, the default, and the least and the greatest number. Of a list the least and the greatest number are those of
--- each member, and the default isn't used; `--rule` takes a word, and its numbers are 0. Where the numbers of an option depend on another
--- option, the row has the default at that one's default and the greatest number at its greatest: `IsPlacement` and `IsPolicy` say the
--- numbers of `--max-path` and `--low` at any chunk and any `--high`
+-- the name with its dashes, the default, and the least and the greatest number. The least and greatest number of a list
+-- are those of each member, and its default isn't used; `--rule` takes a word, and its numbers are 0. If the numbers of
+-- an option depend on another option, the row has the default for that one's default and the greatest number for its
+-- greatest: `IsPlacement` and `IsPolicy` define the numbers of `--max-path` and `--low` for any chunk and any `--high`
 pub record OptionRow : Type 0 where
   pub name : List ℕ
   pub default : ℕ
@@ -16,6 +16,7 @@ pub record OptionRow : Type 0 where
 abbrev row : List ℕ → ℕ → ℕ → ℕ → OptionRow
 row name default least most = record { name = name; default = default; least = least; most = most }
 
+-- the table
 abbrev pub row_of : CommandOption → OptionRow
 row_of option.Chunk = row (codes "--chunk") 4096 64 65536
 row_of option.MaxPath = row (codes "--max-path") 2032 16 65520
@@ -32,10 +33,11 @@ row_of option.Low = row (codes "--low") 700 0 999
 row_of option.Knee = row (codes "--knee") 0 0 999
 row_of option.Steps = row (codes "--steps") 1000000000 0 1000000000
 
+-- the columns of the table: the name, the default, the least and the greatest number
 abbrev pub name_of : CommandOption → List ℕ
 name_of it = (row_of it).name
 
--- the name behind the dashes
+-- the name after the dashes
 abbrev pub long_name_of : CommandOption → List ℕ
 long_name_of it = drop 2 (name_of it)
 
@@ -48,23 +50,23 @@ least_of it = (row_of it).least
 abbrev pub most_of : CommandOption → ℕ
 most_of it = (row_of it).most
 
--- the options of the commands that place a program's frames: `serve`, `build` and `graph`
+-- the options of the commands that lay out a program's frames: `serve`, `build` and `graph`
 abbrev pub placement_table : List CommandOption
 placement_table = option.Chunk ∷ option.MaxPath ∷ []
 
--- the options that only a run has: `serve` and `run`
+-- the options that only runs take: `serve` and `run`
 abbrev pub run_table : List CommandOption
 run_table = option.ExtraSize ∷ option.Rule ∷ option.Tickets ∷ []
 
--- the options that a run and an audit have: `serve`, `run` and `audit`
+-- the options that runs and audits take: `serve`, `run` and `audit`
 abbrev pub shared_table : List CommandOption
 shared_table = option.Chunks ∷ option.Extra ∷ option.Fuel ∷ option.Backlog ∷ option.Caps ∷ option.High ∷ option.Low ∷ option.Knee ∷ []
 
--- the options that only an audit has
+-- the options that only audits take
 abbrev pub audit_table : List CommandOption
 audit_table = option.Steps ∷ []
 
--- all of them
+-- all options
 abbrev pub all_table : List CommandOption
 all_table = placement_table ++ (run_table ++ (shared_table ++ audit_table))
 

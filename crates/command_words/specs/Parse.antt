@@ -1,5 +1,5 @@
--- What of the words reaches the parser, and what it makes of them: one command without subcommands, whose first
--- positional word is the command's name.
+-- Which words reach the parser, and how it reads them: as one command without subcommands, whose first positional word
+-- is the command's name.
 use Rattle.std.specs.Prelude.{ℕ, ◌≡◌, ◌⊎◌, ◌≤◌, true, List, [], ◌∷◌, length, codes, fold, slice_get, Option, Some}
 use Rattle.std.specs.List.{flat_map, AllByRecursion}
 use Rattle.clap.specs.Simple.{App, on_top, new_app, new_rule, with_rule}
@@ -18,12 +18,13 @@ all_options = names_of all_table
 abbrev pub IsWord : List ℕ → Type 0
 IsWord word = IsPlain word ⊎ IsOneOf all_options word
 
--- the words reach the parser: the first is a command, and no other is empty or begins with `-` but an option's name
+-- the words reach the parser: the first is a command, and any other that is empty or begins with `-` is an option's
+-- name
 abbrev pub IsReadable : List (List ℕ) → Type 0
 IsReadable [] = ⊥
 IsReadable (first ∷ rest) = IsOneOf command_names first × AllByRecursion IsWord rest
 
--- all words, the command's name too, say this: each option at most once, and at most four positional words
+-- all words, including the command's name, say this: each option at most once, and at most four positional words
 pub record IsSaid (words : List (List ℕ)) (said : List Said) : Type 0 where
   pub in_words : words ≡ flat_map words_of said
   pub plain : AllByRecursion IsPlainSaid said
@@ -31,7 +32,7 @@ pub record IsSaid (words : List (List ℕ)) (said : List Said) : Type 0 where
   pub once : AreOnce (options_of said)
   pub few : length (positionals_of said) ≤ 4
 
--- `given` tells the texts of the options and of the positional words, by name
+-- `given` returns the texts of the options and of the positional words, by name
 pub record Tells (given : List ℕ → Option (List ℕ)) (said : List Said) : Type 0 where
   pub options : AllByRecursion (λ option. given option ≡ value_of said option) all_options
   pub command : given (codes "command") ≡ slice_get (positionals_of said) 0
@@ -42,7 +43,7 @@ pub record Tells (given : List ℕ → Option (List ℕ)) (said : List Said) : T
 abbrev pub IsReadAs : List (List ℕ) → (List ℕ → Option (List ℕ)) → Type 0
 IsReadAs words given = (said : List Said) × IsSaid words said × Tells given said
 
--- the command that is given to the parser: positional words and options are added in turn
+-- the parser's command: positional words and options are added one after another
 abbrev pub with_place : App → List ℕ → App
 with_place app name = with_rule app (new_rule name)
 

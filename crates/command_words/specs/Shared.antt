@@ -1,4 +1,5 @@
--- The policy of a run in two parts, as they are read: the room of a run, and the caps with the marks of pressure.
+-- The policy of a run in the two parts in which it is read: the sizes of the pool with fuel and backlog, and the caps
+-- with the thresholds of pressure.
 use Rattle.std.specs.Prelude.{ℕ, ◌-◌, List, Option}
 use Rattle.command_words.specs.OptionTable.{name_of, default_of, least_of}
 use Rattle.command_words.specs.Values.{AreCaps, IsNumber, IsNumberOf}

@@ -1,4 +1,4 @@
--- What is a list of words for the program, and for which command.
+-- Which lists of words the program accepts, and for which command each asks.
 use Rattle.std.specs.Prelude.{ℕ, ◌≡◌, ◌+◌, ◌*◌, ◌≤◌, List, [], ◌∷◌, ◌++◌, codes}
 use Rattle.std.specs.List.{flat_map, AllByRecursion}
 use Rattle.cap_text.specs.Decimals.{canonical_decimal}
@@ -11,7 +11,7 @@ use Rattle.command_words.specs.declared.options.Audit.{Audit as AuditOptions}
 use Rattle.command_words.specs.declared.options.Placement.{Placement}
 use Rattle.command_words.specs.declared.options.Policy.{Policy}
 
--- a command with its files by name and its options
+-- a command with the names of its files and its options
 pub data Request : Type 0 where
   Serve : (source : List ℕ) → Placement → Policy → Request
   Run : (source image certificate : List ℕ) → Policy → Request
@@ -22,7 +22,7 @@ pub data Request : Type 0 where
   Audit : (source log : List ℕ) → AuditOptions → Request
   Budget : (source image certificate : List ℕ) → Request
 
--- the same, of the value that is handed out
+-- the request of a command that the code returns
 abbrev pub request_of : Command → Request
 request_of (command.Serve source placement policy) = Serve source.now placement policy
 request_of (command.Run source image certificate policy) = Run source.now image.now certificate.now policy
@@ -37,24 +37,24 @@ request_of (command.Budget source image certificate) = Budget source.now image.n
 abbrev pub placement_options : List (List ℕ)
 placement_options = names_of placement_table
 
--- those of a run that no audit has
+-- the options that only runs take
 abbrev pub run_options : List (List ℕ)
 run_options = names_of run_table
 
--- all those of a run
+-- all options of a run
 abbrev pub policy_options : List (List ℕ)
 policy_options = names_of (run_table ++ shared_table)
 
--- those that only an audit has
+-- the options that only audits take
 abbrev pub audit_options : List (List ℕ)
 audit_options = names_of audit_table
 
--- all those of an audit
+-- all options of an audit
 abbrev pub audit_policy : List (List ℕ)
 audit_policy = names_of (shared_table ++ audit_table)
 
--- the words are the command's name and, in any order, just these positional words and some of these options, each at
--- most once and with its value behind it
+-- the words are the command's name and, in any order, exactly these positional words and some of these options, each at
+-- most once and followed by its value
 pub record Says (words : List (List ℕ)) (name : List ℕ) (positionals options : List (List ℕ)) (said : List Said) : Type 0 where
   pub in_words : words ≡ name ∷ flat_map words_of said
   pub plain : AllByRecursion IsPlainSaid said

@@ -1,10 +1,10 @@
 // The commands of the program.
 use crate::options::{Audit, Placement, Policy};
 
-/// A command with its files by name and its options.
+/// A command with the names of its files and its options.
 #[derive(Clone, Copy)]
 pub enum Command<'a> {
-    /// Builds, checks and runs a source on the trace. A chunk times the number of chunks is at most 67,108,864 bytes.
+    /// Builds, checks and runs a source on the trace. `chunk` times the number of chunks is at most 67,108,864 bytes.
     Serve {
         source: &'a str,
         placement: Placement,
@@ -17,7 +17,7 @@ pub enum Command<'a> {
         certificate: &'a str,
         policy: Policy,
     },
-    /// Builds a source and stores its image and its certificate.
+    /// Builds a source and stores image and certificate.
     Build {
         source: &'a str,
         image: &'a str,
@@ -45,7 +45,7 @@ pub enum Command<'a> {
         log: &'a str,
         options: Audit,
     },
-    /// Checks a source with its image and certificate and tells how many chunks are enough.
+    /// Checks a source with its image and certificate, and prints how many chunks are enough.
     Budget {
         source: &'a str,
         image: &'a str,
@@ -53,11 +53,11 @@ pub enum Command<'a> {
     },
 }
 
-/// Why no command is read.
+/// Why no command is returned.
 #[derive(Clone, Copy)]
 pub enum WordsError {
-    /// The words are no word list.
+    /// The words aren't a word list.
     NotWords,
-    /// There was no memory.
+    /// Out of memory.
     Memory,
 }

@@ -7,8 +7,8 @@ ghost use Rattle.command_words.specs.Values.{IsNumber, AreCaps, IsCapsText, caps
 use crate::option_table::CommandOption;
 use cap_text::{Fields, read_dec};
 
-/// The number of an option: the given one, or else the default. None where it is no canonical decimal or not in the
-/// range.
+/// Returns the number of an option: the given one, or the default if none is given. Returns `None` if the text isn't a
+/// canonical decimal or is out of range.
 pub(crate) fn number(given: Option<&str>, default: u64, least: u64, most: u64) -> Option<u64>
     ensures found { IfSome result (λ n. IsNumber (option_map (λ text. text.now) given.entry) default least most n) }
     ensures none { IfNone result ((n : ℕ) → IsNumber (option_map (λ text. text.now) given.entry) default least most n → ⊥) }
@@ -20,7 +20,8 @@ pub(crate) fn number(given: Option<&str>, default: u64, least: u64, most: u64) -
     (least <= number && number <= most).then_some(number)
 }
 
-/// The caps of the resources by number: the given ones, or else none. None where the text is no list of caps.
+/// Returns the caps of the resources by number, or no caps if none are given. Returns `None` if the text isn't a list
+/// of caps.
 pub(crate) fn caps(given: Option<&str>) -> Option<[u32; 8]>
     ensures found { IfSome result (λ caps. AreCaps (option_map (λ text. text.now) given.entry) caps) }
     ensures none { IfNone result ((caps : List ℕ) → AreCaps (option_map (λ text. text.now) given.entry) caps → ⊥) }
@@ -31,7 +32,7 @@ pub(crate) fn caps(given: Option<&str>) -> Option<[u32; 8]>
     }
 }
 
-/// The caps of a text.
+/// Returns the caps in a text.
 fn caps_in(text: &[u8]) -> Option<[u32; 8]>
     ensures found { IfSome result (λ caps. (pairs : List (ℕ × ℕ)) × IsCapsText text.now pairs × (caps ≡ caps_of pairs)) }
     ensures none { IfNone result ((pairs : List (ℕ × ℕ)) → IsCapsText text.now pairs → ⊥) }
@@ -52,7 +53,7 @@ fn caps_in(text: &[u8]) -> Option<[u32; 8]>
     Some(caps)
 }
 
-/// A resource from 1 to 7 and its cap.
+/// Returns a resource from 1 to 7 and its cap.
 fn cap(field: &[u8]) -> Option<(u32, u32)>
     ensures found { IfSome result (λ cap. (field.now ≡ cap_text cap) × (1 ≤ cap.0) × (cap.0 ≤ 7)
         × (least_of option.Caps ≤ cap.1) × (cap.1 ≤ most_of option.Caps)) }

@@ -1,4 +1,4 @@
-// The options of the command line, as one table: the parser, the tests of presence and the readers of values go by it.
+// The options of the command line, as one table, which the parser, the tests of presence and the readers of values use.
 ghost use Rattle.std.specs.Prelude.{◌≡◌};
 ghost use Rattle.command_words.specs.OptionTable.{long_name_of, row_of};
 
@@ -7,46 +7,47 @@ ghost use Rattle.command_words.specs.OptionTable.{long_name_of, row_of};
 pub enum CommandOption {
     /// The size of a chunk, in bytes: a multiple of 16.
     Chunk,
-    /// The longest path between two checkpoints, in bytes: at most the chunk's size without the header, by default half
-    /// of that, as a multiple of 16. The row has the default at the default chunk and the greatest number at the greatest.
+    /// The longest path between two checkpoints, in bytes: at most the chunk's size without the header; by default half
+    /// of that, rounded down to a multiple of 16. The row has the default for the default chunk and the maximum for the
+    /// largest chunk.
     MaxPath,
-    /// The size of each added chunk, in bytes: a multiple of 16.
+    /// The size of each chunk of the second size, in bytes: a multiple of 16.
     ExtraSize,
-    /// The rule of choices: a word, `graph` or `stride`.
+    /// The rule of choice: a word, `graph` or `stride`.
     Rule,
     /// The tickets of threads: a list.
     Tickets,
     /// The number of chunks.
     Chunks,
-    /// The number of added chunks.
+    /// The number of chunks of the second size.
     Extra,
     /// The number of instructions after which a run stops.
     Fuel,
-    /// The number of arrivals that may wait.
+    /// The maximum length of a queue.
     Backlog,
     /// The caps of resources: a list.
     Caps,
     /// The pressure at which the gate closes.
     High,
-    /// The pressure at which the gate opens again: below the other.
+    /// The pressure at which the gate opens again, below the other.
     Low,
-    /// The part of a cap at which pressure begins, in thousandths.
+    /// The knee of the pressure curves, in thousandths of the cap.
     Knee,
-    /// The number of steps of the source that an audit may take.
+    /// The maximum number of steps of the source that an audit takes.
     Steps,
 }
 
-/// The options of the commands that place a program's frames: `serve`, `build` and `graph`.
+/// The options of the commands that lay out a program's frames: `serve`, `build` and `graph`.
 pub(crate) const PLACEMENT: [CommandOption; 2] = [CommandOption::Chunk, CommandOption::MaxPath];
 
-/// The options that only a run has: `serve` and `run`.
+/// The options that only runs take: `serve` and `run`.
 pub(crate) const RUN: [CommandOption; 3] = [
     CommandOption::ExtraSize,
     CommandOption::Rule,
     CommandOption::Tickets,
 ];
 
-/// The options that a run and an audit have: `serve`, `run` and `audit`.
+/// The options that runs and audits take: `serve`, `run` and `audit`.
 pub(crate) const SHARED: [CommandOption; 8] = [
     CommandOption::Chunks,
     CommandOption::Extra,
@@ -58,10 +59,10 @@ pub(crate) const SHARED: [CommandOption; 8] = [
     CommandOption::Knee,
 ];
 
-/// The options that only an audit has.
+/// The options that only audits take.
 pub(crate) const AUDIT: [CommandOption; 1] = [CommandOption::Steps];
 
-/// A row of the table. Of a list the least and the greatest number are those of each member; `--rule` takes a word, and its
+/// A row of the table. The least and greatest number of a list are those of each member; `--rule` takes a word, and its
 /// numbers are 0.
 #[derive(Clone, Copy)]
 pub(crate) struct Row<'a> {
@@ -69,7 +70,7 @@ pub(crate) struct Row<'a> {
     pub(crate) name: &'a str,
     /// The name without its dashes.
     pub(crate) long: &'a str,
-    /// The number that stands where none is given.
+    /// The number if none is given.
     pub(crate) default: u64,
     /// The least number.
     pub(crate) least: u64,
@@ -78,7 +79,7 @@ pub(crate) struct Row<'a> {
 }
 
 impl CommandOption {
-    /// Its row.
+    /// Returns the row of the option.
     pub(crate) fn row<'a>(self) -> Row<'a>
         ensures name { result.name.now ≡ (row_of self).name }
         ensures long { result.long.now ≡ long_name_of self }
@@ -106,7 +107,7 @@ impl CommandOption {
 }
 
 impl<'a> Row<'a> {
-    /// A row of these values.
+    /// Returns a row of these values.
     fn new(name: &'a str, long: &'a str, default: u64, least: u64, most: u64) -> Row<'a>
         ensures name { result.name.now ≡ name.now }
         ensures long { result.long.now ≡ long.now }

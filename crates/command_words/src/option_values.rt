@@ -1,4 +1,4 @@
-// The values of the options out of the texts that were parsed.
+// The values of the options, from the parsed texts.
 ghost use Rattle.std.specs.Prelude.{ℕ, ◌≡◌, ◌%◌, option_map, IfSome, IfNone};
 ghost use Rattle.clap.specs.Words.{first_value, found_of};
 ghost use Rattle.command_words.specs.declared.option_values.Marks.{Marks};
@@ -17,7 +17,7 @@ use crate::options::{Audit, Placement, Policy};
 use crate::ticket_lists::rule;
 use clap::ArgMatches;
 
-/// The room of a run.
+/// The sizes of a run's pool, its fuel and its backlog.
 #[derive(Clone, Copy)]
 struct Room {
     chunks: u32,
@@ -26,7 +26,7 @@ struct Room {
     backlog: u32,
 }
 
-/// The caps, and the marks of pressure.
+/// The caps and the thresholds of pressure.
 #[derive(Clone, Copy)]
 struct Marks {
     caps: [u32; 8],
@@ -35,7 +35,7 @@ struct Marks {
     knee: u32,
 }
 
-/// The options of placement.
+/// Returns the options of placement.
 pub(crate) fn placement(matches: &ArgMatches<'_>) -> Option<Placement>
     ensures found { IfSome result (λ placement. IsPlacement (λ name. first_value (found_of matches.now) name) placement) }
     ensures none { IfNone result ((placement : Placement) → IsPlacement (λ name. first_value (found_of matches.now) name) placement → ⊥) }
@@ -52,7 +52,7 @@ pub(crate) fn placement(matches: &ArgMatches<'_>) -> Option<Placement>
     })
 }
 
-/// The options of a run.
+/// Returns the options of a run.
 pub(crate) fn policy(matches: &ArgMatches<'_>) -> Option<Policy>
     ensures found { IfSome result (λ policy. IsPolicy (λ name. first_value (found_of matches.now) name) policy) }
     ensures none { IfNone result ((policy : Policy) → IsPolicy (λ name. first_value (found_of matches.now) name) policy → ⊥) }
@@ -88,7 +88,7 @@ pub(crate) fn policy(matches: &ArgMatches<'_>) -> Option<Policy>
     })
 }
 
-/// The options of an audit: a policy, and how many steps it may take.
+/// Returns the options of an audit: a policy, and the limit on steps.
 pub(crate) fn audit_given(matches: &ArgMatches<'_>) -> Option<Audit>
     ensures found { IfSome result (λ options. IsAudit (λ name. first_value (found_of matches.now) name) options) }
     ensures none { IfNone result ((options : Audit) → IsAudit (λ name. first_value (found_of matches.now) name) options → ⊥) }
@@ -98,7 +98,7 @@ pub(crate) fn audit_given(matches: &ArgMatches<'_>) -> Option<Audit>
     Some(Audit { policy, steps })
 }
 
-/// The room of a run.
+/// Returns the sizes of a run's pool, its fuel and its backlog.
 fn room_of(matches: &ArgMatches<'_>) -> Option<Room>
     ensures found { IfSome result (λ room. IsRoom (λ name. first_value (found_of matches.now) name) room) }
     ensures none { IfNone result ((room : Room) → IsRoom (λ name. first_value (found_of matches.now) name) room → ⊥) }
@@ -115,7 +115,7 @@ fn room_of(matches: &ArgMatches<'_>) -> Option<Room>
     })
 }
 
-/// The caps, and the marks of pressure.
+/// Returns the caps and the thresholds of pressure.
 fn marks_of(matches: &ArgMatches<'_>) -> Option<Marks>
     ensures found { IfSome result (λ marks. AreMarks (λ name. first_value (found_of matches.now) name) marks) }
     ensures none { IfNone result ((marks : Marks) → AreMarks (λ name. first_value (found_of matches.now) name) marks → ⊥) }
@@ -133,7 +133,7 @@ fn marks_of(matches: &ArgMatches<'_>) -> Option<Marks>
     })
 }
 
-/// The bytes of each chunk that is added.
+/// Returns the size in bytes of each chunk of the second size.
 fn extra_bytes(matches: &ArgMatches<'_>) -> Option<u32>
     ensures found { IfSome result (λ bytes. IsNumberOf (λ name. first_value (found_of matches.now) name) option.ExtraSize bytes
         × (bytes % 16 ≡ 0)) }
@@ -147,7 +147,8 @@ fn extra_bytes(matches: &ArgMatches<'_>) -> Option<u32>
     Some(bytes)
 }
 
-/// The number of an option: the given one, or else its default. None where it is no canonical decimal or not in its range.
+/// Returns the number of an option: the given one, or its default. Returns `None` if the text isn't a canonical decimal
+/// or is out of range.
 fn number_of(matches: &ArgMatches<'_>, option: CommandOption) -> Option<u64>
     ensures found { IfSome result (λ n. IsNumberOf (λ name. first_value (found_of matches.now) name) option n) }
     ensures none { IfNone result ((n : ℕ) → IsNumberOf (λ name. first_value (found_of matches.now) name) option n → ⊥) }
@@ -156,8 +157,8 @@ fn number_of(matches: &ArgMatches<'_>, option: CommandOption) -> Option<u64>
     number_within(matches, option, row.default, row.most)
 }
 
-/// The number of an option: the given one, or else `default`. None if it is no canonical decimal, or not from the option's
-/// least number to `most`.
+/// Returns the number of an option: the given one, or `default`. Returns `None` if the text isn't a canonical decimal,
+/// or isn't between the option's least number and `most`.
 fn number_within(
     matches: &ArgMatches<'_>,
     option: CommandOption,
@@ -171,7 +172,7 @@ fn number_within(
     number(matches.get_str(row.name), default, row.least, most)
 }
 
-/// The text that is given for an option.
+/// Returns the text that is given for an option.
 fn text_of<'a>(matches: &ArgMatches<'a>, option: CommandOption) -> Option<&'a str>
     ensures { option_map (λ text. text.now) result ≡ first_value (found_of matches.now) (name_of option) }
 {

@@ -1,4 +1,4 @@
-// The words as `clap` reads them: one command without subcommands, whose options and positional words are texts.
+// The words as `clap` parses them: one command without subcommands, whose options and positional words are texts.
 ghost use Rattle.std.specs.Prelude.{List, ◌≡◌, map, option_map, Err, IfOk, ◌↔◌, fold, false};
 ghost use Rattle.std.specs.String.{string_bytes};
 ghost use Rattle.clap.specs.Words.{app_of, first_value, found_of, rule_of};
@@ -12,7 +12,8 @@ use clap::error::ErrorKind;
 use clap::{Arg, ArgMatches, Command};
 use std::alloc::{AllocError, Global};
 
-/// What the words say, where each option is given at most once and with a value and at most four words are positional.
+/// Returns the texts that the words give, if each option occurs at most once and with a value, and at most four words
+/// are positional.
 pub(crate) fn parse<'a>(alloc: Global, words: &'a Vec<String>) -> Result<ArgMatches<'a>, WordsError>
     requires { IsReadable (map (λ word. string_bytes word) words.now.items) }
     ensures read { IfOk result (λ matches. IsReadAs (map (λ word. string_bytes word) words.now.items) (λ name. first_value (found_of matches) name)) }
@@ -27,10 +28,10 @@ pub(crate) fn parse<'a>(alloc: Global, words: &'a Vec<String>) -> Result<ArgMatc
     }
 }
 
-/// The positional words: the command's name and three more.
+/// The positional words: the command's name, and up to three more.
 const PLACES: [&str; 4] = ["command", "first", "second", "third"];
 
-/// The command with all positional words and options.
+/// Returns the command with all positional words and options.
 fn parser<'a>(alloc: Global) -> Result<Command<'a>, AllocError>
     ensures { IfOk result (λ parser. app_of parser ≡ words_app) }
 {
@@ -41,7 +42,7 @@ fn parser<'a>(alloc: Global) -> Result<Command<'a>, AllocError>
     with_options(alloc, shared, &AUDIT)
 }
 
-/// The command without arguments.
+/// Returns the command without arguments.
 fn bare<'a>(alloc: Global) -> Command<'a>
     ensures { app_of result ≡ bare_app }
 {
@@ -50,7 +51,7 @@ fn bare<'a>(alloc: Global) -> Command<'a>
         .disable_help_flag(true)
 }
 
-/// Adds positional words in turn.
+/// Adds the positional words, one after another.
 fn with_places<'a>(
     alloc: Global,
     command: Command<'a>,
@@ -65,7 +66,7 @@ fn with_places<'a>(
     Ok(command)
 }
 
-/// Adds options in turn.
+/// Adds the options, one after another.
 fn with_options<'a>(
     alloc: Global,
     command: Command<'a>,
@@ -81,7 +82,7 @@ fn with_options<'a>(
     Ok(command)
 }
 
-/// A positional word, or an option with its name behind the dashes, which takes one text.
+/// Returns a positional word, or an option with its name after the dashes, which takes one text.
 fn argument<'a>(alloc: Global, name: &'a str, long: Option<&'a str>) -> Arg<'a>
     ensures rule { rule_of result ≡ record (new_rule name.now) { long = option_map (λ text. text.now) long.entry } }
     ensures local { result.global ≡ false }
@@ -93,7 +94,7 @@ fn argument<'a>(alloc: Global, name: &'a str, long: Option<&'a str>) -> Arg<'a>
     }
 }
 
-/// Why words are refused that are not parsed.
+/// Returns why words are refused that don't parse.
 fn refusal(kind: ErrorKind) -> WordsError
     ensures { (result ≡ WordsError.Memory) ↔ (kind ≡ ErrorKind.OutOfMemory) }
 {

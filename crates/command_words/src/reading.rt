@@ -1,4 +1,4 @@
-// A command out of the texts that were parsed.
+// A command from the parsed texts.
 ghost use Rattle.std.specs.Prelude.{ℕ, List, ◌≡◌, ◌*◌, ◌↔◌, IsTrue, IfSome, IfNone, Some, None, is_none, codes};
 ghost use Rattle.clap.specs.Words.{first_value, found_of};
 ghost use Rattle.command_words.specs.OptionTable.{names_of};
@@ -11,10 +11,10 @@ use crate::option_table::{AUDIT, CommandOption, PLACEMENT, RUN, SHARED};
 use crate::option_values::{audit_given, placement, policy};
 use clap::ArgMatches;
 
-/// The greatest size of the pool, in bytes.
+/// The maximum size of the pool, in bytes.
 const MOST_BYTES: u64 = 67_108_864;
 
-/// The command that the parsed words ask for.
+/// Returns the command that the parsed words ask for.
 pub(crate) fn command_of<'a>(matches: &ArgMatches<'a>) -> Option<Command<'a>>
     ensures found { IfSome result (λ command. IsAsked (λ name. first_value (found_of matches.now) name) (request_of command)) }
     ensures none { IfNone result ((request : Request) → IsAsked (λ name. first_value (found_of matches.now) name) request → ⊥) }
@@ -32,7 +32,7 @@ pub(crate) fn command_of<'a>(matches: &ArgMatches<'a>) -> Option<Command<'a>>
     }
 }
 
-/// The command `serve`, where the words are one of it.
+/// Returns the command `serve`, if the words ask for it.
 fn serve<'a>(matches: &ArgMatches<'a>) -> Option<Command<'a>>
     requires { first_value (found_of matches.now) (codes "command") ≡ Some (codes "serve") }
     ensures found { IfSome result (λ command. IsAsked (λ name. first_value (found_of matches.now) name) (request_of command)) }
@@ -52,7 +52,7 @@ fn serve<'a>(matches: &ArgMatches<'a>) -> Option<Command<'a>>
     })
 }
 
-/// The command `run`, where the words are one of it.
+/// Returns the command `run`, if the words ask for it.
 fn run<'a>(matches: &ArgMatches<'a>) -> Option<Command<'a>>
     requires { first_value (found_of matches.now) (codes "command") ≡ Some (codes "run") }
     ensures found { IfSome result (λ command. IsAsked (λ name. first_value (found_of matches.now) name) (request_of command)) }
@@ -68,7 +68,7 @@ fn run<'a>(matches: &ArgMatches<'a>) -> Option<Command<'a>>
     })
 }
 
-/// The command `build`, where the words are one of it.
+/// Returns the command `build`, if the words ask for it.
 fn build<'a>(matches: &ArgMatches<'a>) -> Option<Command<'a>>
     requires { first_value (found_of matches.now) (codes "command") ≡ Some (codes "build") }
     ensures found { IfSome result (λ command. IsAsked (λ name. first_value (found_of matches.now) name) (request_of command)) }
@@ -84,7 +84,7 @@ fn build<'a>(matches: &ArgMatches<'a>) -> Option<Command<'a>>
     })
 }
 
-/// The command `check`, where the words are one of it.
+/// Returns the command `check`, if the words ask for it.
 fn check<'a>(matches: &ArgMatches<'a>) -> Option<Command<'a>>
     requires { first_value (found_of matches.now) (codes "command") ≡ Some (codes "check") }
     ensures found { IfSome result (λ command. IsAsked (λ name. first_value (found_of matches.now) name) (request_of command)) }
@@ -99,7 +99,7 @@ fn check<'a>(matches: &ArgMatches<'a>) -> Option<Command<'a>>
     })
 }
 
-/// The command `graph`, where the words are one of it.
+/// Returns the command `graph`, if the words ask for it.
 fn graph<'a>(matches: &ArgMatches<'a>) -> Option<Command<'a>>
     requires { first_value (found_of matches.now) (codes "command") ≡ Some (codes "graph") }
     ensures found { IfSome result (λ command. IsAsked (λ name. first_value (found_of matches.now) name) (request_of command)) }
@@ -113,7 +113,7 @@ fn graph<'a>(matches: &ArgMatches<'a>) -> Option<Command<'a>>
     })
 }
 
-/// The command `demo`, where the words are one of it.
+/// Returns the command `demo`, if the words ask for it.
 fn demo<'a>(matches: &ArgMatches<'a>) -> Option<Command<'a>>
     requires { first_value (found_of matches.now) (codes "command") ≡ Some (codes "demo") }
     ensures found { IfSome result (λ command. IsAsked (λ name. first_value (found_of matches.now) name) (request_of command)) }
@@ -125,7 +125,7 @@ fn demo<'a>(matches: &ArgMatches<'a>) -> Option<Command<'a>>
     bare.then_some(Command::Demo { number })
 }
 
-/// The command `budget`, where the words are one of it.
+/// Returns the command `budget`, if the words ask for it.
 fn budget<'a>(matches: &ArgMatches<'a>) -> Option<Command<'a>>
     requires { first_value (found_of matches.now) (codes "command") ≡ Some (codes "budget") }
     ensures found { IfSome result (λ command. IsAsked (λ name. first_value (found_of matches.now) name) (request_of command)) }
@@ -140,7 +140,7 @@ fn budget<'a>(matches: &ArgMatches<'a>) -> Option<Command<'a>>
     })
 }
 
-/// The command `audit`, where the words are one of it.
+/// Returns the command `audit`, if the words ask for it.
 fn audit<'a>(matches: &ArgMatches<'a>) -> Option<Command<'a>>
     requires { first_value (found_of matches.now) (codes "command") ≡ Some (codes "audit") }
     ensures found { IfSome result (λ command. IsAsked (λ name. first_value (found_of matches.now) name) (request_of command)) }
@@ -155,7 +155,7 @@ fn audit<'a>(matches: &ArgMatches<'a>) -> Option<Command<'a>>
     })
 }
 
-/// The one positional word behind the command.
+/// Returns the positional word after the command, if there is exactly one.
 fn one_name<'a>(matches: &ArgMatches<'a>) -> Option<&'a str>
     ensures found { IfSome result (λ word. (first_value (found_of matches.now) (codes "first") ≡ Some word.now)
         × (first_value (found_of matches.now) (codes "second") ≡ None)) }
@@ -167,7 +167,7 @@ fn one_name<'a>(matches: &ArgMatches<'a>) -> Option<&'a str>
     }
 }
 
-/// The two positional words behind the command.
+/// Returns the positional words after the command, if there are exactly two.
 fn two_names<'a>(matches: &ArgMatches<'a>) -> Option<(&'a str, &'a str)>
     ensures found { IfSome result (λ words. (first_value (found_of matches.now) (codes "first") ≡ Some words.0.now)
         × (first_value (found_of matches.now) (codes "second") ≡ Some words.1.now) × (first_value (found_of matches.now) (codes "third") ≡ None)) }
@@ -178,7 +178,7 @@ fn two_names<'a>(matches: &ArgMatches<'a>) -> Option<(&'a str, &'a str)>
     is_absent(matches, "third").then_some((first, second))
 }
 
-/// The three positional words behind the command.
+/// Returns the positional words after the command, if there are exactly three.
 fn three_names<'a>(matches: &ArgMatches<'a>) -> Option<(&'a str, &'a str, &'a str)>
     ensures found { IfSome result (λ words. (first_value (found_of matches.now) (codes "first") ≡ Some words.0.now)
         × (first_value (found_of matches.now) (codes "second") ≡ Some words.1.now) × (first_value (found_of matches.now) (codes "third") ≡ Some words.2.now)) }
@@ -190,35 +190,35 @@ fn three_names<'a>(matches: &ArgMatches<'a>) -> Option<(&'a str, &'a str, &'a st
     Some((source, image, certificate))
 }
 
-/// Whether no option of placement is given.
+/// Checks that no option of placement is given.
 fn without_placement(matches: &ArgMatches<'_>) -> bool
     ensures { IsTrue result ↔ LacksAll (λ name. first_value (found_of matches.now) name) placement_options }
 {
     lacks_all(matches, &PLACEMENT)
 }
 
-/// Whether no option of a run is given.
+/// Checks that no option of a run is given.
 fn without_policy(matches: &ArgMatches<'_>) -> bool
     ensures { IsTrue result ↔ LacksAll (λ name. first_value (found_of matches.now) name) policy_options }
 {
     lacks_all(matches, &RUN) && lacks_all(matches, &SHARED)
 }
 
-/// Whether no option is given that only an audit has.
+/// Checks that no option is given that only audits take.
 fn without_audit(matches: &ArgMatches<'_>) -> bool
     ensures { IsTrue result ↔ LacksAll (λ name. first_value (found_of matches.now) name) audit_options }
 {
     lacks_all(matches, &AUDIT)
 }
 
-/// Whether no option of a run is given that an audit hasn't.
+/// Checks that no option is given that only runs take.
 fn without_run(matches: &ArgMatches<'_>) -> bool
     ensures { IsTrue result ↔ LacksAll (λ name. first_value (found_of matches.now) name) run_options }
 {
     lacks_all(matches, &RUN)
 }
 
-/// Whether none of these options is given.
+/// Checks that none of these options is given.
 fn lacks_all(matches: &ArgMatches<'_>, options: &[CommandOption]) -> bool
     ensures { IsTrue result ↔ LacksAll (λ name. first_value (found_of matches.now) name) (names_of options.now) }
 {
@@ -230,7 +230,7 @@ fn lacks_all(matches: &ArgMatches<'_>, options: &[CommandOption]) -> bool
     true
 }
 
-/// Whether an option is not given.
+/// Checks that an option isn't given.
 fn is_absent(matches: &ArgMatches<'_>, option: &str) -> bool
     ensures { IsTrue result ↔ (first_value (found_of matches.now) option.now ≡ None) }
 {

@@ -1,4 +1,4 @@
-// The words that are refused before they are parsed.
+// The words that are refused before parsing.
 ghost use Rattle.std.specs.Prelude.{◌↔◌, IsTrue, map};
 ghost use Rattle.std.specs.List.{AllByRecursion};
 ghost use Rattle.std.specs.String.{string_bytes};
@@ -8,7 +8,8 @@ ghost use Rattle.command_words.specs.Parse.{IsWord, IsReadable, command_names, a
 
 use crate::option_table::{AUDIT, CommandOption, PLACEMENT, RUN, SHARED};
 
-/// Whether the first word is a command's name and each other word is a value or positional word or an option's name.
+/// Checks whether the first word is a command's name and each other word is a value, a positional word or an option's
+/// name.
 pub(crate) fn is_readable(words: &[String]) -> bool
     ensures { IsTrue result ↔ IsReadable (map (λ word. string_bytes word) words.now) }
 {
@@ -18,7 +19,7 @@ pub(crate) fn is_readable(words: &[String]) -> bool
     }
 }
 
-/// Whether each word is a value or positional word or an option's name.
+/// Checks whether each word is a value, a positional word or an option's name.
 fn are_readable(words: &[String]) -> bool
     ensures { IsTrue result ↔ AllByRecursion IsWord (map (λ word. string_bytes word) words.now) }
 {
@@ -30,14 +31,14 @@ fn are_readable(words: &[String]) -> bool
     true
 }
 
-/// Whether the word is a value or positional word or an option's name.
+/// Checks whether the word is a value, a positional word or an option's name.
 fn is_word(word: &str) -> bool
     ensures { IsTrue result ↔ IsWord word.now }
 {
     is_plain(word) || is_option(word)
 }
 
-/// Whether the word is a command's name.
+/// Checks whether the word is a command's name.
 fn is_command(word: &str) -> bool
     ensures { IsTrue result ↔ IsOneOf command_names word.now }
 {
@@ -47,7 +48,7 @@ fn is_command(word: &str) -> bool
     )
 }
 
-/// Whether the word is an option's name.
+/// Checks whether the word is an option's name.
 fn is_option(word: &str) -> bool
     ensures { IsTrue result ↔ IsOneOf all_options word.now }
 {
@@ -57,7 +58,7 @@ fn is_option(word: &str) -> bool
         || is_named(&AUDIT, word)
 }
 
-/// Whether the word is the name of one of these options.
+/// Checks whether the word is the name of one of these options.
 fn is_named(options: &[CommandOption], word: &str) -> bool
     ensures { IsTrue result ↔ IsOneOf (names_of options.now) word.now }
 {
@@ -69,7 +70,7 @@ fn is_named(options: &[CommandOption], word: &str) -> bool
     false
 }
 
-/// Whether the word may be a value or a positional word: it is not empty and does not begin with `-`.
+/// Checks whether the word may be a value or a positional word: it isn't empty and doesn't begin with `-`.
 fn is_plain(word: &str) -> bool
     ensures { IsTrue result ↔ IsPlain word.now }
 {

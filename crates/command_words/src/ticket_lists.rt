@@ -1,4 +1,4 @@
-// The rule of choices, and the tickets of threads, as the values of options.
+// The rule of choice and the tickets of threads, as values of options.
 ghost use Rattle.std.specs.Prelude.{ℕ, List, ◌≡◌, ◌≤◌, option_map, IfSome, IfNone};
 ghost use Rattle.command_words.specs.OptionTable.{least_of, most_of};
 ghost use Rattle.command_words.specs.declared.option_table.CommandOption.TheVariants as option;
@@ -13,8 +13,8 @@ use cap_text::Fields;
 /// The greatest number of a thread that can be given tickets.
 const MOST_THREAD: u64 = 1_000_000;
 
-/// The rule of the texts of `--rule` and `--tickets`: that by the graph, or else by strides. None where the text names no rule, where
-/// tickets are given beside the rule by the graph, or where their text is no list of tickets.
+/// Returns the rule that the texts of `--rule` and `--tickets` give; the default is the priority rule. Returns `None`
+/// if the text names no rule, if tickets are given with the priority rule, or if their text isn't a list of tickets.
 pub(crate) fn rule(given: Option<&str>, tickets_given: Option<&str>) -> Option<Rule>
     ensures found { IfSome result (λ rule. IsRule (option_map (λ text. text.now) given.entry) (option_map (λ text. text.now) tickets_given.entry) rule) }
     ensures none { IfNone result ((rule : Rule) → IsRule (option_map (λ text. text.now) given.entry)
@@ -30,7 +30,7 @@ pub(crate) fn rule(given: Option<&str>, tickets_given: Option<&str>) -> Option<R
     }
 }
 
-/// The name of the rule.
+/// Returns the name of the rule.
 fn name_of(given: Option<&str>) -> &str
     ensures { result.now ≡ rule_name (option_map (λ text. text.now) given.entry) }
 {
@@ -40,7 +40,7 @@ fn name_of(given: Option<&str>) -> &str
     }
 }
 
-/// The tickets of threads: the given ones, or else none. None where the text is no list of tickets.
+/// Returns the tickets of threads, or no tickets if none are given. Returns `None` if the text isn't a list of tickets.
 fn tickets(given: Option<&str>) -> Option<Tickets>
     ensures found { IfSome result (λ tickets. AreTickets (option_map (λ text. text.now) given.entry) tickets) }
     ensures none { IfNone result ((tickets : Tickets) → AreTickets (option_map (λ text. text.now) given.entry) tickets → ⊥) }
@@ -54,7 +54,7 @@ fn tickets(given: Option<&str>) -> Option<Tickets>
     }
 }
 
-/// The tickets of a text.
+/// Returns the tickets in a text.
 fn tickets_in(text: &[u8]) -> Option<Tickets>
     ensures found { IfSome result (λ tickets. (pairs : List (ℕ × ℕ)) × IsTicketsText text.now pairs × (tickets ≡ tickets_of pairs)) }
     ensures none { IfNone result ((pairs : List (ℕ × ℕ)) → IsTicketsText text.now pairs → ⊥) }
@@ -82,7 +82,7 @@ fn tickets_in(text: &[u8]) -> Option<Tickets>
     Some(tickets)
 }
 
-/// A thread from 0 to 1,000,000 and its tickets.
+/// Returns a thread from 0 to 1,000,000 and its tickets.
 fn ticket(field: &[u8]) -> Option<(u32, u32)>
     ensures found { IfSome result (λ ticket. (field.now ≡ ticket_text ticket) × (ticket.0 ≤ 1000000)
         × (least_of option.Tickets ≤ ticket.1) × (ticket.1 ≤ most_of option.Tickets)) }

@@ -1,4 +1,4 @@
-// A list of words into a command.
+// A list of words as a command.
 ghost use Rattle.std.specs.Prelude.{◌≡◌, map, IfOk, Err};
 ghost use Rattle.std.specs.String.{string_bytes};
 ghost use Rattle.command_words.specs.WordList.{Request, request_of, IsWordList};
@@ -9,7 +9,11 @@ use crate::reading::command_of;
 use crate::refusals::is_readable;
 use std::alloc::Global;
 
-/// The command that the words after the program's name ask for. `NotWords` comes exactly where they are no word list.
+/// Returns the command that the words after the program's name ask for.
+///
+/// # Errors
+///
+/// `NotWords` exactly if they aren't a word list; `Memory` if an allocation fails.
 pub fn read_words<'a>(alloc: Global, words: &'a Vec<String>) -> Result<Command<'a>, WordsError>
     ensures read { IfOk result (λ command. IsWordList (map (λ word. string_bytes word) words.now.items) (request_of command)) }
     ensures refused { result ≡ Err WordsError.NotWords → (request : Request) → IsWordList (map (λ word. string_bytes word) words.now.items) request → ⊥ }

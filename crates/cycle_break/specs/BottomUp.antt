@@ -1,4 +1,4 @@
--- An order of functions from the bottom up.
+-- A bottom-up order of functions.
 use Rattle.std.specs.Prelude.{ℕ, ◌≡◌, true, ⊤, List, [], ◌∷◌}
 use Rattle.std.specs.List.{AllByRecursion}
 use Rattle.call_graph.specs.Callees.{callees}
@@ -11,7 +11,7 @@ abbrev pub CallsOnly : CallGraphState → List ℕ → List ℕ → ℕ → Type
 CallsOnly graph without others function =
     AllByRecursion (λ site. AllByRecursion (λ callee. has callee others ≡ true) (callees graph.tables site.target)) (sites_of graph.sites without function)
 
--- with the last function first: each function calls only functions that came before it
+-- the order, with the last function first: each function calls only functions before it
 abbrev pub IsBottomUp : CallGraphState → List ℕ → List ℕ → Type 0
 IsBottomUp graph without [] = ⊤
 IsBottomUp graph without (function ∷ earlier) = CallsOnly graph without earlier function × IsBottomUp graph without earlier

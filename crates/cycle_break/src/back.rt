@@ -11,7 +11,7 @@ use crate::ranks::{greatest_of_tables, ranks_of};
 use call_graph::{CallGraph, Callees, GraphSite, Target};
 use std::alloc::{AllocError, Global};
 
-/// The greatest value of what a call may enter, where each table's greatest is known.
+/// Returns the greatest value of the functions that a call may enter, given each table's greatest value.
 fn greatest_of_target(
     target: Target,
     tables: &[Callees],
@@ -28,7 +28,7 @@ fn greatest_of_target(
     }
 }
 
-/// The numbers of the sites of which a callee has no lower rank than the caller.
+/// Returns the numbers of the sites one of whose callees has no lower rank than the caller.
 fn later_sites(
     alloc: Global,
     sites: &[GraphSite],
@@ -50,11 +50,11 @@ fn later_sites(
     Ok(back)
 }
 
-/// The numbers of the back-edge sites, rising. A walk goes depth first from the function that is started,
-/// then from each function not reached, in order of numbers; within a function it takes the sites by number
-/// and the members of a table in order, and it goes down into each callee not visited before. A site is a
-/// back edge where one of its callees is on the walk's present path, the caller included. Without these
-/// sites no path of calls leads back to its start.
+/// Returns the numbers of the back-edge sites, increasing. A depth-first walk starts at the start function,
+/// then at each function not yet visited, in order of numbers; within a function it takes the sites by
+/// number and the members of a table in order, and descends into each callee not yet visited. A site is a
+/// back edge if one of its callees is on the current path of the walk, which includes the caller. Without
+/// these sites no path of calls leads back to its start.
 pub fn back_edges(alloc: Global, graph: &CallGraph) -> Result<Vec<u32>, AllocError>
     ensures walk { IfOk result (λ back. back.items ≡ back_edges graph.now) }
     ensures rising { IfOk result (λ back. IsStrictlyIncreasing back.items) }

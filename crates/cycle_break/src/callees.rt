@@ -6,8 +6,8 @@ ghost use Rattle.cycle_break.specs.Trail.{AreMarkedBelow, IsSeen, is_marked};
 
 use call_graph::{Callees, Target};
 
-/// The place of the first of these functions that wasn't visited, or a place behind them. Those before a place
-/// were visited, and aren't looked at.
+/// Returns the index of the first of these functions that hasn't been visited, or one after them. Those before
+/// `from` have been visited and aren't tested.
 fn first_unmarked(functions: &[u32], visited: &[bool], from: usize) -> usize
     requires below { AllByRecursion (λ f. f < length visited.now) functions.now }
     requires seen { AreMarkedBelow visited.now functions.now from }
@@ -21,7 +21,8 @@ fn first_unmarked(functions: &[u32], visited: &[bool], from: usize) -> usize
     place
 }
 
-/// The first of a call's callees that wasn't visited. It looks at no member of a table that it has seen visited.
+/// Returns the first of a call's callees that hasn't been visited. It tests no member of a table that it has
+/// already found visited.
 pub(crate) fn first_unvisited(
     target: Target,
     tables: &[Callees],

@@ -1,11 +1,11 @@
 // Back edges of a call graph: sites that break every cycle of calls.
 //
-// A call graph comes in. A walk goes through it depth first, from the function that is started and then
-// from each function not reached (`specs/Walk.antt`); a site is a back edge where one of its callees is on
-// the walk's present path. `back_edges` gives their numbers, and its contract says that without these sites
-// no path of calls leads back to its start. `leaving_order` gives the order in which the walk leaves the
-// functions, which is bottom-up where the sites that are left out break every cycle: the placement of
-// checkpoints stands on it. Source: the idea alone is of Capriccio (von Behren et al., SOSP 2003).
+// In: a call graph. A depth-first walk starts at the start function, then at each function not yet visited
+// (`specs/Walk.antt`); a site is a back edge if one of its callees is on the current path of the walk.
+// `back_edges` returns their numbers, and its contract says that without these sites no path of calls leads
+// back to its start. `leaving_order` returns the order in which the walk leaves the functions, which is
+// bottom-up if the sites that are left out break every cycle; the placement of checkpoints uses it. Source:
+// only the idea is Capriccio's (von Behren et al., SOSP 2003).
 #![tactic(auto)]
 
 mod back;

@@ -13,7 +13,7 @@ use crate::walking::walk_from;
 use call_graph::{CallGraph, Callees, CallerIndex};
 use std::alloc::{AllocError, Global};
 
-/// The walk from a function, if it wasn't visited.
+/// Walks from a function, unless it has been visited.
 fn visit(
     alloc: Global,
     index: &CallerIndex<'_>,
@@ -38,8 +38,8 @@ fn visit(
     walk_from(alloc, index, tables, function, visited, seen, left)
 }
 
-/// The functions in the order in which the walk leaves them, where it doesn't take the sites of the numbers
-/// in `without`, which rise. Each function stands in the order. Where those sites break every cycle, each
+/// Returns the functions in the order in which the walk leaves them, if it skips the sites with the numbers
+/// in `without`, which increase. Every function is in the order. If those sites break every cycle, each
 /// function comes after all functions that its other sites call.
 pub fn leaving_order(
     alloc: Global,

@@ -4,14 +4,14 @@ ghost use Rattle.std.specs.Option.{option_to_list};
 use std::alloc::{AllocError, Global};
 use std::marker::Model;
 
-/// A function that the walk has entered, and the place of the site that comes next.
+/// A function that the walk has entered, and the index of its next site.
 #[derive(Clone, Copy)]
 pub(crate) struct Frame {
     pub(crate) function: u32,
     pub(crate) place: usize,
 }
 
-/// The functions that the walk has entered and not left. Contracts see them with the innermost first.
+/// The functions that the walk has entered and not left. Contracts see the innermost first.
 #[derive(Drop)]
 pub(crate) struct Path {
     frames: Vec<Frame>,

@@ -6,7 +6,7 @@ ghost use Rattle.cycle_break.specs.Trail.{rank};
 use call_graph::Callees;
 use std::alloc::{AllocError, Global};
 
-/// The place from 1 at which each function was left.
+/// Returns the position, counted from 1, at which each function was left.
 pub(crate) fn ranks_of(
     alloc: Global,
     functions: usize,
@@ -25,7 +25,7 @@ pub(crate) fn ranks_of(
     Ok(ranks)
 }
 
-/// The greatest value of these functions.
+/// Returns the greatest value of these functions.
 fn greatest_of(functions: &[u32], values: &[usize]) -> usize
     requires { AllByRecursion (λ f. f < length values.now) functions.now }
     ensures { result ≡ greatest (slice_index values.now) functions.now }
@@ -37,7 +37,7 @@ fn greatest_of(functions: &[u32], values: &[usize]) -> usize
     most
 }
 
-/// The greatest value of each table's members.
+/// Returns the greatest value of each table's members.
 pub(crate) fn greatest_of_tables(
     alloc: Global,
     tables: &[Callees],

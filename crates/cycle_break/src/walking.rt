@@ -10,7 +10,7 @@ use crate::path::{Frame, Path};
 use call_graph::{Callees, CallerIndex};
 use std::alloc::{AllocError, Global};
 
-/// The walk from a function that wasn't visited, with no function on the path.
+/// Walks from a function that hasn't been visited, with no function on the path.
 pub(crate) fn walk_from(
     alloc: Global,
     index: &CallerIndex<'_>,

@@ -1,12 +1,12 @@
 -- What an answer says where no count of faults rose: what is due was done as a whole, or memory was wanting.
 use Rattle.std.proofs.Common.{◌≡◌, ◌⊎◌, ℕ, List, Option, Result, Ok, Err, subst, arith, inl, inr, ⊎_elim}
-use Rattle.cap_io.specs.Faults.{Rose, Stayed}
+use Rattle.cap_io.specs.Faults.{IsRisen, Rose, Stayed}
 use Rattle.cap_io.specs.Files.{Files}
 use Rattle.command_words.specs.WordList.{IsWordList, Request}
 use Rattle.command_words.proofs.OneRequest.{one_request}
 use Rattle.command_outcomes.specs.declared.faults.Fault.{Fault}
 use Rattle.command_outcomes.specs.declared.faults.Fault.TheVariants.{Read, Write, Memory}
-use Rattle.command_outcomes.specs.Done.{Outside, IsRisen, NoFault, IsDone, IsWhole, IsTold, status_of, line_of}
+use Rattle.command_outcomes.specs.Done.{Outside, NoFault, IsDone, IsWhole, IsTold, status_of, line_of}
 use Rattle.command_outcomes.specs.FaultLines.{fault_status}
 use Rattle.command_outcomes.specs.Outcome.{Outcome}
 use Rattle.capriccio_call.specs.Due.{Does, IsDue}

@@ -25,14 +25,6 @@ pub denied : {P : Type 0} → Decided P → Decided (P → ⊥)
 denied (inl p) = inr (λ none. none p)
 denied (inr none) = inl none
 
--- the second is decided where the first holds
-pub then_decided : {P Q : Type 0} → Decided P → (P → Decided Q) → Decided (P × Q)
-then_decided (inr none) next = inr (λ both. none both.0)
-then_decided {P} {Q} (inl p) next = by (next p) where
-  by : Decided Q → Decided (P × Q)
-  by (inl q) = inl (p, q)
-  by (inr none) = inr (λ both. none both.1)
-
 -- where the first holds, the second is decided
 pub implied_decided : {P Q : Type 0} → Decided P → (P → Decided Q) → Decided (P → Q)
 implied_decided (inr none) next = inl (λ p. absurd (none p))

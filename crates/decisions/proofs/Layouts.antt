@@ -41,8 +41,7 @@ module _ (code : FlatCode) (plan : Plan) where
   part_functions [] = none
   part_functions (f ∷ fs) =
       rw (numbers_append (filter_map (site_fact code plan) f.ops) (flat_map (λ (function : FlatFunction). filter_map (site_fact code plan) function.ops) fs))
-      (part_append (numbers (filter_map (site_fact code plan) f.ops)) (filter_map site_of f.ops) (numbers (flat_map (λ (function : FlatFunction). filter_map (site_fact code plan) function.ops) fs))
-      (flat_map (λ (g : FlatFunction). filter_map site_of g.ops) fs) (part_ops f.ops) (part_functions fs))
+      (part_append (part_ops f.ops) (part_functions fs))
 
   facts_distinct : IsDistinct eqb (site_numbers code) → IsDistinct eqb (numbers (site_facts code plan))
   facts_distinct distinct = part_distinct (numbers (site_facts code plan)) (site_numbers code) (part_functions code.functions) distinct

@@ -9,7 +9,8 @@ use Rattle.c_parse.specs.ForParts.{nested_in_for, nested_in_all_for, nested_in_i
 use Rattle.grammar_laws.specs.Nested.{is_call, simples_nested, step_nested, IsFirstPlace}
 use Rattle.decisions.specs.NestedFors.{for_nested, fors_nested, item_for_nested, items_for_nested}
 use Rattle.grammar_laws.specs.Places.{Declared, expr_places, optional_places, stmt_places, stmts_places, names_places, item_places, items_places}
-use Rattle.decisions.proofs.NestedParts.{IsPart, all_of, none_of, part_append, behind, part_rises, first_of, first_is_least}
+use Rattle.decisions.proofs.NestedParts.{all_of, none_of, behind, part_rises, first_of, first_is_least}
+use Rattle.decisions.proofs.Parts.{IsPart, part_append}
 use Rattle.decisions.proofs.NestedInTree.{both, simples_first, condition_first, step_first, simples_part, step_part}
 use Rattle.grammar_laws.proofs.Trees.{program_rises}
 

@@ -7,7 +7,8 @@ use Rattle.c_grammar.specs.Grammar.{IsProgram}
 use Rattle.c_parse.specs.NestedCalls.{earlier, first_call, first_call_of, nested_in_value, nested_in_simple, nested_in_simples, nested_in_condition, nested_in_step, nested_in_return, nested_in_stmt, nested_in_stmts, nested_in_item, nested_in_items}
 use Rattle.grammar_laws.specs.Nested.{is_call, value_nested, simple_nested, simples_nested, step_nested, return_nested, stmt_nested, stmts_nested, item_nested, items_nested, IsFirstPlace}
 use Rattle.grammar_laws.specs.Places.{Declared, expr_places, exprs_places, simple_places, simples_places, optional_places, step_places, stmt_places, stmts_places, names_places, item_places, items_places}
-use Rattle.decisions.proofs.NestedParts.{IsPart, all_of, none_of, part_append, behind, part_rises, first_of, first_is_least}
+use Rattle.decisions.proofs.NestedParts.{all_of, none_of, behind, part_rises, first_of, first_is_least}
+use Rattle.decisions.proofs.Parts.{IsPart, part_append}
 use Rattle.grammar_laws.proofs.Trees.{program_rises}
 
 -- ---- the first of the list is what is looked for

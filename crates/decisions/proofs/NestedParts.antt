@@ -4,34 +4,25 @@ use Rattle.std.specs.List.{AllByRecursion}
 use Rattle.grammar_laws.specs.Nested.{IsFirstPlace}
 use Rattle.grammar_laws.specs.Rising.{RiseWithin}
 use Rattle.grammar_laws.proofs.Walks.{from_lower}
-
-pub data IsPart : List ℕ → List ℕ → Type 0 where
-  none : IsPart [] []
-  kept : {place : ℕ} {part places : List ℕ} → IsPart part places → IsPart (place ∷ part) (place ∷ places)
-  left_out : {place : ℕ} {part places : List ℕ} → IsPart part places → IsPart part (place ∷ places)
+use Rattle.decisions.proofs.Parts.{IsPart, keep, none, skip}
 
 pub all_of : (places : List ℕ) → IsPart places places
 all_of [] = none
-all_of (p ∷ ps) = kept (all_of ps)
+all_of (p ∷ ps) = keep (all_of ps)
 
 pub none_of : (places : List ℕ) → IsPart [] places
 none_of [] = none
-none_of (p ∷ ps) = left_out (none_of ps)
-
-pub part_append : {a b c d : List ℕ} → IsPart a b → IsPart c d → IsPart (a ++ c) (b ++ d)
-part_append none q = q
-part_append (kept p) q = kept (part_append p q)
-part_append (left_out p) q = left_out (part_append p q)
+none_of (p ∷ ps) = skip (none_of ps)
 
 -- a part behind places that are left out
 pub behind : (left : List ℕ) {a b : List ℕ} → IsPart a b → IsPart a (left ++ b)
 behind [] p = p
-behind (x ∷ left) p = left_out (behind left p)
+behind (x ∷ left) p = skip (behind left p)
 
 pub part_rises : {part places : List ℕ} → IsPart part places → (low high : ℕ) → RiseWithin low places high → RiseWithin low part high
 part_rises none low high r = r
-part_rises (kept {place = x} p) low high r = (r.0, part_rises p (x + 1) high r.1)
-part_rises (left_out {place = x} {part = a} p) low high r =
+part_rises (keep {x = x} p) low high r = (r.0, part_rises p (x + 1) high r.1)
+part_rises (skip {y = x} {xs = a} p) low high r =
     from_lower low (x + 1) a high (let below = r.0 in omega (arith, below)) (part_rises p (x + 1) high r.1)
 
 -- ---- the first

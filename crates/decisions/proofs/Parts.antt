@@ -1,4 +1,4 @@
--- Numbers that are some of others, in their order, differ where those do.
+-- Numbers that are some of others, in their order.
 use Rattle.std.proofs.Common.{◌≡◌, ℕ, ◌+◌, false, List, [], ◌∷◌, ◌++◌, map, eqb, refl, ap}
 use Rattle.std.specs.List.{AllByRecursion, IsDistinct, filter_map, cons_option, flat_map}
 use Rattle.std.proofs.lemmas.Map.Keys.{IsDistinct-head, IsDistinct-tail, IsDistinct-cons}
@@ -19,6 +19,7 @@ part_all P none all = tt
 part_all P (keep part) all = (all.0, part_all P part all.1)
 part_all P (skip part) all = part_all P part all.1
 
+-- they differ where those do
 pub part_distinct : (xs ys : List ℕ) → IsPart xs ys → IsDistinct eqb ys → IsDistinct eqb xs
 part_distinct [] [] none distinct = distinct
 part_distinct (x ∷ xs) (x' ∷ ys) (keep part) distinct =
@@ -26,11 +27,10 @@ part_distinct (x ∷ xs) (x' ∷ ys) (keep part) distinct =
 part_distinct xs (y ∷ ys) (skip part) distinct = part_distinct xs ys part (IsDistinct-tail eqb y ys distinct)
 part_distinct (x ∷ xs) [] part distinct = elim part [ ]
 
-pub part_append : (xs ys us vs : List ℕ) → IsPart xs ys → IsPart us vs → IsPart (xs ++ us) (ys ++ vs)
-part_append [] [] us vs none more = more
-part_append (x ∷ xs) (x' ∷ ys) us vs (keep part) more = keep (part_append xs ys us vs part more)
-part_append xs (y ∷ ys) us vs (skip part) more = skip (part_append xs ys us vs part more)
-part_append (x ∷ xs) [] us vs part more = elim part [ ]
+pub part_append : {a b c d : List ℕ} → IsPart a b → IsPart c d → IsPart (a ++ c) (b ++ d)
+part_append none q = q
+part_append (keep p) q = keep (part_append p q)
+part_append (skip p) q = skip (part_append p q)
 
 abbrev pub numbers : List GraphSite → List ℕ
 numbers ss = map (λ s. s.number) ss
@@ -54,8 +54,7 @@ part_functions : (caller : ℕ) (fs : List FlatFunction) → IsPart (numbers (ca
 part_functions caller [] = none
 part_functions caller (f ∷ fs) =
     rw (numbers_append (filter_map (call_site caller) f.ops) (call_sites_from (caller + 1) fs))
-    (part_append (numbers (filter_map (call_site caller) f.ops)) (filter_map site_of f.ops) (numbers (call_sites_from (caller + 1) fs)) (flat_map (λ g. filter_map site_of g.ops) fs)
-    (part_ops caller f.ops) (part_functions (caller + 1) fs))
+    (part_append (part_ops caller f.ops) (part_functions (caller + 1) fs))
 
 -- the numbers of a program's call sites differ where those of its sites do
 pub calls_distinct : (code : FlatCode) → IsDistinct eqb (site_numbers code) → IsDistinct eqb (numbers (call_sites_from 0 code.functions))

@@ -1,4 +1,4 @@
--- What it is for a statement to be decided.
+-- What it means that a statement is decided.
 use Rattle.std.specs.Prelude.{◌⊎◌}
 
 -- it holds, or it doesn't

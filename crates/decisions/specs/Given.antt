@@ -1,4 +1,4 @@
--- What is given where nothing stands in a command's way.
+-- The premises under which a command completes its work.
 use Rattle.std.specs.Prelude.{◌≡◌, ℕ, List, Option, Some}
 use Rattle.c_tree.specs.Trees.{ProgramTree}
 use Rattle.c_lower.specs.ProgramCode.{lowered}
@@ -16,8 +16,8 @@ use Rattle.pair_commands.specs.BuildsFiles.{HasFittingCode}
 use Rattle.pair_commands.specs.Graphs.{HasFittingFrames}
 use Rattle.capriccio_call.specs.Headline.{IsAnswer}
 
--- A call of the program with these words has answered this status: its clause `answer` holds of it, its files and its trace are told, and
--- no count of faults rose.
+-- a call of the program with these words has returned this status: its clause `answer` holds, its files and its trace
+-- are exposed, and no count of faults rose
 pub record HasAnswered (words : List (List ℕ)) (files : Files) (trace : List ℕ) (before after : Outside) (status : ℕ) : Type 0 where
   pub err : Option (List ℕ)
   pub err_after : Option (List ℕ)
@@ -29,19 +29,20 @@ pub record HasAnswered (words : List (List ℕ)) (files : Files) (trace : List �
   pub trace_told : before.left ≡ Some trace
   pub none_rose : NoFault before after
 
--- a file of this name is there, no longer than a source may be, and reads as this program
+-- a file of this name exists, is at most as long as a source may be, and reads as this program
 pub record HasSource (files : Files) (name : List ℕ) (program : ProgramTree) : Type 0 where
   pub bytes : List ℕ
   pub there : IsLoaded document.Source (Some files) name bytes
   pub reads : IsSourceText bytes program
 
--- such a source, of whose program no frame and not the code is too large
+-- such a source, with frames and code that aren't too large
 pub record HasBuildable (files : Files) (name : List ℕ) (sizes : Options) (program : ProgramTree) : Type 0 where
   pub source : HasSource files name program
   pub frames : HasFittingFrames program sizes.max_path
   pub code : HasFittingCode program sizes
 
--- files of these names are there, none too long, and are this program and a pair of image and certificate, of which every rule holds
+-- files of these names exist, none is too long, and they are this program and a pair of image and certificate for which
+-- every rule holds
 pub record HasValidPair (files : Files) (source_name image_name certificate_name : List ℕ) (program : ProgramTree) (i : Image) (c : Certificate) : Type 0 where
   pub source : HasSource files source_name program
   pub image_bytes : List ℕ

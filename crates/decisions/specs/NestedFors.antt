@@ -1,4 +1,4 @@
--- The places of the names of the calls in the parentheses of a `for` that are not whole, in the order of the tree.
+-- The places of the names of the calls in the parentheses of a `for` that aren't whole, in the order of the tree.
 use Rattle.std.specs.Prelude.{ℕ, List, [], ◌∷◌, ◌++◌}
 use Rattle.c_tree.specs.RawTrees.{RawStmtTree, RawStmtTrees, RawDo, RawEmpty, RawBlock, RawIf, RawIfElse, RawWhile, RawFor, RawBreak, RawContinue, RawReturn, NoRawStmts, RawThen, RawItemTree, RawGlobal, RawGlobalArray, RawTableItem, RawPrototypeItem, RawFunctionItem}
 use Rattle.grammar_laws.specs.Nested.{is_call, simples_nested, step_nested}

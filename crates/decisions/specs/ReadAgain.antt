@@ -1,4 +1,4 @@
--- When what is written of a pair is read as that pair again.
+-- When a pair is read back from its files.
 use Rattle.std.specs.Prelude.{◌≤◌, length}
 use Rattle.c_tree.specs.Trees.{ProgramTree}
 use Rattle.c_lower.specs.ProgramCode.{lowered}
@@ -10,8 +10,7 @@ use Rattle.stack_certificate.specs.declared.certificates.Certificate.{Certificat
 use Rattle.command_outcomes.specs.declared.documents.Document.TheVariants as document
 use Rattle.command_outcomes.specs.CauseLines.{most_bytes}
 
--- both are within the limits of their formats, each number is a word, neither is longer than a file of its kind may be, and every rule
--- holds of them
+-- both are within the limits of their formats, each number is a word, neither file is too long, and every rule holds
 pub record IsReadAgain (program : ProgramTree) (i : Image) (c : Certificate) : Type 0 where
   pub image_fits : image.IsWithinLimits i
   pub image_words : image.HoldsWords i

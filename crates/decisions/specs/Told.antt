@@ -1,4 +1,4 @@
--- What a told shelf holds.
+-- The contents of a shelf that exposes its files.
 use Rattle.std.specs.Prelude.{◌≡◌, ℕ, ◌<◌, List, Option, Some, None, slice_index}
 use Rattle.cap_io.specs.Files.{Files}
 
@@ -6,7 +6,7 @@ use Rattle.cap_io.specs.Files.{Files}
 abbrev pub AreBytes : List ℕ → Type 0
 AreBytes bytes = (k : ℕ) → slice_index bytes k < 256
 
--- each file of a shelf that tells its files is bytes
+-- each file of a shelf that exposes its files consists of bytes
 abbrev pub HoldBytes : Option Files → Type 0
 HoldBytes None = Unit {0}
 HoldBytes (Some files) = (name bytes : List ℕ) → files name ≡ Some bytes → AreBytes bytes

@@ -1,4 +1,4 @@
--- What a command writes and ends with where nothing stands in its way.
+-- What a command writes, and its status, if nothing fails.
 use Rattle.std.specs.Prelude.{◌≡◌, ℕ, ◌≤◌, ◌⊎◌, List}
 use Rattle.std.specs.Io.KnownBytes.{Appends}
 use Rattle.lawful_log.specs.Setup.{Setup}
@@ -14,7 +14,7 @@ use Rattle.lawful_reading.specs.declared.judgement.Verdict.{Verdict}
 use Rattle.pair_commands.specs.Runs.{IsRun, stop_status}
 use Rattle.capriccio_commands.specs.Summary.{summary_of}
 
--- that holds, or memory was wanting
+-- this holds, or memory ran out
 abbrev pub UnlessMemory : ℕ → Type 0 → Type 0
 UnlessMemory status P = P ⊎ (status ≡ fault_status Memory)
 
@@ -36,7 +36,7 @@ pub record WritesLog (g : Setup) (trace : List ℕ) (before after : Outside) (st
   pub ends : EndsRun g trace entries stop status
   pub out : Appends before.taken after.taken (log_text entries)
 
--- the output took the summary that is counted over the whole log of the run
+-- the output took the summary of the whole log of the run
 pub record WritesSummary (g : Setup) (trace : List ℕ) (before after : Outside) (status : ℕ) : Type 0 where
   pub entries : List Entry
   pub stop : StopLine
@@ -48,7 +48,7 @@ pub record WritesText (text : List ℕ) (before after : Outside) (status : ℕ) 
   pub out : Appends before.taken after.taken text
   pub succeeds : status ≡ 0
 
--- the output took the line that tells what is said of a log, and the status is the one that goes with it
+-- the output took the line with the verdict on a log, and the status is the verdict's
 pub record WritesJudgement (is : Verdict) (before after : Outside) (status : ℕ) : Type 0 where
   pub out : Appends before.taken after.taken (judgement_line is)
   pub status_is : status ≡ judgement_status is

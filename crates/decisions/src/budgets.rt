@@ -1,4 +1,4 @@
-// What is there of every program with a call graph.
+// Every program with a call graph has a budget or a cycle.
 ghost use Rattle.std.specs.Prelude.{ℕ, ◌⊎◌};
 ghost use Rattle.flat_code.specs.Codes.{FlatCode};
 ghost use Rattle.flat_code.specs.WellFormed.{IsWellFormed};
@@ -9,8 +9,8 @@ ghost use Rattle.stack_certificate.specs.declared.certificates.Certificate.{Cert
 ghost use Rattle.chunk_budget.specs.declared.budgets.Budget.{Budget};
 ghost use Rattle.chunk_budget.specs.LeastBudgets.{IsLeastBudget};
 
-/// Of a well-formed program either some function lies on a cycle of calls, and then there is a least one, or none does, and then under
-/// every certificate there is a least budget. It does nothing: the law is the contract.
+/// Law: a well-formed program either has functions on cycles of calls, of which one is the least, or has none and then,
+/// under every certificate, a least budget.
 pub fn least_budget_or_cycle()
     ensures { (code : FlatCode) (certificate : Certificate) (graph : CallGraphState) → IsWellFormed code → IsCallGraph graph → IsGraph code graph →
         ((f : ℕ) × IsLeast (IsOnCycle code) f) ⊎ (((f : ℕ) → IsOnCycle code f → ⊥) × (budget : Budget) × IsLeastBudget code certificate budget) }

@@ -1,4 +1,4 @@
-// What is due at least.
+// Every call of the program has a due outcome.
 ghost use Rattle.std.specs.Prelude.{ℕ, List};
 ghost use Rattle.c_lower.specs.ProgramCode.{lowered};
 ghost use Rattle.c_tree.specs.Trees.{ProgramTree};
@@ -20,37 +20,36 @@ ghost use Rattle.stack_certificate.specs.declared.certificates.Certificate.{Cert
 ghost use Rattle.stack_image.specs.declared.images.Image.{Image};
 ghost use Rattle.decisions.specs.Told.{HoldBytes};
 
-/// Of words that are no word list an outcome is due. It does nothing: the law is the contract.
+/// Law: for words that aren't a word list, an outcome is due.
 pub fn usage_is_due()
     ensures { (words : List (List ℕ)) (before : Outside) → ((request : Request) → ¬ IsWordList words request) → (outcome : Outcome) × IsDue words before outcome }
 {}
 
-/// Of the words of `check` an outcome is due, whatever the files are. It does nothing: the law is the contract.
+/// Law: for the words of `check`, an outcome is due, whatever the files are.
 pub fn check_is_due()
     ensures { (words : List (List ℕ)) (before : Outside) (source image certificate : List ℕ) →
         IsWordList words (Check source image certificate) → HoldBytes before.files → (outcome : Outcome) × IsDue words before outcome }
 {}
 
-/// Of the words of `run` an outcome is due, whatever the files and the trace are: each run comes to a stop. It does nothing: the law is
-/// the contract.
+/// Law: for the words of `run`, an outcome is due, whatever the files and the trace are: each run reaches a stop.
 pub fn run_is_due()
     ensures { (words : List (List ℕ)) (before : Outside) (source image certificate : List ℕ) (policy : Policy) →
         IsWordList words (Run source image certificate policy) → HoldBytes before.files → (outcome : Outcome) × IsDue words before outcome }
 {}
 
-/// Of the words of `graph` an outcome is due, whatever the files are. It does nothing: the law is the contract.
+/// Law: for the words of `graph`, an outcome is due, whatever the files are.
 pub fn graph_is_due()
     ensures { (words : List (List ℕ)) (before : Outside) (source : List ℕ) (placement : Placement) →
         IsWordList words (Graph source placement) → HoldBytes before.files → (outcome : Outcome) × IsDue words before outcome }
 {}
 
-/// Of the words of `build` an outcome is due, whatever the files are. It does nothing: the law is the contract.
+/// Law: for the words of `build`, an outcome is due, whatever the files are.
 pub fn build_is_due()
     ensures { (words : List (List ℕ)) (before : Outside) (source image certificate : List ℕ) (placement : Placement) →
         IsWordList words (Build source image certificate placement) → HoldBytes before.files → (outcome : Outcome) × IsDue words before outcome }
 {}
 
-/// What is laid out for a program whose frames and whose code fit is valid. It does nothing: the law is the contract.
+/// Law: the pair that is laid out for a program is valid, if no frame is too large and the code isn't.
 pub fn layout_is_valid()
     ensures { (program : ProgramTree) (options : Options) (image : Image) (certificate : Certificate) →
         IsWellScoped program → AreInRange options →
@@ -59,7 +58,7 @@ pub fn layout_is_valid()
         IsValid (lowered program) image certificate }
 {}
 
-/// Of the words of `serve` an outcome is due, whatever the files and the trace are. It does nothing: the law is the contract.
+/// Law: for the words of `serve`, an outcome is due, whatever the files and the trace are.
 pub fn serve_is_due()
     ensures { (words : List (List ℕ)) (before : Outside)
         (source : List ℕ) (placement : Placement) (policy : Policy) →
@@ -67,25 +66,25 @@ pub fn serve_is_due()
         (outcome : Outcome) × IsDue words before outcome }
 {}
 
-/// Of the words of `demo` an outcome is due. It does nothing: the law is the contract.
+/// Law: for the words of `demo`, an outcome is due.
 pub fn demo_is_due()
     ensures { (words : List (List ℕ)) (before : Outside) (number : ℕ) →
         IsWordList words (Demo number) → (outcome : Outcome) × IsDue words before outcome }
 {}
 
-/// Of the words of `budget` an outcome is due, whatever the files are. It does nothing: the law is the contract.
+/// Law: for the words of `budget`, an outcome is due, whatever the files are.
 pub fn budget_is_due()
     ensures { (words : List (List ℕ)) (before : Outside) (source image certificate : List ℕ) →
         IsWordList words (Budget source image certificate) → HoldBytes before.files → (outcome : Outcome) × IsDue words before outcome }
 {}
 
-/// Of the words of `audit` an outcome is due, whatever the files and the trace are. It does nothing: the law is the contract.
+/// Law: for the words of `audit`, an outcome is due, whatever the files and the trace are.
 pub fn audit_is_due()
     ensures { (words : List (List ℕ)) (before : Outside) (source log : List ℕ) (options : AuditOptions) →
         IsWordList words (Audit source log options) → (outcome : Outcome) × IsDue words before outcome }
 {}
 
-/// Of every list of words an outcome is due, whatever the files and the trace are. It does nothing: the law is the contract.
+/// Law: for every list of words, an outcome is due, whatever the files and the trace are.
 pub fn outcome_is_due()
     ensures { (words : List (List ℕ)) (before : Outside) → HoldBytes before.files → (outcome : Outcome) × IsDue words before outcome }
 {}

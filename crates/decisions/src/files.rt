@@ -1,4 +1,4 @@
-// What is found of all bytes of an image, and of all texts of a certificate.
+// Every list of bytes is an image or is refused, and every text is a certificate or is refused.
 ghost use Rattle.std.specs.Prelude.{ℕ, ◌≡◌, ◌<◌, ◌⊎◌, List, Some, slice_index};
 ghost use Rattle.stack_image.specs.declared.images.Image.{Image};
 ghost use Rattle.stack_image.specs.declared.refusals.ImageError.{ImageError};
@@ -8,13 +8,13 @@ ghost use Rattle.stack_certificate.specs.declared.certificates.Certificate.{Cert
 ghost use Rattle.certificate_text.specs.Text as certificate;
 ghost use Rattle.certificate_text.specs.FirstRefused.{IsFirstRefused};
 
-/// Every list of bytes, each below 256, spells an image or has a refusal. It does nothing: the law is the contract.
+/// Law: every list of bytes, each below 256, is an image or has a refusal.
 pub fn image_is_read_or_refused()
     ensures { (bytes : List ℕ) → ((k : ℕ) → slice_index bytes k < 256) →
         ((i : Image) × image.IsWithinLimits i × image.HoldsWords i × (bytes ≡ image.spelling i)) ⊎ ((error : ImageError) × (refusal_of bytes ≡ Some error)) }
 {}
 
-/// Every text spells a certificate or has a first refused line. It does nothing: the law is the contract.
+/// Law: every text is a certificate or has a first refused line.
 pub fn certificate_is_read_or_refused()
     ensures { (text : List ℕ) →
         ((c : Certificate) × certificate.IsWithinLimits c × certificate.HoldsWords c × (text ≡ certificate.spelling c)) ⊎ ((number : ℕ) × IsFirstRefused text number) }

@@ -1,4 +1,4 @@
-// What is there of every planned program.
+// Every planned program is laid out.
 ghost use Rattle.std.specs.Prelude.{nat_eq};
 ghost use Rattle.std.specs.List.{IsDistinct};
 ghost use Rattle.flat_code.specs.Codes.{FlatCode};
@@ -9,8 +9,8 @@ ghost use Rattle.stack_certificate.specs.declared.certificates.Certificate.{Cert
 ghost use Rattle.codegen_link.specs.declared.options.Options.{Options};
 ghost use Rattle.stack_build.specs.Builds.{IsPlanned, IsLaidOut};
 
-/// A program whose sites have different numbers, and which has a plan, is laid out as some image and certificate, however large its
-/// code is. It does nothing: the law is the contract.
+/// Law: a program whose sites have distinct numbers, and which has a plan, is laid out as some image and certificate,
+/// however large its code is.
 pub fn layout_is_there()
     ensures { (code : FlatCode) (options : Options) (plan : Plan) → IsDistinct nat_eq (site_numbers code) → IsPlanned code options.max_path plan →
         (image : Image) × (certificate : Certificate) × IsLaidOut code options image certificate }

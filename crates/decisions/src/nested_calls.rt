@@ -10,8 +10,8 @@ ghost use Rattle.c_tree.specs.WholeCalls.{AreCallsWhole};
 ghost use Rattle.grammar_laws.specs.Nested.{IsFirstPlace, items_nested};
 ghost use Rattle.decisions.specs.NestedFors.{items_for_nested};
 
-/// The call that isn't whole for which a program is refused, found in the order of its tree, is the first of all that aren't
-/// whole by place; and none is found exactly where every call is whole. It does nothing: the law is the contract.
+/// Law: the call for which a program is refused, found in the order of its tree, is the first by place of all calls
+/// that aren't whole; and none is found exactly if every call is whole.
 pub fn first_nested_call()
     ensures first { (source : List ℕ) (tokens : List Token) (end : ℕ) (items : List RawItemTree)
         (at : ℕ) → StandInOrder 0 tokens end → IsProgram source tokens items →
@@ -20,7 +20,7 @@ pub fn first_nested_call()
     ensures whole { (items : List RawItemTree) → nested_in_items items ≡ None → AreCallsWhole items }
 {}
 
-/// The same of the calls in the parentheses of a `for`. It does nothing: the law is the contract.
+/// Law: the same for the calls in the parentheses of a `for`.
 pub fn first_nested_call_in_fors()
     ensures first { (source : List ℕ) (tokens : List Token) (end : ℕ) (items : List RawItemTree)
         (at : ℕ) → StandInOrder 0 tokens end → IsProgram source tokens items →

@@ -1,4 +1,4 @@
-// What is laid out is read again.
+// What is laid out is read back.
 ghost use Rattle.c_tree.specs.Trees.{ProgramTree};
 ghost use Rattle.c_tree.specs.WellScoped.{IsWellScoped};
 ghost use Rattle.c_lower.specs.ProgramCode.{lowered};
@@ -12,8 +12,8 @@ ghost use Rattle.pair_commands.specs.BuildsFiles.{HasFittingCode};
 ghost use Rattle.pair_commands.specs.Graphs.{HasFittingFrames};
 ghost use Rattle.decisions.specs.ReadAgain.{IsReadAgain};
 
-/// The pair that is laid out for a well-scoped program of which no frame and not the code is too large, with sizes in their ranges and
-/// globals that start with words, is valid, and is read again from what is written of it. It does nothing: the law is the contract.
+/// Law: the pair that is laid out for a well-scoped program is valid, and is read back from its files, if no frame is
+/// too large and the code isn't, the sizes are in their ranges, and the globals start with words.
 pub fn laid_out_is_read_again()
     ensures { (program : ProgramTree) (sizes : Options) (i : Image) (c : Certificate) → IsWellScoped program → AreInRange sizes →
         HasFittingFrames program sizes.max_path → HasFittingCode program sizes → AreWords i.globals → IsLaidOut (lowered program) sizes i c →

@@ -1,10 +1,10 @@
-// What is decided of all texts.
+// Decided properties of texts.
 ghost use Rattle.std.specs.Prelude.{ℕ, ◌≡◌, ◌<◌, List, ◌++◌};
 ghost use Rattle.cap_text.specs.Decimals.{canonical_decimal};
 ghost use Rattle.decisions.specs.Decided.{Decided};
 
-/// Of two texts it is decided whether they are one, of a text and a front whether it begins so, and of a text whether it is the
-/// canonical decimal of a number below a bound. It does nothing: the law is the contract.
+/// Law: it is decided whether two texts are equal, whether a text begins with another, and whether a text is the
+/// canonical decimal of a number below a bound.
 pub fn texts_are_decided()
     ensures same { (a b : List ℕ) → Decided (a ≡ b) }
     ensures front { (front text : List ℕ) → Decided ((rest : List ℕ) × (text ≡ front ++ rest)) }

@@ -1,4 +1,4 @@
-// What each command writes where nothing stands in its way.
+// What each command writes if nothing fails.
 ghost use Rattle.std.specs.Prelude.{ℕ, ◌≡◌, ◌≢◌, ◌≤◌, ◌++◌, ◌∷◌, List, [], Some, codes};
 ghost use Rattle.cap_io.specs.Files.{Files};
 ghost use Rattle.c_tree.specs.Trees.{ProgramTree};
@@ -32,9 +32,9 @@ ghost use Rattle.decisions.specs.Given.{HasAnswered, HasSource, HasBuildable, Ha
 ghost use Rattle.decisions.specs.Looked.{LooksAtGoodLines};
 ghost use Rattle.decisions.specs.Written.{UnlessMemory, WritesJudgement, WritesLog, WritesSummary, WritesText};
 
-/// `serve` of a source that reads as a program of which no frame and not the code is too large, where each line of the trace that is
-/// looked at is good: the output took the whole lawful log of the pair that is laid out, and the status is 0, 10, 11, 12, 13 or 14. It does
-/// nothing: the law is the contract.
+/// Law: `serve` of a source that reads as a program, with frames and code that aren't too large, if no line of the
+/// trace that is examined is refused. The output took the whole lawful log of the pair that is laid out, and the status
+/// is 0, 10, 11, 12, 13 or 14.
 pub fn serve_writes_its_log()
     ensures { (words : List (List ℕ)) (files : Files) (trace name : List ℕ) (placement : Placement) (policy : Policy) (program : ProgramTree)
         (before after : Outside) (status : ℕ) →
@@ -45,8 +45,8 @@ pub fn serve_writes_its_log()
         × WritesLog (setup_of program i c policy) trace before after status) }
 {}
 
-/// `run` of a valid pair, with its pool within the limit, where each line of the trace that is looked at is good: the output took the
-/// whole lawful log, and the status is 0, 10, 11, 12, 13 or 14. It does nothing: the law is the contract.
+/// Law: `run` of a valid pair, with its pool within the limit, if no line of the trace that is examined is refused. The
+/// output took the whole lawful log, and the status is 0, 10, 11, 12, 13 or 14.
 pub fn run_writes_its_log()
     ensures { (words : List (List ℕ)) (files : Files) (trace source image certificate : List ℕ) (policy : Policy) (program : ProgramTree) (i : Image) (c : Certificate)
         (before after : Outside) (status : ℕ) →
@@ -55,8 +55,8 @@ pub fn run_writes_its_log()
         UnlessMemory status (WritesLog (setup_of program i c policy) trace before after status) }
 {}
 
-/// `demo`: the output took the summary that is counted over the whole lawful log of the workload on its own trace, and the status is
-/// 0, 10, 11, 12, 13 or 14. It does nothing: the law is the contract.
+/// Law: `demo`. The output took the summary of the whole lawful log of the workload on its trace, and the status is 0,
+/// 10, 11, 12, 13 or 14.
 pub fn demo_writes_its_summary()
     ensures { (words : List (List ℕ)) (files : Files) (trace : List ℕ) (number : ℕ) (before after : Outside) (status : ℕ) →
         HasAnswered words files trace before after status → IsWordList words (Demo number) →
@@ -65,8 +65,8 @@ pub fn demo_writes_its_summary()
         × WritesSummary (setup_of program i c demo_policy) (trace_text number) before after status) }
 {}
 
-/// `build` of a source that reads as a program of which no frame and not the code is too large: the pair that is laid out is
-/// stored, the output took its line, and the status is 0. It does nothing: the law is the contract.
+/// Law: `build` of a source that reads as a program, with frames and code that aren't too large. The pair that is laid
+/// out is stored, the output took its line, and the status is 0.
 pub fn build_stores_its_pair()
     ensures { (words : List (List ℕ)) (files : Files) (trace name image certificate : List ℕ) (placement : Placement) (program : ProgramTree)
         (before after : Outside) (status : ℕ) →
@@ -77,8 +77,8 @@ pub fn build_stores_its_pair()
         × WritesText (built_line i) before after status) }
 {}
 
-/// `graph` of a source that reads as a program of which no frame is too large: the output took the lines of its analysis, and
-/// the status is 0. It does nothing: the law is the contract.
+/// Law: `graph` of a source that reads as a program, with frames that aren't too large. The output took the lines of
+/// its analysis, and the status is 0.
 pub fn graph_writes_its_lines()
     ensures { (words : List (List ℕ)) (files : Files) (trace name : List ℕ) (placement : Placement) (program : ProgramTree)
         (before after : Outside) (status : ℕ) →
@@ -87,7 +87,7 @@ pub fn graph_writes_its_lines()
         UnlessMemory status ((text : List ℕ) × IsAnalysed program placement.max_path text × WritesText text before after status) }
 {}
 
-/// `check` of a valid pair: the output took `accepted`, and the status is 0. It does nothing: the law is the contract.
+/// Law: `check` of a valid pair. The output took `accepted`, and the status is 0.
 pub fn check_writes_accepted()
     ensures { (words : List (List ℕ)) (files : Files) (trace source image certificate : List ℕ) (program : ProgramTree) (i : Image) (c : Certificate)
         (before after : Outside) (status : ℕ) →
@@ -96,8 +96,8 @@ pub fn check_writes_accepted()
         UnlessMemory status (WritesText (codes "accepted" ++ 10 ∷ []) before after status) }
 {}
 
-/// `budget` of a valid pair of a program of which no function lies on a cycle of calls: the output took the lines of its least
-/// budget, and the status is 0. It does nothing: the law is the contract.
+/// Law: `budget` of a valid pair of a program without cycles of calls. The output took the lines of its least budget,
+/// and the status is 0.
 pub fn budget_writes_its_lines()
     ensures { (words : List (List ℕ)) (files : Files) (trace source image certificate : List ℕ) (program : ProgramTree) (i : Image) (c : Certificate)
         (before after : Outside) (status : ℕ) →
@@ -106,8 +106,8 @@ pub fn budget_writes_its_lines()
         UnlessMemory status ((budget : Budget) × IsLeastBudget (lowered program) c budget × WritesText (budget_text budget) before after status) }
 {}
 
-/// `audit` of a source that reads as a program, with a log that is there and not too long: the output took the line that tells what is said of
-/// the log, read against the program, the options and the trace, and the status is 0, 15 or 16. It does nothing: the law is the contract.
+/// Law: `audit` of a source that reads as a program, with a log that exists and isn't too long. The output took the
+/// line with the verdict on the log, given the program, the options and the trace, and the status is 0, 15 or 16.
 pub fn audit_writes_its_judgement()
     ensures { (words : List (List ℕ)) (files : Files) (trace source log : List ℕ) (options : AuditOptions) (program : ProgramTree) (bytes : List ℕ)
         (before after : Outside) (status : ℕ) →
@@ -116,9 +116,8 @@ pub fn audit_writes_its_judgement()
         UnlessMemory status ((is : Verdict) × IsVerdictOf (reading_of program options) (Some trace) bytes is × WritesJudgement is before after status) }
 {}
 
-/// `check` on what `build` wrote for the same source, under three different names: where `build` ended with 0, the files that it left are
-/// those that `check` is handed, the output of `check` took `accepted`, and its status is 0. It does nothing:
-/// the law is the contract.
+/// Law: `check` on what `build` wrote for the same source, under three different names. If `build` ended with 0 and
+/// `check` gets the files that it left, the output of `check` took `accepted`, and its status is 0.
 pub fn check_accepts_what_build_wrote()
     ensures { (words check_words : List (List ℕ)) (files check_files : Files) (trace check_trace source image certificate : List ℕ) (placement : Placement)
         (program : ProgramTree) (before after check_before check_after : Outside) (check_status : ℕ) →

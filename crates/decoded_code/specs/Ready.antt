@@ -1,4 +1,4 @@
--- What a ready operation does to the machine, and when it is that of a word of the code.
+-- The effect of a ready operation on the machine, and when it is that of a word of the code.
 use Rattle.std.specs.Prelude.{◌≡◌, ℕ, ◌+◌, ◌-◌, ◌*◌, ◌%◌, ◌^◌, ◌<◌, ◌==◌, Bool, true, false, not, nat_lt, if◌then◌else◌, bit_and, bit_or, bit_xor, List, length, slice_get, Option, Some, None, IfSome}
 use Rattle.cap_word.specs.Word as word
 use Rattle.rv_code.specs.Decoding.{decoding}
@@ -6,14 +6,15 @@ use Rattle.rv_code.specs.declared.instructions.Instr.{Instr}
 use Rattle.rv_machine.specs.Bytes.{Nothing}
 use Rattle.rv_machine.specs.Registers.{read, write}
 use Rattle.rv_machine.specs.Rows.{Machine, Outcome, Goes, next, passes, sets, jumps, loads, word_loaded, word_stored}
-use Rattle.rv_machine.specs.Step.{code_start, decoded, started}
+use Rattle.stack_image.specs.Addresses.{code_start}
+use Rattle.rv_machine.specs.Step.{decoded, started}
 use Rattle.decoded_code.specs.declared.ready.Action.{Action}
 use Rattle.decoded_code.specs.declared.ready.Action.TheVariants as action
 use Rattle.decoded_code.specs.declared.ready.Kind.{Kind}
 use Rattle.decoded_code.specs.declared.ready.Kind.TheVariants as kind
 use Rattle.decoded_code.specs.declared.ready.Ready.{Ready}
 
--- the place of the word of an index
+-- the address of the word at an index
 abbrev pub place_at : ℕ → ℕ
 place_at at = code_start + 4 * at
 
@@ -21,11 +22,11 @@ place_at at = code_start + 4 * at
 abbrev pub even : ℕ → ℕ
 even number = number - number % 2
 
--- on to the word of that index, where the test holds
+-- the next word is that at this index, if the test holds
 abbrev pub branches_to : Machine → ℕ → Bool → Outcome
 branches_to m at taken = if taken then Goes (place_at at) m.x Nothing else passes m
 
--- what an operation of a kind comes to, where its two registers hold a and b
+-- the outcome of an operation of a kind, if its two registers have the values a and b
 abbrev pub done_as : Kind → Ready → ℕ → ℕ → Machine → Option Outcome
 done_as kind.Other op a b m = None
 done_as kind.Lui op a b m = Some (sets m op.rd op.imm)
@@ -64,11 +65,11 @@ done_as kind.SwLwSw op a b m = Some (word_stored m (word.add a op.imm) b)
 done_as kind.SwLwLw op a b m = Some (word_stored m (word.add a op.imm) b)
 done_as kind.LuiAddiSw op a b m = Some (sets m op.rd op.imm)
 
--- an operation of the one kind does what it does as one of the other
+-- an operation of the one kind has the same effect as one of the other
 abbrev pub DoesAs : Kind → Kind → Type 0
 DoesAs kind other = (op : Ready) (a b : ℕ) (m : Machine) → done_as kind op a b m ≡ done_as other op a b m
 
--- of a kind that begins a group, the kind of the operation behind it, and of a group of three the kind of the last
+-- for a kind that begins a group, the kind of the operation after it, and for a group of three the kind of the last
 abbrev pub second : Kind → Option Kind
 second kind.LwLw = Some kind.Lw
 second kind.LwSw = Some kind.Sw
@@ -89,12 +90,12 @@ third kind.SwLwLw = Some kind.Lw
 third kind.LuiAddiSw = Some kind.Sw
 third _ = None
 
--- an operation of the one kind can stand before one of the other: where it begins a group, that does what the group's second
--- does, and begins a pair with its third
+-- an operation of the one kind can precede one of the other: if it begins a group, the other has the effect of the
+-- group's second operation, and begins a pair with its third
 abbrev pub IsBefore : Kind → Kind → Type 0
 IsBefore kind next = IfSome (second kind) (λ other. DoesAs other next) × IfSome (third kind) (λ last. second next ≡ Some last)
 
--- the kinds that begin a group as its first instruction does: each goes on to the next word
+-- the kinds that begin a group with the effect of its first instruction: each continues with the next word
 abbrev pub passes_on : Kind → Bool
 passes_on kind.Lw = true
 passes_on kind.Sw = true
@@ -105,11 +106,11 @@ passes_on _ = false
 unfoldable pub done : Ready → ℕ → ℕ → Machine → Option Outcome
 done op a b m = done_as op.kind op a b m
 
--- what a ready operation comes to; none where only the machine's step says it
+-- the outcome of a ready operation; none if it is left to the machine's step
 abbrev pub ready_effect : Ready → Machine → Option Outcome
 ready_effect op m = done op (read m.x op.rs1) (read m.x op.rs2) m
 
--- what an operation comes to by its action, where its second register holds b
+-- the outcome of an operation by its action, if its second register has the value b
 abbrev pub acted : Action → Ready → ℕ → Machine → Option Outcome
 acted (action.Sets value) op b m = Some (sets m op.rd value)
 acted (action.Loads address) op b m = Some (loads m op.rd (word_loaded m.bytes address))
@@ -121,14 +122,14 @@ acted (action.CallsNear place) op b m = Some (jumps m op.rd (even place))
 acted (action.Branches taken) op b m = Some (branches_to m op.imm taken)
 acted action.Steps op b m = None
 
--- the actions that go on to the next word
+-- the actions that continue with the next word
 abbrev pub acts_on : Action → Bool
 acts_on (action.Sets value) = true
 acts_on (action.Loads address) = true
 acts_on (action.Stores address) = true
 acts_on _ = false
 
--- the operation of what was decoded at a place: what it comes to is what the machine's step comes to there
+-- the operation for the decoded word at a place: its outcome is that of the machine's step there
 pub record IsReadyAt (op : Ready) (place : ℕ) (found : Option Instr) : Type 0 where
   pub writes : 0 < op.rd
   pub rd : op.rd < 32
@@ -136,12 +137,12 @@ pub record IsReadyAt (op : Ready) (place : ℕ) (found : Option Instr) : Type 0 
   pub rs2 : op.rs2 < 32
   pub does : (m : Machine) → m.pc ≡ place → IfSome (ready_effect op m) (λ outcome. started (decoded found) m ≡ outcome)
 
--- the operations of so many of the code's words, each at its place; what stands beyond 2 ^ 32 is never reached
+-- the operations of the first `count` words of the code, each at its place; places beyond 2 ^ 32 are never reached
 pub record AreEachReady (words : List ℕ) (count : ℕ) (ops : List Ready) : Type 0 where
   pub count_is : length ops ≡ count
   pub each : (at word : ℕ) (op : Ready) → place_at at < 2 ^ 32 → slice_get words at ≡ Some word → slice_get ops at ≡ Some op → IsReadyAt op (place_at at) (decoding word)
 
--- and where one begins a group, those behind it do what the group's others do
+-- and if one begins a group, those after it have the effects of the group's others
 pub record AreReady (words : List ℕ) (count : ℕ) (ops : List Ready) : Type 0 where
   pub count_is : length ops ≡ count
   pub each : (at word : ℕ) (op : Ready) → place_at at < 2 ^ 32 → slice_get words at ≡ Some word → slice_get ops at ≡ Some op → IsReadyAt op (place_at at) (decoding word)

@@ -6,10 +6,8 @@ use crate::ready::Ready;
 use crate::readying::ready_at;
 use cap_word::add;
 use rv_code::{Instr, decode};
+use stack_image::CODE_START;
 use std::alloc::{AllocError, Global};
-
-// The first byte of the code.
-const CODE_START: u32 = 4096;
 
 /// The instruction of each word, in the order of the words, and None in the place of a word that is no instruction
 /// (RISC-V unprivileged manual, chapters "RV32I" and "M"). It fails only where memory runs out.
@@ -23,8 +21,11 @@ pub fn decode_all(alloc: Global, words: &[u32]) -> Result<Vec<Option<Instr>>, Al
     Ok(decoded)
 }
 
-/// The ready operation of each word, in the order of the words, which stand from 0x1000. It fails only where memory runs
-/// out.
+/// Returns the ready operation of each word, in the order of the words, which begin at 0x1000.
+///
+/// # Errors
+///
+/// `AllocError` if an allocation fails.
 pub fn ready_all(alloc: Global, words: &[u32]) -> Result<Vec<Ready>, AllocError>
     ensures { IfOk result (λ ready. AreReady words.now (length words.now) ready.items) }
 {
@@ -38,7 +39,8 @@ pub fn ready_all(alloc: Global, words: &[u32]) -> Result<Vec<Ready>, AllocError>
     Ok(ready)
 }
 
-// Gives each operation that begins a group the kind of the group, from the last on, so that each knows the kind behind it.
+// Gives the first operation of each group the kind of the group, from the last to the first, so that the kind after
+// each is known.
 fn group_all(ready: &mut [Ready])
     ensures { (words : List ℕ) (count : ℕ) → AreEachReady words count ready.old → AreReady words count ready.new }
 {

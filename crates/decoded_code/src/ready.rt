@@ -4,13 +4,14 @@ ghost use Rattle.rv_machine.specs.Rows.{Machine};
 
 use cap_word::{add, div, mul, rem, sll, slt, sltu, sra, sub};
 
-/// What a ready operation does, named after its instruction (RISC-V unprivileged manual, chapters "RV32I" and "M"). One
-/// that begins a group does what the group's first instruction does, and tells the kinds of the operations behind it.
+/// The kind of a ready operation, named after its instruction (RISC-V unprivileged manual, chapters "RV32I" and "M").
+/// The first operation of a group does what its own instruction does; its kind also gives the kinds of the operations
+/// after it.
 #[derive(Clone, Copy)]
 pub enum Kind {
-    /// What the machine's step does; no other kind fits.
+    /// The effect is that of the machine's step; no other kind applies.
     Other,
-    /// LUI: a register gets the constant.
+    /// LUI: sets a register to the constant.
     Lui,
     Addi,
     Sltiu,
@@ -30,40 +31,40 @@ pub enum Kind {
     Rem,
     Lw,
     Sw,
-    /// JAL that leaves no place in a register.
+    /// JAL that sets no register.
     Jump,
-    /// JAL that leaves the next place in a register.
+    /// JAL that sets a register to the next address.
     Call,
-    /// JALR that leaves no place in a register.
+    /// JALR that sets no register.
     JumpTo,
-    /// JALR that leaves the next place in a register.
+    /// JALR that sets a register to the next address.
     CallTo,
     Bne,
     Bltu,
-    /// LW, with LW behind it.
+    /// LW, followed by LW.
     LwLw,
-    /// LW, with SW behind it.
+    /// LW, followed by SW.
     LwSw,
-    /// SW, with LW behind it.
+    /// SW, followed by LW.
     SwLw,
-    /// SW, with SW behind it.
+    /// SW, followed by SW.
     SwSw,
-    /// ADDI, with SW behind it.
+    /// ADDI, followed by SW.
     AddiSw,
-    /// LUI, with ADDI behind it.
+    /// LUI, followed by ADDI.
     LuiAddi,
-    /// SW, with SW and SW behind it.
+    /// SW, followed by SW and SW.
     SwSwSw,
-    /// SW, with LW and SW behind it.
+    /// SW, followed by LW and SW.
     SwLwSw,
-    /// SW, with LW and LW behind it.
+    /// SW, followed by LW and LW.
     SwLwLw,
-    /// LUI, with ADDI and SW behind it.
+    /// LUI, followed by ADDI and SW.
     LuiAddiSw,
 }
 
 impl Kind {
-    // The kind of an operation of this kind that begins no group.
+    // The kind of the first operation of a group of this kind, without its group.
     fn first(self) -> Kind
         ensures does { DoesAs result self }
         ensures no_pair { second result ≡ None }
@@ -78,7 +79,7 @@ impl Kind {
         }
     }
 
-    // The kind of an operation of this kind with one of another behind it: that of a group where they are one.
+    // The kind of an operation of this kind that is followed by one of another: that of a group, if they form one.
     pub(crate) fn before(self, next: Kind) -> Kind
         ensures does { DoesAs result self }
         ensures group { IsBefore result next }
@@ -102,46 +103,46 @@ impl Kind {
     }
 }
 
-/// An operation of the machine, ready to be done: an instruction whose operands need no more decoding. It takes 8 bytes.
+/// An operation of the machine that needs no further decoding. It has 8 bytes.
 #[derive(Clone, Copy)]
 pub struct Ready {
     pub kind: Kind,
-    /// The register that it writes, from 1 to 31; any of them where it writes none.
+    /// The register that it writes, from 1 to 31; any of them if it writes none.
     pub rd: u8,
     /// The first register that it reads, below 32.
     pub rs1: u8,
     /// The second register that it reads, below 32.
     pub rs2: u8,
-    /// Its constant as a word; of a branch, and of a jump to a fixed place, the index of the word to which it leads.
+    /// Its constant as a word; for a branch or a jump to a fixed place, the index of the target word.
     pub imm: u32,
 }
 
-/// What a ready operation is to do, once its registers are read.
+/// The action of a ready operation, after its registers have been read.
 #[derive(Clone, Copy)]
 pub enum Action {
-    /// Gives its register a value, and goes on to the next word.
+    /// Sets its register to a value, and continues with the next word.
     Sets { value: u32 },
-    /// Gives its register the word at an address, and goes on to the next word.
+    /// Sets its register to the word at an address, and continues with the next word.
     Loads { address: u32 },
-    /// Stores the word of its second register at an address, and goes on to the next word.
+    /// Stores the word of its second register at an address, and continues with the next word.
     Stores { address: u32 },
-    /// Goes on to the word of an index.
+    /// Continues with the word at an index.
     Jumps { to: u32 },
-    /// Leaves the next place in its register, and goes on to the word of an index.
+    /// Sets its register to the next address, and continues with the word at an index.
     Calls { to: u32 },
-    /// Goes on to a place whose bit 0 doesn't count.
+    /// Continues at an address whose bit 0 is ignored.
     JumpsNear { place: u32 },
-    /// Leaves the next place in its register, and goes on to a place whose bit 0 doesn't count.
+    /// Sets its register to the next address, and continues at an address whose bit 0 is ignored.
     CallsNear { place: u32 },
-    /// Goes on to the word of the operation's index where the branch is taken, else to the next word.
+    /// Continues with the word at the operation's index if the branch is taken, and otherwise with the next word.
     Branches { taken: bool },
-    /// What only the machine's step does.
+    /// Executes the machine's step.
     Steps,
 }
 
 impl Ready {
-    /// What it is to do as an operation of a kind, where its two registers hold `a` and `b`. A caller that knows the kind
-    /// of an operation names it, so that the compiler has nothing to look up.
+    /// Returns its action as an operation of a kind, if its two registers have the values `a` and `b`. A caller that
+    /// knows the kind passes it, so the compiled code doesn't look it up.
     #[inline(always)]
     pub fn action_as(&self, kind: Kind, a: u32, b: u32) -> Action
         ensures does { (m : Machine) → done_as kind self.now a b m ≡ acted result self.now b m }

@@ -9,14 +9,12 @@ ghost use Rattle.rv_machine.specs.Rows.{Machine, relative};
 use crate::ready::{Kind, Ready};
 use cap_word::add;
 use rv_code::{BranchOffset, Immediate, Instr, JumpOffset, Register, ShiftCount, UpperImmediate};
+use stack_image::CODE_START;
 
-// The first byte of the code.
-const CODE_START: u32 = 4096;
-
-// The register that an operation names which writes none.
+// The register in an operation that writes none.
 const UNWRITTEN: u8 = 1;
 
-// The operation of what the word at a place was decoded to.
+// The operation for the decoded word at a place.
 pub(crate) fn ready_at(place: u32, decoded: Option<Instr>) -> Ready
     ensures { IsReadyAt result place decoded }
 {
@@ -26,7 +24,7 @@ pub(crate) fn ready_at(place: u32, decoded: Option<Instr>) -> Ready
     }
 }
 
-// The operation of an instruction at a place.
+// The operation for an instruction at a place.
 fn ready_of(place: u32, instr: Instr) -> Ready
     ensures { IsReadyAt result place (Some instr) }
 {
@@ -70,7 +68,7 @@ fn ready_of(place: u32, instr: Instr) -> Ready
     }
 }
 
-// What only the machine's step does.
+// An operation that is left to the machine's step.
 fn other() -> Ready
     ensures { (place : ℕ) (found : Option Instr) → IsReadyAt result place found }
 {
@@ -112,7 +110,7 @@ fn reading(kind: Kind, rs1: Register, rs2: Register, imm: u32) -> Ready
     }
 }
 
-// A jump that leaves the next place in a register, or, where that is register 0, in none.
+// A jump that sets a register to the next address, or none if the register is 0.
 fn jump(jumps: Kind, calls: Kind, rd: Register, rs1: Register, imm: u32) -> Ready
     ensures { (place : ℕ) (instr : Instr) →
         (rd ≡ 0 → (m : Machine) → m.pc ≡ place → IfSome (ready_effect (record { kind = jumps; rd = 1; rs1 = rs1; rs2 = 0; imm = imm }) m) (λ outcome. effect instr m ≡ outcome)) →
@@ -126,7 +124,7 @@ fn jump(jumps: Kind, calls: Kind, rd: Register, rs1: Register, imm: u32) -> Read
     }
 }
 
-// JAL at a place. One that leads before the code or between two words is left to the machine's step.
+// JAL at a place. One whose target is before the code or between two words is left to the machine's step.
 fn jump_of(place: u32, rd: Register, imm: JumpOffset) -> Ready
     ensures { IsReadyAt result place (Some (instr.Jal rd imm)) }
 {
@@ -136,7 +134,8 @@ fn jump_of(place: u32, rd: Register, imm: JumpOffset) -> Ready
     }
 }
 
-// A branch of a kind at a place. One that leads before the code or between two words is left to the machine's step.
+// A branch of a kind at a place. One whose target is before the code or between two words is left to the machine's
+// step.
 fn branch_of(place: u32, kind: Kind, rs1: Register, rs2: Register, imm: BranchOffset) -> Ready
     ensures { (instr : Instr) →
         ((m : Machine) (at : ℕ) → m.pc ≡ place → place_at at ≡ relative m imm →
@@ -149,7 +148,7 @@ fn branch_of(place: u32, kind: Kind, rs1: Register, rs2: Register, imm: BranchOf
     }
 }
 
-// The index of the word at a place; None before the code and between two words.
+// The index of the word at a place; `None` before the code and between two words.
 fn index_of(place: u32) -> Option<u32>
     ensures { IfSome result (λ index. place_at index ≡ place) }
 {

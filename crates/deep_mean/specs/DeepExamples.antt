@@ -32,7 +32,7 @@ sum_of l r = Binary BinaryOperator.Add l r
 abbrev pub function : ℕ → List ℕ → List DeepStmt → DeepFunction
 function params sizes ss = record { params = params; sizes = sizes; body = in_order ss }
 
--- int g = 1; int f() { g = 5; return 10; }, and a main with these statements, whose one name is x
+-- int g = 1; int f() { g = 5; return 10; }, and a main with these statements and one name, x
 abbrev pub changing : List DeepStmt → DeepProgram
 changing ss = record {
   functions = function 0 [] (Do (SetGlobal 0 (Number 5)) ∷ returns (Number 10) ∷ []) ∷ function 0 (1 ∷ []) ss ∷ [];
@@ -41,7 +41,7 @@ changing ss = record {
   main = 1;
 }
 
--- main ends and has put these values; the globals aren't looked at
+-- main ends and has output these values; the globals aren't examined
 abbrev pub PutsInAll : DeepProgram → List (ℕ × ℕ) → Type 0
 PutsInAll program outputs =
     (globals : List (List ℕ)) × RunsTo program [] (start_world program) 0 (record { trap = None; world = record { threads = Ended ∷ []; globals = globals; exchange = empty_exchange; outputs = outputs } })
@@ -66,7 +66,7 @@ indexes_before_calls = changing (
     ∷ puts 3 (sum_of (GlobalElement 1 (Binary BinaryOperator.Subtract (calls 4 0 []) (Number 9))) (GlobalElement 1 (Global 0)))
     ∷ returns (Number 0) ∷ [])
 
--- int p(int v) { put(v); return v; }, and a main with these statements, whose one name is x
+-- int p(int v) { put(v); return v; }, and a main with these statements and one name, x
 abbrev pub printing : List DeepStmt → DeepProgram
 printing ss = record {
   functions = function 1 (1 ∷ []) (puts 0 (Local 0) ∷ returns (Local 0) ∷ []) ∷ function 0 (1 ∷ []) ss ∷ [];
@@ -116,7 +116,7 @@ calls_in_arguments = record {
   main = 2;
 }
 
--- put(t[p(1)](p(2))): the index isn't in range, which is tested after the argument
+-- put(t[p(1)](p(2))): the index isn't in range; it is tested after the argument
 abbrev pub index_tested_last : DeepProgram
 index_tested_last = printing (puts 1 (TableCall 2 0 (prints 3 1) (prints 4 2)) ∷ returns (Number 0) ∷ [])
 

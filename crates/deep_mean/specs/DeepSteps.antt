@@ -1,5 +1,6 @@
--- One step of a deep thread: as a source thread's, where a call may stand in an expression. The frame then holds the expression in
--- evaluation, and the call's result takes its place (ISO/IEC 9899:2018, 6.5.2.2, 6.5.16 and 6.8).
+-- One step of a deep thread: like one of a source thread, but a call may be inside an expression. The frame then has
+-- the expression in evaluation, and the call's result takes the call's place (ISO/IEC 9899:2018, 6.5.2.2, 6.5.16 and
+-- 6.8).
 use Rattle.std.specs.Prelude.{ℕ, zero, suc, Bool, true, false, List, [], ◌∷◌, Option, Some, None, nat_lt, length, Result, Ok, Err, map, replicate, slice_index, slice_index_or}
 use Rattle.cap_word.specs.Rows.{width, with_word, with_zeros}
 use Rattle.cap_word.specs.Calls.{Call, Question, Answer, Finish, call_of, spawn_of}
@@ -40,7 +41,8 @@ abbrev pub stored_where : Bool → DeepRunning → Result DeepRunning TrapKind
 stored_where true thread = Ok thread
 stored_where false thread = Err TrapKind.Index
 
--- a word goes to a place; an element's index, read unsigned, has to be below the array's size. No use stores to the caller.
+-- a word is stored at a place; an element's index, unsigned, has to be below the array's size. No use stores to the
+-- caller.
 abbrev pub stored : DeepRunning → Place → ℕ → Result DeepRunning TrapKind
 stored thread Nowhere word = Ok thread
 stored thread (InLocal x) word = Ok (with_names thread (with_word thread.frame.names x 0 word))
@@ -56,10 +58,10 @@ assigned_by thread (Err trap) = trapped thread trap
 abbrev pub assigned : DeepRunning → Place → ℕ → DeepMove
 assigned thread place word = assigned_by thread (stored thread place word)
 
--- ---- the result of a call comes
+-- ---- the result of a call arrives
 
--- A result that goes to a place as it is, since its call is all of the right side or of the statement, is stored at once; a trap that
--- it meets there is then what is left to do. Any other takes its place in the expression, which is in evaluation from then on.
+-- If the call is the whole right side or statement, its result is stored at once; if it can't be stored, only the trap
+-- is left to do. Any other result takes the call's place in the expression, which is in evaluation from then on.
 abbrev pub delivered_or : DeepRunning → Result DeepRunning TrapKind → DeepRunning
 delivered_or thread (Ok after) = after
 delivered_or thread (Err trap) = to_do thread (Fail trap ∷ [])
@@ -72,7 +74,7 @@ abbrev pub delivered : DeepWaitingFrame → List DeepWaitingFrame → List (List
 delivered waiting below globals word =
     delivered_to (record { frame = waiting.frame; below = below; globals = globals }) waiting.around word waiting.use_
 
--- a return to the frame below, with a word that isn't looked at where the function gives none; or the thread's end
+-- a return to the frame below, with a word that is ignored if the function gives no result; or the thread's end
 abbrev pub returned : DeepRunning → List DeepWaitingFrame → ℕ → DeepMove
 returned thread [] word = Stops (record { trap = None; globals = thread.globals })
 returned thread (waiting ∷ below) word = Goes (delivered waiting below thread.globals word)
@@ -82,12 +84,12 @@ returned thread (waiting ∷ below) word = Goes (delivered waiting below thread.
 abbrev pub waits_at : DeepRunning → ℕ → List Around → Use → DeepWaitingFrame
 waits_at thread site around use_ = record { frame = thread.frame; site = site; around = around; use_ = use_ }
 
--- a function is called: a frame is pushed
+-- a call of a function: a frame is pushed
 abbrev pub entered : DeepProgram → DeepRunning → ℕ → List Around → Use → ℕ → List ℕ → DeepMove
 entered program thread site around use_ f arguments =
     Goes (record { frame = pushed program f arguments; below = waits_at thread site around use_ ∷ thread.below; globals = thread.globals })
 
--- a member of a table is called; its index, read unsigned, has to be below the number of members
+-- a call of a member of a table; its index, unsigned, has to be below the number of members
 abbrev pub entered_where : Bool → DeepProgram → DeepRunning → ℕ → List Around → Use → ℕ → ℕ → DeepMove
 entered_where true program thread site around use_ f argument = entered program thread site around use_ f (argument ∷ [])
 entered_where false program thread site around use_ f argument = trapped thread TrapKind.Table
@@ -101,7 +103,7 @@ abbrev pub asks : DeepRunning → ℕ → List Around → Use → Call → DeepM
 asks thread site around use_ call =
     Asks (record { call = call; globals = thread.globals }) (record { front = waits_at thread site around use_; below = thread.below })
 
--- any other number of arguments than the call takes, as no source that is read has it, ends the thread
+-- a wrong number of arguments, which no source that is read has, ends the thread
 abbrev pub asks_if : DeepRunning → ℕ → List Around → Use → Option Call → DeepMove
 asks_if thread site around use_ (Some call) = asks thread site around use_ call
 asks_if thread site around use_ None = Stops (record { trap = None; globals = thread.globals })
@@ -111,28 +113,28 @@ spawned f [] = None
 spawned f (argument ∷ []) = Some (spawn_of f argument)
 spawned f (argument ∷ other ∷ rest) = None
 
--- a call whose arguments are values pushes a frame or is the modelled call
+-- a call whose arguments have been evaluated pushes a frame or is the modelled call
 abbrev pub called : DeepProgram → DeepRunning → List Around → Use → Ready → DeepMove
 called program thread around use_ (ReadyCall s (Function f) arguments) = entered program thread s around use_ f arguments
 called program thread around use_ (ReadyCall s (Modelled m) arguments) = asks_if thread s around use_ (call_of (number_of m) arguments)
 called program thread around use_ (ReadyCall s (Spawned f) arguments) = asks_if thread s around use_ (spawned f arguments)
 called program thread around use_ (ReadyTableCall s t i argument) = entered_by (slice_index_or program.tables t []) program thread s around use_ i argument
 
--- ---- what is done with an evaluation
+-- ---- the use of an evaluation
 
--- the evaluation of a right side, whose value goes to a place
+-- the evaluation of a right side; its value goes to a place
 abbrev pub stores : DeepProgram → DeepRunning → Place → Evaluation → DeepMove
 stores program thread place (Done word) = assigned thread place word
 stores program thread place (Trapped trap) = trapped thread trap
 stores program thread place (Calls call around) = called program thread around (Stores place) call
 
--- the first of two lists of items where a condition isn't 0, and else the second
+-- the first of two lists of items if a condition isn't 0, and otherwise the second
 abbrev pub branched : DeepRunning → List Item → List Item → ℕ → DeepMove
 branched thread first second zero = Goes (to_do thread second)
 branched thread first second (suc n) = Goes (to_do thread first)
 
--- A value is used, where the thread has only the rest still to do. In `a[i] = e` the index comes before the right side, and the range
--- test after it.
+-- A value is used, when the thread has only the rest still to do. In `a[i] = e` the index is evaluated before the right
+-- side, and tested after it.
 abbrev pub used : DeepProgram → DeepRunning → Use → ℕ → DeepMove
 used program thread (Stores place) word = assigned thread place word
 used program thread (IndexesLocal a v) word = stores program thread (InLocalElement a word) (evaluated thread v)
@@ -163,7 +165,7 @@ abbrev pub gives_back : DeepProgram → DeepRunning → Option DeepExpr → Deep
 gives_back program thread None = returned thread thread.below 0
 gives_back program thread (Some v) = uses program thread Returns (evaluated thread v)
 
--- an item, where the thread has only the items after it still to do
+-- an item, when the thread has only the items after it still to do
 abbrev pub performs : DeepProgram → DeepRunning → Item → List Item → DeepMove
 performs program thread (Simply s) rest = does program thread s
 performs program thread (Choose c s r) rest = uses program thread (Branches s r) (evaluated thread c)
@@ -176,8 +178,8 @@ performs program thread (GiveBack v) rest = gives_back program thread v
 performs program thread (Fail trap) rest = trapped thread trap
 performs program thread (GoOn around word use_) rest = uses program thread use_ (go_on thread.frame.names thread.globals around word)
 
--- the first item; marks of turns before it are passed over within the same step. A function that reaches its end returns 0 if it is
--- an `int` function.
+-- the first item; marks of turns before it are skipped within the same step. A function that reaches its end returns 0
+-- if it is an `int` function.
 abbrev pub performs_first : DeepProgram → DeepRunning → List Item → DeepMove
 performs_first program thread [] = returned thread thread.below 0
 performs_first program thread (Enter ∷ rest) = performs_first program thread rest
@@ -186,7 +188,7 @@ performs_first program thread (item ∷ rest) = performs program (to_do thread r
 abbrev pub deep_step : DeepProgram → DeepRunning → DeepMove
 deep_step program thread = performs_first program thread thread.frame.to_do
 
--- a thread goes on with the answer to its modelled call, which is no step
+-- a thread resumes with the answer to its modelled call, which isn't a step
 abbrev pub deep_resume : DeepWaiting → Answer → DeepRunning
 deep_resume waiting answer = delivered waiting.front waiting.below answer.globals answer.result
 

@@ -1,5 +1,5 @@
--- What a deep frame has still to do: the items of `c_mean`, over trees in which calls stand in expressions, and an expression in
--- evaluation, to which the result of its call has come (ISO/IEC 9899:2018, 6.8).
+-- What a deep frame has still to do: the items of `c_mean`, over trees with calls inside expressions, and an expression
+-- in evaluation, in which the result of its call has arrived (ISO/IEC 9899:2018, 6.8).
 use Rattle.std.specs.Prelude.{ℕ, zero, suc, List, [], ◌∷◌, ◌++◌, map, Option, Some, None}
 use Rattle.cap_word.specs.declared.traps.TrapKind.{TrapKind}
 use Rattle.c_mean.specs.Frames.{Place}
@@ -10,8 +10,8 @@ pub data Loop : Type 0 where
   WhileLoop : (c : DeepExpr) (s : DeepStmt) → Loop
   ForLoop : (c : Option DeepExpr) (step : Option DeepSimple) (s : DeepStmt) → Loop
 
--- what the value of a statement's expression is for: it goes to a place; it is the index of an element that is set, whose right side
--- is still to do; it decides a branch or a loop; or it is returned
+-- the use of the value of a statement's expression: it goes to a place; it is the index of an element that is assigned,
+-- whose right side is still to be evaluated; it decides a branch or a loop; or it is returned
 pub data Use : Type 0 where
   Stores : (place : Place) → Use
   IndexesLocal : (a : ℕ) (v : DeepExpr) → Use
@@ -24,15 +24,15 @@ pub data Item : Type 0 where
   Simply : (s : DeepSimple) → Item
   Choose : (c : DeepExpr) (s r : DeepStmt) → Item
   Test : (c : DeepExpr) (loop : Loop) → Item
-  -- a turn of a `for` without a condition begins here; it is no step
+  -- a turn of a `for` without a condition begins here; it isn't a step
   Enter : Item
   Back : (loop : Loop) → Item
   Leave : Item
   Skip : Item
   GiveBack : (v : Option DeepExpr) → Item
-  -- the trap that a result met where it was to be stored
+  -- the trap of a result that couldn't be stored
   Fail : (trap : TrapKind) → Item
-  -- an expression in evaluation: what stands around the call whose result this word is, and what the expression's value is for
+  -- an expression in evaluation: the constructs around the call with this result, and the use of the expression's value
   GoOn : (around : List Around) (word : ℕ) (use_ : Use) → Item
 
 abbrev pub step_item : Option DeepSimple → List Item
@@ -47,7 +47,7 @@ abbrev pub begun : Option DeepExpr → Loop → List Item → List Item → List
 begun None loop body rest = Enter ∷ body
 begun (Some c) loop body rest = Test c loop ∷ rest
 
--- a statement and then the rest
+-- a statement, followed by the rest
 abbrev mutual
   pub before : DeepStmt → List Item → List Item
   before (Do s) rest = Simply s ∷ rest
@@ -76,7 +76,8 @@ abbrev pub turn_before : Loop → List Item → List Item
 turn_before (WhileLoop c s) rest = Test c (WhileLoop c s) ∷ rest
 turn_before (ForLoop c step s) rest = begun c (ForLoop c step s) (body_before (ForLoop c step s) rest) rest
 
--- what is still to do after a `break`: loops without a condition that follow in the body aren't entered yet and are passed over
+-- what is still to do after a `break`: loops without a condition that follow in the body haven't been entered yet and
+-- are skipped
 abbrev pub after_leave : ℕ → List Item → List Item
 after_leave n [] = []
 after_leave n (Enter ∷ rest) = after_leave (suc n) rest
@@ -88,7 +89,7 @@ abbrev pub skipped : Loop → List Item → List Item
 skipped (WhileLoop c s) rest = turn_before (WhileLoop c s) rest
 skipped (ForLoop c step s) rest = step_item step ++ Back (ForLoop c step s) ∷ rest
 
--- and after a `continue`
+-- what is still to do after a `continue`
 abbrev pub after_skip : ℕ → List Item → List Item
 after_skip n [] = []
 after_skip n (Enter ∷ rest) = after_skip (suc n) rest

@@ -1,17 +1,17 @@
--- The plain trees of a program as its text has it, with numbers for names: a call may stand wherever an expression may.
+-- The plain trees of a program as in its text, with numbers in place of names: an expression may have calls anywhere.
 use Rattle.std.specs.Prelude.{ℕ, List, Option}
 use Rattle.c_tree.specs.declared.operators.BinaryOperator.{BinaryOperator}
 use Rattle.c_tree.specs.declared.operators.UnaryOperator.{UnaryOperator}
 use Rattle.cap_word.specs.declared.modelled_calls.ModelledCall.{ModelledCall}
 use Rattle.c_tree.specs.declared.facts.GlobalFact.{GlobalFact}
 
--- what is called: a function, a modelled call, or the start of a thread that runs a function
+-- a callee: a function, a modelled call, or the start of a thread that runs a function
 pub data Callee : Type 0 where
   Function : (f : ℕ) → Callee
   Modelled : (m : ModelledCall) → Callee
   Spawned : (f : ℕ) → Callee
 
--- an expression, and arguments one after another; a call has the number of its site
+-- an expression, and a list of arguments; a call has the number of its site
 mutual
   pub data DeepExpr : Type 0 where
     Number : (value : ℕ) → DeepExpr
@@ -60,7 +60,7 @@ mutual
     NoStmts : DeepStmts
     Then : (s : DeepStmt) (ss : DeepStmts) → DeepStmts
 
--- a function: count of parameters, words of each variable, body
+-- a function: number of parameters, sizes of its variables in words, body
 pub record DeepFunction : Type 0 where
   pub params : ℕ
   pub sizes : List ℕ

@@ -10,7 +10,7 @@ use Rattle.deep_mean.specs.DeepTrees.{DeepProgram}
 use Rattle.deep_mean.specs.DeepFrames.{DeepRunning, DeepWaiting}
 use Rattle.deep_mean.specs.DeepSteps.{DeepMove, deep_step, deep_resume, started, start_globals}
 
--- where a thread rests
+-- the state of a thread at rest
 pub data DeepRest : Type 0 where
   Fresh : (function : ℕ) (arguments : List ℕ) → DeepRest
   Blocked : (block : Block) (waiting : DeepWaiting) → DeepRest
@@ -88,7 +88,7 @@ segment_machine program caps = record { step = segment_step program caps; resume
 
 -- ---- runs of a thread
 
--- the effect of resuming, which is no step; none where there is no such thread or it has ended
+-- the effect of resuming, which isn't a step; none if there is no such thread or it has ended
 abbrev pub begun_at : DeepProgram → List ℕ → DeepWorld → ℕ → Option DeepRest → Option DeepSegment
 begun_at program caps world number None = None
 begun_at program caps world number (Some Ended) = None
@@ -111,7 +111,8 @@ thread_moves program caps world number n = option_map (moves (segment_machine pr
 abbrev pub RunsTo : DeepProgram → List ℕ → DeepWorld → ℕ → DeepRested → Type 0
 RunsTo program caps world number rested = (n : ℕ) × (thread_moves program caps world number n ≡ Some (Stops rested))
 
--- the run of a thread, cut at the first moment at which it has put so many values, is in this segment
+-- the run of a thread, cut at the first moment at which it has made this number of outputs, is in
+-- this segment
 abbrev pub IsCutAt : DeepProgram → List ℕ → DeepWorld → ℕ → ℕ → DeepSegment → Type 0
 IsCutAt program caps world number puts segment =
     (m : ℕ) × (thread_moves program caps world number m ≡ Some (Goes segment))

@@ -1,6 +1,7 @@
--- An expression in evaluation, from left to right, up to its next call, its value or its first trap (ISO/IEC 9899:2018, 6.5, with
--- the order that CapC fixes). What stands around a call is a list of the constructs that wait for its result, innermost first, each
--- with the values of its parts that are done and its parts still to do. `&&`, `||` and `?:` take up only the part that they need.
+-- An expression in evaluation, from left to right, up to its next call, its value or its first trap (ISO/IEC 9899:2018,
+-- 6.5, with the order that CapC fixes). Around a call is a list of the constructs that wait for its result, innermost
+-- first, each with the values of its parts that have been evaluated and its parts still to be evaluated. `&&`, `||` and
+-- `?:` evaluate only the part that they need.
 use Rattle.std.specs.Prelude.{ℕ, zero, suc, List, [], ◌∷◌, ◌++◌, Ok, Err}
 use Rattle.cap_word.specs.Rows.{word_at}
 use Rattle.cap_word.specs.declared.traps.TrapKind.{TrapKind}
@@ -16,12 +17,13 @@ pub data Around : Type 0 where
   IndexOfGlobal : (a : ℕ) → Around
   OperandOf : (op : UnaryOperator) → Around
   InParentheses : Around
-  -- the left operand is in evaluation, and the right one still to do; or the right one is, and the left one has this value
+  -- the left operand is in evaluation, and the right one still to be evaluated; or the right one is, and the left one
+  -- has this value
   LeftOf : (op : BinaryOperator) (r : DeepExpr) → Around
   RightOf : (op : BinaryOperator) (l : ℕ) → Around
   LeftOfAnd : (r : DeepExpr) → Around
   LeftOfOr : (r : DeepExpr) → Around
-  -- the right operand of `&&` or `||`, whose truth is the value
+  -- the right operand of `&&` or `||`; its truth is the value
   Decides : Around
   ConditionOf : (a b : DeepExpr) → Around
   -- the part of `?:` that was chosen
@@ -37,29 +39,29 @@ pub data Ready : Type 0 where
   ReadyCall : (s : ℕ) (callee : Callee) (arguments : List ℕ) → Ready
   ReadyTableCall : (s t i argument : ℕ) → Ready
 
--- what an evaluation comes to: a value, the first trap on the way, or a call and what stands around it
+-- the outcome of an evaluation: a value, the first trap, or a call with the constructs around it
 pub data Evaluation : Type 0 where
   Done : (word : ℕ) → Evaluation
   Trapped : (trap : TrapKind) → Evaluation
   Calls : (call : Ready) (around : List Around) → Evaluation
 
--- a value, as a value without calls is given
+-- the value of an expression without calls, as an evaluation
 abbrev pub of_value : Value → Evaluation
 of_value (Ok word) = Done word
 of_value (Err trap) = Trapped trap
 
--- a part is evaluated within a construct, and then what follows is done with its value
+-- a part is evaluated within a construct, and then the rest with its value
 abbrev pub and_then : Evaluation → Around → (ℕ → Evaluation) → Evaluation
 and_then (Done word) around next = next word
 and_then (Trapped trap) around next = Trapped trap
 and_then (Calls call inner) around next = Calls call (inner ++ around ∷ [])
 
--- 1 where a word isn't 0
+-- 1 if a word isn't 0, and 0 otherwise
 abbrev pub truth_of : ℕ → ℕ
 truth_of zero = 0
 truth_of (suc n) = 1
 
--- the first of two evaluations where a word isn't 0, and else the second
+-- the first of two evaluations if a word isn't 0, and otherwise the second
 abbrev pub chosen : ℕ → Evaluation → Evaluation → Evaluation
 chosen zero first second = second
 chosen (suc n) first second = first
@@ -85,13 +87,13 @@ abbrev mutual
   evaluate names globals (TableCall s t i e) =
       and_then (evaluate names globals i) (TableIndexOf s t e) (λ index. and_then (evaluate names globals e) (TableArgumentOf s t index) (λ argument. Calls (ReadyTableCall s t index argument) []))
 
-  -- the arguments of a call that are left, after these values
+  -- the remaining arguments of a call, after these values
   pub evaluate_arguments : List (List ℕ) → List (List ℕ) → ℕ → Callee → List ℕ → DeepExprs → Evaluation
   evaluate_arguments names globals s callee done NoExprs = Calls (ReadyCall s callee done) []
   evaluate_arguments names globals s callee done (And e es) =
       and_then (evaluate names globals e) (ArgumentOf s callee done es) (λ word. evaluate_arguments names globals s callee (done ++ word ∷ []) es)
 
--- a construct goes on with the value of its part
+-- a construct continues with the value of its part
 abbrev pub filled : List (List ℕ) → List (List ℕ) → Around → ℕ → Evaluation
 filled names globals (IndexOfLocal a) word = of_value (element names a (Ok word))
 filled names globals (IndexOfGlobal a) word = of_value (element globals a (Ok word))
@@ -108,13 +110,13 @@ filled names globals (ArgumentOf s callee done rest) word = evaluate_arguments n
 filled names globals (TableIndexOf s t e) word = and_then (evaluate names globals e) (TableArgumentOf s t word) (λ argument. Calls (ReadyTableCall s t word argument) [])
 filled names globals (TableArgumentOf s t i) word = Calls (ReadyTableCall s t i word) []
 
--- an evaluation within what stands around it
+-- an evaluation within the constructs around it
 abbrev pub outward : Evaluation → List Around → (ℕ → Evaluation) → Evaluation
 outward (Done word) outer next = next word
 outward (Trapped trap) outer next = Trapped trap
 outward (Calls call inner) outer next = Calls call (inner ++ outer)
 
--- what stands around a call goes on with its result
+-- the constructs around a call continue with its result
 abbrev pub go_on : List (List ℕ) → List (List ℕ) → List Around → ℕ → Evaluation
 go_on names globals [] word = Done word
 go_on names globals (around ∷ outer) word = outward (filled names globals around word) outer (go_on names globals outer)

@@ -1,4 +1,4 @@
--- A source as it is read, and the program that it is with numbers for names.
+-- A source as it is read, and its program with numbers in place of names.
 use Rattle.std.specs.Prelude.{ℕ, true, List, [], ◌∷◌, Some, codes}
 use Rattle.c_tree.specs.declared.operators.BinaryOperator.{BinaryOperator}
 use Rattle.c_tree.specs.RawTrees.{RawExprTree, RawNumber, RawName, RawBinary, RawCall, RawDeclareWith, RawSet, RawCalling, RawTableCalling, RawDo, RawBlock, RawFor, RawReturn, NoRawStmts, RawThen, RawItemTree, RawTableItem, RawFunctionItem}

@@ -1,6 +1,7 @@
--- The program that a source's tree is, with calls where the text has them: each name stands for the declaration that scope gives it
--- (`scope_rules`), and each call has the number of its name's place among the calls of the text. Of a tree whose places rise, as those
--- of the grammar do, the calls come in the order of the text: a call's name before its index and its arguments.
+-- The program of a source's tree, with calls where the text has them: each name stands for the declaration that is in
+-- scope (`scope_rules`), and the number of each call is the rank of its name's place among the calls of the text. If
+-- the places of a tree increase, as the grammar's do, the calls are numbered in the order of the text: a call's name
+-- before its index and its arguments.
 use Rattle.std.specs.Prelude.{ℕ, ◌+◌, ◌%◌, ◌^◌, Bool, true, false, List, [], ◌∷◌, ◌++◌, length, codes, Option, Some, None, option_map}
 use Rattle.c_tree.specs.declared.facts.GlobalFact.{GlobalFact}
 use Rattle.c_tree.specs.RawTrees.{NameTree, RawExprTree, RawExprTrees, RawNumber, RawName, RawElement, RawUnary, RawParenthesized, RawBinary, RawLogicalAnd, RawLogicalOr, RawConditional, RawCall, RawTableCall, RawSimpleTree, RawDeclareScalar, RawDeclareArray, RawDeclareWith, RawSet, RawSetElement, RawCalling, RawTableCalling, RawStmtTree, RawStmtTrees, RawDo, RawEmpty, RawBlock, RawIf, RawIfElse, RawWhile, RawFor, RawBreak, RawContinue, RawReturn, NoRawStmts, RawThen, RawItemTree, RawGlobal, RawGlobalArray, RawTableItem, RawPrototypeItem, RawFunctionItem}
@@ -18,7 +19,7 @@ use Rattle.deep_mean.specs.DeepTrees.{Callee, Function, Modelled, Spawned, DeepE
 
 -- ---- expressions
 
--- how many calls an expression has
+-- the number of calls in an expression
 abbrev mutual
   pub calls_in : RawExprTree → ℕ
   calls_in (RawNumber v) = 0
@@ -45,7 +46,7 @@ abbrev pub element_value : Variable → DeepExpr → DeepExpr
 element_value (Variable.Local a) i = LocalElement a i
 element_value (Variable.Global a) i = GlobalElement a i
 
--- what a call of a name calls; the first argument of `spawn` names the function
+-- the callee of a call of a name; the first argument of `spawn` names the function
 abbrev pub first_function : List Binding → RawExprTrees → ℕ
 first_function names raw.NoExprs = 0
 first_function names (raw.And e es) = spawned_function names e
@@ -55,13 +56,13 @@ callee_by (called.Callee.Function f) names es = Function f
 callee_by (called.Callee.Modelled m) names es = Modelled m
 callee_by called.Callee.Spawn names es = Spawned (first_function names es)
 
--- the arguments that are evaluated: of `spawn` all but the first
+-- the arguments that are evaluated: all but the first one of `spawn`
 abbrev pub is_spawn_by : called.Callee → Bool
 is_spawn_by (called.Callee.Function f) = false
 is_spawn_by (called.Callee.Modelled m) = false
 is_spawn_by called.Callee.Spawn = true
 
--- an expression whose calls have the numbers from k on
+-- an expression, with its calls numbered from k on
 abbrev mutual
   pub expr_of : List Binding → ℕ → RawExprTree → DeepExpr
   expr_of names k (RawNumber v) = Number (v % 2 ^ 32)
@@ -83,15 +84,6 @@ abbrev mutual
 
 -- ---- statements
 
-abbrev pub simple_calls_in : RawSimpleTree → ℕ
-simple_calls_in (RawDeclareScalar n) = 0
-simple_calls_in (RawDeclareArray n size) = 0
-simple_calls_in (RawDeclareWith n v) = calls_in v
-simple_calls_in (RawSet n v) = calls_in v
-simple_calls_in (RawSetElement n i v) = calls_in i + calls_in v
-simple_calls_in (RawCalling n es) = 1 + all_calls_in es
-simple_calls_in (RawTableCalling n i e) = 1 + calls_in i + calls_in e
-
 abbrev pub set_scalar : Variable → DeepExpr → DeepSimple
 set_scalar (Variable.Local x) v = SetLocal x v
 set_scalar (Variable.Global g) v = SetGlobal g v
@@ -109,11 +101,11 @@ simple_of s (RawSetElement n i v) = set_element (variable_of (find n.text s.name
 simple_of s (RawCalling n es) = Calling (expr_of s.names s.site (RawCall n es))
 simple_of s (RawTableCalling n i e) = Calling (expr_of s.names s.site (RawTableCall n i e))
 
--- the spot with the calls of a statement's expressions counted
+-- the spot, with the calls of a statement's expressions counted
 abbrev pub counted : Spot → ℕ → Spot
 counted s n = record s { site = s.site + n }
 
--- a name is in scope after its own initialiser, and not in it
+-- a name is in scope after its initialiser, but not in it
 abbrev pub simple_after : Spot → RawSimpleTree → Spot
 simple_after s (RawDeclareScalar n) = with_variable s n false 1
 simple_after s (RawDeclareArray n size) = with_variable s n true size
@@ -139,7 +131,7 @@ abbrev pub step_after : Spot → Option RawSimpleTree → Spot
 step_after s None = s
 step_after s (Some p) = simple_after s p
 
--- what is in scope after a statement: a block, a body, and a `for` with its parts are scopes of their own
+-- the scope after a statement: a block, a body, and a `for` with its parts are scopes
 abbrev mutual
   pub stmt_after : Spot → RawStmtTree → Spot
   stmt_after s (RawDo p) = simple_after s p
@@ -180,14 +172,14 @@ abbrev mutual
 
 -- ---- items
 
--- what the items so far make
+-- the resolved items so far
 pub record DeepSofar : Type 0 where
   pub spot : Spot
   pub globals : List GlobalFact
   pub tables : List (List ℕ)
   pub functions : List DeepFunction
 
--- what of this `scope_rules` tells of what stands outside functions
+-- the part of this that `scope_rules` uses for what is outside functions
 abbrev pub outer_of : DeepSofar → Sofar
 outer_of w = record { spot = w.spot; globals = w.globals; tables = w.tables; functions = [] }
 

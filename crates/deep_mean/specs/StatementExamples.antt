@@ -34,7 +34,8 @@ breaks_loops = printing (
     ∷ puts 3 (sum_of (Local 0) (Number 10))
     ∷ returns (Number 0) ∷ [])
 
--- int p(int v) { put(v); return v; } int main() { int a[2]; a[1] = p(7) + 1; put(a[p(1)]); a[i] = v; put(9); return 0; } with this last i and v
+-- int p(int v) { put(v); return v; } int main() { int a[2]; a[1] = p(7) + 1; put(a[p(1)]); a[i] = v; put(9); return 0;
+-- } with this i and v
 abbrev pub sets_an_element : DeepExpr → DeepExpr → DeepProgram
 sets_an_element i v = record {
   functions =
@@ -51,15 +52,15 @@ sets_an_element i v = record {
   main = 1;
 }
 
--- a[2] = p(5) + 1; the index is out of range, which is tested when the value is there
+-- a[2] = p(5) + 1; the index is out of range; it is tested after the value has been evaluated
 abbrev pub sum_out_of_range : DeepProgram
 sum_out_of_range = sets_an_element (Number 2) (sum_of (prints 4 5) (Number 1))
 
--- a[2] = p(5); so is that of a whole call
+-- a[2] = p(5); so is the index for a whole call
 abbrev pub call_out_of_range : DeepProgram
 call_out_of_range = sets_an_element (Number 2) (prints 4 5)
 
--- a[0] = a[p(2)] + p(5); an index is tested where the element is read, before the call to its right
+-- a[0] = a[p(2)] + p(5); an index is tested when the element is read, before the call to its right
 abbrev pub element_out_of_range : DeepProgram
 element_out_of_range = sets_an_element (Number 0) (sum_of (LocalElement 0 (prints 4 2)) (prints 5 5))
 

@@ -1,12 +1,12 @@
-// The meaning of a source with calls inside expressions, with no rewriting.
+// The meaning of a source with calls inside expressions, without rewriting.
 //
 // Definitions that the clauses of other crates cite, and small programs on which they are computed;
-// nothing runs. A deep thread is a thread of the source (`c_mean`) whose frames may hold a partly
-// evaluated expression: the values of the parts that are done, from left to right, and the parts
-// still to do (specs/Evaluation.antt, DeepSteps.antt). A deep world and its runs are those of the
-// source over such threads (specs/DeepWorld.antt); the table of modelled calls is the same.
-// specs/Naming.antt has the program of a text, with calls where the text has them. The rules are
-// those of ISO/IEC 9899:2018, clauses 6.5 and 6.8, for the subset CapC.
+// nothing runs. A deep thread is a thread of the source (`c_mean`) whose frames may have a partly
+// evaluated expression: the values of the parts that have been evaluated, from left to right, and
+// the parts still to be evaluated (specs/Evaluation.antt, DeepSteps.antt). A deep world and its
+// runs are those of the source over such threads (specs/DeepWorld.antt); the table of modelled
+// calls is the same. specs/Naming.antt defines the program of a text, with calls where the text has
+// them. The rules are those of ISO/IEC 9899:2018, clauses 6.5 and 6.8, for the subset CapC.
 #![tactic(auto)]
 
 mod examples;

@@ -1,10 +1,10 @@
--- What the readers of a line's fields answer.
+-- The results of the readers of a line's fields.
 use Rattle.std.specs.Prelude.{◌≡◌, ℕ, List, ◌∷◌}
 use Rattle.cap_text.specs.Decimals.{canonical_decimal}
 use Rattle.event_trace.specs.declared.events.Event.{Event}
 use Rattle.event_trace.specs.Lines.{FitsEvent, kind_word, kind_fields}
 
--- the word and the fields behind it are those of the event
+-- the word and the fields after it are those of the event
 abbrev pub FieldsSpell : List ℕ → List (List ℕ) → Event → Type 0
 FieldsSpell word fields event = FitsEvent event × (word ≡ kind_word event.kind) × (fields ≡ canonical_decimal event.time ∷ kind_fields event.kind)
 

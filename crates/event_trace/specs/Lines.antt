@@ -7,21 +7,21 @@ use Rattle.event_trace.specs.declared.events.Event.{Event}
 use Rattle.event_trace.specs.declared.events.EventKind.{EventKind}
 use Rattle.event_trace.specs.declared.events.EventKind.TheVariants.{Arrive, Message}
 
--- the word that a line begins with
+-- the first word of a line
 abbrev pub kind_word : EventKind → List ℕ
 kind_word (Arrive value) = codes "arrive"
 kind_word (Message channel value) = codes "data"
 
--- a value is written as the signed number that its 32 bits are
+-- a value is written as a signed number of 32 bits
 abbrev pub value_field : ℕ → List ℕ
 value_field value = canonical_integer (cast_signed w32 value)
 
--- the fields behind the time
+-- the fields after the time
 abbrev pub kind_fields : EventKind → List (List ℕ)
 kind_fields (Arrive value) = value_field value ∷ []
 kind_fields (Message channel value) = canonical_decimal channel ∷ value_field value ∷ []
 
--- the line of an event, without its LF: `arrive T V` or `data T CH V`, with one space between
+-- the line of an event, without its LF, is `arrive T V` or `data T CH V`, with single spaces
 abbrev pub event_text : Event → List ℕ
 event_text event = kind_word event.kind ++ after_each 32 (canonical_decimal event.time ∷ kind_fields event.kind)
 
@@ -30,7 +30,7 @@ abbrev pub FitsKind : EventKind → Type 0
 FitsKind (Arrive value) = value < 2 ^ 32
 FitsKind (Message channel value) = (channel ≤ 63) × (value < 2 ^ 32)
 
--- an event of a trace: a time is from 0 to 10^15
+-- an event of a trace; its time is from 0 to 10^15
 pub record FitsEvent (event : Event) : Type 0 where
   pub time : event.time ≤ 10 ^ 15
   pub kind : FitsKind event.kind
@@ -60,6 +60,6 @@ abbrev pub rest_of : List ℕ → List ℕ
 rest_of [] = []
 rest_of (byte ∷ bytes) = if byte == 10 then bytes else rest_of bytes
 
--- an LF stands among the bytes, so that they begin with a whole line
+-- the bytes contain an LF, so they begin with a whole line
 abbrev pub HasWholeLine : List ℕ → Type 0
 HasWholeLine bytes = length (line_of bytes) < length bytes

@@ -1,4 +1,4 @@
-// The bytes of a source, read block by block and given one by one.
+// The bytes of a source, read block by block and returned one by one.
 ghost use Rattle.std.specs.Prelude.{◌≡◌, [], ◌∷◌, ◌<◌, ◌≤◌, length, MatchOption, IfOk, IfNone};
 ghost use Rattle.std.specs.Io.KnownBytes.{prepend_known};
 ghost use Rattle.event_trace.specs.Blocks.{FillsBlock, GivesByte, GivesHeld};
@@ -8,10 +8,10 @@ use cap_io::{Failed, Source};
 use std::alloc::{AllocError, Global};
 use std::marker::Model;
 
-/// The most bytes of a block.
+/// The maximum number of bytes of a block.
 const BLOCK_BYTES: usize = 4096;
 
-/// What a read gave and is still to be given, in a buffer of its own. Contracts see those bytes.
+/// The bytes of a read that haven't been returned yet, in a buffer. Contracts see these bytes.
 #[derive(Drop)]
 pub(crate) struct Block {
     bytes: Vec<u8>,
@@ -30,7 +30,7 @@ impl Model for Block {
 }
 
 impl Block {
-    /// No bytes, with room for a block.
+    /// Returns an empty block with room for a whole one.
     pub(crate) fn new(alloc: Global) -> Result<Block, AllocError>
         ensures { IfOk result (λ block. block ≡ []) }
     {
@@ -41,8 +41,8 @@ impl Block {
         })
     }
 
-    /// The next byte, of those that are held or else of those that the source has left; None at their end. It reads
-    /// only where no byte is held.
+    /// Returns the next byte, from the buffer or else from the source; `None` at the end. It reads only if the
+    /// buffer is empty.
     pub(crate) fn next_byte<S: Source>(&mut self, source: &mut S) -> Result<Option<u8>, Failed>
         ensures bytes { GivesByte (prepend_known self.old (S.left source.old)) (prepend_known self.new (S.left source.new)) result }
         ensures held { 0 < length self.old → GivesHeld self.old self.new result × source.new ≡ source.old }
@@ -58,7 +58,7 @@ impl Block {
         Ok(self.take())
     }
 
-    /// The first byte held, which is held no more.
+    /// Removes the first byte of the buffer and returns it.
     fn take(&mut self) -> Option<u8>
         ensures { MatchOption result ((self.old ≡ []) × (self.new ≡ [])) (λ byte. self.old ≡ byte ∷ self.new) }
     {
@@ -70,7 +70,7 @@ impl Block {
         Some(byte)
     }
 
-    /// Reads a block, in place of what is held.
+    /// Reads a block into the buffer, and replaces its contents.
     fn fill<S: Source>(&mut self, source: &mut S) -> Result<(), Failed>
         ensures bytes { FillsBlock (S.left source.old) (S.left source.new) self.new result }
         ensures counts { CountsFaults result (S.faults source.old) (S.faults source.new) }

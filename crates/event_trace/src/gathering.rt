@@ -1,4 +1,4 @@
-// A line, taken from a source byte by byte.
+// Reading a line from a source byte by byte.
 ghost use Rattle.std.specs.Prelude.{◌≡◌, ◌≤◌, IfOk, Ok, vec_len, vec_capacity};
 ghost use Rattle.std.specs.Io.KnownBytes.{prepend_known};
 ghost use Rattle.event_trace.specs.Gathering.{Gathers, LeavesTail, IsShort, KeepsAtEnd, CountsFaults};
@@ -7,22 +7,23 @@ ghost use Rattle.event_trace.specs.Lines.{HasWholeLine};
 use crate::blocks::Block;
 use cap_io::{Failed, Source};
 
-/// The most bytes of a line, without its LF.
+/// The maximum number of bytes of a line, without its LF.
 pub(crate) const MOST_BYTES: usize = 64;
 
 /// How a line ended.
 #[derive(Clone, Copy)]
 pub(crate) enum Ending {
-    /// With its LF, or with the end of the trace behind at least one byte.
+    /// With its LF, or with the end of the trace after at least one byte.
     Line,
-    /// There was none: the trace is at its end.
+    /// There is no line: the trace has ended.
     End,
     /// It has more than 64 bytes.
     TooLong,
 }
 
-/// Takes the next line of the bytes held followed by those that the source has left, without its LF, into `line`, in
-/// place of what that held and in the room that it has. It reads nothing where a whole line is held.
+/// Reads the next line of the buffered bytes followed by those of the source, without its LF, into `line`, and
+/// replaces the old contents; it uses only the capacity of `line`. It doesn't read from the source if a whole line
+/// is buffered.
 pub(crate) fn read_line<S: Source>(
     line: &mut Vec<u8>,
     block: &mut Block,

@@ -1,10 +1,10 @@
 // The events of a trace, read line by line from a source.
 //
-// A trace is what comes to a server from outside, in text: `arrive T V` and `data T CH V`, a line each, in order of
-// time. `TraceReader::next` gives one event after another of the bytes that its source gives, in whatever pieces it
-// gives them, and refuses the first line that is none, the first time that falls, and a read that fails. One definition
-// says which line spells which event; the crates above cite it. Numbers are canonical decimals as in `cap_text`; the
-// format of trace lines is described in docs/FORMATS.md.
+// A trace has the requests and messages that reach a server, as text: `arrive T V` and `data T CH V`, one line each, in
+// order of time. `TraceReader::next` returns one event after another from the bytes of its source, however these are
+// split into reads. It refuses the first line that isn't an event, the first time that decreases, and a read that
+// fails. One definition says which line spells which event; the crates above cite it. Numbers are canonical decimals as
+// in `cap_text`; docs/FORMATS.md describes the format of trace lines.
 #![tactic(auto)]
 
 mod blocks;

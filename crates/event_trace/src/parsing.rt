@@ -1,4 +1,4 @@
-// A line of a trace, read.
+// Parsing a line of a trace.
 ghost use Rattle.std.specs.Prelude.{ℕ, ◌≤◌, MatchOption, IfSome, IfNone, length, codes};
 ghost use Rattle.event_trace.specs.Lines.{SpellsOnly, HasNoEvent};
 ghost use Rattle.event_trace.specs.LineFields.{FieldsSpell, FieldsSpellNone};
@@ -12,7 +12,7 @@ const LATEST: u64 = 1_000_000_000_000_000;
 /// The highest number of a channel.
 const LAST_CHANNEL: u64 = 63;
 
-/// The event that a line of at most 64 bytes, without its LF, spells.
+/// Returns the event that a line of at most 64 bytes, without its LF, spells.
 pub(crate) fn parse_line(line: &[u8]) -> Option<Event>
     requires { length line.now ≤ 64 }
     ensures { MatchOption result (HasNoEvent line.now) (λ event. SpellsOnly line.now event) }
@@ -22,7 +22,7 @@ pub(crate) fn parse_line(line: &[u8]) -> Option<Event>
     parse_fields(word, &mut fields)
 }
 
-/// The event whose line begins with that word and has these fields behind it.
+/// Returns the event on a line that begins with this word, followed by these fields.
 fn parse_fields(word: &[u8], fields: &mut Fields) -> Option<Event>
     ensures found { IfSome result (FieldsSpell word.now fields.old) }
     ensures none { IfNone result (FieldsSpellNone word.now fields.old) }
@@ -36,7 +36,7 @@ fn parse_fields(word: &[u8], fields: &mut Fields) -> Option<Event>
     }
 }
 
-/// The connection that the fields behind `arrive` tell of.
+/// Returns the request that the fields after `arrive` spell.
 fn parse_arrive(fields: &mut Fields) -> Option<Event>
     ensures found { IfSome result (FieldsSpell (codes "arrive") fields.old) }
     ensures none { IfNone result (FieldsSpellNone (codes "arrive") fields.old) }
@@ -50,7 +50,7 @@ fn parse_arrive(fields: &mut Fields) -> Option<Event>
     Some(Event { time, kind })
 }
 
-/// The message that the fields behind `data` tell of.
+/// Returns the message that the fields after `data` spell.
 fn parse_message(fields: &mut Fields) -> Option<Event>
     ensures found { IfSome result (FieldsSpell (codes "data") fields.old) }
     ensures none { IfNone result (FieldsSpellNone (codes "data") fields.old) }

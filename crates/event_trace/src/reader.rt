@@ -12,12 +12,12 @@ use cap_io::Source;
 use std::alloc::{AllocError, Global};
 use std::marker::Model;
 
-/// The most lines of a trace.
+/// The maximum number of lines of a trace.
 const MOST_LINES: u32 = 1_000_000;
 
-/// Gives the events of a trace, one after another. It reads its source in blocks of up to 4,096 bytes. Contracts see the
-/// bytes that it took from its source and did not give yet, the number of lines that it gave, the last time, and the
-/// refusal that it gave, if it gave one.
+/// Reads the events of a trace, one after another, in blocks of up to 4,096 bytes from the source. Contracts see the
+/// bytes that it took from the source and hasn't returned yet, the number of lines that it returned, the last time, and
+/// the refusal, if there was one.
 #[derive(Drop)]
 pub struct TraceReader {
     line: Vec<u8>,
@@ -39,7 +39,7 @@ impl Model for TraceReader {
 }
 
 impl TraceReader {
-    /// A reader at the start of a trace. It takes the room of a line and of a block.
+    /// Returns a reader at the start of a trace. It allocates a line and a block.
     pub fn new(alloc: Global) -> Result<TraceReader, AllocError>
         ensures { IfOk result (λ reader. reader ≡ record { held = []; lines = 0; last = 0; refused = None }) }
     {
@@ -53,13 +53,16 @@ impl TraceReader {
         })
     }
 
-    /// The next event of the bytes that the reader holds followed by those that the source has left, and None exactly
-    /// at their end. Line comes exactly where the next line spells no event, or is line 1,000,001; Order exactly where
-    /// its time is below the last; ReadFault only where the source's count of faults rose in this call, or stands at its
-    /// end. After a refusal the reader gives the same refusal again and reads nothing. An event's time is at most 10^15
-    /// and not below the last, and its channel at most 63, also where the source tells nothing of its bytes. At every
-    /// answer it has given at most 1,000,000 lines, and the source has a tail of its bytes left. It reads nothing where it
-    /// holds a whole line, and takes no memory.
+    /// Returns the next event of the buffered bytes followed by those of the source, and `None` exactly at their end.
+    /// An event's time is at most 10^15 and not below the last, and its channel is at most 63, even if the source
+    /// doesn't expose its bytes. At every result the reader has returned at most 1,000,000 lines, and the source has a
+    /// suffix of its bytes left. It doesn't read from the source if a whole line is buffered, and it doesn't allocate.
+    ///
+    /// # Errors
+    ///
+    /// `Line` exactly if the next line isn't an event, or is line 1,000,001; `Order` exactly if its time is below the
+    /// last; `ReadFault` only if the source's count of faults rose in this call, or is at its maximum. After a refusal
+    /// the reader returns the same refusal again and doesn't read.
     pub fn next<S: Source>(&mut self, source: &mut S) -> Result<Option<Event>, TraceError>
         ensures again { IfSome self.old.refused (λ refusal. result ≡ Err refusal × self.new ≡ self.old × source.new ≡ source.old) }
         ensures told { self.old.refused ≡ None → NextTold self.old self.new (S.left source.old) (S.left source.new) result }
@@ -81,7 +84,7 @@ impl TraceReader {
         answer
     }
 
-    /// The next event, with no regard to an earlier refusal.
+    /// Returns the next event, ignoring an earlier refusal.
     fn read_event<S: Source>(&mut self, source: &mut S) -> Result<Option<Event>, TraceError>
         ensures told { NextTold self.old self.new (S.left source.old) (S.left source.new) result }
         ensures fits { IfOk result (λ answer. IfSome answer (λ event. FitsEvent event × (self.old.last ≤ event.time))) }

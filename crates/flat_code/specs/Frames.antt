@@ -4,27 +4,27 @@ use Rattle.cap_word.specs.Calls.{Finish}
 use Rattle.flat_code.specs.declared.operations.Op.{Op}
 use Rattle.flat_code.specs.Codes.{FlatCode, function_at, operation_at, site_of}
 
--- a function, the number of the operation at which the frame stands, and the words of each variable, or none where it
--- wasn't set yet: what a new frame finds in the stack is nobody's value. A frame that waits for a call's result stands
--- at that call.
+-- a frame: a function, the number of its current operation, and the words of each variable, or none if the variable
+-- hasn't been set, since the initial contents of a frame in the stack have no meaning. A frame that waits for a call's
+-- result is at that call.
 pub record FlatFrame : Type 0 where
   pub function : ℕ
   pub next : ℕ
   pub variables : List (Option (List ℕ))
 
--- a thread that runs: its running frame, the frames below it, innermost first, and the globals, a row of words each
+-- a running thread: its running frame, the frames below it, innermost first, and the globals, a row of words each
 pub record FlatThread : Type 0 where
   pub frame : FlatFrame
   pub below : List FlatFrame
   pub globals : List (List ℕ)
 
--- a thread at a modelled call: the frame that stands at it, and the frames below it
+-- a thread at a modelled call: the frame that is at it, and the frames below it
 pub record FlatWaiting : Type 0 where
   pub frame : FlatFrame
   pub below : List FlatFrame
 
--- how a thread stops: as a source thread does, or lost, where it stands at no operation, reads a variable that wasn't
--- set, or makes a call that there isn't. The flat code of a source is never lost.
+-- how a thread stops: like a source thread, or lost, if it has no current operation, reads a variable that hasn't been
+-- set, or makes a call that doesn't exist. The flat code of a source is never lost.
 pub data End : Type 0 where
   Finished : (finish : Finish) → End
   Lost : End
@@ -37,11 +37,11 @@ pushed code f arguments = record {
   variables = map (λ v. Some (v ∷ [])) arguments ++ replicate (length (function_at code f).sizes - length arguments) None;
 }
 
--- the operation at which a frame stands
+-- the current operation of a frame
 abbrev pub standing : FlatCode → FlatFrame → Option Op
 standing code frame = operation_at code frame.function frame.next
 
--- the site at which a frame stands, where it stands at a call
+-- the site of a frame's current operation, if that is a call
 abbrev pub site_in : Option Op → Option ℕ
 site_in None = None
 site_in (Some op) = site_of op
@@ -49,7 +49,7 @@ site_in (Some op) = site_of op
 abbrev pub standing_site : FlatCode → FlatFrame → Option ℕ
 standing_site code frame = site_in (standing code frame)
 
--- the words of variable x, where it is set
+-- the words of variable x, if it is set
 abbrev pub variable : FlatFrame → ℕ → Option (List ℕ)
 variable frame x = slice_index_or frame.variables x None
 
@@ -57,7 +57,7 @@ variable frame x = slice_index_or frame.variables x None
 abbrev pub at : FlatFrame → ℕ → FlatFrame
 at frame n = record frame { next = n }
 
--- the frame at the operation after the one at which it stands
+-- the frame at the operation after its current one
 abbrev pub passed : FlatFrame → FlatFrame
 passed frame = at frame (frame.next + 1)
 
@@ -69,7 +69,7 @@ set_to frame x words = record frame { variables = slice_set frame.variables x (S
 abbrev pub with_scalar : FlatFrame → ℕ → ℕ → FlatFrame
 with_scalar frame d word = passed (set_to frame d (word ∷ []))
 
--- the frame after the result of its call came: it is set where one is wanted
+-- the frame after the result of its call arrived: the variable is set if the result is used
 abbrev pub with_result : FlatFrame → Option ℕ → ℕ → FlatFrame
 with_result frame None word = passed frame
 with_result frame (Some d) word = with_scalar frame d word

@@ -1,5 +1,5 @@
--- The thread package's calls that `Model` carries, by their numbers: how many arguments each takes, and whether it
--- gives a result, as the table of the modelled calls says. `spawn` isn't one of them, since it names a function.
+-- The calls of the thread package that `Model` makes, by their numbers: how many arguments each takes, and whether
+-- it gives a result, by the table of the modelled calls. `spawn` isn't one of them, since it names a function.
 use Rattle.std.specs.Prelude.{ℕ, Bool, false, Option, option_map, unwrap_or}
 use Rattle.cap_word.specs.ModelledCalls.{call_numbered, parameters_of, gives_result}
 

@@ -1,6 +1,6 @@
--- What the operators of flat code compute, on words: ISO/IEC 9899:2018, 6.5.5 to 6.5.12, where a sum, a difference, a
--- product and `<<` wrap, shift counts are taken modulo 32 and `>>` copies the sign. A division by 0 gives -1 and leaves
--- the left operand; -2147483648 by -1 is itself and leaves 0.
+-- The values of the operators of flat code, on words: ISO/IEC 9899:2018, 6.5.5 to 6.5.12; a sum, a difference, a
+-- product and `<<` wrap, shift counts are taken modulo 32, and `>>` copies the sign. A division by 0 gives -1, with the
+-- left operand as remainder; -2147483648 by -1 is itself, with remainder 0.
 use Rattle.std.specs.Prelude.{ℕ, not, nat_eq, int_lt, int_le, bit_and, bit_or, bit_xor}
 use Rattle.cap_word.specs.Word as word
 use Rattle.flat_code.specs.declared.operators.BinOp.{BinOp}

@@ -9,14 +9,14 @@ use Rattle.flat_code.specs.Codes.{FlatCode}
 use Rattle.flat_code.specs.Frames.{End}
 use Rattle.flat_code.specs.Step.{flat_machine, started, start_globals}
 
--- an `int` function of so many parameters
+-- an `int` function with its number of parameters
 abbrev pub giving : ℕ → List ℕ → List Op → FlatFunction
 giving params sizes ops = record { params = params; gives = true; sizes = sizes; ops = ops }
 
 abbrev pub program_of : List FlatFunction → List (List ℕ) → ℕ → FlatCode
 program_of functions tables main = record { functions = functions; globals = []; tables = tables; main = main }
 
--- what is seen of `main` after at most n steps, where each call is answered by 0
+-- what is seen of `main` within n steps, if each call is answered by 0
 abbrev pub seen_of_main : FlatCode → ℕ → Seen Question End
 seen_of_main code n = seen (run (flat_machine code) (λ asked. record { result = 0; globals = [] }) n [] (started code code.main [] (start_globals code)))
 

@@ -10,13 +10,13 @@ use Rattle.flat_code.specs.Codes.{FlatCode, function_at, members_of, result_plac
 use Rattle.flat_code.specs.Frames.{FlatFrame, FlatThread, FlatWaiting, End, Finished, Lost, pushed, standing, variable, at, passed, set_to, with_scalar, with_result}
 use Rattle.flat_code.specs.Operators.{result_of}
 
--- what a step leads to
+-- the outcome of a step
 abbrev pub FlatMove : Type 0
 FlatMove = Move FlatThread FlatWaiting Question End
 
 -- ---- reading variables
 
--- a value is used, and without one the thread is lost
+-- a value is used; without one the thread is lost
 abbrev pub on : {A : Type 0} → Option A → (A → FlatMove) → FlatMove
 on None use_it = Stops Lost
 on (Some a) use_it = use_it a
@@ -39,13 +39,13 @@ abbrev pub scalars : FlatThread → List ℕ → Option (List ℕ)
 scalars thread [] = Some []
 scalars thread (x ∷ xs) = both (scalar thread x) (scalars thread xs)
 
--- ---- going on
+-- ---- continuing
 
--- in the running frame, as it is then
+-- the thread continues with this running frame
 abbrev pub goes_in : FlatThread → FlatFrame → FlatMove
 goes_in thread frame = Goes (record thread { frame = frame })
 
--- after the scalar d was set
+-- after the scalar d has been set
 abbrev pub puts : FlatThread → ℕ → ℕ → FlatMove
 puts thread d word = goes_in thread (with_scalar thread.frame d word)
 
@@ -57,27 +57,27 @@ goes_with thread globals = Goes (record thread { frame = passed thread.frame; gl
 abbrev pub trapped : FlatThread → TrapKind → FlatMove
 trapped thread trap = Stops (Finished (record { trap = Some trap; globals = thread.globals }))
 
--- where an index is in range, and else the trap
+-- if an index is in range, and otherwise the trap
 abbrev pub where_in : Bool → FlatThread → TrapKind → FlatMove → FlatMove
 where_in true thread trap move = move
 where_in false thread trap move = trapped thread trap
 
--- an index, read unsigned, of as many words
+-- an unsigned index, of this number of words
 abbrev pub within : FlatThread → ℕ → ℕ → FlatMove → FlatMove
 within thread i size move = where_in (nat_lt i size) thread TrapKind.Index move
 
--- to operation `to` where the word is 0, and else to the next one
+-- to operation `to` if the word is 0, and otherwise to the next one
 abbrev pub jumps : FlatThread → ℕ → ℕ → FlatMove
 jumps thread to zero = goes_in thread (at thread.frame to)
 jumps thread to (suc n) = goes_in thread (passed thread.frame)
 
 -- ---- calls and returns
 
--- a function is called: a frame is pushed, and the running one waits where it stands
+-- a call of a function: a frame is pushed, and the running one waits at its current operation
 abbrev pub enters : FlatCode → FlatThread → ℕ → List ℕ → FlatMove
 enters code thread f arguments = Goes (record { frame = pushed code f arguments; below = thread.frame ∷ thread.below; globals = thread.globals })
 
--- a member of a table is called, by an index that is read unsigned
+-- a call of a member of a table, by an unsigned index
 abbrev pub enters_by : List ℕ → FlatCode → FlatThread → ℕ → ℕ → FlatMove
 enters_by members code thread i argument =
     where_in (nat_lt i (length members)) thread TrapKind.Table (enters code thread (slice_index members i) (argument ∷ []))
@@ -85,16 +85,16 @@ enters_by members code thread i argument =
 abbrev pub asks : FlatThread → Call → FlatMove
 asks thread call = Asks (record { call = call; globals = thread.globals }) (record { frame = thread.frame; below = thread.below })
 
--- where the result of the call at which a frame stands goes
+-- the variable that gets the result of the call at which a frame waits
 abbrev pub place_in : Option Op → Option ℕ
 place_in None = None
 place_in (Some op) = result_place op
 
--- a frame that waits goes on with the result of its call
+-- a frame that waits continues with the result of its call
 abbrev pub answered : FlatCode → FlatFrame → ℕ → FlatFrame
 answered code frame word = with_result frame (place_in (standing code frame)) word
 
--- a return to the frame below, with a word that isn't looked at where the function gives none; or the thread's end
+-- a return to the frame below, with a word that is ignored if the function gives no result; or the thread's end
 abbrev pub returns : FlatCode → FlatThread → List FlatFrame → ℕ → FlatMove
 returns code thread [] word = Stops (Finished (record { trap = None; globals = thread.globals }))
 returns code thread (frame ∷ below) word = Goes (record { frame = answered code frame word; below = below; globals = thread.globals })
@@ -131,7 +131,7 @@ does code thread (Op.Return s) = gives_back code thread s
 abbrev pub flat_step : FlatCode → FlatThread → FlatMove
 flat_step code thread = on (standing code thread.frame) (does code thread)
 
--- a thread goes on with the answer to its modelled call, which is no step
+-- a thread resumes with the answer to its modelled call, which isn't a step
 abbrev pub flat_resume : FlatCode → FlatWaiting → Answer → FlatThread
 flat_resume code waiting answer = record { frame = answered code waiting.frame answer.result; below = waiting.below; globals = answer.globals }
 

@@ -1,7 +1,7 @@
 -- The bytes of a frame.
 use Rattle.std.specs.Prelude.{ℕ, ◌+◌, ◌*◌, ◌/◌, List, sum}
 
--- the least multiple of 16 that is at least this
+-- the least multiple of 16 that isn't below this number
 abbrev pub rounded_up : ℕ → ℕ
 rounded_up bytes = (bytes + 15) / 16 * 16
 

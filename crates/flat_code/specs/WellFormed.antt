@@ -1,4 +1,4 @@
--- When a program of flat code is well formed: all that the layers above rely on, so that they index without a test.
+-- When a program of flat code is well formed: everything that lets the crates above index without a test.
 use Rattle.std.specs.Prelude.{ℕ, ◌^◌, ◌<◌, ◌≤◌, ◌≡◌, Bool, true, false, IsTrue, eqb, List, length, map, sum, take, replicate, filter_map, flat_map, slice_index, slice_index_or, Option, Some, None}
 use Rattle.std.specs.List.{IsDistinct, AllByRecursion}
 use Rattle.flat_code.specs.declared.operations.Op.{Op}
@@ -6,7 +6,7 @@ use Rattle.flat_code.specs.declared.functions.FlatFunction.{FlatFunction}
 use Rattle.flat_code.specs.Codes.{FlatCode, site_of}
 use Rattle.flat_code.specs.Modelled.{modelled_parameters, modelled_gives}
 
--- what a call of a function needs and gives
+-- the number of a function's parameters, and whether its calls give a result
 pub record Signature : Type 0 where
   pub params : ℕ
   pub gives : Bool
@@ -14,12 +14,12 @@ pub record Signature : Type 0 where
 abbrev pub signature_of : FlatFunction → Signature
 signature_of f = record { params = f.params; gives = f.gives }
 
--- the signature of function f, which is there
+-- the signature of function f, which exists
 abbrev pub signature_at : List Signature → ℕ → Signature
 signature_at ss f = slice_index_or ss f (record { params = 0; gives = false })
 
--- what a function's operations may name: functions, words of globals, count of tables, words of its own variables,
--- whether it gives a result, and the count of its operations
+-- what a function's operations may name: functions, sizes of globals, the number of tables, sizes of its own
+-- variables, whether it gives a result, and the number of its operations
 pub record Context : Type 0 where
   pub signatures : List Signature
   pub globals : List ℕ
@@ -42,17 +42,18 @@ IsScalar c x = (x < length c.sizes) × (slice_index c.sizes x ≡ 1)
 abbrev pub IsGlobalScalar : Context → ℕ → Type 0
 IsGlobalScalar c g = (g < length c.globals) × (slice_index c.globals g ≡ 1)
 
--- where a result goes: one is wanted only of a call that gives one
+-- the variable that gets a result: only for a call that gives one
 abbrev pub IsResultPlace : Context → Bool → Option ℕ → Type 0
 IsResultPlace c gives None = Unit {0}
 IsResultPlace c gives (Some d) = IsTrue gives × IsScalar c d
 
--- what a function returns: a value exactly where it gives one
+-- the returned value: there is one exactly if the function gives a result
 abbrev pub IsReturned : Context → Option ℕ → Type 0
 IsReturned c None = c.gives ≡ false
 IsReturned c (Some s) = (c.gives ≡ true) × IsScalar c s
 
--- an operation: its numbers are in range, what is used without an index has one word, and arguments agree
+-- an operation: its numbers are in range, a variable or global that is used without an index has one word, and
+-- arguments agree
 abbrev pub IsOperation : Context → Op → Type 0
 IsOperation c (Op.Const d value) = IsScalar c d × (value < 2 ^ 32)
 IsOperation c (Op.Copy d s) = IsScalar c d × IsScalar c s

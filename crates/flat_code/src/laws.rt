@@ -8,8 +8,7 @@ ghost use Rattle.flat_code.specs.Samples.{passing, descending, overrunning, choo
 ghost use Rattle.flat_code.specs.Step.{flat_machine, started};
 ghost use Rattle.flat_code.specs.WellFormed.{IsWellFormed};
 
-/// Setting a variable sets just that one: it has the words that were given, and every other variable what
-/// it had. It does nothing.
+/// Law: setting a variable gives it these words, and every other variable keeps its words.
 pub fn variables_are_apart()
     ensures set { (frame : FlatFrame) (x : ℕ) (words : List ℕ) → x < length frame.variables →
         variable (set_to frame x words) x ≡ Some words }
@@ -19,8 +18,8 @@ pub fn variables_are_apart()
         length (set_to frame x words).variables ≡ length frame.variables }
 {}
 
-/// What four small programs do, to their end: a call and its return, a recursion, an index out of range
-/// and a table's index out of range. It does nothing.
+/// Example: four small programs run like this, to their end: a call and its return, a recursion, an
+/// index out of range and a table's index out of range.
 pub fn samples_run()
     ensures formed { IsWellFormed passing }
     ensures before_its_end { moves (flat_machine passing) 7 (started passing 1 [] []) ≡

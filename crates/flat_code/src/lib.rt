@@ -1,13 +1,14 @@
-// Flat code: what a function's body is before it becomes machine words.
+// Flat code: the form of a program between its tree and machine words.
 //
-// A function is a list of operations on numbered variables (`Op`), in which a jump names the number of an
-// operation. `FlatProgram` is what the lowering of a source gives and what call graph, templates, code
-// generator and checker take: its invariant (specs/WellFormed.antt) says that every number in it is in
-// range, that arguments agree with parameters and that its sizes are within their limits, so that the
-// crates above index without a test. Contracts see it as plain data (`program_code`).
-// specs/Step.antt says what flat code does: frames of variables and the number of the next operation, as
-// a machine of cap_word's specs/Runs.antt. Variables take the place of a stack machine's temporaries, as
-// in three-address code (Aho, Lam, Sethi, Ullman, "Compilers", section 6.2).
+// A function is a list of operations on numbered variables (`Op`), in which jumps name operations by
+// number. `FlatProgram` is the result of lowering a source; call graph, templates, code generator and
+// checker take it. Its invariant (specs/WellFormed.antt) says that every number in it is in range, that
+// arguments agree with parameters, and that its sizes are within their limits, so the crates above index
+// without a test. Contracts see it as plain data (`program_code`). specs/Step.antt defines what flat code
+// does: frames of variables and the number of the next operation, as a machine of cap_word's
+// specs/Runs.antt. Variables take the place of a stack machine's temporaries, as in three-address code
+// (Aho, Lam, Sethi, Ullman, "Compilers", section 6.2). A law or an example has no effect at run time: its
+// contract is a theorem.
 #![tactic(auto)]
 
 mod functions;

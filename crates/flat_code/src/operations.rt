@@ -4,9 +4,9 @@ use crate::operators::BinOp;
 use cap_word::Words;
 use std::marker::Model;
 
-/// An operation of a function. `d`, `s`, `b`, `i`, `args` and `a` number variables of the function, but
-/// `a` of `LoadArray` and `StoreArray` numbers a global; `g`, `f` and `t` number a global, a function and
-/// a table, and `to` an operation of the function. A call carries the number of its site.
+/// An operation of a function. `d`, `s`, `b`, `i`, `args` and `a` number variables of the function, except
+/// that `a` of `LoadArray` and `StoreArray` numbers a global; `g`, `f` and `t` number a global, a function
+/// and a table, and `to` an operation of the function. A call has the number of its site.
 #[derive(Drop)]
 pub enum Op {
     /// `d` is set to a word.
@@ -24,17 +24,17 @@ pub enum Op {
         d: u32,
         s: u32,
     },
-    /// `d` is set to the complement of `s`, bit by bit.
+    /// `d` is set to the bitwise complement of `s`.
     Not {
         d: u32,
         s: u32,
     },
-    /// `d` is set to 1 where `s` is 0, and else to 0.
+    /// `d` is set to 1 if `s` is 0, and otherwise to 0.
     Flip {
         d: u32,
         s: u32,
     },
-    /// `d` is set to what the operator makes of `a` and `b`.
+    /// `d` is set to the result of the operator on `a` and `b`.
     Bin {
         op: BinOp,
         d: u32,
@@ -83,12 +83,12 @@ pub enum Op {
     Jump {
         to: u32,
     },
-    /// The next operation is `to` where `s` is 0.
+    /// The next operation is `to` if `s` is 0.
     JumpZero {
         s: u32,
         to: u32,
     },
-    /// Function `f` is called, and `d` is set to its result, where one is wanted.
+    /// Function `f` is called, and `d` is set to its result, if it is used.
     Call {
         site: u32,
         d: Option<u32>,
@@ -104,7 +104,7 @@ pub enum Op {
         i: u32,
         s: u32,
     },
-    /// The thread package's call of number `n`.
+    /// A call of the thread package, with number `n`.
     Model {
         site: u32,
         d: Option<u32>,
@@ -118,14 +118,14 @@ pub enum Op {
         f: u32,
         s: u32,
     },
-    /// The function returns, with a value where it gives one.
+    /// The function returns, with a value if it gives one.
     Return {
         s: Option<u32>,
     },
 }
 
 /// The operations of a function, in order of their numbers. Contracts see it as the list of them. It is
-/// made from a `Vec` and gives it back without taking memory.
+/// made from a `Vec` without taking memory.
 #[derive(Drop)]
 pub struct Ops {
     ops: Vec<Op>,
@@ -141,18 +141,11 @@ impl Model for Ops {
 }
 
 impl Ops {
-    /// The list of these operations. It takes no memory.
+    /// Returns the list of these operations. It doesn't allocate.
     pub fn new(ops: Vec<Op>) -> Ops
         ensures { result ≡ ops.items }
     {
         Ops { ops }
-    }
-
-    /// The operations, in the `Vec` that holds them. It takes no memory.
-    pub fn into_vec(self) -> Vec<Op>
-        ensures { result.items ≡ self }
-    {
-        self.ops
     }
 
     /// The operations, in order.
@@ -162,7 +155,7 @@ impl Ops {
         self.ops.as_slice()
     }
 
-    /// The number of operations.
+    /// Returns the number of operations.
     pub fn len(&self) -> usize
         ensures { result ≡ length self.now }
     {

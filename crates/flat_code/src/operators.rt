@@ -1,4 +1,4 @@
-/// An operator of two words, with the meaning that it has in CapC (ISO/IEC 9899:2018, 6.5.5 to 6.5.12).
+/// A binary operator on words, with its meaning in CapC (ISO/IEC 9899:2018, 6.5.5 to 6.5.12).
 #[derive(Clone, Copy, PartialEq, Eq)]
 pub enum BinOp {
     Add,

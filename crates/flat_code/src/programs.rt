@@ -5,15 +5,15 @@ ghost use Rattle.flat_code.specs.OneProof.{IsWellFormed-prop};
 use crate::functions::FlatFunction;
 use cap_word::Words;
 
-/// A global of `words` words, each of which starts at `start`.
+/// A global of `words` words, each with the initial value `start`.
 #[derive(Clone, Copy, PartialEq, Eq)]
 pub struct FlatGlobal {
     pub words: u32,
     pub start: u32,
 }
 
-/// A program of flat code that is well formed: every number in it is in range, no two operations carry
-/// the same site number, every table has a member, arguments agree with parameters, a result is wanted
+/// A program of flat code that is well formed: every number in it is in range, no two operations have
+/// the same site number, every table has a member, arguments agree with parameters, a result is used
 /// only of a call that gives one, and the limits hold.
 #[derive(Drop)]
 pub struct FlatProgram {
@@ -30,8 +30,8 @@ impl FlatProgram {
     ghost use Rattle.flat_code.specs.ProgramView.{program_code};
     ghost use Rattle.flat_code.specs.WellFormed.{IsWellFormed};
 
-    /// The program of these functions, globals and tables, in the order of their numbers, and of the
-    /// number of `main`. It takes no memory.
+    /// Returns the program with these functions, globals and tables, in the order of their numbers,
+    /// and with this number of `main`. It doesn't allocate.
     pub fn new(
         functions: Vec<FlatFunction>,
         globals: Vec<FlatGlobal>,
@@ -49,28 +49,28 @@ impl FlatProgram {
         }
     }
 
-    /// The functions, in the order of their numbers.
+    /// Returns the functions, in the order of their numbers.
     pub fn functions(&self) -> &[FlatFunction]
         ensures { result.now ≡ (program_code self.now).functions }
     {
         &self.functions
     }
 
-    /// The globals, in the order of their declarations.
+    /// Returns the globals, in the order of their declarations.
     pub fn globals(&self) -> &[FlatGlobal]
         ensures { result.now ≡ (program_code self.now).globals }
     {
         &self.globals
     }
 
-    /// The tables, in the order of their declarations: the numbers of their members.
+    /// Returns the tables, in the order of their declarations: the numbers of their members.
     pub fn tables(&self) -> &[Words]
         ensures { result.now ≡ (program_code self.now).tables }
     {
         &self.tables
     }
 
-    /// The number of `main`.
+    /// Returns the number of `main`.
     pub fn main_number(&self) -> u32
         ensures { result ≡ (program_code self.now).main }
     {

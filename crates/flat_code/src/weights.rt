@@ -3,8 +3,9 @@ ghost use Rattle.flat_code.specs.Weight.{weight_of};
 
 use crate::functions::FlatFunction;
 
-/// The bytes of a function's frame: its variables' words and the return address, rounded up to a multiple
-/// of 16, as the RISC-V calling convention aligns a stack. It takes no memory.
+/// Returns the size of a function's frame in bytes: its variables' words and the return address, rounded
+/// up to a multiple of 16, since the RISC-V calling convention aligns a stack to 16 bytes. It doesn't
+/// allocate.
 pub fn weight(function: &FlatFunction) -> u32
     requires { sum function.now.sizes ≤ 2 ^ 20 }
     ensures { result ≡ weight_of function.now.sizes }

@@ -1,18 +1,18 @@
--- The places of the names of the calls that are not whole, in the order of the tree. A call that is a statement, a right side or a
--- returned value as a whole is whole, and any other isn't.
+-- The places of the names of the calls that aren't whole, in the order of the tree. A call is whole exactly if it is a
+-- statement, a whole right side or a whole returned value.
 use Rattle.std.specs.Prelude.{ℕ, Bool, true, false, List, [], ◌∷◌, ◌++◌, ◌≤◌, Option, Some, None, Contains}
 use Rattle.std.specs.List.{AllByRecursion}
 use Rattle.c_tree.specs.RawTrees.{RawExprTree, RawNumber, RawName, RawElement, RawUnary, RawParenthesized, RawBinary, RawLogicalAnd, RawLogicalOr, RawConditional, RawCall, RawTableCall, RawSimpleTree, RawDeclareScalar, RawDeclareArray, RawDeclareWith, RawSet, RawSetElement, RawCalling, RawTableCalling, RawStmtTree, RawStmtTrees, RawDo, RawEmpty, RawBlock, RawIf, RawIfElse, RawWhile, RawFor, RawBreak, RawContinue, RawReturn, NoRawStmts, RawThen, RawItemTree, RawGlobal, RawGlobalArray, RawTableItem, RawPrototypeItem, RawFunctionItem}
 use Rattle.grammar_laws.specs.Places.{Standing, Declared, Used, Called, Keyword, expr_places, exprs_places, optional_places}
 
--- calls alone
+-- whether it is the name of a call
 abbrev pub is_call : Standing → Bool
 is_call Declared = false
 is_call Used = false
 is_call Called = true
 is_call Keyword = false
 
--- in a right side or a returned value, which may be a call
+-- the calls in a right side or a returned value, which itself may be a call
 abbrev pub value_nested : RawExprTree → List ℕ
 value_nested (RawNumber v) = expr_places is_call (RawNumber v)
 value_nested (RawName n) = expr_places is_call (RawName n)
@@ -75,7 +75,7 @@ abbrev pub items_nested : List RawItemTree → List ℕ
 items_nested [] = []
 items_nested (i ∷ is) = item_nested i ++ items_nested is
 
--- the place is one of these, and none of them is less
+-- the place is one of these, and the least
 pub record IsFirstPlace (places : List ℕ) (at : ℕ) : Type 0 where
   pub one : Contains places at
   pub least : AllByRecursion (λ other. at ≤ other) places

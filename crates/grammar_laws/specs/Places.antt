@@ -2,14 +2,15 @@
 use Rattle.std.specs.Prelude.{ℕ, Bool, List, [], ◌∷◌, ◌++◌, Option, Some, None, if◌then◌else◌}
 use Rattle.c_tree.specs.RawTrees.{NameTree, RawExprTree, RawExprTrees, RawNumber, RawName, RawElement, RawUnary, RawParenthesized, RawBinary, RawLogicalAnd, RawLogicalOr, RawConditional, RawCall, RawTableCall, NoExprs, And, RawSimpleTree, RawDeclareScalar, RawDeclareArray, RawDeclareWith, RawSet, RawSetElement, RawCalling, RawTableCalling, RawStmtTree, RawStmtTrees, RawDo, RawEmpty, RawBlock, RawIf, RawIfElse, RawWhile, RawFor, RawBreak, RawContinue, RawReturn, NoRawStmts, RawThen, RawItemTree, RawGlobal, RawGlobalArray, RawTableItem, RawPrototypeItem, RawFunctionItem}
 
--- what stands at a place: a name that is declared or defined, one that is used, the name of a call, or a keyword
+-- the kind of a place: of a name that is declared or defined, of one that is used, of the name of a call, or of
+-- a keyword
 pub data Standing : Type 0 where
   Declared : Standing
   Used : Standing
   Called : Standing
   Keyword : Standing
 
--- the place, where places of that kind are meant
+-- the place, if places of that kind are listed
 abbrev pub placed : (Standing → Bool) → Standing → ℕ → List ℕ
 placed meant standing at = if meant standing then at ∷ [] else []
 
@@ -73,7 +74,7 @@ abbrev pub names_places : (Standing → Bool) → Standing → List NameTree →
 names_places meant standing [] = []
 names_places meant standing (n ∷ ns) = placed meant standing n.at ++ names_places meant standing ns
 
--- a parameter's name, which a prototype may lack
+-- a parameter's name, which a prototype may omit
 abbrev pub optional_name_places : (Standing → Bool) → Option NameTree → List ℕ
 optional_name_places meant None = []
 optional_name_places meant (Some n) = placed meant Declared n.at

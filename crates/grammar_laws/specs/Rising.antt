@@ -1,7 +1,7 @@
--- Places that rise.
+-- Places that increase.
 use Rattle.std.specs.Prelude.{ℕ, ◌+◌, ◌≤◌, List, [], ◌∷◌}
 
--- from `low` on each place is greater than the one before it, and all are below `high`
+-- the places are at least `low`, below `high`, and strictly increase
 abbrev pub RiseWithin : ℕ → List ℕ → ℕ → Type 0
 RiseWithin low [] high = low ≤ high
 RiseWithin low (place ∷ places) high = (low ≤ place) × RiseWithin (place + 1) places high

@@ -1,4 +1,4 @@
-// What holds of every list of tokens, by the grammar alone.
+// Laws of a list of tokens, by the grammar alone.
 ghost use Rattle.std.specs.Prelude.{ℕ, ◌≡◌, List, Option};
 ghost use Rattle.c_lex.specs.declared.tokens.Token.{Token};
 ghost use Rattle.c_tree.specs.RawTrees.{RawItemTree};
@@ -7,24 +7,23 @@ ghost use Rattle.c_grammar.specs.Rests.{Any, Nearest};
 ghost use Rattle.c_grammar.specs.Refusals.{CanBeTaken, AreWhole, Verdict, IsLeft};
 ghost use Rattle.c_grammar.specs.Grammar.{IsProgram};
 
-/// A list of tokens has exactly one verdict: it is a program in which nothing is too deep, or it is Unexpected or
-/// TooDeep at one place. It does nothing: the law is the contract.
+/// Law: a list of tokens has exactly one verdict: it is a program in which nothing is too deep, or it is Unexpected or
+/// TooDeep at one place.
 pub fn one_verdict()
     ensures some { (end : ℕ) (tokens : List Token) → (verdict : Option ParseError) × Verdict end tokens verdict }
     ensures only { (end : ℕ) (tokens : List Token) (verdict other : Option ParseError) →
         Verdict end tokens verdict → Verdict end tokens other → verdict ≡ other }
 {}
 
-/// An `else` may always be given to the nearest `if` that can take it: what can be taken in any way can be taken in
-/// that way, and what can be taken whole in any way can be taken whole in that way. It does nothing: the law is the
-/// contract.
+/// Law: an `else` may always belong to the nearest `if` that can take it: tokens that can be taken in any way can be
+/// taken in that way, and tokens that can be taken as a whole in any way can be taken as a whole in that way.
 pub fn else_to_the_nearest()
     ensures taken { (tokens : List Token) → CanBeTaken tokens → IsLeft Nearest tokens }
     ensures whole { (tokens : List Token) → AreWhole Any tokens → AreWhole Nearest tokens }
 {}
 
-/// The tokens of a source have at most one tree in which each `else` belongs to the nearest `if` that can take it, and
-/// tokens with such a tree can be taken whole. It does nothing: the law is the contract.
+/// Law: the tokens of a source have at most one tree in which each `else` belongs to the nearest `if` that can take
+/// it, and tokens with such a tree can be taken as a whole.
 pub fn one_tree()
     ensures only { (source : List ℕ) (tokens : List Token) (items others : List RawItemTree) →
         IsProgram source tokens items → IsProgram source tokens others → items ≡ others }

@@ -1,4 +1,4 @@
--- What the functions of statements do to the tokens, and to the machine's run along them.
+-- The effect of the functions for statements on the tokens, and on the machine's run over them.
 use Rattle.std.specs.Prelude.{ℕ, ◌≡◌, ◌≢◌, ◌+◌, ◌<◌, ◌≤◌, true, List, [], ◌∷◌, ◌++◌, length, Option, Some}
 use Rattle.c_lex.specs.declared.tokens.Token.{Token}
 use Rattle.c_tree.specs.RawTrees.{RawExprTree, RawSimpleTree, RawStmtTree, RawStmtTrees, RawThen}
@@ -14,30 +14,31 @@ use Rattle.c_grammar.specs.Tokens.{next_sign, rest_of, Passes}
 use Rattle.c_grammar.specs.Grammar.{IsBody, IsBlock, AreStmts, IsUpToSemicolon, IsForInit, IsForStep}
 use Rattle.grammar_reader.specs.Steps.{Leads, Refused}
 
--- where so many constructs are open, the last of which this task closes, the run with it is the run with the others after
+-- if this number of constructs is open, the last of which this task closes, the run with it is the run with the others
+-- after it
 abbrev pub LeadsInside : ℕ → ℕ → Task → List Token → List Task → List Token → Type 0
 LeadsInside end depth todo before left after = (rest : List Task) → 1 + open_tasks rest ≡ depth → run end (todo ∷ rest) before ≡ run end (left ++ rest) after
 
--- the run with this task, which closes a construct, ends in this refusal, unless it is want of memory
+-- the run with this task, which closes a construct, ends in this refusal, unless it is out of memory
 abbrev pub RefusedInside : ℕ → ℕ → Task → List Token → ParseError → Type 0
 RefusedInside end depth todo before error = error ≢ Memory → (rest : List Task) → 1 + open_tasks rest ≡ depth → run end (todo ∷ rest) before ≡ Some error
 
--- the next token begins no statement, unless it is a name
+-- no statement begins at the next token, unless it is a name
 abbrev pub NoStatement : List Token → Type 0
 NoStatement tokens = next_sign tokens ≢ signs.Name → tasks.body_move (next_sign tokens) ≡ tasks.Refuse
 
--- a statement that is no declaration
+-- a statement that isn't a declaration
 pub record ReadsBody (source : List ℕ) (end depth : ℕ) (before : List Token) (s : RawStmtTree) (after : List Token) : Type 0 where
   pub tree : IsBody true source before s after
   pub shorter : length after < length before
   pub leads : Leads end depth (tasks.Body ∷ []) before [] after
   pub small : raw_stmt_temporaries s ≤ 1040
 
--- the task comes to a block
+-- the task leads to a block
 abbrev pub Braced : Task → Type 0
 Braced todo = tasks.move todo signs.LeftBrace ≡ tasks.Take (tasks.BlockItems ∷ [])
 
--- a block, which two tasks come to
+-- a block, to which two tasks lead
 pub record ReadsBlock (source : List ℕ) (end depth : ℕ) (before : List Token) (ss : RawStmtTrees) (after : List Token) : Type 0 where
   pub tree : IsBlock true source before ss after
   pub shorter : length after < length before
@@ -52,29 +53,30 @@ abbrev pub stmts_before : List RawStmtTree → RawStmtTrees → RawStmtTrees
 stmts_before [] others = others
 stmts_before (s ∷ ss) others = RawThen s (stmts_before ss others)
 
--- from `start` up to `now` these statements stand: with them in front, what is left of a block from `now` on is left from `start` on
+-- these statements are from `start` to `now`: with them in front, the rest of a block from `now` on is a rest from
+-- `start` on
 pub record AreSoFar (source : List ℕ) (start : List Token) (ss : List RawStmtTree) (now : List Token) : Type 0 where
   pub go_on : (others : RawStmtTrees) (after : List Token) → AreStmts true source now others after → AreStmts true source start (stmts_before ss others) after
 
--- statements take so few temporaries
+-- statements need no more temporaries than allowed
 abbrev pub AreSmall : List RawStmtTree → Type 0
 AreSmall ss = raw_stmts_temporaries (raw_in_order ss) ≤ 1040
 
--- a block so far, from its brace up to `now`
+-- a block so far, from its brace to `now`
 pub record ReadingBlock (source : List ℕ) (end depth : ℕ) (before : List Token) (ss : List RawStmtTree) (now : List Token) : Type 0 where
   pub so_far : AreSoFar source (rest_of before) ss now
   pub shorter : length now < length before
   pub leads : (todo : Task) → Braced todo → Leads end depth (todo ∷ []) before (tasks.BlockItems ∷ []) now
   pub small : AreSmall ss
 
--- a statement of a block, or the declarations of one list, behind other statements
+-- a statement of a block, or the declarations of one list, after other statements
 pub record ReadsBlockItem (source : List ℕ) (end depth : ℕ) (before : List Token) (old new : List RawStmtTree) (after : List Token) : Type 0 where
   pub so_far : (start : List Token) → AreSoFar source start old before → AreSoFar source start new after
   pub shorter : length after < length before
   pub leads : LeadsInside end depth tasks.BlockItems before (tasks.BlockItems ∷ []) after
   pub small : AreSmall old → AreSmall new
 
--- an expression that may be left out, up to the `;`
+-- an optional expression, up to the `;`
 pub record ReadsUpToSemicolon (source : List ℕ) (end depth : ℕ) (before : List Token) (v : Option RawExprTree) (after : List Token) : Type 0 where
   pub tree : IsUpToSemicolon source before v after
   pub shorter : length after < length before
@@ -95,7 +97,7 @@ pub record ReadsForStep (source : List ℕ) (end depth : ℕ) (before : List Tok
   pub leads : LeadsInside end depth tasks.ForStep before [] after
   pub small : raw_step_temporaries last ≤ 1040
 
--- the parts of a `for` between their parentheses
+-- the parts of a `for` in their parentheses
 pub record ReadsForParts (source : List ℕ) (end depth : ℕ) (before : List Token) (init : List RawSimpleTree) (v : Option RawExprTree) (last : Option RawSimpleTree) (after : List Token) : Type 0 where
   pub b : List Token
   pub c : List Token

@@ -1,4 +1,5 @@
--- What the functions of items do to the tokens, and to the machine's run along them. No construct is open before an item.
+-- The effect of the functions for items on the tokens, and on the machine's run over them. No construct is open before
+-- an item.
 use Rattle.std.specs.Prelude.{ℕ, ◌≡◌, ◌≢◌, ◌<◌, ◌≤◌, Bool, true, false, List, [], ◌∷◌, ◌++◌, length, Option, Some, None}
 use Rattle.c_lex.specs.declared.tokens.Token.{Token}
 use Rattle.c_tree.specs.RawTrees.{NameTree, RawItemTree}
@@ -25,12 +26,13 @@ names_in [] = []
 names_in (None ∷ ps) = names_in ps
 names_in (Some n ∷ ps) = n ∷ names_in ps
 
--- whether each parameter so far has a name, with one more behind them
+-- whether each parameter so far has a name, with one more after them
 abbrev pub named_with : Bool → Option NameTree → Bool
 named_with named None = false
 named_with named (Some n) = named
 
--- the tasks behind the `int` of a parameter, behind the parameter, and behind all: where each so far has a name, a body may follow
+-- the tasks after the `int` of a parameter, after the parameter, and after all: if each so far has a name, a body may
+-- follow
 abbrev pub name_task : Bool → Task
 name_task true = tasks.ParameterName
 name_task false = tasks.PrototypeName
@@ -43,14 +45,14 @@ abbrev pub after_task : Bool → Task
 after_task true = tasks.AfterParameters
 after_task false = tasks.Token signs.Semicolon
 
--- the task comes to the parameters of a function
+-- the task leads to the parameters of a function
 abbrev pub Listed : Task → Type 0
 Listed todo = tasks.move todo signs.LeftParenthesis ≡ tasks.Take (tasks.ParameterList ∷ [])
 
 abbrev pub RefusedListed : ℕ → List Token → ParseError → Type 0
 RefusedListed end before error = (todo : Task) → Listed todo → Refused end 0 (todo ∷ []) before error
 
--- `int`, with a name behind it or without one
+-- `int`, with an optional name
 pub record ReadsParameter (source : List ℕ) (end : ℕ) (before : List Token) (p : Option NameTree) (after : List Token) : Type 0 where
   pub between : List Token
   pub int : Passes signs.Int before between
@@ -58,18 +60,18 @@ pub record ReadsParameter (source : List ℕ) (end : ℕ) (before : List Token) 
   pub shorter : length after < length before
   pub leads : (named : Bool) → Leads end 0 (name_task named ∷ []) between (more_task (named_with named p) ∷ []) after
 
--- no `int` comes
+-- there is no `int`
 abbrev pub RefusedParameter : ℕ → List Token → ParseError → Type 0
 RefusedParameter end before error = error ≢ Memory → (error ≡ Unexpected (next_place end before)) × (next_sign before ≢ signs.Int)
 
--- parameters so far, behind the parenthesis
+-- parameters so far, after the parenthesis
 pub record ReadingParameters (source : List ℕ) (end : ℕ) (before : List Token) (ps : List (Option NameTree)) (now : List Token) : Type 0 where
   pub tree : (a after : List Token) (others : List (Option NameTree)) → Passes signs.LeftParenthesis a before → AreMoreParameters source now others after → AreParameters source a (ps ++ others) after
   pub named : (a after : List Token) (others : List NameTree) → all_have_names ps ≡ true → Passes signs.LeftParenthesis a before → AreMoreNamed source now others after → AreNamed source a (names_in ps ++ others) after
   pub shorter : length now < length before
   pub leads : Leads end 0 (tasks.ParameterList ∷ []) before (more_task (all_have_names ps) ∷ []) now
 
--- parameters behind the parenthesis, one at least, with the `)` behind them
+-- one or more parameters after the parenthesis, with the `)` after them
 pub record ReadsParameterList (source : List ℕ) (end : ℕ) (before : List Token) (ps : List (Option NameTree)) (after : List Token) : Type 0 where
   pub tree : (a : List Token) → Passes signs.LeftParenthesis a before → AreParameters source a ps after
   pub named : (a : List Token) → all_have_names ps ≡ true → Passes signs.LeftParenthesis a before → AreNamed source a (names_in ps) after
@@ -90,20 +92,20 @@ pub record ReadsFunction (source : List ℕ) (end : ℕ) (gives : Bool) (name : 
   pub leads : (todo : Task) → Listed todo → Leads end 0 (todo ∷ []) before [] after
   pub small : AreWithinTemporaries (item ∷ [])
 
--- a starting value
+-- an initial value
 pub record ReadsStart (source : List ℕ) (end : ℕ) (before : List Token) (value : ℕ) (after : List Token) : Type 0 where
   pub tree : IsStart source before value after
   pub shorter : length after < length before
   pub leads : Leads end 0 (tasks.StartValue ∷ []) before [] after
 
--- a global, behind its name
+-- a global, after its name
 pub record ReadsGlobal (source : List ℕ) (end : ℕ) (name : NameTree) (before : List Token) (item : RawItemTree) (after : List Token) : Type 0 where
   pub tree : (a : List Token) → PassesName source a name before → IsGlobal source a item after
   pub no_longer : length after ≤ length before
   pub leads : Leads end 0 (tasks.AfterGlobalName ∷ []) before (tasks.MoreGlobals ∷ []) after
   pub small : AreWithinTemporaries (item ∷ [])
 
--- globals so far, behind the name of the first, as items behind others
+-- globals so far, after the name of the first, as items after others
 pub record ReadingGlobals (source : List ℕ) (end : ℕ) (name : NameTree) (before : List Token) (old new : List RawItemTree) (now : List Token) : Type 0 where
   pub is : List RawItemTree
   pub pushed : new ≡ old ++ is
@@ -112,7 +114,7 @@ pub record ReadingGlobals (source : List ℕ) (end : ℕ) (name : NameTree) (bef
   pub leads : Leads end 0 (tasks.AfterIntName ∷ []) before (tasks.MoreGlobals ∷ []) now
   pub small : AreWithinTemporaries is
 
--- globals behind the name of the first, up to their `;`
+-- globals after the name of the first, up to their `;`
 pub record ReadsGlobals (source : List ℕ) (end : ℕ) (name : NameTree) (before : List Token) (old new : List RawItemTree) (after : List Token) : Type 0 where
   pub is : List RawItemTree
   pub pushed : new ≡ old ++ is
@@ -145,7 +147,7 @@ pub record ReadsTableParameter (end : ℕ) (before after : List Token) : Type 0 
   pub shorter : length after < length before
   pub leads : Leads end 0 (tasks.TableParameter ∷ []) before [] after
 
--- members so far, from the brace before them on
+-- members so far, from the brace before them
 pub record ReadingMembers (source : List ℕ) (end : ℕ) (before : List Token) (ns : List NameTree) (now : List Token) : Type 0 where
   pub b : List Token
   pub c : List Token
@@ -171,7 +173,7 @@ pub record ReadsMembers (source : List ℕ) (end : ℕ) (before : List Token) (n
   pub shorter : length after < length before
   pub leads : Leads end 0 (tasks.TableMembers ∷ []) before [] after
 
--- a table, behind its `int`
+-- a table, after its `int`
 pub record ReadsTable (source : List ℕ) (end : ℕ) (before : List Token) (item : RawItemTree) (after : List Token) : Type 0 where
   pub tree : (a : List Token) → Passes signs.Int a before → AreItem true source a (item ∷ []) after
   pub shorter : length after < length before
@@ -193,7 +195,7 @@ pub record ReadsAfterVoid (source : List ℕ) (end : ℕ) (before : List Token) 
   pub leads : Leads end 0 (tasks.AfterVoid ∷ []) before [] after
   pub small : AreWithinTemporaries (item ∷ [])
 
--- an item, or the globals of one list, behind others
+-- an item, or the globals of one list, after others
 pub record ReadsItem (source : List ℕ) (end : ℕ) (before : List Token) (old new : List RawItemTree) (after : List Token) : Type 0 where
   pub is : List RawItemTree
   pub pushed : new ≡ old ++ is
@@ -202,7 +204,7 @@ pub record ReadsItem (source : List ℕ) (end : ℕ) (before : List Token) (old 
   pub leads : run end (tasks.Items ∷ []) before ≡ run end (tasks.Items ∷ []) after
   pub small : AreWithinTemporaries is
 
--- the run over the items ends in this refusal, unless it is want of memory
+-- the run over the items ends in this refusal, unless it is out of memory
 abbrev pub RefusedItems : ℕ → List Token → ParseError → Type 0
 RefusedItems end before error = error ≢ Memory → run end (tasks.Items ∷ []) before ≡ Some error
 

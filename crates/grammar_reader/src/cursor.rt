@@ -1,4 +1,4 @@
-// The tokens that are still to be read, and the takes of one token.
+// The tokens still to be read, and functions that take one token.
 ghost use Rattle.std.specs.Prelude.{◌≡◌, ◌≢◌, ◌≤◌, ◌<◌, ◌+◌, ◌⊎◌, IfOk, IfErr, length};
 ghost use Rattle.c_lex.specs.Places.{lexeme_of};
 ghost use Rattle.c_tree.specs.RawViews.{name_tree};
@@ -11,13 +11,13 @@ use c_lex::{Token, TokenKind};
 use c_tree::Name;
 use std::alloc::Global;
 
-/// The most constructs that may be open at a token.
+/// The maximum number of constructs that may be open at a token.
 pub(crate) const MOST_OPEN: u32 = 64;
 
-/// The source that the tokens stand in, which stays as it is while they are read.
+/// The source of the tokens.
 #[derive(Clone, Copy)]
 pub struct Text<'a> {
-    /// Where names are kept.
+    /// The allocator of names.
     pub alloc: Global,
     /// The bytes.
     pub bytes: &'a [u8],
@@ -25,7 +25,7 @@ pub struct Text<'a> {
     pub end: u32,
 }
 
-/// The tokens that are left.
+/// The remaining tokens.
 #[derive(Drop)]
 pub struct Cursor<'a> {
     /// The next token first.
@@ -33,7 +33,7 @@ pub struct Cursor<'a> {
 }
 
 impl<'a> Cursor<'a> {
-    /// What the next token is, if one is left.
+    /// Returns the kind of the next token, if there is one.
     pub(crate) fn kind(&self) -> Option<TokenKind>
         ensures { result ≡ next_kind self.now.tokens.now }
     {
@@ -43,7 +43,7 @@ impl<'a> Cursor<'a> {
         }
     }
 
-    /// What the next token is to the grammar, or `Finish` at the end.
+    /// Returns the class of the next token in the grammar, or `Finish` at the end.
     pub(crate) fn sign(&self) -> Sign
         ensures { result ≡ next_sign self.now.tokens.now }
     {
@@ -53,7 +53,7 @@ impl<'a> Cursor<'a> {
         }
     }
 
-    /// The place of the next token, or of the end of the source.
+    /// Returns the place of the next token, or of the end of the source.
     pub(crate) fn place(&self, text: Text) -> u32
         ensures { result ≡ next_place text.entry.end self.now.tokens.now }
     {
@@ -63,7 +63,7 @@ impl<'a> Cursor<'a> {
         }
     }
 
-    /// Passes over the next token.
+    /// Skips the next token.
     pub(crate) fn pass(&mut self)
         ensures { self.new.tokens.now ≡ rest_of self.old.tokens.now }
     {
@@ -72,7 +72,7 @@ impl<'a> Cursor<'a> {
         }
     }
 
-    /// The refusal of the next token, or of the end of the source.
+    /// Returns the refusal of the next token, or of the end of the source.
     pub(crate) fn unexpected(&self, text: Text) -> ParseError
         ensures { result ≡ Unexpected (next_place text.entry.end self.now.tokens.now) }
     {
@@ -81,7 +81,7 @@ impl<'a> Cursor<'a> {
         }
     }
 
-    /// Takes a token of this sign.
+    /// Takes a token of this class.
     pub(crate) fn take(&mut self, text: Text, sign: Sign) -> Result<(), ParseError>
         ensures taken { IfOk result (λ _. Passes sign self.old.tokens.now self.new.tokens.now) }
         ensures place { IfErr result (λ error. error ≡ Unexpected (next_place text.entry.end self.old.tokens.now)) }
@@ -95,8 +95,8 @@ impl<'a> Cursor<'a> {
         }
     }
 
-    /// Passes over the next token, at which one more construct than `depth` is open, and gives the
-    /// number that is open then.
+    /// Skips the next token, at which one more construct than `depth` is open, and returns the
+    /// number of open constructs there.
     pub(crate) fn open(&mut self, text: Text, depth: u32) -> Result<u32, ParseError>
         ensures taken { IfOk result (λ inside. (inside ≡ 1 + depth) × (self.new.tokens.now ≡ rest_of self.old.tokens.now)) }
         ensures fits { IfOk result (λ inside. inside ≤ 64) }
@@ -112,8 +112,8 @@ impl<'a> Cursor<'a> {
         }
     }
 
-    /// Takes a token of this sign, at which one more construct than `depth` is open, and gives the
-    /// number that is open then.
+    /// Takes a token of this class, at which one more construct than `depth` is open, and returns
+    /// the number of open constructs there.
     pub(crate) fn open_with(
         &mut self,
         text: Text,
@@ -131,7 +131,7 @@ impl<'a> Cursor<'a> {
         }
     }
 
-    /// Takes a number, and gives its value.
+    /// Takes a number, and returns its value.
     pub(crate) fn take_number(&mut self, text: Text) -> Result<u32, ParseError>
         ensures taken { IfOk result (λ value. PassesNumber self.old.tokens.now value self.new.tokens.now) }
         ensures place { IfErr result (λ error. error ≡ Unexpected (next_place text.entry.end self.old.tokens.now)) }
@@ -145,7 +145,7 @@ impl<'a> Cursor<'a> {
         }
     }
 
-    /// Takes a name.
+    /// Takes a name, and returns it.
     pub(crate) fn take_name(&mut self, text: Text) -> Result<Name, ParseError>
         ensures taken { IfOk result (λ name. PassesName text.entry.bytes.now self.old.tokens.now (name_tree name) self.new.tokens.now) }
         ensures refused { IfErr result (λ error. (error ≡ Memory) ⊎ ((error ≡ Unexpected (next_place text.entry.end self.old.tokens.now)) × (next_sign self.old.tokens.now ≢ Sign.Name))) }

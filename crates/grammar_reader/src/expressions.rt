@@ -15,7 +15,7 @@ use crate::operators::{LEVELS, infix_of, level_of, unary_of};
 use c_grammar::{ParseError, Sign};
 use c_tree::{Infix, Name, RawExpr};
 
-/// An expression, where `depth` constructs are open.
+/// Reads an expression; `depth` constructs are open.
 #[cycle(expression)]
 pub(crate) fn expression(text: Text, cursor: &mut Cursor, depth: u32) -> Result<RawExpr, ParseError>
     requires { depth ≤ 64 }
@@ -71,7 +71,7 @@ fn branches(
     boxed_pair(text, pair)
 }
 
-// Operands with operators of this level and the tighter ones between them.
+// Operands joined by operators of this level and tighter ones.
 #[cycle(expression)]
 fn binary(text: Text, cursor: &mut Cursor, depth: u32, level: u32) -> Result<RawExpr, ParseError>
     requires fits { depth ≤ 64 }
@@ -153,7 +153,7 @@ fn unary(text: Text, cursor: &mut Cursor, depth: u32) -> Result<RawExpr, ParseEr
     Ok(RawExpr::Unary { operator, operand })
 }
 
-// A number, a name alone or with what follows it, or an expression in parentheses.
+// A number, a name with what follows it, or an expression in parentheses.
 #[cycle(expression)]
 fn primary(text: Text, cursor: &mut Cursor, depth: u32) -> Result<RawExpr, ParseError>
     requires { depth ≤ 64 }
@@ -175,7 +175,8 @@ fn primary(text: Text, cursor: &mut Cursor, depth: u32) -> Result<RawExpr, Parse
     }
 }
 
-// What begins with the name: an element, a call, a call through a table, or the name alone.
+// An operand that begins with the name: an element, a call, a call through a table, or the name
+// alone.
 #[cycle(expression)]
 fn named(text: Text, cursor: &mut Cursor, depth: u32, name: Name) -> Result<RawExpr, ParseError>
     requires { depth ≤ 64 }
@@ -195,7 +196,7 @@ fn named(text: Text, cursor: &mut Cursor, depth: u32, name: Name) -> Result<RawE
     }
 }
 
-// An element, or where an argument follows, a call through a table.
+// An element or, if an argument follows, a call through a table.
 #[cycle(expression)]
 fn element(
     text: Text,
@@ -221,7 +222,7 @@ fn element(
     })
 }
 
-/// An expression between parentheses.
+/// Reads an expression in parentheses.
 #[cycle(expression)]
 pub(crate) fn parenthesized(
     text: Text,
@@ -241,7 +242,7 @@ pub(crate) fn parenthesized(
     Ok(inner)
 }
 
-/// An expression between brackets, the first of which comes next.
+/// Reads an expression in brackets, the first of which is next.
 #[cycle(expression)]
 pub(crate) fn bracketed(text: Text, cursor: &mut Cursor, depth: u32) -> Result<RawExpr, ParseError>
     requires fits { depth ≤ 64 }
@@ -256,7 +257,7 @@ pub(crate) fn bracketed(text: Text, cursor: &mut Cursor, depth: u32) -> Result<R
     Ok(inner)
 }
 
-/// The arguments of a call, between parentheses, the first of which comes next.
+/// Reads the arguments of a call in parentheses, the first of which is next.
 #[cycle(expression)]
 pub(crate) fn arguments(
     text: Text,

@@ -11,7 +11,7 @@ use crate::statements::block;
 use c_grammar::{ParseError, Sign};
 use c_tree::{Name, RawFunction, RawItem, RawPrototype};
 
-/// What follows the name of a function: its parameters, whose parenthesis comes next, and then a `;` or its body.
+/// Reads what follows the name of a function: its parameters, whose parenthesis is next, and a `;` or its body.
 pub(crate) fn function(
     text: Text,
     cursor: &mut Cursor,
@@ -41,7 +41,7 @@ pub(crate) fn function(
     }))
 }
 
-// Whether a body may follow the parameters, and does.
+// Whether a body may follow the parameters, and follows.
 fn has_body(cursor: &Cursor, params: &[Option<Name>]) -> bool
     ensures named { result ≡ true → all_have_names (map (option_map name_tree) params.now) ≡ true }
     ensures brace { result ≡ true → next_sign cursor.now.tokens.now ≡ Sign.LeftBrace }

@@ -12,8 +12,8 @@ use crate::simples::size;
 use c_grammar::{ParseError, Sign};
 use c_tree::{Name, RawItem};
 
-/// What follows the `int` and the name of a declaration of globals, which is no `(`, up to its `;`, each global pushed
-/// on `items`.
+/// Reads what follows the `int` and the name of a declaration of globals, which isn't a `(`, up to its `;`, and pushes
+/// each global on `items`.
 pub(crate) fn globals(
     text: Text,
     cursor: &mut Cursor,
@@ -34,7 +34,7 @@ pub(crate) fn globals(
     Ok(())
 }
 
-// The global of this name, with its size or its starting value.
+// The global of this name, with its size or its initial value.
 fn global(text: Text, cursor: &mut Cursor, name: Name) -> Result<RawItem, ParseError>
     ensures read { IfOk result (λ item. ReadsGlobal text.entry.bytes.now text.entry.end (name_tree name) cursor.old.tokens.now (raw_item_tree item) cursor.new.tokens.now) }
     ensures refused { IfErr result (λ error. Refused text.entry.end 0 (AfterGlobalName ∷ []) cursor.old.tokens.now error) }
@@ -53,7 +53,7 @@ fn global(text: Text, cursor: &mut Cursor, name: Name) -> Result<RawItem, ParseE
     }
 }
 
-// A number, with a `-` before it or without one, as a word.
+// A number with an optional `-`, as a word.
 fn start(text: Text, cursor: &mut Cursor) -> Result<u32, ParseError>
     ensures read { IfOk result (λ value. ReadsStart text.entry.bytes.now text.entry.end cursor.old.tokens.now value cursor.new.tokens.now) }
     ensures refused { IfErr result (λ error. Refused text.entry.end 0 (StartValue ∷ []) cursor.old.tokens.now error) }
@@ -67,7 +67,7 @@ fn start(text: Text, cursor: &mut Cursor) -> Result<u32, ParseError>
     Ok(value)
 }
 
-// The word that has the negative of this one's value.
+// The word of the negated value.
 fn negative(value: u32) -> u32
     ensures { result ≡ (2 ^ 32 - value) % 2 ^ 32 }
 {

@@ -1,6 +1,6 @@
-// Values that are held while what stands behind them is read. Each function is generic, so that what becomes of such a
-// value at a refusal is proved once, and not for each form of a tree. For the same reason a caller that holds a tree lets
-// it go by `drop` in the arm of a refusal, in place of a `?` at which it would fall.
+// Values that are kept while the tokens after them are read. Each function is generic, so the case that such a value is
+// dropped at a refusal is proved once, and not for each form of a tree. For the same reason a caller that has a tree
+// drops it by `drop` in the arm of a refusal, instead of implicitly at a `?`.
 ghost use Rattle.std.specs.Prelude.{◌≡◌, ◌≢◌, ◌⊎◌, [], ◌∷◌, ◌++◌, Ok, Err, IfOk, IfErr, MatchResult};
 ghost use Rattle.c_grammar.specs.declared.errors.ParseError.TheVariants.{Unexpected, Memory};
 ghost use Rattle.c_grammar.specs.Tokens.{next_sign, next_place, Passes};
@@ -8,7 +8,7 @@ ghost use Rattle.c_grammar.specs.Tokens.{next_sign, next_place, Passes};
 use crate::cursor::{Cursor, Text};
 use c_grammar::{ParseError, Sign};
 
-/// The value that is held and the next one, where that could be had.
+/// Returns both values, if the next one was read.
 pub(crate) fn both<T: Drop, U: Drop>(
     held: T,
     next: Result<U, ParseError>,
@@ -23,7 +23,7 @@ pub(crate) fn both<T: Drop, U: Drop>(
     }
 }
 
-/// The value that is held, where a token of this sign comes, which is taken.
+/// Returns the value, if the next token has this class; the token is taken.
 pub(crate) fn before_sign<T: Drop>(
     held: T,
     text: Text,
@@ -39,7 +39,7 @@ pub(crate) fn before_sign<T: Drop>(
     Ok(held)
 }
 
-/// The value in a box, where it could be had.
+/// Returns the value in a box, if it was read.
 pub(crate) fn boxed<T: Drop>(text: Text, value: Result<T, ParseError>) -> Result<Box<T>, ParseError>
     ensures had { IfOk result (λ made. value ≡ Ok made.value) }
     ensures refused { IfErr result (λ error. (error ≡ Memory) ⊎ (value ≡ Err error)) }
@@ -48,7 +48,7 @@ pub(crate) fn boxed<T: Drop>(text: Text, value: Result<T, ParseError>) -> Result
     Ok(made)
 }
 
-/// Puts the next value, where it could be had, behind the others.
+/// Appends the next value to the others, if it was read.
 pub(crate) fn push_next<T: Drop>(
     list: &mut Vec<T>,
     next: Result<T, ParseError>,
@@ -60,7 +60,7 @@ pub(crate) fn push_next<T: Drop>(
     Ok(())
 }
 
-/// Each value of the pair in a box of its own.
+/// Returns each value of the pair in a box.
 pub(crate) fn boxed_pair<T: Drop>(text: Text, pair: (T, T)) -> Result<(Box<T>, Box<T>), ParseError>
     ensures held { IfOk result (λ made. (made.0.value ≡ pair.0) × (made.1.value ≡ pair.1)) }
     ensures memory { IfErr result (λ error. error ≡ Memory) }
@@ -71,7 +71,7 @@ pub(crate) fn boxed_pair<T: Drop>(text: Text, pair: (T, T)) -> Result<(Box<T>, B
     Ok((one, other))
 }
 
-/// The value as a list of its own.
+/// Returns a list of the one value.
 pub(crate) fn alone<T: Drop>(text: Text, value: T) -> Result<Vec<T>, ParseError>
     ensures held { IfOk result (λ made. made.items ≡ value ∷ []) }
     ensures memory { IfErr result (λ error. error ≡ Memory) }

@@ -1,4 +1,4 @@
-// What stands outside functions (ISO/IEC 9899:2018, 6.9).
+// Declarations and definitions outside functions (ISO/IEC 9899:2018, 6.9).
 ghost use Rattle.std.specs.Prelude.{◌≡◌, ◌≢◌, [], ◌∷◌, IfOk, IfErr, map};
 ghost use Rattle.c_tree.specs.RawViews.{raw_item_tree};
 ghost use Rattle.c_grammar.specs.declared.signs.Sign.{Sign};
@@ -15,13 +15,13 @@ use crate::tables::table;
 use c_grammar::{ParseError, Sign};
 use c_tree::RawItem;
 
-/// All items up to the end of the source.
+/// Reads all items up to the end of the source.
 ///
 /// # Errors
 ///
-/// `Unexpected` at the first token with which the tokens so far are no beginning of a program, or at the end of the source;
-/// `TooDeep` at the first token where more than 64 constructs are open; the one at the earlier token. `Memory` where the
-/// items have no room.
+/// `Unexpected` at the first token with which the tokens so far aren't the beginning of a program, or at the end of the
+/// source; `TooDeep` at the first token at which more than 64 constructs are open; whichever comes first. `Memory` if
+/// an allocation fails.
 pub fn all_items(text: Text, cursor: &mut Cursor) -> Result<Vec<RawItem>, ParseError>
     ensures read { IfOk result (λ is. ReadsItems text.entry.bytes.now text.entry.end cursor.old.tokens.now (map raw_item_tree is.items)) }
     ensures refused { IfErr result (λ error. RefusedItems text.entry.end cursor.old.tokens.now error) }

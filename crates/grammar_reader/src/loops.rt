@@ -14,7 +14,7 @@ use crate::simples::{locals, simple};
 use c_grammar::{ParseError, Sign};
 use c_tree::{RawForParts, RawSimple};
 
-/// The parts of a `for`, with their parentheses.
+/// Reads the parts of a `for`, with their parentheses.
 pub(crate) fn for_parts(
     text: Text,
     cursor: &mut Cursor,
@@ -51,7 +51,8 @@ fn for_init(text: Text, cursor: &mut Cursor, depth: u32) -> Result<Vec<RawSimple
     }
 }
 
-// An assignment or a call as the first part, with its `;`, where neither a `;` nor declarations come.
+// An assignment or a call as the first part, with its `;`, if neither a `;` nor a declaration is
+// next.
 fn simple_init(text: Text, cursor: &mut Cursor, depth: u32) -> Result<Vec<RawSimple>, ParseError>
     requires fits { depth ≤ 64 }
     requires some { next_sign cursor.old.tokens.now ≢ Sign.Semicolon }
@@ -64,7 +65,7 @@ fn simple_init(text: Text, cursor: &mut Cursor, depth: u32) -> Result<Vec<RawSim
     alone(text, first)
 }
 
-// The last part, with the `)` behind it.
+// The last part, with the `)` after it.
 fn for_step(text: Text, cursor: &mut Cursor, depth: u32) -> Result<Option<RawSimple>, ParseError>
     requires { depth ≤ 64 }
     ensures read { IfOk result (λ last. ReadsForStep text.entry.bytes.now text.entry.end depth cursor.old.tokens.now (option_map raw_simple_tree last) cursor.new.tokens.now) }

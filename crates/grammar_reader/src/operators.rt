@@ -5,10 +5,10 @@ ghost use Rattle.c_grammar.specs.Operators.{unary_operator_of, infix_operator_of
 use c_lex::{Mark, TokenKind};
 use c_tree::{BinaryOperator, Infix, UnaryOperator};
 
-/// How many levels of binary operators there are, from `||`, the loosest, at 0.
+/// The number of levels of binary operators; `||`, the loosest, has level 0.
 pub(crate) const LEVELS: u32 = 10;
 
-/// The operator before an operand that the token is, if it is one (ISO/IEC 9899:2018, 6.5.3).
+/// Returns the operator before an operand that the token is, if it is one (ISO/IEC 9899:2018, 6.5.3).
 pub(crate) fn unary_of(kind: TokenKind) -> Option<UnaryOperator>
     ensures { result ≡ unary_operator_of (Some kind) }
 {
@@ -21,7 +21,8 @@ pub(crate) fn unary_of(kind: TokenKind) -> Option<UnaryOperator>
     }
 }
 
-/// The operator between two operands that the token is, if it is one (ISO/IEC 9899:2018, 6.5.5 to 6.5.14).
+/// Returns the operator between two operands that the token is, if it is one (ISO/IEC 9899:2018, 6.5.5 to
+/// 6.5.14).
 pub(crate) fn infix_of(kind: TokenKind) -> Option<Infix>
     ensures { result ≡ infix_operator_of (Some kind) }
 {
@@ -48,7 +49,7 @@ pub(crate) fn infix_of(kind: TokenKind) -> Option<Infix>
     }
 }
 
-/// The level of an operator, from 0 for `||` to 9 for `*`, `/` and `%`.
+/// Returns the level of an operator, from 0 for `||` to 9 for `*`, `/` and `%`.
 pub(crate) fn level_of(operator: Infix) -> u32
     ensures { result ≡ level_of_infix operator }
 {

@@ -12,7 +12,7 @@ use crate::cursor::{Cursor, Text};
 use c_grammar::{ParseError, Sign};
 use c_tree::Name;
 
-/// The parameters between parentheses, the first of which comes next. A parameter may lack its name.
+/// Reads the parameters in parentheses, the first of which is next. A parameter may be unnamed.
 pub(crate) fn parameters(text: Text, cursor: &mut Cursor) -> Result<Vec<Option<Name>>, ParseError>
     requires { next_sign cursor.old.tokens.now ≡ Sign.LeftParenthesis }
     ensures read { IfOk result (λ ps. ReadsParameters text.entry.bytes.now text.entry.end cursor.old.tokens.now (map (option_map name_tree) ps.items) cursor.new.tokens.now) }
@@ -33,7 +33,7 @@ pub(crate) fn parameters(text: Text, cursor: &mut Cursor) -> Result<Vec<Option<N
     }
 }
 
-// Parameters one after another, where neither a `)` nor `void` comes, with the `)` behind them.
+// A list of parameters, if neither a `)` nor `void` is next, with the `)` after them.
 fn parameter_list(text: Text, cursor: &mut Cursor) -> Result<Vec<Option<Name>>, ParseError>
     requires some { next_sign cursor.old.tokens.now ≢ Sign.RightParenthesis }
     requires no_void { next_sign cursor.old.tokens.now ≢ Sign.Void }
@@ -50,7 +50,7 @@ fn parameter_list(text: Text, cursor: &mut Cursor) -> Result<Vec<Option<Name>>, 
     Ok(params)
 }
 
-// `int`, with a name behind it or without one.
+// `int`, with an optional name.
 fn parameter(text: Text, cursor: &mut Cursor) -> Result<Option<Name>, ParseError>
     ensures read { IfOk result (λ p. ReadsParameter text.entry.bytes.now text.entry.end cursor.old.tokens.now (option_map name_tree p) cursor.new.tokens.now) }
     ensures refused { IfErr result (λ error. RefusedParameter text.entry.end cursor.old.tokens.now error) }
@@ -63,7 +63,7 @@ fn parameter(text: Text, cursor: &mut Cursor) -> Result<Option<Name>, ParseError
     Ok(Some(name))
 }
 
-/// Whether each parameter has a name.
+/// Returns whether each parameter has a name.
 pub(crate) fn all_named(params: &[Option<Name>]) -> bool
     ensures { result ≡ all_have_names (map (option_map name_tree) params.now) }
 {
@@ -75,7 +75,7 @@ pub(crate) fn all_named(params: &[Option<Name>]) -> bool
     true
 }
 
-/// The names of the parameters that have one.
+/// Returns the names of the parameters that have one.
 pub(crate) fn names_of(text: Text, params: Vec<Option<Name>>) -> Result<Vec<Name>, ParseError>
     ensures names { IfOk result (λ ns. map name_tree ns.items ≡ names_in (map (option_map name_tree) params.items)) }
     ensures memory { IfErr result (λ error. error ≡ Memory) }

@@ -1,4 +1,5 @@
-// Statements that hold no other statement, and the declarations of a block (ISO/IEC 9899:2018, 6.7, 6.8.3 and 6.8.6).
+// Statements that contain no other statement, and the declarations of a block (ISO/IEC 9899:2018, 6.7, 6.8.3 and
+// 6.8.6).
 ghost use Rattle.std.specs.Prelude.{◌≡◌, ◌≤◌, [], ◌∷◌, ◌++◌, IfOk, IfErr, map, option_map};
 ghost use Rattle.c_tree.specs.RawTrees.{RawDo};
 ghost use Rattle.c_tree.specs.RawViews.{raw_expr_tree, raw_simple_tree, raw_stmt_tree};
@@ -16,7 +17,7 @@ use crate::simples::{locals, simple};
 use c_grammar::{ParseError, Sign};
 use c_tree::{RawExpr, RawSimple, RawStmt};
 
-/// The declarations of one list, whose `int` comes next, each a statement of its own.
+/// Reads the declarations of one list, whose `int` is next, each as one statement.
 pub(crate) fn declarations(
     text: Text,
     cursor: &mut Cursor,
@@ -32,7 +33,7 @@ pub(crate) fn declarations(
     push_declared(stmts, declared)
 }
 
-// Each declaration as a statement, behind the others.
+// Appends each declaration as a statement.
 fn push_declared(stmts: &mut Vec<RawStmt>, declared: Vec<RawSimple>) -> Result<(), ParseError>
     ensures pushed { IfOk result (λ _. map raw_stmt_tree stmts.new.items ≡ map raw_stmt_tree stmts.old.items ++ map RawDo (map raw_simple_tree declared.items)) }
     ensures memory { IfErr result (λ error. error ≡ Memory) }
@@ -43,7 +44,7 @@ fn push_declared(stmts: &mut Vec<RawStmt>, declared: Vec<RawSimple>) -> Result<(
     Ok(())
 }
 
-/// A `break`, which comes next.
+/// Reads a `break`, which is next.
 pub(crate) fn break_statement(
     text: Text,
     cursor: &mut Cursor,
@@ -60,7 +61,7 @@ pub(crate) fn break_statement(
     Ok(RawStmt::Break { at })
 }
 
-/// A `continue`, which comes next.
+/// Reads a `continue`, which is next.
 pub(crate) fn continue_statement(
     text: Text,
     cursor: &mut Cursor,
@@ -77,7 +78,7 @@ pub(crate) fn continue_statement(
     Ok(RawStmt::Continue { at })
 }
 
-/// A `return`, which comes next, with its value or without one.
+/// Reads a `return`, which is next, with its optional value.
 pub(crate) fn return_statement(
     text: Text,
     cursor: &mut Cursor,
@@ -94,7 +95,7 @@ pub(crate) fn return_statement(
     Ok(RawStmt::Return { at, value })
 }
 
-/// An assignment or a call, with its `;`, where no other statement begins.
+/// Reads an assignment or a call, with its `;`, if no other statement begins here.
 pub(crate) fn simple_statement(
     text: Text,
     cursor: &mut Cursor,
@@ -110,7 +111,7 @@ pub(crate) fn simple_statement(
     Ok(RawStmt::Simple(simple))
 }
 
-/// An expression that may be left out, with the `;` behind it.
+/// Reads an optional expression and the `;` after it.
 pub(crate) fn up_to_semicolon(
     text: Text,
     cursor: &mut Cursor,

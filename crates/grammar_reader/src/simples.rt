@@ -13,7 +13,7 @@ use crate::held::{before_sign, both};
 use c_grammar::{ParseError, Sign};
 use c_tree::{Name, RawExpr, RawSimple};
 
-/// An assignment or a call.
+/// Reads an assignment or a call.
 pub(crate) fn simple(text: Text, cursor: &mut Cursor, depth: u32) -> Result<RawSimple, ParseError>
     requires { depth ≤ 64 }
     ensures read { IfOk result (λ s. ReadsSimple text.entry.bytes.now text.entry.end depth cursor.old.tokens.now (raw_simple_tree s) cursor.new.tokens.now) }
@@ -66,7 +66,7 @@ fn indexed(
     Ok(RawSimple::SetElement { name, index, value })
 }
 
-/// The declarations that `int` begins, which comes next, up to their `;`.
+/// Reads the declarations after `int`, which is next, up to their `;`.
 pub(crate) fn locals(
     text: Text,
     cursor: &mut Cursor,
@@ -109,7 +109,7 @@ fn local(text: Text, cursor: &mut Cursor, depth: u32) -> Result<RawSimple, Parse
     }
 }
 
-/// A number between brackets.
+/// Reads a number in brackets.
 pub(crate) fn size(text: Text, cursor: &mut Cursor, depth: u32) -> Result<u32, ParseError>
     requires { depth ≤ 64 }
     ensures read { IfOk result (λ words. ReadsSize text.entry.end depth cursor.old.tokens.now words cursor.new.tokens.now) }

@@ -17,7 +17,7 @@ use crate::plain_statements::{
 use c_grammar::{ParseError, Sign};
 use c_tree::RawStmt;
 
-/// A block: statements between braces, the first of which comes next. A declaration of several names is several
+/// Reads a block: statements in braces, the first of which is next. A declaration of several names is several
 /// statements.
 #[cycle(statement)]
 pub(crate) fn block(text: Text, cursor: &mut Cursor, depth: u32) -> Result<Vec<RawStmt>, ParseError>
@@ -60,7 +60,7 @@ fn block_item(
     push_next(stmts, statement(text, cursor, depth))
 }
 
-// A statement that is no declaration.
+// A statement that isn't a declaration.
 #[cycle(statement)]
 fn statement(text: Text, cursor: &mut Cursor, depth: u32) -> Result<RawStmt, ParseError>
     requires { depth ≤ 64 }
@@ -86,7 +86,7 @@ fn statement(text: Text, cursor: &mut Cursor, depth: u32) -> Result<RawStmt, Par
     }
 }
 
-// A statement that is no declaration, in a box.
+// A statement that isn't a declaration, in a box.
 #[cycle(statement)]
 fn boxed_statement(text: Text, cursor: &mut Cursor, depth: u32) -> Result<Box<RawStmt>, ParseError>
     requires { depth ≤ 64 }
@@ -96,7 +96,7 @@ fn boxed_statement(text: Text, cursor: &mut Cursor, depth: u32) -> Result<Box<Ra
     boxed(text, statement(text, cursor, depth))
 }
 
-// An `if`, which comes next, with the `else` behind it, which belongs to the nearest `if`.
+// An `if`, which is next, with its optional `else`, which belongs to the nearest `if`.
 #[cycle(statement)]
 fn if_statement(text: Text, cursor: &mut Cursor, depth: u32) -> Result<RawStmt, ParseError>
     requires fits { depth ≤ 64 }
@@ -131,7 +131,7 @@ fn if_statement(text: Text, cursor: &mut Cursor, depth: u32) -> Result<RawStmt, 
     }
 }
 
-// A `while`, which comes next.
+// A `while`, which is next.
 #[cycle(statement)]
 fn while_statement(text: Text, cursor: &mut Cursor, depth: u32) -> Result<RawStmt, ParseError>
     requires fits { depth ≤ 64 }
@@ -150,7 +150,7 @@ fn while_statement(text: Text, cursor: &mut Cursor, depth: u32) -> Result<RawStm
     }
 }
 
-// A `for`, which comes next.
+// A `for`, which is next.
 #[cycle(statement)]
 fn for_statement(text: Text, cursor: &mut Cursor, depth: u32) -> Result<RawStmt, ParseError>
     requires fits { depth ≤ 64 }

@@ -12,7 +12,7 @@ use crate::simples::size;
 use c_grammar::{ParseError, Sign};
 use c_tree::{Name, RawItem, RawTable};
 
-/// What follows the `int` of a table, whose parenthesis comes next, up to its `;`.
+/// Reads what follows the `int` of a table, whose parenthesis is next, up to its `;`.
 pub(crate) fn table(text: Text, cursor: &mut Cursor) -> Result<RawItem, ParseError>
     requires { next_sign cursor.old.tokens.now ≡ Sign.LeftParenthesis }
     ensures read { IfOk result (λ item. ReadsTable text.entry.bytes.now text.entry.end cursor.old.tokens.now (raw_item_tree item) cursor.new.tokens.now) }
@@ -30,7 +30,7 @@ pub(crate) fn table(text: Text, cursor: &mut Cursor) -> Result<RawItem, ParseErr
     }))
 }
 
-// The name and the size, with the `*` before them and the parentheses, the first of which comes next.
+// The name and the size, with the `*` before them and the parentheses, the first of which is next.
 fn declared(text: Text, cursor: &mut Cursor) -> Result<(Name, u32), ParseError>
     requires { next_sign cursor.old.tokens.now ≡ Sign.LeftParenthesis }
     ensures read { IfOk result (λ t. ReadsDeclared text.entry.bytes.now text.entry.end cursor.old.tokens.now (name_tree t.0) t.1 cursor.new.tokens.now) }
@@ -44,7 +44,7 @@ fn declared(text: Text, cursor: &mut Cursor) -> Result<(Name, u32), ParseError>
     Ok((name, size))
 }
 
-// The `(int)` that says what the functions of a table are passed.
+// The `(int)` that declares the parameter of the table's functions.
 fn table_parameter(text: Text, cursor: &mut Cursor) -> Result<(), ParseError>
     ensures read { IfOk result (λ _. ReadsTableParameter text.entry.end cursor.old.tokens.now cursor.new.tokens.now) }
     ensures refused { IfErr result (λ error. Refused text.entry.end 0 (TableParameter ∷ []) cursor.old.tokens.now error) }
@@ -55,7 +55,7 @@ fn table_parameter(text: Text, cursor: &mut Cursor) -> Result<(), ParseError>
     Ok(())
 }
 
-// The names between braces.
+// The names in braces.
 fn members(text: Text, cursor: &mut Cursor) -> Result<Vec<Name>, ParseError>
     ensures read { IfOk result (λ ns. ReadsMembers text.entry.bytes.now text.entry.end cursor.old.tokens.now (map name_tree ns.items) cursor.new.tokens.now) }
     ensures refused { IfErr result (λ error. Refused text.entry.end 0 (TableMembers ∷ []) cursor.old.tokens.now error) }

@@ -1,4 +1,4 @@
--- Names that a source may have: they don't begin with a digit.
+-- Names that a source may contain: they don't begin with a digit.
 use Rattle.std.specs.Prelude.{ℕ, ◌<◌, ◌⊎◌, List, [], ◌∷◌, Option, Some, None}
 use Rattle.c_tree.specs.RawTrees.{NameTree, RawExprTree, RawExprTrees, RawNumber, RawName, RawElement, RawUnary, RawParenthesized, RawBinary, RawLogicalAnd, RawLogicalOr, RawConditional, RawCall, RawTableCall, NoExprs, And, RawSimpleTree, RawDeclareScalar, RawDeclareArray, RawDeclareWith, RawSet, RawSetElement, RawCalling, RawTableCalling, RawStmtTree, RawStmtTrees, RawDo, RawEmpty, RawBlock, RawIf, RawIfElse, RawWhile, RawFor, RawBreak, RawContinue, RawReturn, NoRawStmts, RawThen, RawItemTree, RawGlobal, RawGlobalArray, RawTableItem, RawPrototypeItem, RawFunctionItem}
 
@@ -70,7 +70,7 @@ abbrev pub AreNamed : List NameTree → Type 0
 AreNamed [] = Unit {0}
 AreNamed (n ∷ ns) = IsSourceName n.text × AreNamed ns
 
--- a parameter of a prototype may have no name
+-- a parameter of a prototype may be unnamed
 abbrev pub AreParamsNamed : List (Option NameTree) → Type 0
 AreParamsNamed [] = Unit {0}
 AreParamsNamed (None ∷ ns) = AreParamsNamed ns

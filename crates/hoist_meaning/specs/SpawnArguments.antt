@@ -1,9 +1,9 @@
--- No call stands in the first argument of a `spawn`, which is a function's name.
+-- No call is in the first argument of a `spawn`, which is a function's name.
 use Rattle.std.specs.Prelude.{◌≡◌, Bool, true, false, List, [], ◌∷◌, Option, Some, None}
 use Rattle.c_tree.specs.RawTrees.{RawExprTree, RawExprTrees, RawNumber, RawName, RawElement, RawUnary, RawParenthesized, RawBinary, RawLogicalAnd, RawLogicalOr, RawConditional, RawCall, RawTableCall, NoExprs, And, RawSimpleTree, RawDeclareScalar, RawDeclareArray, RawDeclareWith, RawSet, RawSetElement, RawCalling, RawTableCalling, RawStmtTree, RawStmtTrees, RawDo, RawEmpty, RawBlock, RawIf, RawIfElse, RawWhile, RawFor, RawBreak, RawContinue, RawReturn, NoRawStmts, RawThen, RawItemTree, RawGlobal, RawGlobalArray, RawTableItem, RawPrototypeItem, RawFunctionItem}
 use Rattle.hoist_parts.specs.Calls.{holds_call, is_spawn}
 
--- of arguments, whether the first is one
+-- for arguments, whether the first is one
 abbrev mutual
   pub IsPlain : RawExprTree → Type 0
   IsPlain (RawNumber v) = Unit {0}
@@ -23,7 +23,7 @@ abbrev mutual
   ArePlain true (And e es) = (holds_call e ≡ false) × ArePlain false es
   ArePlain false (And e es) = IsPlain e × ArePlain false es
 
--- ---- of statements; the parts in the parentheses of a `for` stay as they are
+-- ---- of statements; the parts in the parentheses of a `for` stay the same
 
 abbrev pub IsSimplePlain : RawSimpleTree → Type 0
 IsSimplePlain (RawDeclareScalar n) = Unit {0}

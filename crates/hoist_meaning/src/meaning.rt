@@ -16,16 +16,16 @@ ghost use Rattle.hoist_meaning.specs.SourceNames.{AreItemsNamed};
 ghost use Rattle.hoist_parts.specs.Statements.{items_hoisted};
 ghost use Rattle.scope_rules.specs.Numbered.{IsResolvedBy};
 
-/// Where every call in the parentheses of a `for` is whole, no name begins with a digit, and the places of calls rise in the order of
-/// the tree, the well-scoped program that the rewritten tree is, its calls numbered by their names' places, does what the text does. It
-/// does nothing: the law is the contract.
+/// Law: if every call in the parentheses of a `for` is whole, no name begins with a digit, and the places of calls
+/// increase in the order of the tree, the well-scoped program of the rewritten tree, with its calls numbered by their
+/// names' places, does what the text does.
 pub fn rewritten_sources_mean_the_same()
     ensures { (items : List RawItemTree) (end : ℕ) (program : ProgramTree) → AreForPartsWhole items → AreItemsNamed items →
         RiseWithin 0 (items_places is_call items) end → IsResolvedBy (site_numbers (items_hoisted items)) (items_hoisted items) program →
         IsWellScoped program → RunsTheSame program (deep_program items) }
 {}
 
-/// No name of a source that is read begins with a digit. It does nothing: the law is the contract.
+/// Law: no name of a source that is read begins with a digit.
 pub fn names_begin_with_letters()
     ensures { (source : List ℕ) (tokens : List Token) (items : List RawItemTree) →
         AreTokensOf source tokens → IsProgram source tokens items → AreItemsNamed items }

@@ -1,4 +1,4 @@
--- Which expressions hold a call, and which parts of an expression are given a name of their own.
+-- Which expressions contain a call, and which parts of an expression get a name.
 use Rattle.std.specs.Prelude.{Bool, true, false, not, ◌&&◌, ◌||◌, codes}
 use Rattle.std.specs.Str.{bytes_eq}
 use Rattle.c_tree.specs.RawTrees.{NameTree, RawExprTree, RawExprTrees, RawNumber, RawName, RawElement, RawUnary, RawParenthesized, RawBinary, RawLogicalAnd, RawLogicalOr, RawConditional, RawCall, RawTableCall, NoExprs, And}
@@ -20,23 +20,24 @@ abbrev pub hold_call : RawExprTrees → Bool
 hold_call NoExprs = false
 hold_call (And e es) = holds_call e || hold_call es
 
--- a right side or a returned value holds a call that isn't whole: itself it may be one
+-- a right side or a returned value contains a call that isn't whole; itself it may be a call
 abbrev pub holds_nested : RawExprTree → Bool
 holds_nested (RawCall n es) = hold_call es
 holds_nested (RawTableCall n i e) = holds_call i || holds_call e
 holds_nested e = holds_call e
 
--- A number stays where it is. A call leaves the name of its result, so it needs no second one.
+-- whether a part needs no name: a number keeps its place, and a call is replaced by the name of its
+-- result, so it needs no second one
 abbrev pub is_left_alone : RawExprTree → Bool
 is_left_alone (RawNumber v) = true
 is_left_alone (RawCall n es) = true
 is_left_alone (RawTableCall n i e) = true
 is_left_alone e = false
 
--- a part is given a name where a later part holds a call
+-- a part gets a name if a later part contains a call
 abbrev pub is_named : Bool → RawExprTree → Bool
 is_named later e = later && not (is_left_alone e)
 
--- the first argument of `spawn` stays where it is
+-- the first argument of `spawn` keeps its place
 abbrev pub is_spawn : NameTree → Bool
 is_spawn n = bytes_eq n.text (codes "spawn")

@@ -1,4 +1,4 @@
--- Operators one after another, as the code builds them.
+-- Chains of operators, as the code builds them.
 use Rattle.std.specs.Prelude.{ℕ, ◌+◌, Bool, false, not, ◌&&◌, List, [], ◌∷◌, ◌++◌, if◌then◌else◌}
 use Rattle.c_tree.specs.declared.operators.Infix.{Infix}
 use Rattle.c_tree.specs.declared.raw_expressions.RawExpr.{RawExpr}
@@ -22,13 +22,15 @@ branches (Infix.Binary op) calling = false
 branches Infix.LogicalAnd calling = calling
 branches Infix.LogicalOr calling = calling
 
--- the condition under which the right operand of a logical operator is evaluated, by the new name that holds the left one's truth
+-- the condition under which the right operand of a logical operator is evaluated, by the new name of the left operand's
+-- truth
 abbrev pub condition_by : Infix → ℕ → RawExprTree
 condition_by (Infix.Binary op) k = used k
 condition_by Infix.LogicalAnd k = used k
 condition_by Infix.LogicalOr k = is_false (used k)
 
--- Whether a left operand takes a name, where what is done of it needs none (`alone`) or not: of `&&` and `||` it is the name of the result.
+-- Whether a left operand gets a name; `alone` says that it needs none to keep its value. For `&&` and `||` it is the
+-- name of the result.
 abbrev pub is_left_named : Infix → Bool → RawExprTree → Bool
 is_left_named (Infix.Binary op) alone r = holds_call r && not alone
 is_left_named Infix.LogicalAnd alone r = holds_call r
@@ -38,19 +40,19 @@ is_left_named Infix.LogicalOr alone r = holds_call r
 abbrev pub operand_after : ℕ → Infix → Bool → RawExprTree → ℕ
 operand_after k op alone r = k + one_if (is_left_named op alone r) + names_in r
 
--- what is left of an operator between a left operand, of which `l` is left, and a right one
+-- the remaining expression for an operator between a left operand, which has become `l`, and a right one
 abbrev pub operand_left : ℕ → Infix → Bool → RawExprTree → RawExprTree → RawExprTree
 operand_left k (Infix.Binary op) alone l r = RawBinary op (part_or (holds_call r && not alone) k l) (left_of (k + one_if (holds_call r && not alone)) r)
 operand_left k Infix.LogicalAnd alone l r = if holds_call r then used k else RawLogicalAnd l r
 operand_left k Infix.LogicalOr alone l r = if holds_call r then used k else RawLogicalOr l r
 
--- what goes before it, after what goes before its left operand
+-- the statements before it, after those before its left operand
 abbrev pub operand_before : ℕ → Infix → Bool → RawExprTree → RawExprTree → List RawStmtTree
 operand_before k (Infix.Binary op) alone l r = part_named (holds_call r && not alone) k l ++ before (k + one_if (holds_call r && not alone)) r
 operand_before k Infix.LogicalAnd alone l r = if holds_call r then decided k l (used k) (before (k + 1) r) (left_of (k + 1) r) else []
 operand_before k Infix.LogicalOr alone l r = if holds_call r then decided k l (is_false (used k)) (before (k + 1) r) (left_of (k + 1) r) else []
 
--- operators one after another
+-- a chain of operators
 abbrev pub operands_after : ℕ → Bool → List (Infix × RawExprTree) → ℕ
 operands_after k alone [] = k
 operands_after k alone (p ∷ ps) = operands_after (operand_after k p.0 alone p.1) false ps

@@ -1,6 +1,6 @@
--- The rewriting of an expression, whose new names have numbers from k on: what goes before its statement, and what is left of it.
--- Evaluation is from left to right, so a part that stands left of a call is evaluated before it, into a name of its own
--- (ISO/IEC 9899:2018, 6.5, with the order that CapC fixes).
+-- The rewriting of an expression, with new names numbered from k on: the statements before its statement, and the
+-- remaining expression. Evaluation is from left to right, so a part to the left of a call is evaluated before it, into
+-- a name (ISO/IEC 9899:2018, 6.5, with the order that CapC fixes).
 use Rattle.std.specs.Prelude.{ℕ, ◌+◌, Bool, true, false, ◌||◌, List, [], ◌∷◌, ◌++◌, if◌then◌else◌}
 use Rattle.c_tree.specs.declared.operators.BinaryOperator.{BinaryOperator}
 use Rattle.c_tree.specs.declared.operators.UnaryOperator.{UnaryOperator}
@@ -13,7 +13,7 @@ abbrev pub one_if : Bool → ℕ
 one_if true = 1
 one_if false = 0
 
--- how many new names an expression takes; of arguments, whether the first stays where it is
+-- the number of new names for an expression; for arguments, by whether the first keeps its place
 abbrev mutual
   pub names_in : RawExprTree → ℕ
   names_in (RawNumber v) = 0
@@ -33,20 +33,21 @@ abbrev mutual
   arguments_names true (And e es) = arguments_names false es
   arguments_names false (And e es) = names_in e + one_if (is_named (hold_call es) e) + arguments_names false es
 
--- the number after an earlier part, whose names begin at k
+-- the number after an earlier part whose names begin at k
 abbrev pub part_after : ℕ → Bool → RawExprTree → ℕ
 part_after k later e = k + names_in e + one_if (is_named later e)
 
--- an earlier part where it is given the name k, and else what is left of it
+-- the name k of an earlier part if it gets one, and otherwise the remaining expression
 abbrev pub part_or : Bool → ℕ → RawExprTree → RawExprTree
 part_or true k left = used k
 part_or false k left = left
 
--- the first argument of `spawn`: one that holds a call becomes the number 0, which breaks the same rule at the same place
+-- the first argument of `spawn`: one that contains a call becomes the number 0, which breaks the same rule at the same
+-- place
 abbrev pub spawned_left : RawExprTree → RawExprTree
 spawned_left e = if holds_call e then RawNumber 0 else e
 
--- what is left of an expression
+-- the remaining expression
 abbrev mutual
   pub left_of : ℕ → RawExprTree → RawExprTree
   left_of k (RawNumber v) = RawNumber v
@@ -61,13 +62,13 @@ abbrev mutual
   left_of k (RawCall n es) = used (k + arguments_names (is_spawn n) es)
   left_of k (RawTableCall n i e) = used (part_after k (holds_call e) i + names_in e)
 
-  -- of a call's arguments
+  -- the remaining arguments of a call
   pub arguments_left : Bool → ℕ → RawExprTrees → RawExprTrees
   arguments_left stays k NoExprs = NoExprs
   arguments_left true k (And e es) = And (spawned_left e) (arguments_left false k es)
   arguments_left false k (And e es) = And (part_or (is_named (hold_call es) e) (k + names_in e) (left_of k e)) (arguments_left false (part_after k (hold_call es) e) es)
 
--- a call itself, with its parts as they are left
+-- a call itself, with its remaining parts
 abbrev pub call_left : ℕ → NameTree → RawExprTrees → RawExprTree
 call_left k n es = RawCall n (arguments_left (is_spawn n) k es)
 
@@ -80,7 +81,7 @@ argument_left k i e = left_of (part_after k (holds_call e) i) e
 abbrev pub table_call_left : ℕ → NameTree → RawExprTree → RawExprTree → RawExprTree
 table_call_left k n i e = RawTableCall n (index_left k i e) (argument_left k i e)
 
--- `int h = x;` of an earlier part that is given the name k
+-- `int h = x;` for an earlier part that gets the name k
 abbrev pub part_named : Bool → ℕ → RawExprTree → List RawStmtTree
 part_named true k left = declared_as k left ∷ []
 part_named false k left = []
@@ -96,11 +97,11 @@ is_false e = RawUnary UnaryOperator.Not e
 abbrev pub in_block : List RawStmtTree → RawStmtTree
 in_block ss = RawBlock (raw_in_order ss)
 
--- `int h = l != 0; if (c) { P(r) h = r != 0; }`, where h has the number k
+-- `int h = l != 0; if (c) { P(r) h = r != 0; }`, where h is the name with number k
 abbrev pub decided : ℕ → RawExprTree → RawExprTree → List RawStmtTree → RawExprTree → List RawStmtTree
 decided k l c before r = declared_as k (is_true l) ∷ RawIf c (in_block (before ++ set_to k (is_true r) ∷ [])) ∷ []
 
--- what goes before an expression
+-- the statements before an expression
 abbrev mutual
   pub before : ℕ → RawExprTree → List RawStmtTree
   before k (RawNumber v) = []

@@ -3,8 +3,8 @@ use Rattle.std.specs.Prelude.{ℕ}
 use Rattle.cap_text.specs.Decimals.{canonical_decimal}
 use Rattle.c_tree.specs.RawTrees.{NameTree, RawExprTree, RawName, RawDeclareScalar, RawDeclareWith, RawSet, RawStmtTree, RawDo}
 
--- The new name of a number: its decimal, which begins with a digit, so that no source has it. It stands nowhere in the text; no rule
--- is broken at it, so its place is never told.
+-- The new name with a number: its decimal, which begins with a digit, so no source contains it. It has no place in the
+-- text; no rule is broken at it, so its place is never reported.
 abbrev pub new_name : ℕ → NameTree
 new_name k = record { at = 0; text = canonical_decimal k }
 
@@ -12,7 +12,7 @@ new_name k = record { at = 0; text = canonical_decimal k }
 abbrev pub used : ℕ → RawExprTree
 used k = RawName (new_name k)
 
--- `int h;`, `int h = v;` and `h = v;` of a new name
+-- `int h;`, `int h = v;` and `h = v;` for a new name
 abbrev pub declared : ℕ → RawStmtTree
 declared k = RawDo (RawDeclareScalar (new_name k))
 

@@ -1,4 +1,4 @@
--- The rewriting of statements and of a whole source. A statement in which each call is whole stays as it is.
+-- The rewriting of statements and of a whole source. A statement in which each call is whole stays the same.
 use Rattle.std.specs.Prelude.{ℕ, ◌+◌, List, [], ◌∷◌, ◌++◌, Option, Some, None, if◌then◌else◌}
 use Rattle.c_tree.specs.RawTrees.{RawExprTree, RawNumber, RawCall, RawTableCall, RawSimpleTree, RawDeclareScalar, RawDeclareArray, RawDeclareWith, RawSet, RawSetElement, RawCalling, RawTableCalling, RawStmtTree, RawStmtTrees, RawDo, RawEmpty, RawBlock, RawIf, RawIfElse, RawWhile, RawFor, RawBreak, RawContinue, RawReturn, NoRawStmts, RawThen, RawItemTree, RawGlobal, RawGlobalArray, RawTableItem, RawPrototypeItem, RawFunctionItem}
 use Rattle.c_tree.specs.RawViews.{raw_in_order}
@@ -17,7 +17,7 @@ value_left k (RawCall n es) = call_left k n es
 value_left k (RawTableCall n i e) = table_call_left k n i e
 value_left k e = left_of k e
 
--- of an index and the argument after it
+-- the statements before an index and the argument after it
 abbrev pub table_before : ℕ → RawExprTree → RawExprTree → List RawStmtTree
 table_before k i e = before k i ++ part_named (is_named (holds_call e) i) (k + names_in i) (left_of k i) ++ before (part_after k (holds_call e) i) e
 
@@ -61,7 +61,7 @@ abbrev pub returned_names : Option RawExprTree → ℕ
 returned_names None = 0
 returned_names (Some v) = value_names v
 
--- how many new names a statement takes, those in it included
+-- the number of new names for a statement, including those in the statements in it
 abbrev mutual
   pub stmt_names : RawStmtTree → ℕ
   stmt_names (RawDo s) = simple_names s
@@ -79,7 +79,7 @@ abbrev mutual
   stmts_names NoRawStmts = 0
   stmts_names (RawThen s ss) = stmt_names s + stmts_names ss
 
--- statements as a body: a block, where they aren't one alone
+-- statements as a body: a block, unless there is exactly one
 abbrev pub as_body : List RawStmtTree → RawStmtTree
 as_body [] = RawEmpty
 as_body (s ∷ []) = s
@@ -93,7 +93,7 @@ abbrev pub returned_left : ℕ → Option RawExprTree → Option RawExprTree
 returned_left k None = None
 returned_left k (Some v) = Some (value_left k v)
 
--- `P(c) if (!c) break; S`: the new `break` stands in a loop, so its place is never told
+-- `P(c) if (!c) break; S`: the new `break` is in a loop, so its place is never reported
 abbrev pub turn_of : ℕ → RawExprTree → RawStmtTree → List RawStmtTree
 turn_of k c s = before k c ++ RawIf (is_false (left_of k c)) (RawBreak 0) ∷ s ∷ []
 
@@ -101,7 +101,7 @@ turn_of k c s = before k c ++ RawIf (is_false (left_of k c)) (RawBreak 0) ∷ s 
 abbrev pub while_calling : ℕ → RawExprTree → RawStmtTree → RawStmtTree
 while_calling k c s = RawWhile (RawNumber 1) (in_block (turn_of k c s))
 
--- a statement as the statements that stand in its place; the parts in the parentheses of a `for` stay as they are
+-- the statements that replace a statement; the parts in the parentheses of a `for` stay the same
 abbrev mutual
   pub hoisted : ℕ → RawStmtTree → List RawStmtTree
   hoisted k (RawDo s) = simple_before k s ++ RawDo (simple_left k s) ∷ []

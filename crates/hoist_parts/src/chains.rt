@@ -1,4 +1,4 @@
-// Operators one after another, of which some have gone before the statement.
+// Chains of operators, some operands of which have been moved before the statement.
 ghost use Rattle.std.specs.Prelude.{◌≡◌, IfOk};
 ghost use Rattle.c_tree.specs.RawTrees.{RawUnary};
 ghost use Rattle.c_tree.specs.RawViews.{raw_expr_tree, raw_joined, raw_chained};
@@ -9,7 +9,7 @@ use crate::new_names::used;
 use c_tree::{BinaryOperator, Infix, RawExpr, UnaryOperator};
 use std::alloc::{AllocError, Global};
 
-/// A first operand, and operators with the operands after it, which group to the left.
+/// A first operand, and operators with their right operands, which group to the left.
 #[derive(Drop)]
 pub struct Chain {
     pub first: RawExpr,
@@ -17,7 +17,7 @@ pub struct Chain {
 }
 
 impl Chain {
-    /// One operand alone.
+    /// Returns a chain of one operand.
     pub fn of(alloc: Global, first: RawExpr) -> Chain
         ensures { chain_tree result ≡ raw_expr_tree first }
     {
@@ -27,7 +27,7 @@ impl Chain {
         }
     }
 
-    /// One operator and its right operand more.
+    /// Returns the chain with one more operator and its right operand.
     pub fn with(mut self, operator: Infix, operand: RawExpr) -> Result<Chain, AllocError>
         ensures { IfOk result (λ c. chain_tree c ≡ raw_joined (chain_tree self) operator (raw_expr_tree operand)) }
     {
@@ -37,7 +37,7 @@ impl Chain {
         }
     }
 
-    /// The expression. Its list of operators has no spare capacity.
+    /// Returns the expression. Its list of operators has no spare capacity.
     pub fn whole(self, alloc: Global) -> Result<RawExpr, AllocError>
         ensures { IfOk result (λ e. raw_expr_tree e ≡ chain_tree self) }
     {
@@ -51,7 +51,7 @@ impl Chain {
     }
 }
 
-// A first operand, and operators with the operands after it.
+// A first operand, and operators with their right operands.
 fn chained(
     alloc: Global,
     first: RawExpr,
@@ -65,7 +65,7 @@ fn chained(
     })
 }
 
-/// An operator before its operand.
+/// Returns a unary operator applied to an operand.
 pub fn unary(
     alloc: Global,
     operator: UnaryOperator,
@@ -79,7 +79,7 @@ pub fn unary(
     })
 }
 
-/// `e != 0`
+/// Returns `e != 0`.
 pub fn is_true(alloc: Global, e: RawExpr) -> Result<RawExpr, AllocError>
     ensures { IfOk result (λ c. raw_expr_tree c ≡ is_true (raw_expr_tree e)) }
 {
@@ -88,14 +88,14 @@ pub fn is_true(alloc: Global, e: RawExpr) -> Result<RawExpr, AllocError>
     chain.whole(alloc)
 }
 
-/// `!e`
+/// Returns `!e`.
 pub fn is_false(alloc: Global, e: RawExpr) -> Result<RawExpr, AllocError>
     ensures { IfOk result (λ c. raw_expr_tree c ≡ is_false (raw_expr_tree e)) }
 {
     Ok(unary(alloc, UnaryOperator::Not, e)?)
 }
 
-/// Whether the right operand is evaluated in a branch, where it holds a call or not: that of `&&` and `||`.
+/// Returns whether the right operand is evaluated in a branch: that of `&&` or `||`, if it contains a call.
 pub fn is_branching(operator: Infix, is_calling: bool) -> bool
     ensures { result ≡ branches operator is_calling }
 {
@@ -105,7 +105,8 @@ pub fn is_branching(operator: Infix, is_calling: bool) -> bool
     }
 }
 
-/// The condition under which the right operand of a logical operator is evaluated, by the new name of the left one's truth.
+/// Returns the condition under which the right operand of a logical operator is evaluated, by the new name of the left
+/// operand's truth.
 pub fn condition_by(alloc: Global, operator: Infix, number: u32) -> Result<RawExpr, AllocError>
     ensures { IfOk result (λ c. raw_expr_tree c ≡ condition_by operator number) }
 {

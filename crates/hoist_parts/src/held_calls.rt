@@ -1,4 +1,4 @@
-// Which expressions hold a call.
+// Which expressions contain a call.
 ghost use Rattle.std.specs.Prelude.{◌≡◌, ◌≤◌, ◌+◌, ◌&&◌, ◌||◌, not};
 ghost use Rattle.c_tree.specs.RawViews.{name_tree, raw_expr_tree, raw_expr_trees};
 ghost use Rattle.hoist_parts.specs.Calls.{holds_call, hold_call, holds_nested, is_left_alone, is_spawn};
@@ -7,7 +7,7 @@ ghost use Rattle.hoist_parts.specs.Expressions.{one_if};
 
 use c_tree::{Name, RawExpr};
 
-/// Whether a call stands in the expression.
+/// Returns whether the expression contains a call.
 pub fn holds_call(expr: &RawExpr) -> bool
     ensures { result ≡ holds_call (raw_expr_tree expr.now) }
 {
@@ -32,7 +32,7 @@ pub fn holds_call(expr: &RawExpr) -> bool
     }
 }
 
-// Whether a call stands in one of them.
+// Whether one of them contains a call.
 fn hold_call(exprs: &[RawExpr]) -> bool
     ensures { result ≡ hold_call (raw_expr_trees exprs.now) }
 {
@@ -43,7 +43,7 @@ fn hold_call(exprs: &[RawExpr]) -> bool
     held
 }
 
-/// How many of them hold a call.
+/// Returns how many of them contain a call.
 pub fn calls_among(exprs: &[RawExpr]) -> usize
     ensures { result ≡ calls_among (raw_expr_trees exprs.now) }
 {
@@ -56,7 +56,7 @@ pub fn calls_among(exprs: &[RawExpr]) -> usize
     calls
 }
 
-/// How many of those after one hold a call, where `calls` of them and it do.
+/// Returns how many of those after one contain a call, if `calls` of these and it do.
 pub fn calls_after(calls: usize, one: &RawExpr) -> usize
     requires { one_if (holds_call (raw_expr_tree one.now)) ≤ calls }
     ensures { calls ≡ one_if (holds_call (raw_expr_tree one.now)) + result }
@@ -64,7 +64,7 @@ pub fn calls_after(calls: usize, one: &RawExpr) -> usize
     if holds_call(one) { calls - 1 } else { calls }
 }
 
-/// Whether a call that isn't whole stands in a right side or a returned value.
+/// Returns whether a right side or a returned value contains a call that isn't whole.
 pub fn holds_nested(value: &RawExpr) -> bool
     ensures { result ≡ holds_nested (raw_expr_tree value.now) }
 {
@@ -86,7 +86,8 @@ pub fn holds_nested(value: &RawExpr) -> bool
     }
 }
 
-/// Whether a part keeps its place: a number, and a call, which leaves the name of its result.
+/// Returns whether a part needs no name: a number, or a call, which is replaced by the name of its
+/// result.
 pub fn is_left_alone(expr: &RawExpr) -> bool
     ensures { result ≡ is_left_alone (raw_expr_tree expr.now) }
 {
@@ -97,21 +98,21 @@ pub fn is_left_alone(expr: &RawExpr) -> bool
     }
 }
 
-/// Whether a call of this name starts a thread.
+/// Returns whether a call of this name starts a thread.
 pub fn is_spawn(name: &Name) -> bool
     ensures { result ≡ is_spawn (name_tree name.now) }
 {
     name.text.as_slice() == b"spawn".as_slice()
 }
 
-/// Whether a call stands in one of two.
+/// Returns whether one of two contains a call.
 pub fn either_holds_call(one: &RawExpr, other: &RawExpr) -> bool
     ensures { result ≡ (holds_call (raw_expr_tree one.now) || holds_call (raw_expr_tree other.now)) }
 {
     holds_call(one) || holds_call(other)
 }
 
-/// Whether a part before others is given a name of its own.
+/// Returns whether a part before others gets a name.
 pub fn needs_name(is_later_call: bool, is_alone: bool) -> bool
     ensures { result ≡ (is_later_call && not is_alone) }
 {

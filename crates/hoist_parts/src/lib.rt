@@ -1,12 +1,12 @@
-// The rewriting that moves calls out of expressions: its definitions, and the small calls that
-// decide it.
+// The rewriting that moves calls out of expressions: its definitions, and the small functions that
+// decide its cases.
 //
 // specs/Expressions.antt and Statements.antt define, one table row for each form, the tree in which
-// each call that isn't whole stands before its statement, and what is left of the expression;
-// specs/NewNames.antt the new names, which begin with a digit. The calls here decide whether a tree
-// holds a call and which part gets a name, and make names and chains of operators; `hoist_rules`
-// builds the whole tree with them. proofs/ has the laws of the definitions (Whole.antt: every call
-// of the new tree is whole), so that their meaning (`hoist_meaning`) is proved in parallel with
+// each call that isn't whole is moved before its statement, and the remaining expression;
+// specs/NewNames.antt defines the new names, which begin with a digit. The functions here decide
+// whether a tree contains a call and which part gets a name, and build names and chains of
+// operators; `hoist_rules` builds the whole tree with them. proofs/ has the laws of the definitions
+// (Whole.antt: every call of the new tree is whole), so `hoist_meaning` is proved in parallel with
 // `hoist_rules`.
 #![tactic(auto)]
 

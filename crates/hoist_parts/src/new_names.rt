@@ -1,4 +1,4 @@
-// The names that a source can't have.
+// New names, which no source can contain.
 ghost use Rattle.std.specs.Prelude.{◌≡◌, ◌++◌, IfOk, OnOk};
 ghost use Rattle.cap_text.specs.Decimals.{canonical_decimal};
 ghost use Rattle.c_tree.specs.RawViews.{name_tree, raw_expr_tree};
@@ -15,7 +15,7 @@ fn put_number(text: &mut Vec<u8>, number: u32) -> Result<(), AllocError>
     put_dec(text, i128::from(number))
 }
 
-/// The new name of a number.
+/// Returns the new name with a number.
 pub fn new_name(alloc: Global, number: u32) -> Result<Name, AllocError>
     ensures { IfOk result (λ n. name_tree n ≡ new_name number) }
 {
@@ -24,7 +24,7 @@ pub fn new_name(alloc: Global, number: u32) -> Result<Name, AllocError>
     Ok(Name { at: 0, text })
 }
 
-/// The value of the new name of a number.
+/// Returns the value of the new name with a number.
 pub fn used(alloc: Global, number: u32) -> Result<RawExpr, AllocError>
     ensures { IfOk result (λ e. raw_expr_tree e ≡ used number) }
 {

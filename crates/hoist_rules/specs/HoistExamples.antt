@@ -3,7 +3,7 @@ use Rattle.std.specs.Prelude.{ℕ, List, [], ◌∷◌, Some, codes}
 use Rattle.c_tree.specs.declared.operators.BinaryOperator.{BinaryOperator}
 use Rattle.c_tree.specs.RawTrees.{NameTree, RawExprTree, RawExprTrees, RawNumber, RawBinary, RawCall, NoExprs, And, RawSet, RawCalling, RawStmtTree, RawDo, RawReturn}
 
--- a name, whose place isn't looked at
+-- a name; its place isn't examined
 abbrev pub named : List ℕ → NameTree
 named text = record { at = 7; text = text }
 

@@ -1,4 +1,4 @@
-// Bodies, and the loop of a `while` whose condition holds a call.
+// Bodies, and the loop of a `while` whose condition contains a call.
 ghost use Rattle.std.specs.Prelude.{◌≡◌, [], ◌∷◌, ◌++◌, map, IfOk, OnOk};
 ghost use Rattle.c_tree.specs.RawTrees.{RawNumber, RawIf, RawWhile, RawBreak};
 ghost use Rattle.c_tree.specs.RawViews.{raw_expr_tree, raw_stmt_tree};
@@ -23,7 +23,7 @@ fn as_body(mut statements: Vec<RawStmt>) -> RawStmt
     }
 }
 
-/// `if (!c) break;`, whose `break` stands nowhere in the text.
+/// Returns `if (!c) break;`; its `break` has no place in the text.
 pub(crate) fn ends_unless(alloc: Global, condition: RawExpr) -> Result<RawStmt, AllocError>
     ensures { IfOk result (λ s. raw_stmt_tree s ≡ RawIf (is_false (raw_expr_tree condition)) (RawBreak 0)) }
 {
@@ -33,7 +33,7 @@ pub(crate) fn ends_unless(alloc: Global, condition: RawExpr) -> Result<RawStmt, 
 }
 
 impl Hoisting {
-    /// The body of the statements since `enter` handed out `outer`, in a box.
+    /// Returns the body of the statements since `enter` returned `outer`, in a box.
     pub(crate) fn leave_body(&mut self, outer: Vec<RawStmt>) -> Result<Box<RawStmt>, AllocError>
         ensures body { IfOk result (λ s. raw_stmt_tree s.value ≡ as_body (map raw_stmt_tree self.old.statements.items)) }
         ensures outer { self.new.statements ≡ outer }
@@ -44,7 +44,7 @@ impl Hoisting {
         Ok(Box::new(alloc, body)?)
     }
 
-    /// That body, after the statements of `outer`.
+    /// Appends that body to the statements of `outer`.
     pub(crate) fn push_body(&mut self, outer: Vec<RawStmt>) -> Result<(), AllocError>
         ensures statements { OnOk result (map raw_stmt_tree self.new.statements.items ≡ map raw_stmt_tree outer.items ++ as_body (map raw_stmt_tree self.old.statements.items) ∷ []) }
         ensures next { self.new.next ≡ self.old.next }
@@ -53,7 +53,8 @@ impl Hoisting {
         self.push(body)
     }
 
-    /// `while (1) { .. }` around the statements since `enter` handed out `outer`, after those of `outer`.
+    /// Appends `while (1) { .. }`, with the statements since `enter` returned `outer`, to those of
+    /// `outer`.
     pub(crate) fn push_loop(&mut self, outer: Vec<RawStmt>) -> Result<(), AllocError>
         ensures statements { OnOk result (map raw_stmt_tree self.new.statements.items ≡ map raw_stmt_tree outer.items ++ RawWhile (RawNumber 1) (in_block (map raw_stmt_tree self.old.statements.items)) ∷ []) }
         ensures next { self.new.next ≡ self.old.next }

@@ -1,4 +1,4 @@
-// What a logical operator and a conditional put before a statement: a new name, and a branch that sets it.
+// The statements before a logical operator and a conditional: a new name, and a branch that sets it.
 ghost use Rattle.std.specs.Prelude.{◌≡◌, ◌+◌, [], ◌∷◌, ◌++◌, map, IfOk, OnOk};
 ghost use Rattle.c_tree.specs.RawTrees.{RawIf, RawIfElse};
 ghost use Rattle.c_tree.specs.RawViews.{raw_expr_tree, raw_stmt_tree};
@@ -13,7 +13,7 @@ use hoist_parts::{Chain, condition_by, is_true, used};
 use std::alloc::AllocError;
 
 impl Hoisting {
-    /// `int h = l != 0;` of the next new name and a left operand: the name's number.
+    /// Appends `int h = l != 0;` for the next new name and a left operand, and returns the name's number.
     pub(crate) fn declare_truth(&mut self, left: Chain) -> Result<u32, AllocError>
         ensures number { IfOk result (λ k. k ≡ self.old.next) }
         ensures before { OnOk result (map raw_stmt_tree self.new.statements.items ≡ map raw_stmt_tree self.old.statements.items ++ declared_as self.old.next (is_true (chain_tree left)) ∷ []) }
@@ -34,7 +34,7 @@ impl Hoisting {
         }
     }
 
-    /// `int h;` of the next new name: its number.
+    /// Appends `int h;` for the next new name, and returns its number.
     pub(crate) fn declare_next(&mut self) -> Result<u32, AllocError>
         ensures number { IfOk result (λ k. k ≡ self.old.next) }
         ensures before { OnOk result (map raw_stmt_tree self.new.statements.items ≡ map raw_stmt_tree self.old.statements.items ++ declared self.old.next ∷ []) }
@@ -45,7 +45,8 @@ impl Hoisting {
         Ok(number)
     }
 
-    /// The block of the statements since `enter` handed out `outer`, and then `h = value;` of the new name of a number.
+    /// Returns the block of the statements since `enter` returned `outer`, followed by `h = value;` for the new name
+    /// with a number.
     pub(crate) fn set_in_block(
         &mut self,
         outer: Vec<RawStmt>,
@@ -65,7 +66,7 @@ impl Hoisting {
         }
     }
 
-    // `if (condition) block`, where the condition is that of a logical operator.
+    // `if (condition) block`, with the condition of a logical operator.
     fn push_decision(
         &mut self,
         operator: Infix,
@@ -86,7 +87,8 @@ impl Hoisting {
         }
     }
 
-    /// `if (c) { P(r) h = r != 0; }`, where P(r) stands since `enter` handed out `outer`, and `value` is left of r: what is left of all.
+    /// Appends `if (c) { P(r) h = r != 0; }`, where P(r) are the statements since `enter` returned `outer` and `value`
+    /// is what remains of r, and returns the remaining expression.
     pub(crate) fn decide(
         &mut self,
         outer: Vec<RawStmt>,
@@ -113,7 +115,8 @@ impl Hoisting {
         }
     }
 
-    /// `if (condition) first else second`, of two blocks that set the new name of a number: what is left of the conditional.
+    /// Appends `if (condition) first else second`, with two blocks that set the new name with a number, and returns
+    /// what remains of the conditional.
     pub(crate) fn choose(
         &mut self,
         number: u32,

@@ -1,4 +1,4 @@
-// Expressions that are built again from their parts, and values that are held while memory may run out.
+// Expressions built from their parts, and values that are kept while an allocation may fail.
 ghost use Rattle.std.specs.Prelude.{◌≡◌, [], ◌∷◌, ◌++◌, Ok, IfOk, MatchResult};
 ghost use Rattle.c_tree.specs.RawTrees.{RawElement, RawParenthesized, RawConditional, RawCall, RawTableCall, RawTableCalling};
 ghost use Rattle.c_tree.specs.RawViews.{name_tree, raw_expr_tree, raw_expr_trees, raw_simple_tree};
@@ -6,7 +6,7 @@ ghost use Rattle.c_tree.specs.RawViews.{name_tree, raw_expr_tree, raw_expr_trees
 use c_tree::{Name, RawExpr, RawSimple};
 use std::alloc::{AllocError, Global};
 
-/// A copy of a name.
+/// Returns a copy of a name.
 pub(crate) fn copied(alloc: Global, name: &Name) -> Result<Name, AllocError>
     ensures { IfOk result (λ n. name_tree n ≡ name_tree name.now) }
 {
@@ -16,7 +16,7 @@ pub(crate) fn copied(alloc: Global, name: &Name) -> Result<Name, AllocError>
     })
 }
 
-/// A copy of a name, beside what it names the part of.
+/// Returns a copy of a name with the value before it.
 pub(crate) fn named<T: Drop>(alloc: Global, name: &Name, held: T) -> Result<(Name, T), AllocError>
     ensures name { IfOk result (λ pair. name_tree pair.0 ≡ name_tree name.now) }
     ensures held { IfOk result (λ pair. pair.1 ≡ held) }
@@ -25,7 +25,7 @@ pub(crate) fn named<T: Drop>(alloc: Global, name: &Name, held: T) -> Result<(Nam
     Ok((name, held))
 }
 
-/// A value that is held, and the next one, if there was room for it.
+/// Returns both values, if the next one could be allocated.
 pub(crate) fn both<T: Drop, U>(held: T, next: Result<U, AllocError>) -> Result<(T, U), AllocError>
     ensures held { IfOk result (λ pair. pair.0 ≡ held) }
     ensures next { IfOk result (λ pair. next ≡ Ok pair.1) }
@@ -36,7 +36,7 @@ pub(crate) fn both<T: Drop, U>(held: T, next: Result<U, AllocError>) -> Result<(
     }
 }
 
-/// A list with one more, if there was room for it.
+/// Returns the list with one more element, if it could be allocated.
 pub(crate) fn with_next<T: Drop>(
     mut list: Vec<T>,
     next: Result<T, AllocError>,
@@ -47,7 +47,7 @@ pub(crate) fn with_next<T: Drop>(
     Ok(list)
 }
 
-/// Two values in boxes.
+/// Returns two values in boxes.
 pub(crate) fn boxed_pair<T: Drop>(
     alloc: Global,
     one: T,
@@ -61,7 +61,7 @@ pub(crate) fn boxed_pair<T: Drop>(
     Ok((one, other))
 }
 
-// A value in a box, beside two that are held.
+// A value in a box, with two values that are kept.
 fn boxed_beside<T: Drop, U: Drop>(
     alloc: Global,
     boxed: T,
@@ -74,7 +74,7 @@ fn boxed_beside<T: Drop, U: Drop>(
     Ok((boxed, held))
 }
 
-/// `name[index]`
+/// Returns `name[index]`.
 pub(crate) fn element(alloc: Global, name: &Name, index: RawExpr) -> Result<RawExpr, AllocError>
     ensures { IfOk result (λ e. raw_expr_tree e ≡ RawElement (name_tree name.now) (raw_expr_tree index)) }
 {
@@ -83,14 +83,14 @@ pub(crate) fn element(alloc: Global, name: &Name, index: RawExpr) -> Result<RawE
     Ok(RawExpr::Element { name, index })
 }
 
-/// `(inner)`
+/// Returns `(inner)`.
 pub(crate) fn parenthesized(alloc: Global, inner: RawExpr) -> Result<RawExpr, AllocError>
     ensures { IfOk result (λ e. raw_expr_tree e ≡ RawParenthesized (raw_expr_tree inner)) }
 {
     Ok(RawExpr::Parenthesized(Box::new(alloc, inner)?))
 }
 
-/// `condition ? first : second`
+/// Returns `condition ? first : second`.
 pub(crate) fn choice(
     alloc: Global,
     condition: RawExpr,
@@ -114,7 +114,7 @@ pub(crate) fn choice(
     }
 }
 
-/// `name(arguments)`
+/// Returns `name(arguments)`.
 pub(crate) fn call_of(
     alloc: Global,
     name: &Name,
@@ -126,7 +126,7 @@ pub(crate) fn call_of(
     Ok(RawExpr::Call { name, arguments })
 }
 
-/// `name[index](argument)`
+/// Returns `name[index](argument)`.
 pub(crate) fn table_call_of(
     alloc: Global,
     name: &Name,
@@ -145,7 +145,7 @@ pub(crate) fn table_call_of(
     })
 }
 
-/// `name[index](argument);`
+/// Returns `name[index](argument);`.
 pub(crate) fn table_calling(
     alloc: Global,
     name: &Name,

@@ -17,7 +17,7 @@ use hoist_parts::{
 use std::alloc::AllocError;
 
 impl Hoisting {
-    // A left operand, under a new name of its own or as it is.
+    // A left operand, under a new name or as it is.
     fn named_left(&mut self, left: Chain, is_named: bool) -> Result<Chain, AllocError>
         ensures left { IfOk result (λ c. chain_tree c ≡ part_or is_named self.old.next (chain_tree left)) }
         ensures before { OnOk result (map raw_stmt_tree self.new.statements.items ≡ map raw_stmt_tree self.old.statements.items ++ part_named is_named self.old.next (chain_tree left)) }
@@ -32,7 +32,7 @@ impl Hoisting {
         Ok(Chain::of(alloc, name))
     }
 
-    // What is left of a part, under a new name of its own or as it is.
+    // What remains of a part, under a new name or as it is.
     fn named_part(&mut self, part: RawExpr, is_named: bool) -> Result<RawExpr, AllocError>
         ensures left { IfOk result (λ e. raw_expr_tree e ≡ part_or is_named self.old.next (raw_expr_tree part)) }
         ensures before { OnOk result (map raw_stmt_tree self.new.statements.items ≡ map raw_stmt_tree self.old.statements.items ++ part_named is_named self.old.next (raw_expr_tree part)) }
@@ -46,7 +46,7 @@ impl Hoisting {
 }
 
 impl Hoisting {
-    /// What is left of an expression, after the statements that go before it.
+    /// Appends the statements before an expression, and returns what remains of it.
     #[cycle(hoist)]
     pub(crate) fn expression(&mut self, raw: &RawExpr) -> Result<RawExpr, AllocError>
         ensures left { IfOk result (λ e. raw_expr_tree e ≡ left_of self.old.next (raw_expr_tree raw.now)) }
@@ -167,8 +167,8 @@ impl Hoisting {
         Ok(left)
     }
 
-    // One operator and its right operand, after a left one that keeps its place or not. Where the right operand of `&&` or `||` holds
-    // a call, it is evaluated in a branch.
+    // One operator and its right operand, after a left one that keeps its place or not. If the right operand of `&&` or
+    // `||` contains a call, it is evaluated in a branch.
     #[cycle(hoist)]
     fn operand(
         &mut self,
@@ -203,7 +203,7 @@ impl Hoisting {
         }
     }
 
-    // `{ P(e) h = e; }` of the new name of a number.
+    // `{ P(e) h = e; }` for the new name with a number.
     #[cycle(hoist)]
     fn branch(&mut self, number: u32, e: &RawExpr) -> Result<RawStmt, AllocError>
         ensures block { IfOk result (λ s. raw_stmt_tree s ≡ in_block (before self.old.next (raw_expr_tree e.now) ++ set_to number (left_of self.old.next (raw_expr_tree e.now)) ∷ [])) }
@@ -220,7 +220,7 @@ impl Hoisting {
         }
     }
 
-    /// An expression in which no call stands, which stays as it is.
+    /// Returns an expression that contains no call, as it is.
     #[cycle(hoist)]
     pub(crate) fn kept(&mut self, raw: &RawExpr) -> Result<RawExpr, AllocError>
         requires { holds_call (raw_expr_tree raw.now) ≡ false }
@@ -231,7 +231,7 @@ impl Hoisting {
         Ok(self.expression(raw)?)
     }
 
-    /// A part before others, which has a name of its own where one of them holds a call.
+    /// Rewrites a part before others; it gets a name if one of them contains a call.
     #[cycle(hoist)]
     pub(crate) fn part(&mut self, is_later_call: bool, raw: &RawExpr) -> Result<RawExpr, AllocError>
         ensures left { IfOk result (λ e. raw_expr_tree e ≡ part_or (is_named is_later_call (raw_expr_tree raw.now)) (self.old.next + names_in (raw_expr_tree raw.now)) (left_of self.old.next (raw_expr_tree raw.now))) }
@@ -242,7 +242,7 @@ impl Hoisting {
         self.named_part(part, needs_name(is_later_call, is_left_alone(raw)))
     }
 
-    /// The arguments of a call, of which the first may stay where it is.
+    /// Rewrites the arguments of a call, of which the first may keep its place.
     #[cycle(hoist)]
     pub(crate) fn arguments(
         &mut self,
@@ -265,7 +265,8 @@ impl Hoisting {
         Ok(arguments)
     }
 
-    // One argument: a part before the others, or the first of `spawn`, in whose place the number 0 stands where it holds a call.
+    // One argument: a part before the others, or the first one of `spawn`, which is replaced by the number 0 if it
+    // contains a call.
     #[cycle(hoist)]
     fn argument(
         &mut self,
@@ -289,7 +290,7 @@ impl Hoisting {
 }
 
 impl Hoisting {
-    /// A call itself, after the statements that go before its arguments.
+    /// Rewrites a call: appends the statements before its arguments, and returns the call itself.
     pub(crate) fn call(&mut self, name: &Name, arguments: &[RawExpr]) -> Result<RawExpr, AllocError>
         ensures left { IfOk result (λ e. raw_expr_tree e ≡ call_left self.old.next (name_tree name.now) (raw_expr_trees arguments.now)) }
         ensures before { OnOk result (map raw_stmt_tree self.new.statements.items ≡ map raw_stmt_tree self.old.statements.items ++ arguments_before (is_spawn (name_tree name.now)) self.old.next (raw_expr_trees arguments.now)) }

@@ -1,4 +1,4 @@
-// The parts in the parentheses of a `for`, whose calls are whole: they stay as they are.
+// The parts in the parentheses of a `for`, whose calls are whole: they stay the same.
 ghost use Rattle.std.specs.Prelude.{◌≡◌, map, option_map, IfOk, OnOk};
 ghost use Rattle.c_tree.specs.RawViews.{raw_expr_tree, raw_simple_tree, raw_stmt_tree};
 ghost use Rattle.c_tree.specs.WholeCalls.{IsSimpleWhole, AreSimplesWhole, IsConditionWhole, IsStepWhole};
@@ -9,7 +9,7 @@ use c_tree::{RawExpr, RawForParts, RawSimple};
 use std::alloc::AllocError;
 
 impl Hoisting {
-    /// A copy of the parts, in a box.
+    /// Returns a copy of the parts, in a box.
     pub(crate) fn boxed_parts(&mut self, raw: &RawForParts) -> Result<Box<RawForParts>, AllocError>
         requires init { AreSimplesWhole (map raw_simple_tree raw.now.init.items) }
         requires condition { IsConditionWhole (option_map raw_expr_tree raw.now.condition) }
@@ -57,7 +57,7 @@ impl Hoisting {
         }
     }
 
-    // A declaration, an assignment or a call in the parentheses of a `for`, whose calls are whole: as it is.
+    // A copy of a declaration, an assignment or a call in the parentheses of a `for`, whose calls are whole.
     fn kept_simple(&mut self, raw: &RawSimple) -> Result<RawSimple, AllocError>
         requires { IsSimpleWhole (raw_simple_tree raw.now) }
         ensures kept { IfOk result (λ s. raw_simple_tree s ≡ raw_simple_tree raw.now) }

@@ -1,4 +1,4 @@
-// Where the rewriting of a function stands.
+// The state of the rewriting of a function.
 ghost use Rattle.std.specs.Prelude.{◌≡◌, ◌+◌, ◌++◌, ◌∷◌, [], map, IfOk, OnOk};
 ghost use Rattle.c_tree.specs.RawViews.{raw_expr_tree, raw_stmt_tree};
 ghost use Rattle.hoist_parts.specs.NewNames.{used, declared, declared_as, set_to};
@@ -8,7 +8,8 @@ use hoist_parts::{new_name, used};
 use std::alloc::{AllocError, Global};
 use std::mem;
 
-/// The same statements, without spare capacity: a list that grows by doubling has room for four at least, and a branch has two.
+/// Returns the same statements without spare capacity: a list that grows by doubling has room for at least four, and a
+/// branch has two.
 pub(crate) fn fitted(mut statements: Vec<RawStmt>) -> Vec<RawStmt>
     ensures { result.items ≡ statements.items }
 {
@@ -25,7 +26,7 @@ pub(crate) struct Hoisting {
 }
 
 impl Hoisting {
-    /// The number of a new name. There are never as many as 2^32.
+    /// Returns the number of the next new name. There are always fewer than 2^32.
     pub(crate) fn number(&mut self) -> Result<u32, AllocError>
         ensures number { IfOk result (λ k. k ≡ self.old.next) }
         ensures next { OnOk result (self.new.next ≡ self.old.next + 1) }
@@ -42,7 +43,7 @@ impl Hoisting {
         }
     }
 
-    /// One statement more.
+    /// Appends a statement.
     pub(crate) fn push(&mut self, statement: RawStmt) -> Result<(), AllocError>
         ensures statements { OnOk result (map raw_stmt_tree self.new.statements.items ≡ map raw_stmt_tree self.old.statements.items ++ raw_stmt_tree statement ∷ []) }
         ensures next { self.new.next ≡ self.old.next }
@@ -54,7 +55,7 @@ impl Hoisting {
         }
     }
 
-    /// `int h = value;` of the new name of a number.
+    /// Appends `int h = value;` for the new name with a number.
     pub(crate) fn declare_as(&mut self, number: u32, value: RawExpr) -> Result<(), AllocError>
         ensures statements { OnOk result (map raw_stmt_tree self.new.statements.items ≡ map raw_stmt_tree self.old.statements.items ++ declared_as number (raw_expr_tree value) ∷ []) }
         ensures next { self.new.next ≡ self.old.next }
@@ -64,7 +65,7 @@ impl Hoisting {
         self.push(RawStmt::Simple(RawSimple::DeclareWith { name, value }))
     }
 
-    /// `int h;` of the new name of a number.
+    /// Appends `int h;` for the new name with a number.
     pub(crate) fn declare(&mut self, number: u32) -> Result<(), AllocError>
         ensures statements { OnOk result (map raw_stmt_tree self.new.statements.items ≡ map raw_stmt_tree self.old.statements.items ++ declared number ∷ []) }
         ensures next { self.new.next ≡ self.old.next }
@@ -74,7 +75,7 @@ impl Hoisting {
         self.push(RawStmt::Simple(RawSimple::DeclareScalar { name }))
     }
 
-    /// `h = value;` of the new name of a number.
+    /// Appends `h = value;` for the new name with a number.
     pub(crate) fn set(&mut self, number: u32, value: RawExpr) -> Result<(), AllocError>
         ensures statements { OnOk result (map raw_stmt_tree self.new.statements.items ≡ map raw_stmt_tree self.old.statements.items ++ set_to number (raw_expr_tree value) ∷ []) }
         ensures next { self.new.next ≡ self.old.next }
@@ -84,7 +85,7 @@ impl Hoisting {
         self.push(RawStmt::Simple(RawSimple::Set { name, value }))
     }
 
-    /// A part of an expression under a new name of its own: its value.
+    /// Declares a new name for a part of an expression, and returns the name's value.
     pub(crate) fn name_part(&mut self, part: RawExpr) -> Result<RawExpr, AllocError>
         ensures value { IfOk result (λ e. raw_expr_tree e ≡ used self.old.next) }
         ensures statements { OnOk result (map raw_stmt_tree self.new.statements.items ≡ map raw_stmt_tree self.old.statements.items ++ declared_as self.old.next (raw_expr_tree part) ∷ []) }
@@ -96,7 +97,7 @@ impl Hoisting {
         used(self.alloc, number)
     }
 
-    /// A block begins: the statements so far, to be handed to `leave`.
+    /// Begins a block, and returns the statements so far, which are passed to `leave`.
     pub(crate) fn enter(&mut self) -> Vec<RawStmt>
         ensures result { result ≡ self.old.statements }
         ensures statements { self.new.statements.items ≡ [] }
@@ -107,7 +108,7 @@ impl Hoisting {
         mem::replace(&mut self.statements, inner)
     }
 
-    /// A block ends: its statements, and after it the statements before it go on.
+    /// Ends a block, and returns its statements; the statements before it are continued.
     pub(crate) fn leave(&mut self, outer: Vec<RawStmt>) -> Vec<RawStmt>
         ensures result { result ≡ self.old.statements }
         ensures statements { self.new.statements ≡ outer }

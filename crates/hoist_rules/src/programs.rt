@@ -1,4 +1,4 @@
-// The rewriting of what a source declares and defines outside functions.
+// The rewriting of items.
 ghost use Rattle.std.specs.Prelude.{◌≡◌, map, option_map, IfOk};
 ghost use Rattle.c_tree.specs.RawViews.{name_tree, raw_stmt_trees, raw_item_tree};
 ghost use Rattle.c_tree.specs.WholeCalls.{IsItemWhole};
@@ -12,6 +12,10 @@ use std::alloc::{AllocError, Global};
 
 /// The item in which every call is whole, of one in which every call in the parentheses of a `for` is: each other call that isn't
 /// whole goes before its statement, as the declaration of a name that no source has, and so does what is evaluated before it.
+///
+/// # Errors
+///
+/// Memory ran out.
 pub fn hoist_item(alloc: Global, raw: &RawItem) -> Result<RawItem, AllocError>
     requires { IsItemForWhole (raw_item_tree raw.now) }
     ensures rewritten { IfOk result (λ i. raw_item_tree i ≡ item_hoisted (raw_item_tree raw.now)) }
@@ -47,7 +51,7 @@ fn item_of(alloc: Global, raw: &RawItem) -> Result<RawItem, AllocError>
     }
 }
 
-// A function, whose new names are numbered from 0.
+// A function; its new names are numbered from 0.
 fn function_of(alloc: Global, raw: &RawFunction) -> Result<RawFunction, AllocError>
     requires { AreForsWhole (raw_stmt_trees raw.now.body.items) }
     ensures { IfOk result (λ f. raw_item_tree (RawItem.Function f) ≡ item_hoisted (raw_item_tree (RawItem.Function raw.now))) }

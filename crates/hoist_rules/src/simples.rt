@@ -1,4 +1,4 @@
-// The rewriting of declarations, assignments, calls and of what is returned.
+// The rewriting of declarations, assignments, calls and returned values.
 ghost use Rattle.std.specs.Prelude.{◌≡◌, ◌+◌, ◌++◌, map, option_map, IfOk, OnOk};
 ghost use Rattle.c_tree.specs.RawTrees.{RawReturn};
 ghost use Rattle.c_tree.specs.RawViews.{raw_expr_tree, raw_simple_tree, raw_stmt_tree};
@@ -13,7 +13,7 @@ use hoist_parts::{holds_call, holds_nested, is_spawn};
 use std::alloc::AllocError;
 
 impl Hoisting {
-    /// What is left of a right side or a returned value, which may be a call itself.
+    /// Rewrites a right side or a returned value, which may be a call itself.
     pub(crate) fn value(&mut self, raw: &RawExpr) -> Result<RawExpr, AllocError>
         ensures left { IfOk result (λ e. raw_expr_tree e ≡ value_left self.old.next (raw_expr_tree raw.now)) }
         ensures before { OnOk result (map raw_stmt_tree self.new.statements.items ≡ map raw_stmt_tree self.old.statements.items ++ value_before self.old.next (raw_expr_tree raw.now)) }
@@ -41,7 +41,7 @@ impl Hoisting {
         }
     }
 
-    // Of an index and a right side after it.
+    // An index and a right side after it.
     fn index_and_value(
         &mut self,
         index: &RawExpr,
@@ -57,7 +57,7 @@ impl Hoisting {
         both(index, self.value(value))
     }
 
-    // Of a table's index and the argument after it.
+    // A table's index and the argument after it.
     fn index_and_argument(
         &mut self,
         index: &RawExpr,
@@ -72,7 +72,7 @@ impl Hoisting {
         both(index, self.expression(argument))
     }
 
-    /// What is left of a declaration, an assignment or a call.
+    /// Rewrites a declaration, an assignment or a call.
     pub(crate) fn simple(&mut self, raw: &RawSimple) -> Result<RawSimple, AllocError>
         ensures left { IfOk result (λ s. raw_simple_tree s ≡ simple_left self.old.next (raw_simple_tree raw.now)) }
         ensures before { OnOk result (map raw_stmt_tree self.new.statements.items ≡ map raw_stmt_tree self.old.statements.items ++ simple_before self.old.next (raw_simple_tree raw.now)) }
@@ -126,7 +126,7 @@ impl Hoisting {
         }
     }
 
-    /// What is left of a `return`.
+    /// Rewrites a `return`.
     pub(crate) fn returned(
         &mut self,
         at: u32,

@@ -14,7 +14,7 @@ use hoist_parts::holds_call;
 use std::alloc::AllocError;
 
 impl Hoisting {
-    /// The statements that stand in the place of one.
+    /// Appends the statements that replace one.
     #[cycle(statements)]
     fn statement(&mut self, raw: &RawStmt) -> Result<(), AllocError>
         requires { IsForWhole (raw_stmt_tree raw.now) }
@@ -93,7 +93,7 @@ impl Hoisting {
         }
     }
 
-    /// The statements of a block.
+    /// Returns the statements of a block.
     #[cycle(statements)]
     pub(crate) fn block(&mut self, raw: &[RawStmt]) -> Result<Vec<RawStmt>, AllocError>
         requires { AreForsWhole (raw_stmt_trees raw.now) }
@@ -114,7 +114,7 @@ impl Hoisting {
         Ok(fitted(self.leave(outer)))
     }
 
-    // A body: a block, where other statements than one stand in its place.
+    // A body: a block, unless exactly one statement replaces it.
     #[cycle(statements)]
     fn body(&mut self, raw: &RawStmt) -> Result<Box<RawStmt>, AllocError>
         requires { IsForWhole (raw_stmt_tree raw.now) }
@@ -132,7 +132,7 @@ impl Hoisting {
         }
     }
 
-    // A `while` whose condition holds no call.
+    // A `while` whose condition contains no call.
     #[cycle(statements)]
     fn while_loop(&mut self, body: &RawStmt, condition: &RawExpr) -> Result<(), AllocError>
         requires calling { holds_call (raw_expr_tree condition.now) ≡ false }
@@ -150,7 +150,7 @@ impl Hoisting {
         }
     }
 
-    // A `while` whose condition holds a call, which it makes at each turn.
+    // A `while` whose condition contains a call, which is made in each turn.
     #[cycle(statements)]
     fn while_calling(&mut self, body: &RawStmt, condition: &RawExpr) -> Result<(), AllocError>
         requires calling { holds_call (raw_expr_tree condition.now) ≡ true }

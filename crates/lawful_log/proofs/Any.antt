@@ -3,11 +3,12 @@ use Rattle.std.proofs.Common.{◌≡◌, ℕ, ◌+◌, ◌≤◌, Bool, true, fa
 use Rattle.std.specs.List.{AllByRecursion, list_any}
 use Rattle.std.proofs.lemmas.Bool.{cases_eq, cond-true, cond-false, eq-eqb, ne_eqb, eqb-true}
 use Rattle.choice_rules.specs.Seen.{Waiter}
+use Rattle.choice_rules.specs.Waiting.{waits}
+use Rattle.choice_rules.proofs.Tests.{either, left_true, right_true}
 use Rattle.machine_world.specs.Numbered.{RiseBetween, IsNumbered}
 use Rattle.machine_world.specs.Threads.{Thread, World, first_with, thread_of}
-use Rattle.lawful_log.specs.Waiting.{IsWaiting, waits, AreWaiting}
+use Rattle.lawful_log.specs.Waiting.{IsWaiting, AreWaiting}
 use Rattle.lawful_log.proofs.Kept.{is_some_of}
-use Rattle.lawful_log.proofs.Lists.{either, left_true, right_true}
 
 -- a list has an element with P that passes the test
 pub record Has {X : Type 0} (P : X → Type 0) (test : X → Bool) : Type 0 where

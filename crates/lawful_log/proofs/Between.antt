@@ -6,17 +6,18 @@ use Rattle.std.proofs.lemmas.Bool.Decides.{nat_tests}
 use Rattle.std.proofs.lemmas.List.{nil_from_length}
 use Rattle.c_mean.specs.ModelledCalls.{Delivery, is_dropped, with_delivery}
 use Rattle.event_trace.specs.declared.events.Event.{Event}
+use Rattle.choice_rules.specs.Choice.{IsLawful}
+use Rattle.choice_rules.specs.Readiness.{any_ready, waking_times}
 use Rattle.choice_rules.specs.Trace.{IsNext, behind}
-use Rattle.choice_rules.specs.Seen.{Waiter}
-use Rattle.choice_rules.specs.Clock.{is_due, event_times, IsLeastOf}
+use Rattle.choice_rules.specs.Seen.{Waiter, uses_of}
+use Rattle.choice_rules.specs.Clock.{is_due, event_times, IsLeastOf, IsChoicePoint}
 use Rattle.choice_rules.specs.Deliveries.{delivery_of, item_of, received}
-use Rattle.lawful_log.specs.Choice.{IsLawful, IsRun, chosen_from}
-use Rattle.lawful_log.specs.Clock.{IsChoicePoint}
+use Rattle.choice_rules.proofs.Tests.{right_true}
+use Rattle.lawful_log.specs.Choice.{IsRun, chosen_from}
 use Rattle.lawful_log.specs.Deliveries.{IsComing}
 use Rattle.lawful_log.specs.Good.{checked_of}
-use Rattle.lawful_log.specs.Readiness.{any_ready, waking_times}
 use Rattle.lawful_log.specs.Setup.{Setup, setting_of}
-use Rattle.lawful_log.specs.State.{Segment, State, uses_of}
+use Rattle.lawful_log.specs.State.{Segment, State, seen_of}
 use Rattle.machine_world.specs.Runs.{Action, Deliver, Advance, Pick, delivered, advanced, after_action, after_actions, and_then}
 use Rattle.machine_world.specs.StandsForWorld.{StandsForWorld}
 use Rattle.machine_world.specs.Threads.{World, Setting}
@@ -26,13 +27,12 @@ use Rattle.lawful_log.specs.Clocks.{goes_on}
 use Rattle.lawful_log.specs.Waiting.{IsWaiting, AreWaiting}
 use Rattle.lawful_log.specs.Within.{IsBetween, IsWithin}
 use Rattle.lawful_log.proofs.Clocks.{clock_by, moves_to}
-use Rattle.lawful_log.proofs.Lists.{right_true}
 use Rattle.lawful_log.proofs.Picked.{is_picked, waiting_picked}
 
 module _ (g : Setup) (state : State) where
   -- the step goes on from here, where the next line is good and something goes on at the clock
   pub point : (next : Option Event) (machine : World) → IsBetween g state (Some next) machine → machine.threads ≢ [] → IsNext state.trace next → goes_on g state next machine.clock ≡ true →
-      IsChoicePoint g state next machine.clock
+      IsChoicePoint g.policy (seen_of state) next machine.clock
   point next machine is live next_is goes = record {
     between = ap (λ (o : Option Segment). is_some o) is.between;
     live = λ e. live (ap (λ (w : World). w.threads) is.machine_is ∙ nil_from_length state.machine.threads e);
@@ -93,7 +93,7 @@ module _ (g : Setup) (state : State) where
     coming live next_is due = record {
       event = event;
       delivery = record {
-        point = point (Some event) machine is live next_is (ap (λ (b : Bool). b || any_ready g state machine.clock) due);
+        point = point (Some event) machine is live next_is (ap (λ (b : Bool). b || any_ready g.policy (seen_of state) machine.clock) due);
         due = due;
         item_is = refl;
         drops_is = refl;
@@ -168,15 +168,15 @@ module _ (g : Setup) (state : State) where
     run_state = chosen_from state chosen picked_world
 
     abbrev pub run_segment : Segment
-    run_segment = record { thread = chosen.thread; node = chosen.node; uses = uses_of state; cost = 0; puts = [] }
+    run_segment = record { thread = chosen.thread; node = chosen.node; uses = uses_of (seen_of state); cost = 0; puts = [] }
 
-    pub run_allowed : machine.threads ≢ [] → IsNext state.trace next → is_due next machine.clock ≡ false → any_ready g state machine.clock ≡ true → IsLawful g state machine.clock chosen →
+    pub run_allowed : machine.threads ≢ [] → IsNext state.trace next → is_due next machine.clock ≡ false → any_ready g.policy (seen_of state) machine.clock ≡ true → IsLawful g.policy (seen_of state) machine.clock chosen →
         IsRun g state machine.clock chosen.thread chosen.node run_state
     run_allowed live next_is due ready lawful = record {
       chosen = chosen;
       choice = record {
         next = next;
-        point = point next machine is live next_is (right_true (is_due next machine.clock) (any_ready g state machine.clock) ready);
+        point = point next machine is live next_is (right_true (is_due next machine.clock) (any_ready g.policy (seen_of state) machine.clock) ready);
         not_due = due;
         lawful = lawful;
       };
@@ -244,7 +244,7 @@ between_read g state machine next is = record {
 
 -- the clock goes on
 pub between_moved : (g : Setup) (state : State) (machine : World) (next : Option Event) (time : ℕ) → IsBetween g state (Some next) machine → machine.clock ≤ time → goes_on g state next machine.clock ≡ false →
-    IsLeastOf (event_times next ++ waking_times state) time → IsBetween g state (Some next) (advanced machine time)
+    IsLeastOf (event_times next ++ waking_times (seen_of state)) time → IsBetween g state (Some next) (advanced machine time)
 between_moved g state machine next time is later stuck least = record {
   between = is.between;
   formed = is.formed;

@@ -5,7 +5,7 @@ use Rattle.std.specs.List.{AllByRecursion}
 use Rattle.std.proofs.lemmas.Bool.{cases_eq}
 use Rattle.cap_word.specs.declared.threads.ThreadId.{ThreadId}
 use Rattle.choice_rules.specs.Seen.{Waiter}
-use Rattle.lawful_log.specs.Waiting.{IsPlaced}
+use Rattle.choice_rules.specs.Waiting.{IsPlaced}
 use Rattle.ready_tree.specs.declared.needs.Need.{Need}
 use Rattle.rule_state.specs.Strides.{StridesState, IsFirstAtNode, IsStarted, IsRejoined, stride_choice}
 use Rattle.scheduler.specs.declared.choices.Choice.{Choice}

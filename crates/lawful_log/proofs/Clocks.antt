@@ -1,6 +1,6 @@
 -- The clock of a choice point: when it stays, where it goes on to, and that something then goes on.
-use Rattle.std.proofs.Common.{◌≡◌, ℕ, zero, suc, ◌<◌, ◌≤◌, ◌⊎◌, inl, inr, Bool, true, false, ◌||◌, List, [], ◌∷◌, ◌++◌, length, Option, Some, None, refl, sym, ap, ◌∙◌, arith, subst, cond, ⊎_elim}
-use Rattle.std.specs.Prelude.{All, Contains, filter_map, nat_le, nat_eq, slice_index_or}
+use Rattle.std.proofs.Common.{◌≡◌, ℕ, zero, suc, ◌<◌, ◌≤◌, ◌⊎◌, inl, inr, Bool, true, false, List, [], ◌∷◌, ◌++◌, length, Option, Some, None, refl, sym, ap, ◌∙◌, arith, subst, cond, ⊎_elim}
+use Rattle.std.specs.Prelude.{Contains, filter_map, nat_le, nat_eq, slice_index_or}
 use Rattle.std.specs.List.{AllByRecursion, list_any, cons_option}
 use Rattle.std.proofs.lemmas.Bool.Decides.{nat_tests}
 use Rattle.cap_word.specs.declared.calls.Block.{Block}
@@ -10,17 +10,16 @@ use Rattle.c_mean.specs.World.{Rest, Fresh, Blocked as Blocks, Ended}
 use Rattle.c_mean.proofs.CallLemmas.{waits_alone}
 use Rattle.event_trace.specs.declared.events.Event.{Event}
 use Rattle.choice_rules.specs.Readiness as rules
-use Rattle.choice_rules.specs.Clock.{event_times, IsLeastOf}
-use Rattle.lawful_log.specs.Clock.{IsClockBy}
-use Rattle.lawful_log.specs.Readiness as log
-use Rattle.lawful_log.specs.Readiness.{is_ready, any_ready, waking_times}
+use Rattle.choice_rules.specs.Clock.{event_times, IsLeastOf, IsClockBy}
+use Rattle.choice_rules.specs.Readiness.{is_ready, any_ready, waking_times}
+use Rattle.choice_rules.proofs.Clocks.{awake_by, clock_moves, clock_stays, later_by}
+use Rattle.choice_rules.proofs.Tests.{either, left_true, right_true}
 use Rattle.lawful_log.specs.Setup.{Setup}
-use Rattle.lawful_log.specs.State.{State}
+use Rattle.lawful_log.specs.State.{State, seen_of}
 use Rattle.machine_world.specs.Runs.{may_run, asleep_until}
 use Rattle.machine_world.specs.Threads.{Blocked, World, Setting}
 use Rattle.lawful_log.specs.Clocks.{goes_on, IsClockOf}
 use Rattle.lawful_log.specs.Tests.{waking_time}
-use Rattle.lawful_log.proofs.Lists.{either, left_true, right_true, not_both}
 
 -- ---- elements of lists
 
@@ -39,11 +38,6 @@ contains_head x xs y e = (0, omega arith, e)
 
 pub contains_none : {X : Type 0} (y : X) → Contains [] y → ⊥
 contains_none y c = omega (arith, c.1)
-
-pub all_index : {X : Type 0} (P : X → Type 0) (xs : List X) → AllByRecursion P xs → All P xs
-all_index P [] all k d h = absurd (omega arith)
-all_index P (x ∷ xs) all zero d h = all.0
-all_index P (x ∷ xs) all (suc k) d h = all_index P xs all.1 k d (omega arith)
 
 -- ---- what a partial function gives of a list
 
@@ -93,13 +87,6 @@ module _ {X : Type 0} (h : X → Option ℕ) where
 
 -- ---- a thread that wakes is ready
 
-past_at : (time clock : ℕ) → time ≡ clock → nat_le time clock ≡ true
-past_at time clock is = grind (arith, nat_tests, is)
-
-awake_by : (ready : Bool) (clock : ℕ) (o : Option ℕ) → o ≡ Some clock → (ready || is_past clock o) ≡ true
-awake_by ready clock None e = absurd (cc)
-awake_by ready clock (Some time) e = let is : time ≡ clock = cc in right_true ready (nat_le time clock) (past_at time clock is)
-
 awake_block : (caps : List ℕ) (x : Exchange) (clock since : ℕ) (block : Block) → wakes_at since block ≡ Some clock → table.is_ready caps x clock since block ≡ true
 awake_block caps x clock since block e = awake_by (blocking_row caps x block).ready clock (wake_of since (blocking_row caps x block).wait) (waits_alone caps x since block ∙ e)
 
@@ -109,36 +96,28 @@ awake_ready caps x clock since (Some (Blocks block waiting)) e = awake_block cap
 awake_ready caps x clock since (Some Ended) e = absurd (cc)
 awake_ready caps x clock since None e = absurd (cc)
 
-ready_at_wake : (g : Setup) (state : State) (clock : ℕ) → Contains (waking_times state) clock → any_ready g state clock ≡ true
+ready_at_wake : (g : Setup) (state : State) (clock : ℕ) → Contains (waking_times (seen_of state)) clock → any_ready g.policy (seen_of state) clock ≡ true
 ready_at_wake g state clock c =
-    gives_any (λ w. rules.wakes w.since (log.rest_of state w.thread)) (is_ready g state clock) clock
-    (λ w e. awake_ready g.policy.caps state.source.exchange clock w.since (log.rest_of state w.thread) e) state.waiting c
+    gives_any (λ w. rules.wakes w.since (rules.rest_of (seen_of state) w.thread)) (is_ready g.policy (seen_of state) clock) clock
+    (λ w e. awake_ready g.policy.caps state.source.exchange clock w.since (rules.rest_of (seen_of state) w.thread) e) state.waiting c
 
 le_self : (n : ℕ) → nat_le n n ≡ true
 le_self n = grind (arith, nat_tests)
 
 -- where the clock has moved something goes on
-pub moved_goes_on : (g : Setup) (state : State) (next : Option Event) (clock : ℕ) → Contains (event_times next ++ waking_times state) clock → goes_on g state next clock ≡ true
+pub moved_goes_on : (g : Setup) (state : State) (next : Option Event) (clock : ℕ) → Contains (event_times next ++ waking_times (seen_of state)) clock → goes_on g state next clock ≡ true
 moved_goes_on g state None clock c = ready_at_wake g state clock c
 moved_goes_on g state (Some event) clock c = ⊎_elim
-    (λ (same : event.time ≡ clock). left_true (nat_le event.time clock) (any_ready g state clock) (subst (λ (n : ℕ). nat_le event.time n ≡ true) same (le_self event.time)))
-    (λ later. right_true (nat_le event.time clock) (any_ready g state clock) (ready_at_wake g state clock later))
-    (contains_tail event.time (waking_times state) clock c)
+    (λ (same : event.time ≡ clock). left_true (nat_le event.time clock) (any_ready g.policy (seen_of state) clock) (subst (λ (n : ℕ). nat_le event.time n ≡ true) same (le_self event.time)))
+    (λ later. right_true (nat_le event.time clock) (any_ready g.policy (seen_of state) clock) (ready_at_wake g state clock later))
+    (contains_tail event.time (waking_times (seen_of state)) clock c)
 
 -- ---- the clock of a choice point
 
-clock_stays : (b : Bool) (state : State) (next : Option Event) (clock : ℕ) → b ≡ true → clock ≡ state.machine.clock → IsClockBy b state next clock
-clock_stays true state next clock e same = same
-clock_stays false state next clock e same = absurd (cc)
-
-clock_moves : (b : Bool) (state : State) (next : Option Event) (clock : ℕ) → b ≡ false → IsLeastOf (event_times next ++ waking_times state) clock → IsClockBy b state next clock
-clock_moves true state next clock e least = absurd (cc)
-clock_moves false state next clock e least = least
-
 pub clock_by : (g : Setup) (state : State) (next : Option Event) (clock : ℕ) → IsClockOf g state (Some next) clock → goes_on g state next clock ≡ true →
-    IsClockBy (goes_on g state next state.machine.clock) state next clock
-clock_by g state next clock (inl same) goes = clock_stays _ state next clock (subst (λ (n : ℕ). goes_on g state next n ≡ true) same goes) same
-clock_by g state next clock (inr moved) goes = clock_moves _ state next clock moved.stuck moved.least
+    IsClockBy (goes_on g state next state.machine.clock) (seen_of state) next clock
+clock_by g state next clock (inl same) goes = clock_stays _ (seen_of state) next clock (subst (λ (n : ℕ). goes_on g state next n ≡ true) same goes) same
+clock_by g state next clock (inr moved) goes = clock_moves _ (seen_of state) next clock moved.stuck moved.least
 
 -- where nothing goes on the clock hasn't moved
 pub not_moved : (g : Setup) (state : State) (next : Option Event) (clock : ℕ) → IsClockOf g state (Some next) clock → goes_on g state next clock ≡ false → clock ≡ state.machine.clock
@@ -147,22 +126,13 @@ not_moved g state next clock (inr moved) stuck =
     let goes = moved_goes_on g state next clock moved.least.one in absurd (let no : true ≡ false = sym goes ∙ stuck in cc)
 
 pub moves_to : (g : Setup) (state : State) (next : Option Event) (clock time : ℕ) → IsClockOf g state (Some next) clock → goes_on g state next clock ≡ false →
-    IsLeastOf (event_times next ++ waking_times state) time → IsClockOf g state (Some next) time
+    IsLeastOf (event_times next ++ waking_times (seen_of state)) time → IsClockOf g state (Some next) time
 moves_to g state next clock time is stuck least =
     inr (record { stuck = subst (λ (n : ℕ). goes_on g state next n ≡ false) (not_moved g state next clock is stuck) stuck; least = least })
 
 -- ---- the earliest that wakes
 
 -- one that isn't ready wakes later
-past_not : (time clock : ℕ) → nat_le time clock ≡ false → clock < time
-past_not time clock e = grind (arith, nat_tests, e)
-
-later_by : (ready : Bool) (clock : ℕ) (o : Option ℕ) (time : ℕ) → (ready || is_past clock o) ≡ false → o ≡ Some time → clock < time
-later_by ready clock None time e is = absurd (cc)
-later_by ready clock (Some t) time e is =
-    let same : t ≡ time = cc in
-    subst (λ (n : ℕ). clock < n) same (past_not t clock (not_both ready (nat_le t clock) e).1)
-
 pub later_block : (caps : List ℕ) (x : Exchange) (clock since : ℕ) (block : Block) (time : ℕ) → table.is_ready caps x clock since block ≡ false → wakes_at since block ≡ Some time → clock < time
 later_block caps x clock since block time e is =
     later_by (blocking_row caps x block).ready clock (wake_of since (blocking_row caps x block).wait) time e (waits_alone caps x since block ∙ is)

@@ -4,7 +4,7 @@ use Rattle.std.specs.Prelude.{filter}
 use Rattle.std.specs.List.{AllByRecursion, list_any}
 use Rattle.std.proofs.lemmas.Bool.{eq-eqb}
 use Rattle.choice_rules.specs.Seen.{Waiter}
-use Rattle.lawful_log.specs.Waiting.{IsOnce, waits}
+use Rattle.choice_rules.specs.Waiting.{IsOnce, waits}
 use Rattle.stride_rule.specs.declared.clients.Client.{Client}
 use Rattle.stride_rule.specs.Clients.{IsAbsent, client_of, with_growth, grown, without}
 use Rattle.stride_rule.specs.State.{AreOnce}

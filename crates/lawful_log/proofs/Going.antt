@@ -1,5 +1,5 @@
 -- What the log has of a step in a segment is one.
-use Rattle.std.proofs.Common.{◌≡◌, ℕ, ◌+◌, true, false, List, [], ◌∷◌, ◌++◌, length, Option, Some, None, refl, sym, ◌∙◌, ap, subst}
+use Rattle.std.proofs.Common.{◌≡◌, ℕ, ◌+◌, true, false, List, [], ◌∷◌, ◌++◌, Option, Some, None, refl, sym, ◌∙◌, ap, subst}
 use Rattle.std.specs.Prelude.{slice_get, is_some, ℤ}
 use Rattle.blocking_graph.specs.Nodes.{keys_with, node_number}
 use Rattle.cap_word.specs.Word.{signed}

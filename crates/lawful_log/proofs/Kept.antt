@@ -1,14 +1,19 @@
 -- The threads that wait are the live ones, after each step of the running thread and each action.
-use Rattle.std.proofs.Common.{◌≡◌, ◌≢◌, ℕ, ◌<◌, true, false, nat_eq, List, [], ◌∷◌, ◌++◌, Option, Some, None, refl, sym, ap, ◌∙◌, arith, subst, ⊎_elim}
-use Rattle.std.specs.Prelude.{IsSome}
+use Rattle.std.proofs.Common.{◌≡◌, ◌≢◌, ℕ, ◌<◌, ◌||◌, Bool, true, false, nat_eq, List, [], ◌∷◌, ◌++◌, Option, Some, None, refl, sym, ap, ◌∙◌, arith, subst, ⊎_elim}
+use Rattle.std.specs.Prelude.{IsSome, if◌then◌else◌}
 use Rattle.std.specs.List.{AllByRecursion}
 use Rattle.std.proofs.lemmas.Bool.{cases_eq, ne_eqb}
 use Rattle.choice_rules.specs.Seen.{Waiter}
+use Rattle.choice_rules.specs.Waiting.{waits}
+use Rattle.choice_rules.proofs.Tests.{left_true, one_false, right_true}
+use Rattle.choice_rules.proofs.Waiters.{all_append, differ_all, once_append, waits_append, waits_one, waits_other}
+use Rattle.chunk_pool.specs.Pool.{Taken}
+use Rattle.machine_world.specs.Areas.{Areas}
 use Rattle.machine_world.specs.Numbered.{IsNumbered}
-use Rattle.machine_world.specs.Threads.{Blocked, Thread, World, thread_of}
-use Rattle.lawful_log.specs.Waiting.{SinceIs, IsWaiting, waits, AreWaiting}
+use Rattle.machine_world.specs.Runs.{empty_world}
+use Rattle.machine_world.specs.Threads.{Blocked, Thread, World, thread_of, with_thread}
+use Rattle.lawful_log.specs.Waiting.{SinceIs, IsWaiting, AreWaiting}
 use Rattle.lawful_log.proofs.Counts.{StartsOne, IsOver}
-use Rattle.lawful_log.proofs.Lists.{all_append, waits_append, one_false, right_true, left_true, waits_one, waits_other, differ_all, once_append}
 use Rattle.lawful_log.proofs.Own.{found_below, StandsBlocked, StandsFresh, IsBlockedSince}
 
 pub some_of : (o : Option Thread) → IsSome o → (t : Thread) × (o ≡ Some t)
@@ -41,9 +46,6 @@ module _ (w after : World) (numbered : IsNumbered w) (after_numbered : IsNumbere
   one_kept x waits apart =
       let under = below x.thread waits.thread waits.live in
       record { thread = waits.thread; live = kept x.thread apart (λ e. omega (arith, under, e)) ∙ waits.live; since = waits.since }
-
-  not_running : (x : Waiter) → ((number : ℕ) → w.running ≡ Some number → x.thread ≢ number) → w.running ≢ Some x.thread
-  not_running x apart e = apart x.thread e refl
 
   each_kept : (waiting : List Waiter) → AllByRecursion (IsWaiting w) waiting → ((number : ℕ) → w.running ≡ Some number → AllByRecursion (λ x. x.thread ≢ number) waiting) →
       AllByRecursion (IsWaiting after) waiting
@@ -131,3 +133,18 @@ module _ (w after : World) (numbered : IsNumbered w) (after_numbered : IsNumbere
           old_waits waiting are n (others n differ) (λ e. omega (arith, under, over.next, e)) live)
           (cases_eq n number);
     }
+
+-- ---- the first thread waits
+
+zero_only : (n : ℕ) (t : Bool) {X : Type 0} (x : X) → nat_eq 0 n ≡ t → IsSome (if t then Some x else None) → (t || false) ≡ true
+zero_only n true x e some = refl
+zero_only n false x e some = absurd (let no : false ≡ true = some in cc)
+
+pub first_waits : (areas : Areas) (taken : Taken) (entry : ℕ) →
+    AreWaiting (with_thread (empty_world areas) taken entry 0) (record { thread = 0; node = 0; since = 0 } ∷ [])
+first_waits areas taken entry = record {
+  each = (record { thread = _; live = refl; since = tt }, tt);
+  once = (tt, tt);
+  running = λ n e. absurd (let no : None ≡ Some n = e in cc);
+  all = λ n apart some. zero_only n (nat_eq 0 n) _ refl some;
+}

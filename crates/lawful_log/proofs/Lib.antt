@@ -8,12 +8,9 @@ pub mod StrideChoices
 pub mod ClientsGoing
 pub mod Counts
 pub mod Own
-pub mod Lists
 pub mod Kept
 pub mod Same
 pub mod Any
-pub mod Queues
-pub mod Choice
 pub mod Clocks
 pub mod Wakes
 pub mod Within

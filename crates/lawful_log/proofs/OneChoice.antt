@@ -1,8 +1,9 @@
 -- What the log has at a choice point is one.
 use Rattle.std.proofs.Common.{◌≡◌, ℕ, Bool, true, false, [], ◌∷◌, Option, Some, None, sym, ◌∙◌, ap, subst}
 use Rattle.c_mean.specs.ModelledCalls.{is_dropped}
-use Rattle.choice_rules.specs.Clock.{is_due}
-use Rattle.choice_rules.specs.Deliveries.{delivery_of, item_of, received}
+use Rattle.choice_rules.specs.Choice.{IsLawful}
+use Rattle.choice_rules.specs.Clock.{is_due, IsChoicePoint}
+use Rattle.choice_rules.specs.Deliveries.{delivery_of, item_of, received, coming_entry}
 use Rattle.choice_rules.specs.Seen.{Waiter}
 use Rattle.choice_rules.specs.Stops.{IsDone, IsBadTrace, IsIdle}
 use Rattle.choice_rules.specs.Trace.{behind}
@@ -14,14 +15,8 @@ use Rattle.schedule_log.specs.declared.entries.Entry.{Entry}
 use Rattle.schedule_log.specs.declared.entries.Item.{Item}
 use Rattle.lawful_log.specs.Setup.{Setup, setting_of}
 use Rattle.lawful_log.specs.State.{State, seen_of}
-use Rattle.lawful_log.specs.Clock.{IsChoicePoint}
-use Rattle.lawful_log.specs.Choice.{IsLawful, IsRun, chosen_from}
+use Rattle.lawful_log.specs.Choice.{IsRun, chosen_from}
 use Rattle.lawful_log.specs.Deliveries.{IsComing}
-
--- the entry of what comes, by whether it is dropped
-abbrev pub coming_entry : Bool → ℕ → Item → Entry
-coming_entry true clock item = Entry.Dropped clock item
-coming_entry false clock item = Entry.Event clock item
 
 module _ (g : Setup) (state : State) where
   record Comes (event : Event) (clock : ℕ) (entry : Entry) (after : State) : Type 0 where
@@ -36,7 +31,7 @@ module _ (g : Setup) (state : State) where
 
   record Runs (clock : ℕ) (entry : Entry) (after : State) : Type 0 where
     chosen : Waiter
-    lawful : IsLawful g state clock chosen
+    lawful : IsLawful g.policy (seen_of state) clock chosen
     machine : World
     begins : after_actions (setting_of g) (Advance clock ∷ Pick chosen.thread ∷ []) state.machine ≡ Some machine
     entry_is : entry ≡ Entry.Run clock chosen.thread chosen.node
@@ -50,7 +45,7 @@ module _ (g : Setup) (state : State) where
   pub record IsAtPoint (entry : Entry) (after : State) : Type 0 where
     pub next : Option Event
     pub clock : ℕ
-    pub point : IsChoicePoint g state next clock
+    pub point : IsChoicePoint g.policy (seen_of state) next clock
     tells : TellsPoint next clock (is_due next clock) entry after
 
   one_coming : (event : Event) (clock : ℕ) (a b : Entry) (s t : State) → Comes event clock a s → Comes event clock b t → (a ≡ b) × (s ≡ t)

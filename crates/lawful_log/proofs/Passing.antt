@@ -95,8 +95,3 @@ passes_left tickets rule taken number has = record {
   latest = has.latest;
   each = all-without number (IsAtPass tickets taken) rule.clients has.each;
 }
-
--- no more threads than so many are started by the latest choice, where more are
-pub started_more : (taken : List PastChoice) (started more : ℕ) → started ≤ more → StartedBy taken started → StartedBy taken more
-started_more [] started more h by = tt
-started_more (latest ∷ earlier) started more h by = omega arith

@@ -4,10 +4,11 @@ use Rattle.std.specs.Prelude.{IsSome, if◌then◌else◌}
 use Rattle.std.specs.List.{AllByRecursion}
 use Rattle.std.proofs.lemmas.Bool.{cond_both, cases_eq, cond-false, eq-eqb, ne_eqb, eqb-true}
 use Rattle.choice_rules.specs.Seen.{Waiter}
+use Rattle.choice_rules.specs.Waiting.{waits}
+use Rattle.choice_rules.proofs.Waiters.{but, once_but, waits_but_other, waits_but_self}
 use Rattle.machine_world.specs.Runs.{Pick, picked, picked_at, may_run, after_action, is_between}
 use Rattle.machine_world.specs.Threads.{Blocked, Thread, World, Setting, thread_of, replaced, first_with}
-use Rattle.lawful_log.specs.Waiting.{IsWaiting, waits, AreWaiting}
-use Rattle.lawful_log.proofs.Lists.{but, once_but, waits_but_self, waits_but_other}
+use Rattle.lawful_log.specs.Waiting.{IsWaiting, AreWaiting}
 use Rattle.lawful_log.proofs.Own.{number_of_found}
 
 pub record IsPicked (w : World) (number : ℕ) (after : World) : Type 0 where

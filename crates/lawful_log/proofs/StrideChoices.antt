@@ -3,20 +3,21 @@ use Rattle.std.proofs.Common.{◌≡◌, ◌≢◌, ℕ, ◌&&◌, ◌||◌, Boo
 use Rattle.std.specs.Prelude.{IsTrue, slice_index}
 use Rattle.std.specs.List.{AllByRecursion, list_any}
 use Rattle.cap_word.specs.declared.threads.ThreadId.{ThreadId}
+use Rattle.choice_rules.specs.Choice.{is_open}
 use Rattle.choice_rules.specs.Policy.{by_stride}
+use Rattle.choice_rules.specs.Readiness.{is_ready, at_accept, any_ready, any_elsewhere}
 use Rattle.choice_rules.specs.Seen.{Waiter}
 use Rattle.choice_rules.specs.Strides.{pass_of}
+use Rattle.choice_rules.specs.Choice as rules
+use Rattle.choice_rules.specs.Waiting.{IsPlaced}
+use Rattle.choice_rules.proofs.GraphChoices.{any_eligible}
 use Rattle.choice_rules.proofs.Rules.{lawful_by_stride}
-use Rattle.lawful_log.specs.Choice as log
-use Rattle.lawful_log.specs.Choice.{is_open}
 use Rattle.lawful_log.specs.Good.{checked_of}
-use Rattle.lawful_log.specs.Readiness.{is_ready, at_accept, any_ready, any_elsewhere}
 use Rattle.lawful_log.specs.Setup.{Setup, setting_of}
 use Rattle.lawful_log.specs.State.{State, seen_of}
 use Rattle.lawful_log.specs.Beside.{IsChosenAs, IsChosen}
 use Rattle.lawful_log.specs.Tests.{is_blocked_at_accept}
-use Rattle.lawful_log.specs.Waiting.{IsWaiting, IsPlaced, AreWaiting}
-use Rattle.lawful_log.proofs.Choice.{any_eligible}
+use Rattle.lawful_log.specs.Waiting.{IsWaiting, AreWaiting}
 use Rattle.lawful_log.proofs.Told.{ready_same, accept_same}
 use Rattle.machine_world.specs.Runs.{advanced, may_run}
 use Rattle.machine_world.specs.StandsForWorld.{StandsForWorld}
@@ -65,9 +66,9 @@ module _ (places : List (Option ℕ)) (strides : StridesState) (waiting : List W
 
 module _ (g : Setup) (state : State) (clock : ℕ) (places : List (Option ℕ)) (strides : StridesState) (tickets : List (ℕ × ℕ)) (rule_is : g.policy.rule ≡ by_stride tickets)
     (are : AreWaiting state.machine state.waiting) (clients : AreClients places strides state.waiting) (passes : HasPasses tickets strides.rule state.past.taken) (none : strides.rule.running ≡ None)
-    (eligible : ThreadId → Bool) (eligible_is : (t : ThreadId) (x : Waiter) → t.number ≡ x.thread → IsPlaced places t → IsWaiting state.machine x → eligible t ≡ log.is_eligible g state clock x) where
+    (eligible : ThreadId → Bool) (eligible_is : (t : ThreadId) (x : Waiter) → t.number ≡ x.thread → IsPlaced places t → IsWaiting state.machine x → eligible t ≡ rules.is_eligible g.policy (seen_of state) clock x) where
   abbrev test : Waiter → Bool
-  test = log.is_eligible g state clock
+  test = rules.is_eligible g.policy (seen_of state) clock
 
   abbrev number_of : Client → ℕ
   number_of = λ client. client.thread.number
@@ -77,7 +78,7 @@ module _ (g : Setup) (state : State) (clock : ℕ) (places : List (Option ℕ)) 
       eligible_is c.thread w (key_is number_of number (waiting_of strides.rule) c there ∙ sym (key_is (λ (x : Waiter). x.thread) number state.waiting w waits)) of.placed
       (all_at (λ (x : Waiter). x.thread) (IsWaiting state.machine) number state.waiting w are.each waits)
 
-  no_choice : any_ready g state clock ≡ true → AllByRecursion (λ client. eligible client.thread ≡ false) (waiting_of strides.rule) → ⊥
+  no_choice : any_ready g.policy (seen_of state) clock ≡ true → AllByRecursion (λ client. eligible client.thread ≡ false) (waiting_of strides.rule) → ⊥
   no_choice ready nobody =
       let each : AllByRecursion (λ w. test w ≡ false) state.waiting =
       all_both (λ w. waiter_of w.thread state.waiting ≡ Some w) (IsWaiting state.machine) (λ w. test w ≡ false)
@@ -86,7 +87,7 @@ module _ (g : Setup) (state : State) (clock : ℕ) (places : List (Option ℕ)) 
       sym (same_test w.thread c.client w c.there found c.of) ∙ all_at number_of (λ client. eligible client.thread ≡ false) w.thread (waiting_of strides.rule) c.client nobody c.there)
       state.waiting (own state.waiting are.once) are.each in
       let no : list_any test state.waiting ≡ false = none_passes test state.waiting each in
-      let some : list_any test state.waiting ≡ true = any_eligible g state clock ready in
+      let some : list_any test state.waiting ≡ true = any_eligible g.policy (seen_of state) clock ready in
       absurd (let both : true ≡ false = sym some ∙ no in cc)
 
   at_passes : AllByRecursion (IsAtPass tickets state.past.taken) (waiting_of strides.rule)
@@ -143,28 +144,31 @@ module _ (g : Setup) (state : State) (clock : ℕ) (places : List (Option ℕ)) 
       placed = subst (λ (t : ThreadId). IsPlaced places t) is.first.thread_is its.of.placed;
     }
 
-  pub choice_by_strides : any_ready g state clock ≡ true → (choice : Option Choice) → IsChoiceByStrides strides eligible choice → IsChosen g state clock places choice
+  pub choice_by_strides : any_ready g.policy (seen_of state) clock ≡ true → (choice : Option Choice) → IsChoiceByStrides strides eligible choice → IsChosen g state clock places choice
   choice_by_strides ready None is = no_choice ready is
   choice_by_strides ready (Some choice) is = chosen_by_strides choice is
 
 -- ---- what a world tells is what the state of the log says
 
-eligible_same : (g : Setup) (state : State) (clock : ℕ) → StandsForWorld (checked_of g) g.program state.machine state.source → (places : List (Option ℕ)) (ready accept : ThreadId → Bool) (open_ : Bool) → open_ ≡ is_open g state.past →
+eligible_same : (g : Setup) (state : State) (clock : ℕ) → StandsForWorld (checked_of g) g.program state.machine state.source → (places : List (Option ℕ)) (ready accept : ThreadId → Bool) (open_ : Bool) → open_ ≡ is_open g.policy state.past →
     ((t : ThreadId) (x : Waiter) → t.number ≡ x.thread → IsPlaced places t → (v : IsWaiting state.machine x) → ready t ≡ may_run (setting_of g) (advanced state.machine clock) v.thread.blocked) →
     ((t : ThreadId) (x : Waiter) → t.number ≡ x.thread → IsPlaced places t → (v : IsWaiting state.machine x) → accept t ≡ is_blocked_at_accept v.thread.blocked) →
-    (t : ThreadId) (x : Waiter) → t.number ≡ x.thread → IsPlaced places t → IsWaiting state.machine x → is_eligible ready accept (any_elsewhere g state clock) open_ t ≡ log.is_eligible g state clock x
+    (t : ThreadId) (x : Waiter) → t.number ≡ x.thread → IsPlaced places t → IsWaiting state.machine x → is_eligible ready accept (any_elsewhere g.policy (seen_of state) clock) open_ t ≡ rules.is_eligible g.policy (seen_of state) clock x
 eligible_same g state clock stands places ready accept open_ open_is ready_is accept_is t x n placed v =
-    ap (λ (b : Bool). b && (not (accept t) || (open_ || not (any_elsewhere g state clock)))) (ready_is t x n placed v ∙ ready_same g state clock stands x v)
-    ∙ ap (λ (b : Bool). is_ready g state clock x && (not b || (open_ || not (any_elsewhere g state clock)))) (accept_is t x n placed v ∙ accept_same g state clock stands x v)
-    ∙ ap (λ (b : Bool). is_ready g state clock x && (not (at_accept state x) || (b || not (any_elsewhere g state clock)))) open_is
+    ap (λ (b : Bool). b && (not (accept t) || (open_ || not (any_elsewhere g.policy (seen_of state) clock))))
+        (ready_is t x n placed v ∙ ready_same g state clock stands x v)
+    ∙ ap (λ (b : Bool). is_ready g.policy (seen_of state) clock x && (not b || (open_ || not (any_elsewhere g.policy (seen_of state) clock)))) (accept_is t x n placed v ∙ accept_same g state clock stands x v)
+    ∙ ap (λ (b : Bool). is_ready g.policy (seen_of state) clock x &&
+        (not (at_accept (seen_of state) x) || (b || not (any_elsewhere g.policy (seen_of state) clock)))) open_is
 
 pub stride_choice_told : (g : Setup) (state : State) (clock : ℕ) (places : List (Option ℕ)) (strides : StridesState) (tickets : List (ℕ × ℕ)) (ready accept : ThreadId → Bool) (gate : Bool) →
     g.policy.rule ≡ by_stride tickets → StandsForWorld (checked_of g) g.program state.machine state.source → AreWaiting state.machine state.waiting → AreClients places strides state.waiting → HasPasses tickets strides.rule state.past.taken →
     strides.rule.running ≡ None →
     ((t : ThreadId) (x : Waiter) → t.number ≡ x.thread → IsPlaced places t → (v : IsWaiting state.machine x) → ready t ≡ may_run (setting_of g) (advanced state.machine clock) v.thread.blocked) →
     ((t : ThreadId) (x : Waiter) → t.number ≡ x.thread → IsPlaced places t → (v : IsWaiting state.machine x) → accept t ≡ is_blocked_at_accept v.thread.blocked) →
-    gate ≡ is_open g state.past → any_ready g state clock ≡ true → (choice : Option Choice) →
-    IsChoiceByStrides strides (is_eligible ready accept (any_elsewhere g state clock) gate) choice → IsChosen g state clock places choice
+    gate ≡ is_open g.policy state.past → any_ready g.policy (seen_of state) clock ≡ true → (choice : Option Choice) →
+    IsChoiceByStrides strides (is_eligible ready accept (any_elsewhere g.policy (seen_of state) clock) gate) choice → IsChosen g state clock places choice
 stride_choice_told g state clock places strides tickets ready accept gate rule_is stands are clients passes none ready_is accept_is gate_is some choice is =
-    choice_by_strides g state clock places strides tickets rule_is are clients passes none (is_eligible ready accept (any_elsewhere g state clock) gate)
+    choice_by_strides g state clock places strides tickets rule_is are clients passes none
+        (is_eligible ready accept (any_elsewhere g.policy (seen_of state) clock) gate)
     (eligible_same g state clock stands places ready accept gate gate_is ready_is accept_is) some choice is

@@ -3,15 +3,15 @@ use Rattle.std.proofs.Common.{◌≡◌, ℕ, ◌≤◌, Bool, true, false, List
 use Rattle.std.specs.Prelude.{All, Contains, filter_map, nat_eq}
 use Rattle.std.specs.List.{AllByRecursion, list_any}
 use Rattle.std.proofs.lemmas.Bool.{cases_eq, cond-true, cond-false, eq-eqb, ne_eqb, eqb-true}
-use Rattle.std.proofs.lemmas.List.Elements.{All-contains}
+use Rattle.std.proofs.lemmas.List.Elements.{All-contains, All-from_recursion}
 use Rattle.c_mean.specs.ModelledCalls.{Exchange}
+use Rattle.choice_rules.specs.Readiness.{is_ready, any_ready, waking_times}
 use Rattle.choice_rules.specs.Seen.{Waiter}
 use Rattle.choice_rules.specs.Readiness as rules
 use Rattle.choice_rules.specs.Clock.{IsLeastOf}
-use Rattle.lawful_log.specs.Readiness as log
-use Rattle.lawful_log.specs.Readiness.{is_ready, any_ready, waking_times}
+use Rattle.choice_rules.proofs.Tests.{left_true, not_both, right_true}
 use Rattle.lawful_log.specs.Setup.{Setup, setting_of}
-use Rattle.lawful_log.specs.State.{State}
+use Rattle.lawful_log.specs.State.{State, seen_of}
 use Rattle.machine_world.specs.Numbered.{IsNumbered}
 use Rattle.machine_world.specs.Runs.{advanced, may_run, asleep_until}
 use Rattle.machine_world.specs.StandsForWorld.{StandsForWorld, StandsForRest}
@@ -19,9 +19,8 @@ use Rattle.machine_world.specs.Threads.{Blocked, Thread, World, first_with, thre
 use Rattle.lawful_log.specs.Good.{checked_of}
 use Rattle.lawful_log.specs.Waiting.{IsWaiting, AreWaiting}
 use Rattle.lawful_log.proofs.Any.{any_found, waiter_of}
-use Rattle.lawful_log.proofs.Clocks.{gives_contains, gives_none, gives_above, all_index, is_time, asleep_is, contains_later, contains_head, contains_tail, contains_none}
+use Rattle.lawful_log.proofs.Clocks.{gives_contains, gives_none, gives_above, is_time, asleep_is, contains_later, contains_head, contains_tail, contains_none}
 use Rattle.lawful_log.proofs.Kept.{is_some_of}
-use Rattle.lawful_log.proofs.Lists.{left_true, right_true, not_both}
 use Rattle.lawful_log.proofs.Same.{alike_rest, ready_alike, wakes_alike}
 
 -- ---- lists
@@ -91,33 +90,33 @@ module _ (w : World) (waiting : List Waiter) (numbered : IsNumbered w) (between 
       let gives : h x.waiter ≡ Some time = x.holds.1 ∙ ap (λ (t : Thread). time_of t.blocked) is ∙ is_time_is time (time_of f.thread.blocked) f.passes in
       record {
         one = gives_contains h time (λ y. is_time time (h y)) (λ y e. is_time_is time (h y) e) waiting (x.settles (λ y. is_time time (h y)) (time_is time (h x.waiter) gives));
-        least = all_index (λ other. time ≤ other) (filter_map h waiting)
+        least = All-from_recursion (λ other. time ≤ other) (filter_map h waiting)
             (gives_above h time waiting (weakened Fits (λ y. (t : ℕ) → h y ≡ Some t → time ≤ t)
             (λ y fits t e. least t (map_contains (λ thread. time_of thread.blocked) y.thread w.threads fits.0.thread (Some t) fits.0.live (sym fits.1 ∙ e))) waiting same));
       }
 
 -- ---- in a state where no thread is ready
 
-fits_state : (g : Setup) (state : State) (clock : ℕ) (x : Waiter) → StandsForWorld (checked_of g) g.program state.machine state.source → (v : IsWaiting state.machine x) → is_ready g state clock x ≡ false →
-    (u : IsWaiting state.machine x) × (rules.wakes x.since (log.rest_of state x.thread) ≡ asleep_until (setting_of g) (advanced state.machine clock) u.thread.blocked)
+fits_state : (g : Setup) (state : State) (clock : ℕ) (x : Waiter) → StandsForWorld (checked_of g) g.program state.machine state.source → (v : IsWaiting state.machine x) → is_ready g.policy (seen_of state) clock x ≡ false →
+    (u : IsWaiting state.machine x) × (rules.wakes x.since (rules.rest_of (seen_of state) x.thread) ≡ asleep_until (setting_of g) (advanced state.machine clock) u.thread.blocked)
 fits_state g state clock x stands v unready =
-    let rest : StandsForRest (checked_of g) g.program state.machine.areas.pool (Some v.thread) (log.rest_of state x.thread) =
-    subst (λ (o : Option Thread). StandsForRest (checked_of g) g.program state.machine.areas.pool o (log.rest_of state x.thread)) v.live (stands.threads x.thread) in
-    let alike = alike_rest (checked_of g) g.program state.machine.areas.pool v.thread x.since (log.rest_of state x.thread) rest v.since in
+    let rest : StandsForRest (checked_of g) g.program state.machine.areas.pool (Some v.thread) (rules.rest_of (seen_of state) x.thread) =
+    subst (λ (o : Option Thread). StandsForRest (checked_of g) g.program state.machine.areas.pool o (rules.rest_of (seen_of state) x.thread)) v.live (stands.threads x.thread) in
+    let alike = alike_rest (checked_of g) g.program state.machine.areas.pool v.thread x.since (rules.rest_of (seen_of state) x.thread) rest v.since in
     let waits_still : may_run (setting_of g) (advanced state.machine clock) v.thread.blocked ≡ false =
-    ready_alike (setting_of g) (advanced state.machine clock) v.thread.blocked x.since (log.rest_of state x.thread) alike
-    ∙ ap (λ (e : Exchange). rules.is_ready_at g.policy.caps e clock x.since (log.rest_of state x.thread)) stands.exchange ∙ unready in
-    (v, sym (wakes_alike v.thread.blocked x.since (log.rest_of state x.thread) alike) ∙ sym (asleep_is (setting_of g) (advanced state.machine clock) v.thread.blocked waits_still))
+    ready_alike (setting_of g) (advanced state.machine clock) v.thread.blocked x.since (rules.rest_of (seen_of state) x.thread) alike
+    ∙ ap (λ (e : Exchange). rules.is_ready_at g.policy.caps e clock x.since (rules.rest_of (seen_of state) x.thread)) stands.exchange ∙ unready in
+    (v, sym (wakes_alike v.thread.blocked x.since (rules.rest_of (seen_of state) x.thread) alike) ∙ sym (asleep_is (setting_of g) (advanced state.machine clock) v.thread.blocked waits_still))
 
 module _ (g : Setup) (state : State) (clock : ℕ) (numbered : IsNumbered state.machine) (stands : StandsForWorld (checked_of g) g.program state.machine state.source) (are : AreWaiting state.machine state.waiting)
-    (unready : any_ready g state clock ≡ false) where
-  fitting : AllByRecursion (λ x. (v : IsWaiting state.machine x) × (rules.wakes x.since (log.rest_of state x.thread) ≡ asleep_until (setting_of g) (advanced state.machine clock) v.thread.blocked)) state.waiting
-  fitting = zipped (IsWaiting state.machine) (λ x. is_ready g state clock x ≡ false) (λ x. (v : IsWaiting state.machine x) × (rules.wakes x.since (log.rest_of state x.thread) ≡ asleep_until (setting_of g) (advanced state.machine clock) v.thread.blocked))
-      (λ x v e. fits_state g state clock x stands v e) state.waiting are.each (all_false (is_ready g state clock) state.waiting unready)
+    (unready : any_ready g.policy (seen_of state) clock ≡ false) where
+  fitting : AllByRecursion (λ x. (v : IsWaiting state.machine x) × (rules.wakes x.since (rules.rest_of (seen_of state) x.thread) ≡ asleep_until (setting_of g) (advanced state.machine clock) v.thread.blocked)) state.waiting
+  fitting = zipped (IsWaiting state.machine) (λ x. is_ready g.policy (seen_of state) clock x ≡ false) (λ x. (v : IsWaiting state.machine x) × (rules.wakes x.since (rules.rest_of (seen_of state) x.thread) ≡ asleep_until (setting_of g) (advanced state.machine clock) v.thread.blocked))
+      (λ x v e. fits_state g state clock x stands v e) state.waiting are.each (all_false (is_ready g.policy (seen_of state) clock) state.waiting unready)
 
-  pub none_wakes : All (λ thread. asleep_until (setting_of g) (advanced state.machine clock) thread.blocked ≡ None) state.machine.threads → waking_times state ≡ []
-  none_wakes all = none_sleeps state.machine state.waiting numbered stands.between are (asleep_until (setting_of g) (advanced state.machine clock)) (λ x. rules.wakes x.since (log.rest_of state x.thread)) fitting all
+  pub none_wakes : All (λ thread. asleep_until (setting_of g) (advanced state.machine clock) thread.blocked ≡ None) state.machine.threads → waking_times (seen_of state) ≡ []
+  none_wakes all = none_sleeps state.machine state.waiting numbered stands.between are (asleep_until (setting_of g) (advanced state.machine clock)) (λ x. rules.wakes x.since (rules.rest_of (seen_of state) x.thread)) fitting all
 
   pub least_wakes : (time : ℕ) → Contains (map (λ thread. asleep_until (setting_of g) (advanced state.machine clock) thread.blocked) state.machine.threads) (Some time) →
-      ((other : ℕ) → Contains (map (λ thread. asleep_until (setting_of g) (advanced state.machine clock) thread.blocked) state.machine.threads) (Some other) → time ≤ other) → IsLeastOf (waking_times state) time
-  least_wakes time one least = least_sleeps state.machine state.waiting numbered stands.between are (asleep_until (setting_of g) (advanced state.machine clock)) (λ x. rules.wakes x.since (log.rest_of state x.thread)) fitting time one least
+      ((other : ℕ) → Contains (map (λ thread. asleep_until (setting_of g) (advanced state.machine clock) thread.blocked) state.machine.threads) (Some other) → time ≤ other) → IsLeastOf (waking_times (seen_of state)) time
+  least_wakes time one least = least_sleeps state.machine state.waiting numbered stands.between are (asleep_until (setting_of g) (advanced state.machine clock)) (λ x. rules.wakes x.since (rules.rest_of (seen_of state) x.thread)) fitting time one least

@@ -1,8 +1,7 @@
 -- How a segment goes on: steps without an entry, and each entry.
-use Rattle.std.proofs.Common.{◌≡◌, ◌≢◌, ℕ, zero, suc, ◌+◌, ◌-◌, ◌<◌, ◌≤◌, List, [], ◌∷◌, ◌++◌, length, map, Option, Some, None, refl, sym, ap, ◌∙◌, arith, subst, append_assoc, append-nil, true, false}
+use Rattle.std.proofs.Common.{◌≡◌, ◌≢◌, ℕ, zero, suc, ◌+◌, ◌-◌, ◌<◌, List, [], ◌∷◌, ◌++◌, length, Option, Some, None, refl, sym, ap, ◌∙◌, arith, subst, append_assoc, append-nil, true, false}
 use Rattle.std.specs.Prelude.{IsSome, slice_get}
-use Rattle.std.specs.List.{AllByRecursion, range_with_len}
-use Rattle.std.proofs.lemmas.List.FromFn.{map-range_with_len_more}
+use Rattle.std.specs.List.{AllByRecursion}
 use Rattle.blocking_graph.specs.Nodes.{keys_with, node_number}
 use Rattle.cap_word.specs.Word.{signed}
 use Rattle.cap_word.specs.declared.calls.Block.{Block}
@@ -10,6 +9,7 @@ use Rattle.cap_word.specs.declared.stops.Stop.{Stop}
 use Rattle.c_mean.specs.Frames.{Waiting, key_of}
 use Rattle.c_mean.specs.World as source
 use Rattle.choice_rules.specs.Seen.{newcomers, end_node, Waiter}
+use Rattle.choice_rules.proofs.Waiters.{newcomers_more}
 use Rattle.lawful_log.specs.Good.{checked_of}
 use Rattle.lawful_log.specs.Segments.{quiet_world, after_quiet, HasRun, IsOut, IsBlock, IsEnd, rested}
 use Rattle.lawful_log.specs.Setup.{Setup, setting_of}
@@ -55,15 +55,6 @@ live_running s w number (Some other) e wrong =
 runs_live : (s : Setting) (w : World) (number : ℕ) → w.running ≡ Some number → (step s w ≡ Wrong → ⊥) → (t : Thread) × (thread_of w number ≡ Some t)
 unfolding step
 runs_live s w number e wrong = live_running s w number w.running e wrong
-
--- ---- newcomers
-
-none_more : (old : source.World) (next : ℕ) → length old.threads ≤ next → newcomers old (next + 1) ≡ newcomers old next ++ record { thread = next; node = 0; since = 0 } ∷ []
-none_more old next h =
-    let f : ℕ → Waiter = λ thread. record { thread = thread; node = 0; since = 0 } in
-    let count : next + 1 - length old.threads ≡ next - length old.threads + 1 = omega arith in
-    let last : length old.threads + (next - length old.threads) ≡ next = omega arith in
-    ap (λ (n : ℕ). map f (range_with_len (length old.threads) n)) count ∙ map-range_with_len_more f (length old.threads) (next - length old.threads) next last
 
 module _ (g : Setup) (state : State) (segment : Segment) (begun : ℕ) (here : World) (waiting : List Waiter) (is : IsWithin g state segment begun here waiting) where
   numbered : IsNumbered here
@@ -112,7 +103,7 @@ module _ (g : Setup) (state : State) (segment : Segment) (begun : ℕ) (here : W
             ap (λ (l : List Waiter). l ++ record { thread = number; node = 0; since = 0 } ∷ []) is.waiting_is
             ∙ append_assoc state.waiting (newcomers state.source here.next) (record { thread = number; node = 0; since = 0 } ∷ [])
             ∙ ap (λ (n : ℕ). state.waiting ++ (newcomers state.source here.next ++ record { thread = n; node = 0; since = 0 } ∷ [])) counts.number_is
-            ∙ ap (λ (l : List Waiter). state.waiting ++ l) (sym (none_more state.source here.next is.started))
+            ∙ ap (λ (l : List Waiter). state.waiting ++ l) (sym (newcomers_more state.source here.next is.started))
             ∙ ap (λ (n : ℕ). state.waiting ++ newcomers state.source n) (sym counts.next);
         threads = waiting_started here after numbered formed.counted.numbered kept waiting number counts fresh
             (running_below (Spawns number after) e (λ wrong. absurd (cc))) is.threads;

@@ -1,4 +1,4 @@
--- What comes from outside, in a log.
+-- The events in a log.
 use Rattle.std.specs.Prelude.{◌≡◌, ℕ, Bool, [], ◌∷◌, Some}
 use Rattle.choice_rules.specs.Deliveries.{delivery_of, received, IsDelivery}
 use Rattle.choice_rules.specs.Trace.{behind}

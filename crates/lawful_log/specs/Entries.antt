@@ -1,4 +1,4 @@
--- The entries of a segment beside a run: what is allowed, and how the run stands after it.
+-- The entries of a run's segment: they are allowed, and the run corresponds to the state after each.
 use Rattle.std.specs.Prelude.{◌≡◌, ◌≢◌, ℕ, ◌-◌, Bool, true, false, List, [], Option, None, Some}
 use Rattle.blocking_graph.specs.Nodes.{node_number}
 use Rattle.cap_word.specs.Word.{signed}
@@ -22,14 +22,15 @@ use Rattle.machine_world.specs.Threads.{Thread, World, thread_of}
 use Rattle.lawful_log.specs.Within.{IsBetween, IsWithin}
 use Rattle.chunk_pool.specs.Pool.{free_count}
 
--- a value that is put is an `out`, and the segment goes on
+-- a value that is put is an `out` entry, and the segment continues
 pub record PutsHere (g : Setup) (state : State) (segment : Segment) (begun word : ℕ) (after : World) (waiting : List Waiter) : Type 0 where
   pub new : State
   pub new_segment : Segment
   pub allowed : IsOut g state segment.thread (signed word) new
   pub within : IsWithin g new new_segment begun after waiting
 
--- a thread that blocks, with the call at which it waits in the source: it is a `block` at the node of that call's key
+-- a thread that blocks, with the call at which it waits in the source, is a `block` entry at the node of that call's
+-- key
 pub record BlocksHere (g : Setup) (state : State) (segment : Segment) (begun : ℕ) (after : World) (world : source.World) : Type 0 where
   pub thread : Thread
   pub live : thread_of after segment.thread ≡ Some thread
@@ -40,20 +41,20 @@ pub record BlocksHere (g : Setup) (state : State) (segment : Segment) (begun : �
   pub allowed : IsBlock g state segment.thread (node_number state.past.keys (key_of waiting)) (key_of waiting) (after.cost - begun) (free_count after.areas.pool) new
   pub between : IsBetween g new None after
 
--- a thread that ends is an `end`
+-- a thread that ends is an `end` entry
 pub record EndsHere (g : Setup) (state : State) (segment : Segment) (begun : ℕ) (after : World) (world : source.World) : Type 0 where
   pub new : State
   pub allowed : IsEnd g state segment.thread (after.cost - begun) (free_count after.areas.pool) new
   pub between : IsBetween g new None after
 
--- an event that is due is an `event` or a `drop`, where the next line of the trace is its
+-- a due event is an `event` or a `drop` entry, if it is the next line of the trace
 pub record ComesHere (g : Setup) (state : State) (event : Event) (machine : World) : Type 0 where
   pub drops : Bool
   pub new : State
   pub allowed : machine.threads ≢ [] → IsNext state.trace (Some event) → is_due (Some event) machine.clock ≡ true → IsComing g state machine.clock (item_of event.kind) drops new
   pub between : IsBetween g new None (delivered (setting_of g) machine (delivery_of event.kind))
 
--- the pick of the lawful choice is a `run`, where the next line of the trace isn't due
+-- the pick of the lawful choice is a `run` entry, if the next line of the trace isn't due
 pub record RunsHere (g : Setup) (state : State) (next : Option Event) (machine : World) (chosen : Waiter) (picked : World) : Type 0 where
   pub new : State
   pub segment : Segment

@@ -1,4 +1,4 @@
--- A good log: the steps of each of its segments are a good stretch, from the world in which the segment begins.
+-- A good log: the steps of each of its segments are a good stretch from the world in which the segment begins.
 use Rattle.std.specs.Prelude.{◌≡◌, List, [], ◌∷◌, Some}
 use Rattle.std.specs.Int.{w32, cast_unsigned}
 use Rattle.c_lower.specs.ProgramCode.{lowered}
@@ -12,12 +12,12 @@ use Rattle.schedule_log.specs.declared.entries.Item.{Item}
 use Rattle.schedule_log.specs.declared.entries.StopLine.{StopLine}
 use Rattle.lawful_log.specs.Setup.{Setup, setting_of, start_machine}
 
--- what the item of a line delivers
+-- the delivery of an entry's item
 abbrev pub delivered : Item → Delivery
 delivered (Item.Arrive value) = Arrival (cast_unsigned w32 value)
 delivered (Item.Data channel value) = Message channel (cast_unsigned w32 value)
 
--- what the printed lines do to the machine: the clock goes on to that of each `event`, `drop` and `run`, what comes is
+-- what the printed lines do to the machine: the clock advances to that of each `event`, `drop` and `run`, each item is
 -- delivered, and each segment has its printed cost
 abbrev pub stop_turns : StopLine → List runs.Entry
 stop_turns (StopLine.Cut thread stop cost free) = runs.Turn thread cost ∷ []
@@ -38,6 +38,7 @@ machine_entries (Entry.Stop line ∷ entries) = stop_turns line
 abbrev pub checked_of : Setup → Checked
 checked_of g = record { flat = lowered g.program; certificate = g.certificate }
 
+-- the log is good: each of its segments is a good stretch of the machine, from the start on
 pub record IsGoodLog (g : Setup) (entries : List Entry) : Type 0 where
   pub start : World
   pub starts : start_machine g ≡ Some start

@@ -1,4 +1,4 @@
--- The lawful log: its entries are allowed one after another from the start, and then come the edges and one stop.
+-- The lawful log: its entries are allowed one after another from the start, followed by the edges and one stop.
 use Rattle.std.specs.Prelude.{◌≡◌, ℕ, true, false, List, [], ◌∷◌, ◌++◌, map, Some}
 use Rattle.blocking_graph.specs.Edges.{edges_of}
 use Rattle.choice_rules.specs.EdgeLines.{edge_entry}
@@ -12,7 +12,7 @@ use Rattle.lawful_log.specs.Choice.{IsRun}
 use Rattle.lawful_log.specs.Segments.{IsOut, IsBlock, IsEnd}
 use Rattle.lawful_log.specs.Stops.{IsStop}
 
--- an entry is allowed in the first state, and leads to the second
+-- an entry is allowed in the first state and leads to the second
 abbrev pub IsAllowed : Setup → State → Entry → State → Type 0
 IsAllowed g before (Entry.Event clock item) after = IsComing g before clock item false after
 IsAllowed g before (Entry.Dropped clock item) after = IsComing g before clock item true after
@@ -37,7 +37,7 @@ ending g state stop = map (edge_entry g.policy.caps) (edges_of state.past.record
 
 -- ---- the log
 
--- a list of entries from the start to a stop, which comes in this machine world
+-- a list of entries from the start to a stop, in this machine world at the stop
 pub record IsLawfulLog (g : Setup) (trace : List ℕ) (entries : List Entry) (stop : StopLine) (end : World) : Type 0 where
   pub start : World
   pub starts : start_machine g ≡ Some start

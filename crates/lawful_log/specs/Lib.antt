@@ -1,7 +1,5 @@
 pub mod Setup
 pub mod State
-pub mod Readiness
-pub mod Clock
 pub mod Choice
 pub mod Deliveries
 pub mod Segments

@@ -1,5 +1,5 @@
--- The entries of a segment. Each stands for one step of the machine, behind steps of which the log has no entry. What the
--- whole segment puts and how it ends is what the run of its thread does in the source world.
+-- The entries of a segment. Each is one step of the machine, after steps for which the log has no entry. The outputs
+-- and the end of the whole segment are those of its thread's run in the source world.
 use Rattle.std.specs.Prelude.{◌≡◌, ℕ, zero, suc, ◌+◌, ℤ, List, [], ◌∷◌, ◌++◌, length, Option, Some, None, slice_get}
 use Rattle.blocking_graph.specs.Nodes.{keys_with, node_number}
 use Rattle.cap_word.specs.Word.{signed}
@@ -17,7 +17,7 @@ use Rattle.chunk_pool.specs.Pool.{free_count}
 
 -- ---- the machine's steps
 
--- the world after a step of which the log has no entry
+-- the world after a step without an entry
 abbrev pub quiet_world : Move → Option World
 quiet_world (Goes after) = Some after
 quiet_world (Spawns number after) = Some after
@@ -27,28 +27,30 @@ quiet_world (Ends after) = None
 quiet_world (Stops stop) = None
 quiet_world Wrong = None
 
--- the world after so many such steps
+-- the world after n such steps
 abbrev pub after_quiet : Setting → ℕ → World → Option World
 after_quiet s zero w = Some w
 after_quiet s (suc n) w = and_then (quiet_world (step s w)) (after_quiet s n)
 
--- a segment is under way, and so many steps without an entry lead to a world
+-- a segment is in progress, and this number of steps without an entry leads to a world
 pub record IsOnTheWay (g : Setup) (state : State) (segment : Segment) (steps : ℕ) (here : World) : Type 0 where
   pub under_way : state.segment ≡ Some segment
   pub quiet : after_quiet (setting_of g) steps state.machine ≡ Some here
 
 -- ---- the source's run
 
--- the source's run of the segment's thread comes to this world, with a trap if it is one, and puts what the segment has put
+-- the source's run of the segment's thread ends in this world, with this trap if it is one, and puts what the segment
+-- has put
 abbrev pub HasRun : Setup → State → Segment → Option TrapKind → source.World → Type 0
 HasRun g state segment trap world = rules.HasRun g.program g.policy.caps state.source segment.thread segment.puts trap world
 
--- the source's run of it, cut where it has put as many words as the segment has, has put what the segment has put
+-- the source's run, cut after as many outputs as the segment has, has put what the segment has put
 abbrev pub IsCut : Setup → State → Segment → Type 0
 IsCut g state segment = rules.IsCut g.program g.policy.caps state.source segment.thread segment.puts
 
 -- ---- `out`
 
+-- `out`: after some steps without an entry, the running thread's next step puts this value
 pub record IsOut (g : Setup) (before : State) (thread : ℕ) (value : ℤ) (after : State) : Type 0 where
   pub segment : Segment
   pub steps : ℕ
@@ -66,8 +68,8 @@ pub record IsOut (g : Setup) (before : State) (thread : ℕ) (value : ℤ) (afte
 
 -- ---- `block` and `end`
 
--- the state after a segment that has ended at a node with these worlds, at this cost; those that join a node then, and the
--- keys that have appeared
+-- the state after a segment that has ended at a node with these worlds, at this cost; the threads that join a node
+-- then, and the keys so far
 abbrev pub rested : State → Segment → ℕ → ℕ → World → source.World → List Waiter → List (List ℕ) → State
 rested state segment node cost machine world joining keys = record {
   machine = machine;
@@ -79,6 +81,7 @@ rested state segment node cost machine world joining keys = record {
       (record { from = segment.node; to = node; cost = cost; change = changes segment.uses (uses_in (held_chunks machine) world.exchange) }) (uses_in (held_chunks machine) world.exchange);
 }
 
+-- `block`: the running thread blocks at a call of this key, in the machine and in the source
 pub record IsBlock (g : Setup) (before : State) (thread node : ℕ) (key : List ℕ) (cost free : ℕ) (after : State) : Type 0 where
   pub segment : Segment
   pub steps : ℕ
@@ -99,6 +102,7 @@ pub record IsBlock (g : Setup) (before : State) (thread node : ℕ) (key : List 
   pub after_is : after ≡ rested before segment node cost machine world
       (record { thread = thread; node = node; since = machine.clock } ∷ []) (keys_with before.past.keys key)
 
+-- `end`: the running thread ends, in the machine and in the source
 pub record IsEnd (g : Setup) (before : State) (thread cost free : ℕ) (after : State) : Type 0 where
   pub segment : Segment
   pub steps : ℕ

@@ -1,4 +1,4 @@
--- What a run is given besides its trace: a program with its image and certificate, and a policy.
+-- What a run is given in addition to its trace: a program with its image and certificate, and a policy.
 use Rattle.std.specs.Prelude.{Option}
 use Rattle.c_tree.specs.Trees.{ProgramTree}
 use Rattle.choice_rules.specs.Policy.{Policy}
@@ -16,15 +16,16 @@ pub record Setup : Type 0 where
   pub certificate : Certificate
   pub policy : Policy
 
--- what stays through a run of the machine
+-- what stays the same during a run of the machine
 abbrev pub setting_of : Setup → Setting
 setting_of g = record { code = g.image.code; fuel = g.policy.fuel; backlog = g.policy.backlog; caps = g.policy.caps }
 
--- what the certificate says of `main`
+-- the certificate's entry for `main`
 abbrev pub main_fact : Setup → FunctionFact
 main_fact g = fact_at g.certificate g.program.main
 
--- the areas in which the run starts: a new pool of the policy's chunks of both sizes, and what the image has
+-- the areas in which the run starts: a new pool with the policy's chunks of both sizes, and the globals and tables of
+-- the image
 abbrev pub start_areas : Setup → Areas
 start_areas g =
     new_areas g.policy.chunks g.certificate.chunk g.policy.extra g.policy.extra_bytes g.image.globals g.image.tables

@@ -1,15 +1,14 @@
--- Where a log has come to.
+-- The state of a log after some entries.
 use Rattle.std.specs.Prelude.{ℕ, ◌-◌, List, [], ◌∷◌, length, Option, None, is_some}
 use Rattle.c_mean.specs.World as source
-use Rattle.choice_rules.specs.Seen as rules
 use Rattle.choice_rules.specs.Seen.{Waiter, Past, Seen, uses_in, no_past}
 use Rattle.choice_rules.specs.Trace.{Trace}
 use Rattle.machine_world.specs.Threads.{World}
 use Rattle.lawful_log.specs.Setup.{Setup}
 use Rattle.chunk_pool.specs.Pool.{free_count}
 
--- a segment that is under way: its thread, the node that it was taken from, the uses at its choice, the instructions
--- that it has retired, and the words that it has put
+-- a segment in progress: its thread, the node from which the thread was taken, the uses at its choice, the number of
+-- its retired instructions, and the values that it has put
 pub record Segment : Type 0 where
   pub thread : ℕ
   pub node : ℕ
@@ -17,9 +16,8 @@ pub record Segment : Type 0 where
   pub cost : ℕ
   pub puts : List ℕ
 
--- the machine world as it is now, the source world as it was when no segment was under way last, what is left of the
--- trace, the threads that wait, in the order in which they joined their nodes, the segment under way, if there is one, and
--- the past
+-- the machine world now; the source world when last no segment was in progress; the rest of the trace; the waiting
+-- threads, in the order in which they joined their nodes; the segment in progress, if there is one; and the past
 pub record State : Type 0 where
   pub machine : World
   pub source : source.World
@@ -28,11 +26,11 @@ pub record State : Type 0 where
   pub segment : Option Segment
   pub past : Past
 
--- how many chunks are held
+-- the number of held chunks
 abbrev pub held_chunks : World → ℕ
 held_chunks machine = machine.areas.pool.count - free_count machine.areas.pool
 
--- what a choice point sees of a state
+-- what is visible of a state at a choice point
 abbrev pub seen_of : State → Seen
 seen_of state = record {
   clock = state.machine.clock;
@@ -44,9 +42,6 @@ seen_of state = record {
   under_way = is_some state.segment;
   past = state.past;
 }
-
-abbrev pub uses_of : State → List ℕ
-uses_of state = rules.uses_of (seen_of state)
 
 -- before the first entry: thread 0 waits at the start, and nothing has happened
 abbrev pub start_of : Setup → List ℕ → World → State

@@ -1,5 +1,5 @@
 -- Where a run stops, and in which machine world.
-use Rattle.std.specs.Prelude.{◌≡◌, ℕ, ◌+◌, length, Some}
+use Rattle.std.specs.Prelude.{◌≡◌, ℕ, ◌+◌, Some}
 use Rattle.cap_word.specs.declared.stops.Stop.{Stop}
 use Rattle.c_mean.specs.World as source
 use Rattle.choice_rules.specs.Stops.{IsDone, IsBadTrace, IsIdle}
@@ -10,7 +10,8 @@ use Rattle.lawful_log.specs.State.{Segment, State, seen_of}
 use Rattle.lawful_log.specs.Segments.{IsOnTheWay, HasRun, IsCut}
 use Rattle.chunk_pool.specs.Pool.{free_count}
 
--- what a segment that a stop cuts has put: at a trap all that the source puts up to that trap, and elsewhere so much of it
+-- what a segment has put that a stop cuts off: at a trap, all that the source puts up to that trap; at any other stop,
+-- a beginning of what the source puts
 abbrev pub IsCutBy : Setup → State → Segment → Stop → Type 0
 IsCutBy g state segment (Stop.Trap kind) = (world : source.World) × HasRun g state segment (Some kind) world
 IsCutBy g state segment Stop.NoChunk = IsCut g state segment
@@ -28,7 +29,7 @@ pub record IsStopped (g : Setup) (state : State) (thread : ℕ) (stop : Stop) (c
   pub free_is : free ≡ free_count machine.areas.pool
   pub puts : IsCutBy g state segment stop
 
--- a stop, in the machine world in which it comes: at a choice point that of the state
+-- a stop, and the machine world at it; at a choice point, that is the state's
 abbrev pub IsStop : Setup → State → StopLine → World → Type 0
 IsStop g state StopLine.Done machine = IsDone (seen_of state) × (machine ≡ state.machine)
 IsStop g state StopLine.Idle machine = IsIdle g.policy (seen_of state) × (machine ≡ state.machine)

@@ -1,4 +1,4 @@
--- A run between segments and within one, beside the state of its log.
+-- A run between segments and within one, compared with the state of its log.
 use Rattle.std.specs.Prelude.{◌≡◌, ℕ, ◌+◌, ◌≤◌, List, ◌++◌, length, Option, Some, None}
 use Rattle.event_trace.specs.declared.events.Event.{Event}
 use Rattle.choice_rules.specs.Seen.{Waiter, newcomers}
@@ -13,8 +13,8 @@ use Rattle.machine_world.specs.WellFormed.{IsWellFormed}
 use Rattle.lawful_log.specs.Clocks.{IsClockOf}
 use Rattle.lawful_log.specs.Waiting.{AreWaiting}
 
--- between segments: the run's machine is that of the state, whose clock may have moved; what the next line of the trace is,
--- if it has been looked at
+-- between segments: the run's machine is that of the state, except that its clock may have advanced; and the next line
+-- of the trace, if it has been examined
 pub record IsBetween (g : Setup) (state : State) (known : Option (Option Event)) (machine : World) : Type 0 where
   pub between : state.segment ≡ None
   pub formed : IsWellFormed (checked_of g) (setting_of g) state.machine
@@ -24,7 +24,8 @@ pub record IsBetween (g : Setup) (state : State) (known : Option (Option Event))
   pub later : state.machine.clock ≤ machine.clock
   pub clock_is : IsClockOf g state known machine.clock
 
--- within a segment, which began when so many instructions had retired: some steps without an entry lead to the machine now
+-- within a segment, which began when `begun` instructions had retired: some steps without an entry lead to the machine
+-- now
 pub record IsWithin (g : Setup) (state : State) (segment : Segment) (begun : ℕ) (here : World) (waiting : List Waiter) : Type 0 where
   pub under_way : state.segment ≡ Some segment
   pub steps : ℕ

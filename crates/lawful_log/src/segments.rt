@@ -15,9 +15,8 @@ ghost use Rattle.machine_world.specs.StandsForWorld.{StandsForWorld};
 ghost use Rattle.machine_world.specs.Threads.{Blocks, Ends, Goes, Puts, Spawns, Stops, World, step};
 ghost use Rattle.chunk_pool.specs.Pool.{free_count};
 
-/// Within a segment: a step that the log doesn't tell of leads on within it, and a thread that it starts waits at node 0; a
-/// step that puts a value, blocks, ends or stops the run is an entry or a stop that is allowed, given what the source's run
-/// comes to. It does nothing.
+/// Laws within a segment: a step without an entry stays within it, and a thread that it starts waits at node 0. A step
+/// that puts a value, blocks, ends or stops the run is an allowed entry or stop, given what the source's run does.
 pub fn segment_entry_laws()
     ensures goes { (g : Setup) (state : State) (segment : Segment) (begun : ℕ) (here after : World) (waiting : List Waiter) → IsWithin g state segment begun here waiting →
         step (setting_of g) here ≡ Goes after → IsWithin g state segment begun after waiting }

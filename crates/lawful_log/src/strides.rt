@@ -1,16 +1,17 @@
 ghost use Rattle.std.specs.Prelude.{◌≡◌, ◌≢◌, ◌<◌, ◌≤◌, ◌∷◌, ◌++◌, [], Bool, List, None, Option, Some, filter, length, nat_eq, not, true, ℕ};
 ghost use Rattle.std.specs.List.{AllByRecursion};
 ghost use Rattle.cap_word.specs.declared.threads.ThreadId.{ThreadId};
+ghost use Rattle.choice_rules.specs.Choice.{is_open};
 ghost use Rattle.choice_rules.specs.Policy.{by_stride};
+ghost use Rattle.choice_rules.specs.Readiness.{any_elsewhere, any_ready};
 ghost use Rattle.choice_rules.specs.Seen.{PastChoice, Waiter};
-ghost use Rattle.lawful_log.specs.Choice.{is_open};
+ghost use Rattle.choice_rules.specs.Waiting.{IsPlaced};
 ghost use Rattle.lawful_log.specs.Good.{checked_of};
-ghost use Rattle.lawful_log.specs.Readiness.{any_elsewhere, any_ready};
 ghost use Rattle.lawful_log.specs.Setup.{Setup, setting_of};
-ghost use Rattle.lawful_log.specs.State.{State};
+ghost use Rattle.lawful_log.specs.State.{State, seen_of};
 ghost use Rattle.lawful_log.specs.Beside.{IsChosen};
 ghost use Rattle.lawful_log.specs.Tests.{is_blocked_at_accept};
-ghost use Rattle.lawful_log.specs.Waiting.{AreWaiting, IsPlaced, IsWaiting};
+ghost use Rattle.lawful_log.specs.Waiting.{AreWaiting, IsWaiting};
 ghost use Rattle.machine_world.specs.Runs.{advanced, may_run};
 ghost use Rattle.machine_world.specs.StandsForWorld.{StandsForWorld};
 ghost use Rattle.ready_tree.specs.declared.needs.Need.{Need as NeedOf};
@@ -24,17 +25,17 @@ ghost use Rattle.stride_rule.specs.declared.clients.Client.{Client};
 ghost use Rattle.lawful_log.specs.Clients.{AreClients, HasRunner, waiter_of};
 ghost use Rattle.lawful_log.specs.Passes.{HasPasses, StartedBy};
 
-/// The choice of a stride rule whose clients are the threads that wait, and whose passes are those of the log, is the lawful one;
-/// there is one where a thread is ready. A choice, a start and the end of a segment keep the clients and the passes. It does
-/// nothing.
+/// Laws: if the clients of a stride rule are the waiting threads, and their passes are those of the log, the rule's
+/// choice is the lawful one, and there is one if a thread is ready. A choice, a start and the end of a segment keep
+/// clients and passes.
 pub fn stride_step_laws()
     ensures choice { (g : Setup) (state : State) (clock : ℕ) (places : List (Option ℕ)) (strides : StridesState) (tickets : List (ℕ × ℕ)) (ready accept : ThreadId → Bool) (gate : Bool) →
         g.policy.rule ≡ by_stride tickets → StandsForWorld (checked_of g) g.program state.machine state.source → AreWaiting state.machine state.waiting → AreClients places strides state.waiting → HasPasses tickets strides.rule state.past.taken →
         strides.rule.running ≡ None →
         ((t : ThreadId) (x : Waiter) → t.number ≡ x.thread → IsPlaced places t → (v : IsWaiting state.machine x) → ready t ≡ may_run (setting_of g) (advanced state.machine clock) v.thread.blocked) →
         ((t : ThreadId) (x : Waiter) → t.number ≡ x.thread → IsPlaced places t → (v : IsWaiting state.machine x) → accept t ≡ is_blocked_at_accept v.thread.blocked) →
-        gate ≡ is_open g state.past → any_ready g state clock ≡ true → (choice : Option Choice) →
-        IsChoiceByStrides strides (is_eligible ready accept (any_elsewhere g state clock) gate) choice → IsChosen g state clock places choice }
+        gate ≡ is_open g.policy state.past → any_ready g.policy (seen_of state) clock ≡ true → (choice : Option Choice) →
+        IsChoiceByStrides strides (is_eligible ready accept (any_elsewhere g.policy (seen_of state) clock) gate) choice → IsChosen g state clock places choice }
     ensures clients_taken { (places : List (Option ℕ)) (strides : StridesState) (waiting : List Waiter) (choice : StrideChoice) → strides.rule.running ≡ None → AreClients places strides waiting →
         AreClients places (record { rule = after_choice strides.rule choice; nodes = strides.nodes }) (filter (λ w. not (nat_eq w.thread choice.thread.number)) waiting) }
     ensures clients_started { (places : List (Option ℕ)) (strides new : StridesState) (waiting : List Waiter) (thread : ThreadId) → strides.rule.running ≢ Some thread.number → waiter_of thread.number waiting ≡ None → IsPlaced places thread →

@@ -6,9 +6,8 @@ ghost use Rattle.lawful_log.specs.Lawful.{IsLawfulLog, Leads};
 ghost use Rattle.lawful_log.specs.Setup.{Setup, start_machine};
 ghost use Rattle.lawful_log.specs.State.{State, start_of};
 
-/// At most one list of entries is the lawful log of a program with its image and certificate, a policy and a trace, with
-/// one stop and one machine world at it; and what is led to from the start begins it. It does nothing: the law is the
-/// contract.
+/// Law: at most one list of entries is the lawful log of a program with its image and certificate, a policy and a
+/// trace, with one stop and one machine world at it. Any allowed entries from the start are a beginning of it.
 pub fn at_most_one_log()
     ensures entries { (g : Setup) (trace : List ℕ) (a b : List Entry) (stop other : StopLine) (v w : World) →
         IsLawfulLog g trace a stop v → IsLawfulLog g trace b other w → a ≡ b }

@@ -5,17 +5,9 @@ use Rattle.c_tree.specs.Trees.{ProgramTree}
 use Rattle.c_mean.specs.World.{Segment, SegmentMove, Rested, segment_step, segment_machine}
 use Rattle.lawful_reading.specs.Happenings.{live_in, most_live, IsSilent, PutsNext, RestsNext, IsCrowdedNext, ComesAt}
 use Rattle.lawful_reading.proofs.Deciding.{Decided, decided_by, both_decided, either_decided, only_decided, number_same, list_same}
+use Rattle.lawful_reading.proofs.Moves.{not_both, same_next}
 
 -- ---- moves
-
-same_next : (a b : Segment) → ◌≡◌ {A = SegmentMove} (Goes a) (Goes b) → a ≡ b
-same_next a b e = cc
-
-same_end : (a b : Rested) → ◌≡◌ {A = SegmentMove} (Stops a) (Stops b) → a ≡ b
-same_end a b e = cc
-
-not_both : (a : Rested) (b : Segment) → ◌≡◌ {A = SegmentMove} (Stops a) (Goes b) → ⊥
-not_both a b e = absurd (cc)
 
 goes_by : (P : Segment → Type 0) → ((next : Segment) → Decided (P next)) → (move : SegmentMove) → Decided ((next : Segment) × ((move ≡ Goes next) × P next))
 goes_by P each (Goes next) = only_decided (λ other. (◌≡◌ {A = SegmentMove} (Goes next) (Goes other)) × P other) next (λ other h. same_next other next (sym h.0)) (both_decided (inl refl) (each next))

@@ -14,13 +14,13 @@ use Rattle.lawful_reading.specs.Happenings.{IsSilent, PutsNext, RestsNext}
 
 -- ---- small things
 
-same_next : (a b : Segment) → ◌≡◌ {A = SegmentMove} (Goes a) (Goes b) → a ≡ b
+pub same_next : (a b : Segment) → ◌≡◌ {A = SegmentMove} (Goes a) (Goes b) → a ≡ b
 same_next a b e = cc
 
 same_end : (a b : Rested) → ◌≡◌ {A = SegmentMove} (Stops a) (Stops b) → a ≡ b
 same_end a b e = cc
 
-not_both : (a : Rested) (b : Segment) → ◌≡◌ {A = SegmentMove} (Stops a) (Goes b) → ⊥
+pub not_both : (a : Rested) (b : Segment) → ◌≡◌ {A = SegmentMove} (Stops a) (Goes b) → ⊥
 not_both a b e = absurd (cc)
 
 same_tail : (x : ℕ × ℕ) (xs ys : List (ℕ × ℕ)) → x ∷ xs ≡ x ∷ ys → xs ≡ ys

@@ -1,4 +1,4 @@
--- The lines of choice points: what comes from outside, and which thread runs.
+-- The lines of choice points: events, and which thread runs.
 use Rattle.std.specs.Prelude.{◌≡◌, ℕ, Bool, Some, length}
 use Rattle.c_mean.specs.World as source
 use Rattle.c_mean.specs.World.{begun}
@@ -22,7 +22,7 @@ pub record IsComing (g : Given) (before : State) (clock : ℕ) (item : Item) (dr
     trace = behind before.trace event;
   }
 
--- the state after a choice: the thread waits no more, and the source's run of it begins
+-- the state after a choice: the thread no longer waits, and the source's run of it begins
 abbrev pub chosen_from : State → ℕ → Waiter → source.Segment → State
 chosen_from before clock chosen here = record before {
   clock = clock;

@@ -13,18 +13,18 @@ use Rattle.lawful_reading.specs.State.{Segment, State, End, NotYet, Edges, Stopp
 
 -- ---- edges
 
--- the lines of the edges that are still to come: at first those of all records
+-- the lines of the edges that are yet to come: at first those of all records
 abbrev pub edges_left : Given → State → End → List Entry
 edges_left g state NotYet = map (edge_entry g.policy.caps) (edges_of state.past.records)
 edges_left g state (Edges left) = left
 edges_left g state Stopped = []
 
--- a stop may come here: within a segment the want of a chunk may always, and at a choice point by what it sees
+-- a stop is possible here: within a segment always `nochunk`, at a choice point by what is visible there
 abbrev pub MayStop : Given → State → Type 0
 MayStop g state =
     IsSome state.segment ⊎ (IsDone (seen_of state) ⊎ (IsIdle g.policy (seen_of state) ⊎ ((line : ℕ) × IsBadTrace (seen_of state) line)))
 
--- `edge`: the first of those that are still to come
+-- `edge`: the first edge that is yet to come
 pub record IsEdge (g : Given) (before : State) (entry : Entry) (after : State) : Type 0 where
   pub may_stop : MayStop g before
   pub rest : List Entry
@@ -33,7 +33,7 @@ pub record IsEdge (g : Given) (before : State) (entry : Entry) (after : State) :
 
 -- ---- the stop
 
--- why the segment under way is cut here, after so many further steps
+-- why the segment in progress is cut here, after this number of further steps
 abbrev pub IsCause : Given → State → Segment → Stop → ℕ → ℕ → Type 0
 IsCause g before segment (Stop.Trap kind) cost steps =
     (reached : source.Rested) × RestsNext g.program g.policy.caps segment.here steps reached × (reached.trap ≡ Some kind)
@@ -41,7 +41,7 @@ IsCause g before segment Stop.NoChunk cost steps = steps ≡ 0
 IsCause g before segment Stop.Fuel cost steps = (before.cost + cost ≡ g.policy.fuel) × (steps ≡ 0)
 IsCause g before segment Stop.Threads cost steps = IsCrowdedNext g.program g.policy.caps segment.here steps
 
--- a stop that cuts the segment under way
+-- a stop that cuts the segment in progress
 pub record IsCut (g : Given) (before : State) (thread : ℕ) (stop : Stop) (cost free steps : ℕ) : Type 0 where
   pub segment : Segment
   pub under_way : before.segment ≡ Some segment
@@ -49,14 +49,14 @@ pub record IsCut (g : Given) (before : State) (thread : ℕ) (stop : Stop) (cost
   pub possible : IsPossible g before cost free
   pub cause : IsCause g before segment stop cost steps
 
--- a stop by its line, after so many further steps
+-- a stop by its line, after this number of further steps
 abbrev pub StopsBy : Given → State → StopLine → ℕ → Type 0
 StopsBy g before StopLine.Done steps = IsDone (seen_of before) × (steps ≡ 0)
 StopsBy g before StopLine.Idle steps = IsIdle g.policy (seen_of before) × (steps ≡ 0)
 StopsBy g before (StopLine.Trace line) steps = IsBadTrace (seen_of before) line × (steps ≡ 0)
 StopsBy g before (StopLine.Cut thread stop cost free) steps = IsCut g before thread stop cost free steps
 
--- `stop`: no edge is still to come, and from now on nothing may
+-- `stop`: no edge is yet to come, and nothing may follow
 pub record IsStop (g : Given) (before : State) (line : StopLine) (after : State) : Type 0 where
   pub first : before.end ≢ Stopped
   pub edges_over : edges_left g before before.end ≡ []

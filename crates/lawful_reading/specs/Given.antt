@@ -1,5 +1,5 @@
--- What a log is read against: a program, a policy, and how many steps of the source may be taken. The rule of the
--- policy is by the graph.
+-- What a log is read against: a program, a policy, and the limit on steps of the source. The rule of the policy is the
+-- priority rule.
 use Rattle.std.specs.Prelude.{ℕ, ◌+◌}
 use Rattle.c_tree.specs.Trees.{ProgramTree}
 use Rattle.choice_rules.specs.Policy.{Policy}
@@ -9,6 +9,6 @@ pub record Given : Type 0 where
   pub policy : Policy
   pub most_steps : ℕ
 
--- how many chunks there are
+-- the number of chunks
 abbrev pub chunks_of : Given → ℕ
 chunks_of g = g.policy.chunks + g.policy.extra

@@ -1,4 +1,4 @@
--- What the running thread comes to next, and after how many steps, by the source's own run.
+-- What the running thread does next, and after how many steps, by the source's own run.
 use Rattle.std.specs.Prelude.{◌≡◌, ℕ, suc, Bool, true, false, List, [], ◌∷◌, ◌++◌, length, count_by, ◌⊎◌}
 use Rattle.cap_word.specs.Runs.{Goes, Stops, moves}
 use Rattle.c_tree.specs.Trees.{ProgramTree}
@@ -7,27 +7,28 @@ use Rattle.c_mean.specs.World.{Rest, Fresh, Blocked, Ended, segment_machine, seg
 
 -- ---- live threads
 
+-- the thread hasn't ended
 abbrev pub lives : Rest → Bool
 lives (Fresh function arguments) = true
 lives (Blocked block waiting) = true
 lives Ended = false
 
--- how many threads haven't ended; the running one is among them
+-- the number of threads that haven't ended, including the running one
 abbrev pub live_in : source.World → ℕ
 live_in world = count_by lives world.threads
 
--- as many as may live
+-- the maximum number of live threads
 abbrev pub most_live : ℕ
 most_live = 65535
 
 -- ---- what comes next
 
--- so many steps lead from a segment to another, and put nothing
+-- this number of steps leads from one segment to another, without an output
 pub record IsSilent (program : ProgramTree) (caps : List ℕ) (start : source.Segment) (steps : ℕ) (here : source.Segment) : Type 0 where
   pub moved : moves (segment_machine program caps) steps start ≡ Goes here
   pub outputs : here.world.outputs ≡ start.world.outputs
 
--- the next output is that word, with the step that is counted last
+-- the next output is that word, in the last of these steps
 pub record PutsNext (program : ProgramTree) (caps : List ℕ) (start : source.Segment) (steps word : ℕ) (after : source.Segment) : Type 0 where
   pub before : ℕ
   pub here : source.Segment
@@ -36,7 +37,7 @@ pub record PutsNext (program : ProgramTree) (caps : List ℕ) (start : source.Se
   pub output : after.world.outputs ≡ start.world.outputs ++ (start.number, word) ∷ []
   pub steps_is : steps ≡ suc before
 
--- without a further output the thread blocks, ends or traps, with the step that is counted last
+-- without a further output the thread blocks, ends or traps in the last of these steps
 pub record RestsNext (program : ProgramTree) (caps : List ℕ) (start : source.Segment) (steps : ℕ) (rested : source.Rested) : Type 0 where
   pub before : ℕ
   pub here : source.Segment
@@ -44,7 +45,8 @@ pub record RestsNext (program : ProgramTree) (caps : List ℕ) (start : source.S
   pub stops : segment_step program caps here ≡ Stops rested
   pub steps_is : steps ≡ suc before
 
--- without a further output the thread comes, after so many steps, to the start of a thread where as many live as may
+-- without a further output the thread reaches, after this number of steps, the start of a thread while the maximum
+-- number is live
 pub record IsCrowdedNext (program : ProgramTree) (caps : List ℕ) (start : source.Segment) (steps : ℕ) : Type 0 where
   pub here : source.Segment
   pub silent : IsSilent program caps start steps here
@@ -53,7 +55,7 @@ pub record IsCrowdedNext (program : ProgramTree) (caps : List ℕ) (start : sour
   pub starts : segment_step program caps here ≡ Goes after
   pub one_more : length after.world.threads ≡ suc (length here.world.threads)
 
--- the next output, block, end or trap comes with that step
+-- the next output, block, end or trap is in that step
 abbrev pub ComesAt : ProgramTree → List ℕ → source.Segment → ℕ → Type 0
 ComesAt program caps start steps =
     ((word : ℕ) × (after : source.Segment) × PutsNext program caps start steps word after)

@@ -27,8 +27,8 @@ pub record IsOut (g : Given) (before : State) (thread : ℕ) (value : ℤ) (afte
 
 -- ---- `block` and `end`
 
--- the state after a segment that has ended at a node at this cost, with so many chunks free and so many steps; those that join a
--- node then, and the keys that have appeared
+-- the state after a segment that has ended at a node at this cost, with this number of free chunks and of steps; the
+-- threads that join a node then, and the keys so far
 abbrev pub rested : Given → State → Segment → ℕ → ℕ → ℕ → ℕ → source.World → List Waiter → List (List ℕ) → State
 rested g before segment node cost free steps world joining keys =
     let uses : List ℕ = uses_in (chunks_of g - free) world.exchange in
@@ -45,8 +45,8 @@ rested g before segment node cost free steps world joining keys =
       end = NotYet;
     }
 
--- the thread under way rests without a further output and without a trap, and the line has its number, at least one instruction
--- and what may be
+-- the running thread rests without a further output and without a trap, and the line has its number, at least one
+-- instruction, and possible values
 pub record IsClosed (g : Given) (before : State) (thread cost free steps : ℕ) (segment : Segment) (world : source.World) : Type 0 where
   pub not_over : before.end ≡ NotYet
   pub under_way : before.segment ≡ Some segment
@@ -55,6 +55,7 @@ pub record IsClosed (g : Given) (before : State) (thread cost free steps : ℕ) 
   pub some : 1 ≤ cost
   pub possible : IsPossible g before cost free
 
+-- `block`: the running thread blocks at a call of this key
 pub record IsBlock (g : Given) (before : State) (thread node : ℕ) (key : List ℕ) (cost free : ℕ) (after : State) : Type 0 where
   pub segment : Segment
   pub steps : ℕ
@@ -68,6 +69,7 @@ pub record IsBlock (g : Given) (before : State) (thread node : ℕ) (key : List 
   pub after_is : after ≡ rested g before segment node cost free steps world
       (record { thread = thread; node = node; since = before.clock + cost } ∷ []) (keys_with before.past.keys key)
 
+-- `end`: the running thread ends
 pub record IsEnd (g : Given) (before : State) (thread cost free : ℕ) (after : State) : Type 0 where
   pub segment : Segment
   pub steps : ℕ

@@ -1,4 +1,4 @@
--- Where the reading of a log has come to.
+-- The state of a reading after some lines of a log.
 use Rattle.std.specs.Prelude.{ℕ, ◌+◌, ◌≤◌, List, [], ◌∷◌, Option, None, is_some}
 use Rattle.c_mean.specs.World as source
 use Rattle.choice_rules.specs.Seen.{Waiter, Past, Seen, uses_in, no_past}
@@ -7,22 +7,23 @@ use Rattle.schedule_log.specs.declared.entries.Entry.{Entry}
 use Rattle.lawful_reading.specs.Given.{Given, chunks_of}
 use Rattle.lawful_reading.specs.Happenings.{live_in}
 
--- a segment that is under way: the node from which its thread was taken, the uses at its choice, and where the source's run of
--- the thread has come to with the lines so far: behind the last output, or where it was resumed
+-- a segment in progress: the node from which its thread was taken, the uses at its choice, and the state of the
+-- source's run of the thread after the lines so far: after the last output, or where it was resumed
 pub record Segment : Type 0 where
   pub node : ℕ
   pub uses : List ℕ
   pub here : source.Segment
 
--- the end of a log: it hasn't begun; of the edges these lines are left; or the stop has come
+-- the end of a log: it hasn't begun, or these edge lines are yet to come, or the stop has come
 pub data End : Type 0 where
   NotYet : End
   Edges : (left : List Entry) → End
   Stopped : End
 
--- the clock, the sum of the printed costs, the chunks that are held by the last printed number of free ones, the source world as
--- it was when no segment was under way last, what is left of the trace, the threads that wait, in the order in which they joined
--- their nodes, the segment under way, if there is one, the past, the steps of the source that the lines so far needed, and the end
+-- the clock; the sum of the printed costs; the number of held chunks, by the last printed number of free ones; the
+-- source world when last no segment was in progress; the rest of the trace; the waiting threads, in the order in which
+-- they joined their nodes; the segment in progress, if there is one; the past; the number of steps of the source that
+-- the lines so far needed; and the end
 pub record State : Type 0 where
   pub clock : ℕ
   pub cost : ℕ
@@ -35,7 +36,7 @@ pub record State : Type 0 where
   pub steps : ℕ
   pub end : End
 
--- what a choice point sees
+-- what is visible at a choice point
 abbrev pub seen_of : State → Seen
 seen_of state = record {
   clock = state.clock;
@@ -48,7 +49,7 @@ seen_of state = record {
   past = state.past;
 }
 
--- before the first line: thread 0 waits at the start, and one chunk is held
+-- the state before the first line: thread 0 waits at the start, and one chunk is held
 abbrev pub start_of : Given → List ℕ → State
 start_of g trace = record {
   clock = 0;
@@ -63,8 +64,8 @@ start_of g trace = record {
   end = NotYet;
 }
 
--- a printed cost and a printed number of free chunks that may be: the total is at most the fuel, and no more chunks are free than
--- there are
+-- possible values of a printed cost and a printed number of free chunks: the total cost is at most the fuel, and at
+-- most all chunks are free
 pub record IsPossible (g : Given) (state : State) (cost free : ℕ) : Type 0 where
   pub fuel : state.cost + cost ≤ g.policy.fuel
   pub chunks : free ≤ chunks_of g

@@ -1,15 +1,15 @@
-// What holds of every log.
+// Properties of every log.
 ghost use Rattle.std.specs.Prelude.{◌≡◌, ℕ, [], List};
 ghost use Rattle.lawful_reading.specs.Given.{Given};
 ghost use Rattle.lawful_reading.specs.Reading.{IsLawful, IsTooLong, IsUnlawful};
 
-/// A log without a line isn't lawful, since a stop is missing. It does nothing: the law is the contract.
+/// Law: a log without a line isn't lawful, since it has no stop.
 pub fn empty_logs_are_refused()
     ensures { (g : Given) (trace : List ℕ) → IsUnlawful g trace [] 1 }
 {}
 
-/// Of a log at most one thing is said, and of one line at most: that it is lawful, that this is the first line that isn't
-/// allowed, or that this is the first that needs more steps than may be taken. It does nothing: the laws are the contract.
+/// Laws: a log has at most one verdict, and at most one line: it is lawful, or that line is the first that isn't
+/// allowed, or it is the first that needs more steps than the limit.
 pub fn verdicts_exclude_each_other()
     ensures lawful_unlawful { (g : Given) (trace log : List ℕ) (line : ℕ) → IsLawful g trace log → IsUnlawful g trace log line → ⊥ }
     ensures lawful_too_long { (g : Given) (trace log : List ℕ) (line : ℕ) → IsLawful g trace log → IsTooLong g trace log line → ⊥ }

@@ -1,11 +1,10 @@
-// Of every log one thing is said.
+// The existence of a verdict.
 ghost use Rattle.std.specs.Prelude.{◌≡◌, ℕ, List};
 ghost use Rattle.lawful_reading.specs.Given.{Given};
 ghost use Rattle.lawful_reading.specs.Verdicts.{IsVerdict};
 ghost use Rattle.lawful_reading.specs.declared.judgement.Verdict.{Verdict};
 
-/// Of every log something is said, whatever the program, the options and the trace are, and it is one thing. It does nothing: the
-/// laws are the contract.
+/// Laws: every log has exactly one verdict, whatever the program, the options and the trace are.
 pub fn audit_has_an_outcome()
     ensures some { (g : Given) (trace log : List ℕ) → (verdict : Verdict) × IsVerdict g trace log verdict }
     ensures one { (g : Given) (trace log : List ℕ) (verdict other : Verdict) → IsVerdict g trace log verdict → IsVerdict g trace log other → verdict ≡ other }

@@ -1,12 +1,13 @@
-// What is said of a log.
+// The verdict on a log.
 
-/// What is said of a log. Lines are counted from 1.
+/// The verdict on a log. Lines are counted from 1.
 #[derive(Clone, Copy)]
 pub enum Verdict {
     /// Every line is allowed, and the last is a stop.
     Lawful,
-    /// This is the first line that isn't allowed, or one more than there are where none is a stop.
+    /// `line` is the first line that isn't allowed, or the number of lines plus 1 if all are allowed and none is a
+    /// stop.
     Unlawful { line: u64 },
-    /// All earlier lines are allowed, and this one needs, with them, more steps than may be taken.
+    /// All earlier lines are allowed, and `line` needs, together with them, more steps than the limit.
     Steps { line: u64 },
 }

@@ -1,13 +1,13 @@
 // The lawful reading of a log: which lines the log of a program may have, under a policy and a
 // trace, by the source alone; and that every log has exactly one verdict.
 //
-// Definitions: the state of a reading (State), which line is allowed in it and the state after that
-// line (Choice for events and the chosen thread, Segments for a segment's lines, Ends for the edges
-// and the stop), and the verdict on a whole log (Reading): lawful, the first line that isn't
-// allowed, or the first line that needs more steps of the source than the limit. What the running
-// thread does next is the source's own run (Happenings), step by step, without a bound on depth and
-// without a machine; of costs and free chunks only bounds are required. An audit of a log cites
-// these; the rules of choice points are those of `choice_rules`, as for the log of a run.
+// Definitions: the state of a reading (State), which line is allowed in it and the state after that line (Choice for
+// events and the chosen thread, Segments for a segment's lines, Ends for the edges and the stop), and the verdict on a
+// whole log (Reading): lawful, the first line that isn't allowed, or the first line that needs more steps of the source
+// than the limit. What the running thread does next is the source's own run (Happenings), step by step, without a bound
+// on depth and without a machine; of costs and free chunks only bounds are required. The audit cites these definitions;
+// the rules of choice points are those of `choice_rules`, as for the log of a run. A law has no effect at run time: its
+// contract is the theorem.
 //
 // `Verdict` is the type of verdicts, and specs/Verdicts.antt says which of them a log has. No log
 // has two (`exclusion`). The law `existence` finds one, since every condition of a line is

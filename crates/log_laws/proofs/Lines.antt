@@ -14,11 +14,6 @@ use Rattle.choice_rules.specs.Trace.{Trace, IsNext, IsRefused}
 abbrev Decided : Type 0 → Type 0
 Decided P = P ⊎ (P → ⊥)
 
-both_decided : (P Q : Type 0) → Decided P → Decided Q → Decided (P × Q)
-both_decided P Q (inl p) (inl q) = inl (p, q)
-both_decided P Q (inr none) q = inr (λ both. none both.0)
-both_decided P Q (inl p) (inr none) = inr (λ both. none both.1)
-
 le_decided : (a b : ℕ) → Decided (a ≤ b)
 le_decided zero b = inl (omega arith)
 le_decided (suc a) zero = inr (λ h. omega (arith, h))

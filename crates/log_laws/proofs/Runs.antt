@@ -15,15 +15,16 @@ use Rattle.event_trace.specs.Lines.{FitsKind}
 use Rattle.event_trace.specs.declared.events.Event.{Event}
 use Rattle.event_trace.specs.declared.events.EventKind.{EventKind}
 use Rattle.event_trace.specs.declared.events.EventKind.TheVariants.{Arrive, Message}
+use Rattle.choice_rules.specs.Readiness.{any_ready}
 use Rattle.choice_rules.specs.Trace.{IsNext}
 use Rattle.choice_rules.specs.Seen.{Waiter}
 use Rattle.choice_rules.specs.Clock.{is_due, event_times}
 use Rattle.choice_rules.specs.Stops.{IsDone, IsBadTrace, IsIdle}
 use Rattle.choice_rules.specs.Deliveries.{delivery_of, item_of}
+use Rattle.choice_rules.proofs.Tests.{not_both}
 use Rattle.lawful_log.specs.Deliveries.{IsComing}
 use Rattle.lawful_log.specs.Good.{checked_of}
 use Rattle.lawful_log.specs.Lawful.{IsAllowed, Leads, nowhere, by_entry}
-use Rattle.lawful_log.specs.Readiness.{any_ready}
 use Rattle.lawful_log.specs.Segments.{HasRun}
 use Rattle.lawful_log.specs.Setup.{Setup, setting_of}
 use Rattle.lawful_log.specs.State.{Segment, State, seen_of}
@@ -44,7 +45,6 @@ use Rattle.lawful_log.specs.Waiting.{IsWaiting}
 use Rattle.lawful_log.specs.Within.{IsBetween, IsWithin}
 use Rattle.lawful_log.proofs.Between.{between_after, between_read, between_moved, come_state, coming, between_came, run_state, run_segment, run_allowed, within_run}
 use Rattle.lawful_log.proofs.Clocks.{moved_goes_on}
-use Rattle.lawful_log.proofs.Lists.{not_both}
 use Rattle.lawful_log.proofs.Counts.{Counts, Retires, StartsOne, IsOver, counts_step}
 use Rattle.lawful_log.proofs.Own.{found_below}
 use Rattle.lawful_log.proofs.Picked.{is_picked}
@@ -244,7 +244,7 @@ module _ (g : Setup) (scoped : IsWellScoped g.program) (valid : IsValid (lowered
             entered (is_dropped g.policy.backlog state.source.exchange (delivery_of event.kind)) (item_of event.kind) new (coming g state event machine mine words live its due_now) rest
 
         -- a thread is ready
-        runs : is_due next time ≡ false → any_ready g state time ≡ true → Rest state
+        runs : is_due next time ≡ false → any_ready g.policy (seen_of state) time ≡ true → Rest state
         runs due ready =
             let chosen = lawful_choice g state time (IsWaiting state.machine) b.is.threads.each ready in
             let thread = chosen.holds.thread in
@@ -268,7 +268,7 @@ module _ (g : Setup) (scoped : IsWellScoped g.program) (valid : IsValid (lowered
         on_event None e due = absurd (let no : false ≡ true = sym (ap (λ (o : Option Event). is_due o time) e) ∙ due in cc)
         on_event (Some event) e due = comes event e due
 
-        by_due : (due : Bool) → is_due next time ≡ due → (due || any_ready g state time) ≡ true → Rest state
+        by_due : (due : Bool) → is_due next time ≡ due → (due || any_ready g.policy (seen_of state) time) ≡ true → Rest state
         by_due true e goes = on_event next refl e
         by_due false e goes = runs e goes
 
@@ -284,8 +284,8 @@ module _ (g : Setup) (scoped : IsWellScoped g.program) (valid : IsValid (lowered
         over_by None e none = subst (λ (o : Option Event). IsNext state.trace o) e good
         over_by (Some event) e none = absurd (cc)
 
-        unready : goes_on g state next state.machine.clock ≡ false → any_ready g state state.machine.clock ≡ false
-        unready stuck = (not_both (is_due next state.machine.clock) (any_ready g state state.machine.clock) stuck).1
+        unready : goes_on g state next state.machine.clock ≡ false → any_ready g.policy (seen_of state) state.machine.clock ≡ false
+        unready stuck = (not_both (is_due next state.machine.clock) (any_ready g.policy (seen_of state) state.machine.clock) stuck).1
 
         stuck_by : goes_on g state next state.machine.clock ≡ false → times.Goes g state state.machine.clock next → Rest state
         stuck_by stuck (times.Nothing none asleep) = here state StopLine.Idle state.machine (idle, refl) where

@@ -1,6 +1,6 @@
 -- The start of a valid pair, and the log from there.
-use Rattle.std.proofs.Common.{◌≡◌, ℕ, ◌+◌, ◌*◌, ◌/◌, ◌≤◌, ◌||◌, Bool, true, false, List, [], ◌∷◌, ◌++◌, Some, None, refl, ap, subst, arith}
-use Rattle.std.specs.Prelude.{nat_eq, IsSome, if◌then◌else◌}
+use Rattle.std.proofs.Common.{◌≡◌, ℕ, ◌+◌, ◌*◌, ◌/◌, ◌≤◌, ◌||◌, List, [], ◌∷◌, ◌++◌, Some, refl, ap, subst, arith}
+use Rattle.std.specs.Prelude.{if◌then◌else◌}
 use Rattle.c_lower.specs.ProgramCode.{lowered}
 use Rattle.c_tree.specs.WellScoped.{IsWellScoped}
 use Rattle.certificate_rules.specs.Validity.{IsValid}
@@ -21,27 +21,13 @@ use Rattle.stack_certificate.specs.Certificates.{fact_at}
 use Rattle.machine_meaning.specs.UnderWay.{StandsSettled}
 use Rattle.machine_meaning.proofs.BetweenSegments.{starts_law}
 use Rattle.c_mean.specs.World as source
-use Rattle.lawful_log.specs.Waiting.{AreWaiting}
 use Rattle.lawful_log.proofs.Between.{between_after}
+use Rattle.lawful_log.proofs.Kept.{first_waits}
 use Rattle.log_laws.specs.One.{HasOneLog}
 use Rattle.log_laws.proofs.Runs.{Between, rest_of}
 use Rattle.chunk_pool.proofs.NeedLaws.{taken_for-start}
 use Rattle.chunk_pool.proofs.ShapeLaws.{first_bytes-start}
 use Rattle.machine_world.proofs.CountedLaws.{all_free-new}
-
--- ---- the first thread waits
-
-zero_only : (n : ℕ) (t : Bool) {X : Type 0} (x : X) → nat_eq 0 n ≡ t → IsSome (if t then Some x else None) → (t || false) ≡ true
-zero_only n true x e some = refl
-zero_only n false x e some = absurd (let no : false ≡ true = some in cc)
-
-first_waits : (areas : Areas) (taken : Taken) (entry : ℕ) → AreWaiting (with_thread (empty_world areas) taken entry 0) (record { thread = 0; node = 0; since = 0 } ∷ [])
-first_waits areas taken entry = record {
-  each = (record { thread = _; live = refl; since = tt }, tt);
-  once = (tt, tt);
-  running = λ n e. absurd (let no : None ≡ Some n = e in cc);
-  all = λ n apart some. zero_only n (nat_eq 0 n) _ refl some;
-}
 
 -- ---- the start
 

@@ -3,18 +3,18 @@ use Rattle.std.proofs.Common.{◌≡◌, ℕ, zero, suc, ◌+◌, ◌≤◌, ◌
 use Rattle.std.specs.Prelude.{Contains, nat_le}
 use Rattle.std.specs.List.{AllByRecursion}
 use Rattle.std.proofs.lemmas.Bool.Decides.{nat_tests}
+use Rattle.std.proofs.lemmas.List.Elements.{All-from_recursion}
 use Rattle.c_mean.specs.ModelledCalls.{Exchange}
 use Rattle.c_mean.specs.World.{Rest, Fresh, Blocked as Blocks, Ended}
 use Rattle.event_trace.specs.declared.events.Event.{Event}
 use Rattle.choice_rules.specs.Readiness as rules
 use Rattle.choice_rules.specs.Clock.{event_times, IsLeastOf}
-use Rattle.lawful_log.specs.Readiness as log
-use Rattle.lawful_log.specs.Readiness.{is_ready, any_ready, waking_times}
+use Rattle.choice_rules.specs.Readiness.{is_ready, any_ready, waking_times}
+use Rattle.choice_rules.proofs.Tests.{not_both}
 use Rattle.lawful_log.specs.Setup.{Setup}
-use Rattle.lawful_log.specs.State.{State}
+use Rattle.lawful_log.specs.State.{State, seen_of}
 use Rattle.lawful_log.specs.Clocks.{goes_on}
-use Rattle.lawful_log.proofs.Clocks.{contains_head, contains_later, all_index, gives_above, later_block}
-use Rattle.lawful_log.proofs.Lists.{not_both}
+use Rattle.lawful_log.proofs.Clocks.{contains_head, contains_later, gives_above, later_block}
 use Rattle.lawful_log.proofs.Wakes.{all_false, weakened}
 
 -- ---- the least of some times
@@ -42,7 +42,7 @@ least_on x [] = record { time = x; one = contains_head x [] x refl; least = ((om
 least_on x (y ∷ ys) = let rest = least_on y ys in least_by x (y ∷ ys) rest (le_or x rest.time)
 
 pub is_least : (times : List ℕ) (l : Least times) → IsLeastOf times l.time
-is_least times l = record { one = l.one; least = all_index (λ other. l.time ≤ other) times l.least }
+is_least times l = record { one = l.one; least = All-from_recursion (λ other. l.time ≤ other) times l.least }
 
 -- ---- the times are to come
 
@@ -53,30 +53,33 @@ later_rest caps x clock since (Some Ended) t e w = absurd (let no : None ≡ Som
 later_rest caps x clock since None t e w = absurd (let no : None ≡ Some t = w in cc)
 
 module _ (g : Setup) (state : State) (clock : ℕ) where
-  sleepers_later : any_ready g state clock ≡ false → AllByRecursion (λ t. clock ≤ t) (waking_times state)
-  sleepers_later none = gives_above (λ w. rules.wakes w.since (log.rest_of state w.thread)) clock state.waiting
-      (weakened (λ w. is_ready g state clock w ≡ false) (λ w. (t : ℕ) → rules.wakes w.since (log.rest_of state w.thread) ≡ Some t → clock ≤ t)
-      (λ w e t wakes. later_rest g.policy.caps state.source.exchange clock w.since (log.rest_of state w.thread) t e wakes)
-      state.waiting (all_false (is_ready g state clock) state.waiting none))
+  sleepers_later : any_ready g.policy (seen_of state) clock ≡ false → AllByRecursion (λ t. clock ≤ t) (waking_times (seen_of state))
+  sleepers_later none = gives_above (λ w. rules.wakes w.since (rules.rest_of (seen_of state) w.thread)) clock state.waiting
+      (weakened (λ w. is_ready g.policy (seen_of state) clock w ≡ false)
+          (λ w. (t : ℕ) → rules.wakes w.since (rules.rest_of (seen_of state) w.thread) ≡ Some t → clock ≤ t)
+      (λ w e t wakes. later_rest g.policy.caps state.source.exchange clock w.since (rules.rest_of (seen_of state) w.thread) t e wakes)
+      state.waiting (all_false (is_ready g.policy (seen_of state) clock) state.waiting none))
 
   not_due_later : (event : Event) → nat_le event.time clock ≡ false → clock ≤ event.time
   not_due_later event e = grind (arith, nat_tests, e)
 
-  times_later : (next : Option Event) → goes_on g state next clock ≡ false → AllByRecursion (λ t. clock ≤ t) (event_times next ++ waking_times state)
+  times_later : (next : Option Event) → goes_on g state next clock ≡ false → AllByRecursion (λ t. clock ≤ t) (event_times next ++ waking_times (seen_of state))
   times_later None e = sleepers_later e
   times_later (Some event) e =
-      let parts : (nat_le event.time clock ≡ false) × (any_ready g state clock ≡ false) = not_both (nat_le event.time clock) (any_ready g state clock) e in
+      let parts : (nat_le event.time clock ≡ false) × (any_ready g.policy (seen_of state) clock ≡ false) = not_both (nat_le event.time clock)
+          (any_ready g.policy (seen_of state) clock) e in
       (not_due_later event parts.0, sleepers_later parts.1)
 
   above_in : (times : List ℕ) (l : Least times) → AllByRecursion (λ t. clock ≤ t) times → clock ≤ l.time
-  above_in times l all = subst (λ (t : ℕ). clock ≤ t) l.one.2 (all_index (λ t. clock ≤ t) times all l.one.0 l.time l.one.1)
+  above_in times l all = subst (λ (t : ℕ). clock ≤ t) l.one.2 (All-from_recursion (λ t. clock ≤ t) times all l.one.0 l.time l.one.1)
 
   -- there is no time, or a least one, which is to come
   pub data Goes (next : Option Event) : Type 0 where
-    Nothing : event_times next ≡ [] → waking_times state ≡ [] → Goes next
-    At : (time : ℕ) → clock ≤ time → IsLeastOf (event_times next ++ waking_times state) time → Goes next
+    Nothing : event_times next ≡ [] → waking_times (seen_of state) ≡ [] → Goes next
+    At : (time : ℕ) → clock ≤ time → IsLeastOf (event_times next ++ waking_times (seen_of state)) time → Goes next
 
-  goes_by : (next : Option Event) (events wakes : List ℕ) → event_times next ≡ events → waking_times state ≡ wakes → AllByRecursion (λ t. clock ≤ t) (events ++ wakes) → Goes next
+  goes_by : (next : Option Event) (events wakes : List ℕ) → event_times next ≡ events → waking_times (seen_of state) ≡ wakes →
+      AllByRecursion (λ t. clock ≤ t) (events ++ wakes) → Goes next
   goes_by next [] [] e w all = Nothing e w
   goes_by next [] (x ∷ xs) e w all =
       let l = least_on x xs in
@@ -86,4 +89,4 @@ module _ (g : Setup) (state : State) (clock : ℕ) where
       At l.time (above_in (y ∷ (ys ++ wakes)) l all) (subst (λ (times : List ℕ). IsLeastOf times l.time) (ap (λ (a : List ℕ). a ++ wakes) (sym e) ∙ ap (λ (b : List ℕ). event_times next ++ b) (sym w)) (is_least (y ∷ (ys ++ wakes)) l))
 
   pub goes : (next : Option Event) → goes_on g state next clock ≡ false → Goes next
-  goes next stuck = goes_by next (event_times next) (waking_times state) refl refl (times_later next stuck)
+  goes next stuck = goes_by next (event_times next) (waking_times (seen_of state)) refl refl (times_later next stuck)

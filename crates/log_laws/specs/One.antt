@@ -1,4 +1,4 @@
--- That there is one lawful log.
+-- Existence and uniqueness of the lawful log.
 use Rattle.std.specs.Prelude.{◌≡◌, ℕ, List}
 use Rattle.lawful_log.specs.Lawful.{IsLawfulLog}
 use Rattle.lawful_log.specs.Setup.{Setup}

@@ -4,12 +4,13 @@ use Rattle.chunk_budget.specs.Budgets.{IsRoot}
 use Rattle.machine_world.specs.InPlace.{Frame}
 use Rattle.machine_world.specs.Places.{Checked}
 
--- the function of the last of a thread's frames, with which the thread began
+-- the function of a thread's last frame, with which the thread began
 abbrev pub root_of : Frame → List Frame → ℕ
 root_of frame [] = frame.function
 root_of frame (below ∷ frames) = root_of below frames
 
--- the thread of these frames began with main or a function that some site starts a thread with; one without frames is at its end
+-- the thread of these frames began with main or with a function with which some site starts a thread; without frames,
+-- it is at its end
 abbrev pub StartsAtRoot : Checked → List Frame → Type 0
 StartsAtRoot c [] = ⊤
 StartsAtRoot c (frame ∷ below) = IsRoot c.flat (root_of frame below)

@@ -24,25 +24,25 @@ ghost use Rattle.log_laws.specs.Lives.{live};
 ghost use Rattle.log_laws.specs.Rooms.{roomy};
 ghost use Rattle.log_laws.specs.Roots.{root_of, StartsAtRoot};
 
-/// Where each call is covered by the heights, the number of a thread's frames that were called at a linked site, and the
-/// height of its innermost function, are together at most the height of its first function. It does nothing.
+/// Law: if the heights cover each call, the number of a thread's frames that were called at a linked site plus the
+/// height of its innermost function is at most the height of its first function.
 pub fn stack_law()
     ensures { (c : Checked) (heights : List ℕ) (pool : Pool) (chain : List ℕ) (frame : Frame) (below : List Frame) →
         AreCovered c.flat c.certificate heights → IsStack c pool chain frame below →
         called_at_links c (frame ∷ below) + height_of heights frame.function ≤ height_of heights (root_of frame below) }
 {}
 
-/// A thread in place that started with `main` or a function that some site starts a thread with holds at most as many chunks
-/// as a budget gives it. It does nothing.
+/// Law: a thread in place that started with `main`, or with a function with which some site starts a thread, holds at
+/// most as many chunks as a budget gives it.
 pub fn chain_bound_law()
     ensures { (c : Checked) (budget : Budget) → IsWellFormed c.flat → IsBudget c.flat c.certificate budget →
         (pool : Pool) (core : Core) (place : Place) (frames : List Frame) → HasFrames c pool core place frames → StartsAtRoot c frames →
         length core.chain ≤ budget.per_thread }
 {}
 
-/// No run of a valid pair, whatever comes from outside and whichever threads are picked, stops for want of a chunk, where the
-/// pool has as many chunks with a payload of at least the longest path as a budget gives so many threads, and no more than these
-/// live then, the one that is about to start counted. It does nothing.
+/// Law: no run of a valid pair, whatever is delivered and whichever threads are picked, stops because no free chunk
+/// fits, provided that the pool has as many chunks with a payload of at least the longest path as a budget gives n
+/// threads, and that at most n threads are live then, counting one that is about to start.
 pub fn enough_chunks_law()
     ensures { (g : Setup) (budget : Budget) (threads : ℕ) (actions : List Action) (start end : World) →
         IsWellScoped g.program → IsValid (lowered g.program) g.image g.certificate → AreWellFormed (checked_of g) (start_areas g) → g.policy.fuel ≤ most_fuel →
@@ -52,9 +52,9 @@ pub fn enough_chunks_law()
         step (setting_of g) end ≢ Stops Stop.NoChunk }
 {}
 
-/// No lawful log, and so no run that a runner brings to a stop under either rule of choice, stops for want of a chunk, where the
-/// pool has as many chunks with a payload of at least the longest path as a budget gives so many threads, and no more than these
-/// live at the stop, the one that is about to start counted. It does nothing.
+/// Law: no lawful log, and so no run of a runner under either rule of choice, stops because no free chunk fits,
+/// provided that the pool has as many chunks with a payload of at least the longest path as a budget gives n threads,
+/// and that at most n threads are live at the stop, counting one that is about to start.
 pub fn enough_in_logs_law()
     ensures { (g : Setup) (budget : Budget) (threads : ℕ) (trace : List ℕ) (entries : List Entry) (thread cost free : ℕ) (start end : World) →
         IsWellScoped g.program → IsValid (lowered g.program) g.image g.certificate → AreWellFormed (checked_of g) (start_areas g) → g.policy.fuel ≤ most_fuel →
@@ -63,10 +63,10 @@ pub fn enough_in_logs_law()
         live (setting_of g) end ≤ threads → IsLawfulLog g trace entries (StopLine.Cut thread Stop.NoChunk cost free) end → ⊥ }
 {}
 
-/// In the pool in which a run of a valid pair starts each chunk of the certificate's size has a payload of at least the longest path
-/// (`roomy`). So no lawful log stops for want of a chunk where the policy has as many chunks of that size as a budget gives so many
-/// threads, whatever other chunks it has, and no more threads than these live at the stop, the one that is about to start counted
-/// (`enough`). It does nothing: the laws are the contract.
+/// Laws: in the pool in which a run of a valid pair starts, each chunk of the certificate's size has a payload of at
+/// least the longest path (`roomy`). So no lawful log stops because no free chunk fits, provided that the policy has as
+/// many chunks of that size as a budget gives n threads, whatever other chunks it has, and that at most n threads are
+/// live at the stop, counting one that is about to start (`enough`).
 pub fn certificate_chunks_law()
     ensures roomy { (g : Setup) → IsValid (lowered g.program) g.image g.certificate → g.policy.chunks ≤ roomy (start_areas g).pool g.certificate.max_path }
     ensures enough { (g : Setup) (budget : Budget) (threads : ℕ) (trace : List ℕ) (entries : List Entry) (thread cost free : ℕ) (end : World) →

@@ -10,9 +10,9 @@ ghost use Rattle.machine_world.specs.WellFormed.{AreWellFormed, most_fuel};
 ghost use Rattle.schedule_log.specs.declared.entries.Entry.{Entry};
 ghost use Rattle.schedule_log.specs.declared.entries.StopLine.{StopLine};
 
-/// The lawful log of a valid pair is good, whatever the trace and the policy: along each segment every live thread is in
-/// place, each load and store lies in the running frame or in one declared global or table, held and free chunks are exactly
-/// the pool, and no step is wrong. It does nothing.
+/// Law: the lawful log of a valid pair is good, whatever the trace and the policy. Along each segment every live thread
+/// is in place, each load and store lies in the running frame or in one declared global or table, held and free chunks
+/// are exactly the pool, and no step is wrong.
 pub fn good_log_law()
     ensures { (g : Setup) (trace : List ℕ) (entries : List Entry) (stop : StopLine) (end : World) → IsWellScoped g.program → IsValid (lowered g.program) g.image g.certificate →
         AreWellFormed (checked_of g) (start_areas g) → g.policy.fuel ≤ most_fuel →

@@ -1,18 +1,20 @@
-// The lawful logs of an accepted pair: there is exactly one, it is good, and with enough chunks for a budget it doesn't stop
-// for want of one.
+// The lawful logs of an accepted pair: there is exactly one, it is good, and with enough chunks for a budget it doesn't
+// stop because no chunk is free.
 //
-// Laws alone, over the definitions and laws of lawful_log and the laws of machine_meaning.
+// Laws only, over the definitions and laws of lawful_log and the laws of machine_meaning. A law has no effect at run
+// time: its contract is the theorem.
 //
-// - `good_log`: each segment of a lawful log is a good stretch of as many steps as the log says, so a crate that runs a
-//   program and writes its lawful log needs no invariant of its own for that.
-// - `one`: for every trace and policy, entries lead from the start to a stop. Fuel bounds the steps of all segments, and
-//   each event takes a line of the trace.
-// - `budgets`: the height of a function bounds how often a call of it links a chunk. So along the frames of a thread, which
-//   the machine world keeps in place, the linked calls and the height of the innermost function are together at most the
-//   height of the thread's first function (specs/Roots.antt), and a thread holds at most as many chunks as the budget allows.
-//   Every thread of a run of a valid pair started with `main` or with a function that some site names. So if the pool has
-//   enough chunks that are large enough (specs/Rooms.antt) for the live threads (specs/Lives.antt), no run stops for want of
-//   one, and no lawful log says so. All chunks of the certificate's size are large enough.
+// - `good_log`: each segment of a lawful log is a good stretch of as many steps as the log says. So a crate that runs a
+//   program and writes its lawful log needs no further invariant for that.
+// - `one`: for every trace and policy, entries lead from the start to a stop. Fuel bounds the steps of all segments,
+//   and each event uses up a line of the trace.
+// - `budgets`: the height of a function bounds the number of chunks that a call of it links. So along the frames of a
+//   thread, which the machine world keeps in place, the number of linked calls plus the height of the innermost
+//   function is at most the height of the thread's first function (specs/Roots.antt), and a thread holds at most as
+//   many chunks as the budget allows. Every thread of a run of a valid pair started with `main` or with a function that
+//   some site names. So if the pool has enough chunks that are large enough (specs/Rooms.antt) for the live threads
+//   (specs/Lives.antt), no run and no lawful log stops because no chunk is free. All chunks of the certificate's size
+//   are large enough.
 #![tactic(auto)]
 
 mod budgets;

@@ -7,8 +7,8 @@ ghost use Rattle.lawful_log.specs.Setup.{Setup, start_areas};
 ghost use Rattle.machine_world.specs.WellFormed.{AreWellFormed, most_fuel};
 ghost use Rattle.log_laws.specs.One.{HasOneLog};
 
-/// A valid pair of a well scoped program has exactly one lawful log, whatever the trace and the policy, where the policy's chunks
-/// make a pool of the certificate's chunks and its fuel is in range. It does nothing.
+/// Law: a valid pair of a well-scoped program has exactly one lawful log, whatever the trace and the policy, provided
+/// that the policy's chunks and the certificate's chunk size make a pool and that the fuel is in range.
 pub fn one_log_law()
     ensures { (g : Setup) (trace : List ℕ) → IsWellScoped g.program → IsValid (lowered g.program) g.image g.certificate →
         AreWellFormed (checked_of g) (start_areas g) → g.policy.fuel ≤ most_fuel →

@@ -10,7 +10,8 @@ use Rattle.chunk_pool.specs.Pool.{Pool}
 use Rattle.machine_meaning.proofs.Lowered.{lowers}
 use Rattle.machine_meaning.proofs.Pushed.{pushed_holds}
 use Rattle.machine_world.specs.InPlace.{Frame, HasFrames}
-use Rattle.machine_world.specs.Local.{Core, a0}
+use Rattle.stack_certificate.specs.Registers.{a0}
+use Rattle.machine_world.specs.Local.{Core}
 use Rattle.machine_world.specs.Places.{Checked, InPrologue, row_of}
 use Rattle.machine_world.specs.Rests.{AtStart}
 use Rattle.machine_world.specs.StandsFor.{Starts, StandsFor}

@@ -15,7 +15,8 @@ use Rattle.flat_code.specs.declared.operations.Op.{Op}
 use Rattle.machine_meaning.specs.Meaning.{MeansTheSame}
 use Rattle.machine_meaning.specs.StandsFor.{StandsFor, FramesStandFor}
 use Rattle.machine_world.specs.Local as local
-use Rattle.machine_world.specs.Local.{Local, LocalMove, Ended, Trapped, NoRoom, Wrong, a0, local_step}
+use Rattle.stack_certificate.specs.Registers.{a0}
+use Rattle.machine_world.specs.Local.{Local, LocalMove, Ended, Trapped, NoRoom, Wrong, local_step}
 use Rattle.machine_world.specs.InPlace.{Frame}
 use Rattle.machine_world.specs.Places.{Checked, Place, row_of, function_of}
 use Rattle.machine_world.specs.Rests.{IsResting, AtStart, AtCall, PastCall, IsPastCall, AreFlatPast, StandsForFlat}

@@ -10,6 +10,7 @@ use Rattle.stack_certificate.specs.Parts.{arguments, system_call}
 use Rattle.stack_certificate.specs.Templates.{row, setting, begin}
 use Rattle.stack_certificate.specs.declared.settings.Setting.{Setting}
 use Rattle.stack_certificate.specs.declared.functions.FunctionFact.{FunctionFact}
+use Rattle.stack_certificate.specs.Registers.{a0}
 use Rattle.machine_world.specs.InPlace.{Frame}
 use Rattle.machine_world.specs.Local.{Local}
 use Rattle.machine_world.specs.Places.{Checked}
@@ -29,7 +30,7 @@ abbrev some_word : ℕ → Option ℕ
 some_word n = Some n
 
 ecall_at : (fact : FunctionFact) (sizes : List ℕ) (s : Setting) (op : Op) (word : ℕ) → ecall_word op ≡ Some word → slice_get (row fact sizes s op) word ≡ Some Instr.Ecall
-ecall_at fact sizes s (Op.Model site d n args) word e = (let same : length args + 1 ≡ word = (let known : some_word (length args + 1) ≡ Some word = e in cc) in ap (slice_get (row fact sizes s (Op.Model site d n args))) (sym same)) ∙ behind_arguments fact Rattle.machine_world.specs.Local.a0 args n _
+ecall_at fact sizes s (Op.Model site d n args) word e = (let same : length args + 1 ≡ word = (let known : some_word (length args + 1) ≡ Some word = e in cc) in ap (slice_get (row fact sizes s (Op.Model site d n args))) (sym same)) ∙ behind_arguments fact a0 args n _
 ecall_at fact sizes s (Op.Spawn site d g x) word e = (let same : 6 ≡ word = (let known : some_word 6 ≡ Some word = e in cc) in ap (slice_get (row fact sizes s (Op.Spawn site d g x))) (sym same)) ∙ refl
 ecall_at fact sizes s (Op.Call site d g args) word e = absurd (let n : no_word ≡ Some word = e in cc)
 ecall_at fact sizes s (Op.CallTable site d g x y) word e = absurd (let n : no_word ≡ Some word = e in cc)

@@ -13,14 +13,14 @@ use Rattle.chunk_pool.specs.Pool.{Pool, Taken, taken_for, chunk_of, with_word, a
 use Rattle.chunk_pool.proofs.NeedLaws.{taken_for-leaves, taken_for-keeps, taken_for-shape}
 use Rattle.flat_code.specs.Codes as codes
 use Rattle.flat_code.specs.Frames as flats
-use Rattle.flat_code.specs.Frames.{FlatFrame}
 use Rattle.flat_code.specs.declared.functions.FlatFunction.{FlatFunction}
 use Rattle.machine_meaning.proofs.Lowered.{function_is}
 use Rattle.machine_meaning.proofs.Formed.{formed}
 use Rattle.machine_world.specs.Areas.{Areas}
 use Rattle.machine_world.specs.Chains.{copies}
 use Rattle.machine_world.specs.Globals.{AreGlobals}
-use Rattle.machine_world.specs.Local.{Core, a0, with_header}
+use Rattle.stack_certificate.specs.Registers.{a0}
+use Rattle.machine_world.specs.Local.{Core, with_header}
 use Rattle.machine_world.specs.Places.{Checked, Place, InPrologue, InOperation, IsAt, function_of}
 use Rattle.machine_world.specs.Rests.{IsResting, AtStart, AtCall, PastCall, StandsForFlat}
 use Rattle.machine_world.specs.InPlace.{Frame}

@@ -1,6 +1,6 @@
 -- A pick begins a segment, and the source's run of its thread.
 use Rattle.std.proofs.Common.{◌≡◌, ◌≢◌, ℕ, zero, suc, ◌+◌, ◌*◌, ◌<◌, Bool, true, false, List, [], ◌∷◌, length, Option, Some, None, refl, sym, ap, subst, ◌∙◌, arith, cond}
-use Rattle.std.specs.Prelude.{slice_get, is_none, option_map, IsTrue}
+use Rattle.std.specs.Prelude.{slice_get, is_none, option_map}
 use Rattle.std.specs.List.{AllByRecursion}
 use Rattle.std.proofs.lemmas.Bool.{cond_both}
 use Rattle.std.proofs.lemmas.List.{length-map, append-nil}
@@ -22,7 +22,8 @@ use Rattle.flat_code.specs.Modelled.{modelled_gives}
 use Rattle.flat_code.specs.WellFormed as flat
 use Rattle.flat_code.specs.declared.operations.Op.{Op}
 use Rattle.machine_world.specs.InPlace.{Frame}
-use Rattle.machine_world.specs.Local.{Core, Local, a0, ra, sp, tp, passed, with_result}
+use Rattle.stack_certificate.specs.Registers.{ra, sp, tp, a0}
+use Rattle.machine_world.specs.Local.{Core, Local, passed, with_result}
 use Rattle.machine_world.specs.Places.{Checked, Place, InOperation, IsAt, size_in, function_of}
 use Rattle.machine_world.specs.Rests.{ecall_word, IsPastCall, IsResting, AtStart, AtCall, PastCall}
 use Rattle.machine_world.specs.Runs.{Pick, after_action, picked, picked_at, picked_row, may_run, is_between}
@@ -53,9 +54,6 @@ use Rattle.machine_meaning.proofs.SegmentSteps.{facts, runs_from, wanted}
 use Rattle.machine_meaning.proofs.Threads.{number_of, replaced_same, replaced_other}
 
 -- ---- one ECALL by its pc
-
-some_op : Op → Option Op
-some_op op = Some op
 
 module _ (program : ProgramTree) (image : Image) (certificate : Certificate) (scoped : IsWellScoped program) (valid : IsValid (lowered program) image certificate) where
   abbrev checked : Checked

@@ -15,7 +15,7 @@ use Rattle.c_mean.specs.Frames.{Waiting}
 use Rattle.c_mean.specs.ModelledCalls.{Exchange, blocking_row, immediate_row}
 use Rattle.c_mean.specs.Steps.{source_resume}
 use Rattle.c_mean.specs.World as source
-use Rattle.c_mean.specs.World.{Rest, Segment, SegmentMove, segment_machine, thread_moves}
+use Rattle.c_mean.specs.World.{Rest, Segment, segment_machine}
 use Rattle.c_tree.specs.Trees.{ProgramTree}
 use Rattle.c_tree.specs.WellScoped.{IsWellScoped}
 use Rattle.certificate_rules.specs.Validity.{IsValid}
@@ -28,13 +28,14 @@ use Rattle.machine_world.specs.Areas.{Areas}
 use Rattle.machine_world.specs.Globals.{AreGlobals}
 use Rattle.machine_world.specs.InPlace.{Frame}
 use Rattle.machine_world.specs.Local as local
-use Rattle.machine_world.specs.Local.{Core, Local, LocalMove, Ended, Trapped, NoRoom, Wrong, a0, local_step, local_machine, passed}
+use Rattle.stack_certificate.specs.Registers.{a0}
+use Rattle.machine_world.specs.Local.{Core, Local, LocalMove, Ended, local_step, local_machine, passed}
 use Rattle.machine_world.specs.Places.{Checked}
 use Rattle.machine_world.specs.Rests.{IsAtCall, PastCall}
 use Rattle.machine_world.specs.StandsFor.{SourceThread, Waits, StandAtCall, StandsForThread, going_on}
 use Rattle.machine_world.specs.StandsForWorld.{StandsForRest}
 use Rattle.machine_world.specs.Threads as machine
-use Rattle.machine_world.specs.Threads.{Blocked, Thread, World, Setting, first_with, thread_of, replaced, Move, retired, resumed, unless_trap, result_of, printed, answered, blocks, package_call, stopped, moved}
+use Rattle.machine_world.specs.Threads.{Blocked, Thread, World, Setting, first_with, thread_of, replaced, retired, resumed, unless_trap, printed, answered, blocks, package_call, stopped}
 use Rattle.machine_world.specs.WellFormed.{IsWellFormed, KeepsWellFormed}
 use Rattle.rv_machine.specs.Registers.{read}
 use Rattle.segment_laws.proofs.ValidFacts.{CodeFacts-valid}

@@ -9,7 +9,8 @@ use Rattle.chunk_pool.specs.Pool.{Pool}
 use Rattle.flat_code.specs.Codes.{result_place}
 use Rattle.machine_meaning.proofs.Formed.{formed, follows}
 use Rattle.machine_meaning.proofs.Zeroes.{program_zeroes}
-use Rattle.machine_world.specs.Local.{Core, Local, a0}
+use Rattle.stack_certificate.specs.Registers.{a0}
+use Rattle.machine_world.specs.Local.{Core, Local}
 use Rattle.machine_world.specs.Places.{Checked}
 use Rattle.machine_world.specs.Rests.{IsResting, AtStart, AtCall, PastCall}
 use Rattle.machine_world.specs.StandsFor.{SourceThread, StandsForThread, going_on}

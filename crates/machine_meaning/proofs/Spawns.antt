@@ -22,7 +22,8 @@ use Rattle.machine_meaning.proofs.Lowered.{function_is}
 use Rattle.machine_meaning.proofs.Formed.{follows}
 use Rattle.machine_world.specs.Globals.{AreGlobals}
 use Rattle.machine_world.specs.InPlace.{Frame}
-use Rattle.machine_world.specs.Local.{Local, a0, with_header, passed}
+use Rattle.stack_certificate.specs.Registers.{a0}
+use Rattle.machine_world.specs.Local.{Local, with_header, passed}
 use Rattle.machine_world.specs.Rests.{IsAtCall, AtStart, PastCall}
 use Rattle.machine_world.specs.StandsFor.{Waits, StandAtCall, StandsForThread}
 use Rattle.machine_world.specs.StandsForWorld.{StandsForRest}

@@ -23,9 +23,6 @@ or_right false b h = h
 pub within_self : (scope : List ℕ) → Within scope scope
 within_self scope x h = h
 
-within_both : (a b d : List ℕ) → Within a b → Within b d → Within a d
-within_both a b d h k x s = k x (h x s)
-
 pub within_names : (ds : List Declared) (scope : List ℕ) → Within scope (with_names scope ds)
 within_names [] scope x h = h
 within_names (d ∷ ds) scope x h = within_names ds (d.variable ∷ scope) x (or_right (eqb x d.variable) (visible x scope) h)

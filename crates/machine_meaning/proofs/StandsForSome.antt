@@ -1,7 +1,7 @@
 -- Each machine thread that rests stands for some source thread: its names are read from the frames' words, and what it has
 -- still to do from the text.
 use Rattle.std.proofs.Common.{◌≡◌, ℕ, zero, suc, ◌+◌, ◌*◌, ◌<◌, Bool, true, false, List, [], ◌∷◌, ◌++◌, length, map, drop, take, cond, Option, Some, None, refl, sym, ap, ◌∙◌, subst, arith, slice_get}
-use Rattle.std.specs.Prelude.{IsTrue, slice_index, slice_index_or, sum, ◌||◌}
+use Rattle.std.specs.Prelude.{slice_index, sum, ◌||◌}
 use Rattle.std.specs.List.{flat_map}
 use Rattle.std.proofs.lemmas.List.{length-map, length-take-le, length-drop, take-append-drop}
 use Rattle.std.proofs.lemmas.List.Sums.{sum_by-cons}
@@ -22,9 +22,10 @@ use Rattle.machine_meaning.proofs.Lowered.{function_is, lowers}
 use Rattle.machine_meaning.proofs.Pushed.{pushed_holds}
 use Rattle.machine_world.specs.Globals.{AreGlobals, global_widths}
 use Rattle.machine_world.specs.InPlace.{Frame, Calls, ReturnsInto, IsStack, FramesAt, chain_below}
-use Rattle.machine_world.specs.Local.{Core, a0}
+use Rattle.stack_certificate.specs.Registers.{a0}
+use Rattle.machine_world.specs.Local.{Core}
 use Rattle.machine_world.specs.Places as places
-use Rattle.machine_world.specs.Places.{Checked, InStub, InPrologue, InOperation, IsAt, Row, NoFrame, Empty, Fresh, Linking, Whole, row_of, row_at, row_in, prologue_row, transfer_row, before_transfer, is_linking, function_of, operation_of}
+use Rattle.machine_world.specs.Places.{Checked, InStub, InPrologue, InOperation, IsAt, Row, NoFrame, Empty, Fresh, Linking, Whole, row_of, row_at, row_in, prologue_row, transfer_row, is_linking, function_of}
 use Rattle.machine_world.specs.Rests.{variable_word, ecall_word, IsResting, AtStart, AtCall, PastCall}
 use Rattle.machine_world.specs.StandsFor.{SourceThread, Starts, Waits, HoldsIndex, IsWaitingFrame, AreWaitingFrames, IsStartingFrame, StandsFor, first_temporary}
 use Rattle.rv_machine.specs.Registers.{read}

@@ -2,7 +2,8 @@
 use Rattle.std.proofs.Common.{◌≡◌, ◌≢◌, ℕ, zero, suc, ◌<◌, List, [], ◌∷◌, ◌++◌, length, Option, Some, None, refl, ap, arith}
 use Rattle.std.specs.Prelude.{slice_get, slice_set}
 use Rattle.chunk_pool.specs.Pool.{Pool}
-use Rattle.machine_world.specs.Local.{Core, a0}
+use Rattle.stack_certificate.specs.Registers.{a0}
+use Rattle.machine_world.specs.Local.{Core}
 use Rattle.machine_world.specs.Places.{Checked}
 use Rattle.machine_world.specs.Rests.{IsResting, AtStart, AtCall, PastCall}
 use Rattle.machine_world.specs.StandsForWorld.{IsPast}

@@ -1,5 +1,5 @@
--- A thread of flat code between a machine thread that rests and a source thread: the machine thread stands for it, and it
--- stands for the source thread.
+-- A thread of flat code between a machine thread that rests and a source thread: the machine thread stands for it, and
+-- it stands for the source thread.
 use Rattle.std.specs.Prelude.{ℕ, List, [], ◌∷◌}
 use Rattle.c_tree.specs.Trees.{ProgramTree}
 use Rattle.chunk_pool.specs.Pool.{Pool}
@@ -19,7 +19,7 @@ FlatsStandFor program [] thread = ⊥
 FlatsStandFor program (flat ∷ flats) (Starts frame below) = FrameStartsAs program frame flat × FramesStandFor program below flats
 FlatsStandFor program (flat ∷ flats) (Waits waiting) = FrameStandsFor program waiting.front flat × FramesStandFor program waiting.below flats
 
--- both rest alike: at a function's start, or at a modelled call
+-- both rest in the same way: at a function's start, or at a modelled call
 abbrev pub RestAlike : (c : Checked) (pool : Pool) (core : Core) → IsResting c pool core → SourceThread → Type 0
 RestAlike c pool core (AtStart f frames in_place) (Starts frame below) = Unit {0}
 RestAlike c pool core (AtCall f i op word frames in_place) (Waits waiting) = Unit {0}
@@ -32,14 +32,14 @@ pub record AreBetween (c : Checked) (program : ProgramTree) (pool : Pool) (core 
   pub machine : StandsForFlat c pool core rests flats
   pub source : FlatsStandFor program flats thread
 
--- there is one
+-- there is such a thread
 abbrev pub HasBetween : (c : Checked) → ProgramTree → (pool : Pool) (core : Core) → IsResting c pool core → SourceThread → Type 0
 HasBetween c program pool core rests thread = (flats : List FlatFrame) × AreBetween c program pool core rests thread flats
 
--- ---- going on
+-- ---- continuing
 
--- how a thread of flat code goes on that rests as a source thread does: with these globals, from its function's start or
--- with this word as the result of its modelled call
+-- a thread of flat code, at rest as a source thread is, continues with these globals, from its function's start or with
+-- this word as the result of its modelled call
 abbrev pub flat_going_on : FlatCode → SourceThread → FlatFrame → List FlatFrame → ℕ → List (List ℕ) → FlatThread
 flat_going_on code (Starts frame below) flat flats result globals = record { frame = flat; below = flats; globals = globals }
 flat_going_on code (Waits waiting) flat flats result globals = flat_resume code (record { frame = flat; below = flats }) (record { result = result; globals = globals })

@@ -1,9 +1,9 @@
--- The function with which a source thread started, and what a run of one thread keeps of all.
+-- The function with which a source thread started, and what a run of one thread keeps of all threads.
 use Rattle.std.specs.Prelude.{◌≡◌, ℕ, ⊤, List, [], ◌∷◌, ◌++◌, Some, slice_get, slice_set}
 use Rattle.c_mean.specs.Frames.{WaitingFrame, Running, Waiting}
 use Rattle.c_mean.specs.World.{World, Segment, Rest, Fresh, Blocked, Ended}
 
--- the function of the last of some frames, of which the first is of this function
+-- the function of the last of some frames, the first of which is of this function
 abbrev pub last_function : ℕ → List WaitingFrame → ℕ
 last_function f [] = f
 last_function f (waiting ∷ below) = last_function waiting.frame.function below
@@ -15,19 +15,19 @@ first_of thread = last_function thread.frame.function thread.below
 abbrev pub first_waiting : Waiting → ℕ
 first_waiting waiting = last_function waiting.front.frame.function waiting.below
 
--- a thread that rests so started with this function; one that has ended may have started with any
+-- a thread at rest started with this function; one that has ended may have started with any
 abbrev pub IsFirst : ℕ → Rest → Type 0
 IsFirst f (Fresh function arguments) = f ≡ function
 IsFirst f (Blocked block waiting) = f ≡ first_waiting waiting
 IsFirst f Ended = ⊤
 
--- a thread that goes on from there started with this function
+-- a thread that continues from this rest started with this function
 abbrev pub Began : ℕ → Rest → Type 0
 Began f (Fresh function arguments) = f ≡ function
 Began f (Blocked block waiting) = f ≡ first_waiting waiting
 Began f Ended = ⊥
 
--- threads were added behind those that were there
+-- threads were added after the existing ones
 pub record IsGrown (old new : List Rest) : Type 0 where
   pub more : List Rest
   pub is : new ≡ old ++ more

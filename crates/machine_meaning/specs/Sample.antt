@@ -29,18 +29,18 @@ calling = record {
 abbrev pub nested : ProgramTree
 nested = record { functions = printing ∷ calling ∷ []; globals = []; tables = []; main = 1 }
 
--- what both frames have still to do
+-- what both frames still have to do
 abbrev pub returning : List Item
 returning = GiveBack (Some (Computed (Local 0))) ∷ []
 
--- `g` is at `put`, with 1 in `x`; `main` waits for its result, which goes to `a`
+-- `g` is at `put`, with 1 in `x`; `main` waits for its result, which is assigned to `a`
 abbrev pub nested_waiting : Waiting
 nested_waiting = record {
   front = record { frame = record { function = 0; names = (1 ∷ []) ∷ []; to_do = returning }; site = 0; place = Nowhere };
   below = record { frame = record { function = 1; names = (0 ∷ []) ∷ []; to_do = returning }; site = 1; place = InLocal 0 } ∷ [];
 }
 
--- the same in flat code, where each argument is in the first temporary too
+-- the same in flat code, where each argument is also in the first temporary
 abbrev pub nested_flat : FlatWaiting
 nested_flat = record {
   frame = record { function = 0; next = 1; variables = Some (1 ∷ []) ∷ Some (1 ∷ []) ∷ [] };

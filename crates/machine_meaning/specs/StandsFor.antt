@@ -1,7 +1,7 @@
--- When a thread of a program's flat code stands for a thread of the program: as many frames, of the same functions, which
--- wait at the same sites or stand at their function's start; each name in scope has its words in its variable; the index
--- of a place that waits for a result is in the first temporary; and each frame of the source has still to do what follows
--- its site in the text.
+-- When a thread of a program's flat code stands for a thread of the program: both have equally many frames of the same
+-- functions, which wait at the same sites or are at their function's start; each name in scope has its words in its
+-- variable; the index of an element that waits for a result is in the first temporary; and each frame of the source
+-- still has to do what follows its site in the text.
 use Rattle.std.specs.Prelude.{◌≡◌, ℕ, ◌<◌, IsTrue, List, [], ◌∷◌, map, length, Some}
 use Rattle.cap_word.specs.Rows.{row}
 use Rattle.c_tree.specs.Sizes.{below}
@@ -15,7 +15,7 @@ use Rattle.c_lower.specs.ProgramCode.{first_temporary, function_sizes, lowered}
 
 -- ---- words of names and variables
 
--- names of a function: as many words each as it was declared with
+-- names of a function, each with its declared number of words
 abbrev pub AreNamesOf : FunctionTree → List (List ℕ) → Type 0
 AreNamesOf f names = map length names ≡ f.sizes
 
@@ -23,7 +23,7 @@ AreNamesOf f names = map length names ≡ f.sizes
 abbrev pub ScopeStands : FunctionTree → List ℕ → List (List ℕ) → FlatFrame → Type 0
 ScopeStands f scope names flat = (x : ℕ) → x < length f.sizes → IsTrue (visible x scope) → variable flat x ≡ Some (row names x)
 
--- the index of a place, where it has one, is in the first temporary
+-- the index of an element, if there is one, is in the first temporary
 abbrev pub IndexStands : FunctionTree → Place → FlatFrame → Type 0
 IndexStands f Nowhere flat = Unit {0}
 IndexStands f (InLocal x) flat = Unit {0}
@@ -36,7 +36,8 @@ IndexStands f Returned flat = Unit {0}
 
 -- a frame that waits at a call
 pub record FrameStandsFor (program : ProgramTree) (waiting : WaitingFrame) (flat : FlatFrame) : Type 0 where
-  -- the call in its function's text: its result goes where the text says, and it has still to do what follows it there
+  -- the call in its function's text: its result is assigned as the text says, and the frame still has to do what
+  -- follows the call there
   pub call : CallInText
   pub waits : WaitsAt program waiting call
   pub function : flat.function ≡ waiting.frame.function
@@ -46,7 +47,7 @@ pub record FrameStandsFor (program : ProgramTree) (waiting : WaitingFrame) (flat
   pub scope : ScopeStands (function_at program waiting.frame.function) call.scope waiting.frame.names flat
   pub index : IndexStands (function_at program waiting.frame.function) waiting.place flat
 
--- a frame at its function's start, of which the parameters are in scope
+-- a frame at its function's start, with the parameters in scope
 pub record FrameStartsAs (program : ProgramTree) (frame : Frame) (flat : FlatFrame) : Type 0 where
   pub defined : frame.function < length program.functions
   pub function : flat.function ≡ frame.function
@@ -56,7 +57,7 @@ pub record FrameStartsAs (program : ProgramTree) (frame : Frame) (flat : FlatFra
   pub variables : length flat.variables ≡ length (function_sizes (function_at program frame.function))
   pub scope : ScopeStands (function_at program frame.function) (below (function_at program frame.function).params) frame.names flat
 
--- equally many frames, each of which stands for one
+-- equally many frames, each of which stands for the corresponding one
 abbrev pub FramesStandFor : ProgramTree → List WaitingFrame → List FlatFrame → Type 0
 FramesStandFor program [] [] = Unit {0}
 FramesStandFor program [] (flat ∷ flats) = ⊥

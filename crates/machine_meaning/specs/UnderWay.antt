@@ -1,5 +1,6 @@
--- A machine world with a segment under way, and the source's segment that it has come to: the running thread rested some
--- silent steps ago, and from there runs as the source's running thread; everything else stands for what the source has.
+-- A machine world with a segment in progress, and the source's segment that corresponds to it: the running thread
+-- rested some silent steps ago, and from there runs as the source's running thread; everything else stands for that of
+-- the source.
 use Rattle.std.specs.Prelude.{◌≡◌, ◌≢◌, ℕ, ◌<◌, List, length, Option, Some, None, slice_get}
 use Rattle.cap_word.specs.Calls.{Blocking, call_of}
 use Rattle.cap_word.specs.declared.calls.Block.{Block}
@@ -23,7 +24,7 @@ abbrev pub IsBlockingCall : Op → Block → Type 0
 IsBlockingCall (Op.Model site d n args) block = (words : List ℕ) × (call_of n words ≡ Some (Blocking block))
 IsBlockingCall _ block = ⊥
 
--- a thread rests as it does between segments: at the start of its only frame and blocked at nothing, or just past the ECALL of
+-- a thread rests as it does between segments: at the start of its only frame and not blocked, or just past the ECALL of
 -- the call at which it is blocked
 abbrev pub RestsSo : (c : Checked) (pool : Pool) (thread : Thread) → IsResting c pool thread.core → Option Blocked → Type 0
 RestsSo c pool thread (AtStart f frames in_place) None = length frames ≡ 1
@@ -37,7 +38,7 @@ abbrev pub IsSettledIf : Checked → Pool → Option Thread → Type 0
 IsSettledIf c pool None = Unit {0}
 IsSettledIf c pool (Some thread) = IsSettledThread c pool thread
 
--- each live thread rests so, and no segment is under way
+-- each live thread rests in this way, and no segment is in progress
 pub record IsSettled (c : Checked) (w : World) : Type 0 where
   pub between : w.running ≡ None
   pub threads : (number : ℕ) → IsSettledIf c w.areas.pool (thread_of w number)
@@ -54,12 +55,12 @@ pub record IsUnderWay (c : Checked) (program : ProgramTree) (s : Setting) (w : W
   pub thread : Thread
   pub live : thread_of w segment.number ≡ Some thread
   pub there : segment.number < length segment.world.threads
-  -- where it rested, and how many silent steps ago
+  -- where it rested, and the number of silent steps since then
   pub from : Local
   pub steps : ℕ
   pub comes : Comes s.code steps from (record { areas = w.areas; core = thread.core })
   pub runs : RunsAsSource c s.code program from segment.running
-  -- the other threads, and what threads meet outside themselves
+  -- the other threads, the queues and the uses
   pub others : (number : ℕ) → number ≢ segment.number → StandsForRest c program w.areas.pool (thread_of w number) (slice_get segment.world.threads number)
   pub settled : (number : ℕ) → number ≢ segment.number → IsSettledIf c w.areas.pool (thread_of w number)
   pub exchange : w.exchange ≡ segment.world.exchange

@@ -15,10 +15,10 @@ ghost use Rattle.machine_world.specs.StandsFor.{SourceThread, StandsFor, Starts,
 ghost use Rattle.machine_meaning.specs.Between.{FlatsStandFor, HasBetween, flat_going_on};
 ghost use Rattle.stack_image.specs.declared.images.Image.{Image};
 
-/// A machine thread that rests stands for a source thread exactly where a thread of the program's flat code is between the
-/// two. Whatever globals and result a flat thread goes on with that stands for a source thread, it means the same as the
-/// source thread that goes on with them. A flat thread that starts a function stands for the source thread that does. It
-/// does nothing.
+/// Laws: a machine thread that rests stands for a source thread exactly if a thread of the program's flat code is
+/// between the two. A flat thread that stands for a source thread and continues with some globals and result means the
+/// same as the source thread that continues with them. A flat thread that starts a function stands for the source
+/// thread that does.
 pub fn between_laws()
     ensures down { (program : ProgramTree) (c : Checked) (pool : Pool) (core : Core) (rests : IsResting c pool core) (thread : SourceThread) → IsWellScoped program → c.flat ≡ lowered program →
         StandsFor c program pool core rests thread → HasBetween c program pool core rests thread }

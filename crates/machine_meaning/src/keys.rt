@@ -8,8 +8,8 @@ ghost use Rattle.machine_world.specs.Rests.{IsResting};
 ghost use Rattle.machine_world.specs.StandsFor.{StandsFor, Waits};
 ghost use Rattle.machine_meaning.specs.Between.{resting_key};
 
-/// The site at which a machine thread rests, and the sites at which its up to seven innermost waiting frames stand, are the
-/// key of each source thread for which it stands. It does nothing.
+/// Law: the site at which a machine thread rests, followed by the sites of its up to seven innermost waiting frames, is
+/// the key of each source thread for which it stands.
 pub fn key_law()
     ensures { (c : Checked) (program : ProgramTree) (pool : Pool) (core : Core) (rests : IsResting c pool core) (waiting : Waiting) →
         StandsFor c program pool core rests (Waits waiting) → resting_key c pool core rests ≡ key_of waiting }

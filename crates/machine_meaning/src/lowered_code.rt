@@ -12,9 +12,9 @@ ghost use Rattle.stack_certificate.specs.Certificates.{fact_at};
 ghost use Rattle.stack_certificate.specs.declared.certificates.Certificate.{Certificate};
 ghost use Rattle.stack_image.specs.declared.images.Image.{Image};
 
-/// What the flat code of a well scoped program is, and with a valid pair: each array that is set to zeros has a word; an
-/// operation of its function follows each modelled call and each start of a thread; the code is well formed; and no two
-/// functions have one entry. It does nothing.
+/// Laws: in the flat code of a well-scoped program, each array that is set to zeros has a word, and an operation of its
+/// function follows each modelled call and each start of a thread. With a valid pair, the code is well formed, and no
+/// two functions have the same entry.
 pub fn lowered_facts_law()
     ensures zeroes { (program : ProgramTree) → IsWellScoped program → ZeroesSome (lowered program) }
     ensures follows { (program : ProgramTree) → IsWellScoped program → (f i word : ℕ) (op : Op) → f < length (lowered program).functions → operation_at (lowered program) f i ≡ Some op → ecall_word op ≡ Some word →

@@ -17,9 +17,10 @@ ghost use Rattle.stack_certificate.specs.declared.certificates.Certificate.{Cert
 ghost use Rattle.stack_image.specs.declared.images.Image.{Image};
 ghost use Rattle.machine_meaning.specs.UnderWay.{IsSettled, StandsSettled};
 
-/// Between segments. The machine's start in areas that hold the image's globals stands for the source's, with its thread at rest; so does a world after a delivery
-/// that joins its queue or is dropped, and after the clock went on. Each well formed world whose threads rest so stands for
-/// some source world, and every live thread of it is in place. It does nothing.
+/// Laws between segments: the machine's start in areas with the image's globals stands for the source's, with its
+/// thread at rest; so does a world after a delivery that joins its queue or is dropped, and after an advance of the
+/// clock. Each well-formed world whose threads rest in this way stands for some source world, and every live thread of
+/// it is in place.
 pub fn outside_laws()
     ensures starts { (program : ProgramTree) (image : Image) (certificate : Certificate) (w : World) (areas : Areas) → IsWellScoped program → IsValid (lowered program) image certificate →
         areas.globals ≡ image.globals → AreWellFormed (record { flat = lowered program; certificate = certificate }) areas →

@@ -15,9 +15,9 @@ ghost use Rattle.machine_meaning.specs.Running.{IsRunning, KeepsRunning};
 ghost use Rattle.machine_meaning.specs.Reached.{IsReached};
 ghost use Rattle.machine_meaning.specs.UnderWay.{IsSettled};
 
-/// The laws of many steps. From a well formed world of a valid pair whose threads rest, the pick of a thread begins a segment
-/// that is running, and each step keeps it so, or at its end leaves threads that rest. Silent steps are a good stretch, and so
-/// they are with the step behind them that leads on; and they leave the source's run where it was. It does nothing.
+/// Laws of many steps: from a well-formed world of a valid pair whose threads rest, the pick of a thread begins a
+/// segment that is running, and each step keeps it running, or at its end leaves threads that rest. Silent steps are a
+/// good stretch, also together with the next step; and they leave the source's run unchanged.
 pub fn running_laws()
     ensures picks { (program : ProgramTree) (image : Image) (certificate : Certificate) (s : Setting) (w after : World) (number : ℕ) → IsWellScoped program → IsValid (lowered program) image certificate → s.code ≡ image.code →
         IsWellFormed (record { flat = lowered program; certificate = certificate }) s w → IsSettled (record { flat = lowered program; certificate = certificate }) w → after_action s w (Pick number) ≡ Some after →

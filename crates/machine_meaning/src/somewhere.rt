@@ -12,9 +12,9 @@ ghost use Rattle.machine_world.specs.Rests.{IsResting};
 ghost use Rattle.machine_world.specs.StandsFor.{SourceThread, StandsFor};
 ghost use Rattle.stack_image.specs.declared.images.Image.{Image};
 
-/// Each machine thread that rests stands for some source thread of the program, and as many global words as the program
-/// declares are some globals. So what the laws say of a thread that stands for a source thread needs no such premise where it
-/// speaks of the machine alone. It does nothing.
+/// Law: each machine thread that rests stands for some source thread of the program, and global words of the declared
+/// number are the words of some globals. So where a law on a thread that stands for a source thread concerns only the
+/// machine, that premise can be dropped.
 pub fn somewhere_law()
     ensures thread { (program : ProgramTree) (c : Checked) (image : Image) (pool : Pool) (core : Core) (rests : IsResting c pool core) → IsWellScoped program → c.flat ≡ lowered program → IsValid c.flat image c.certificate →
         (thread : SourceThread) × StandsFor c program pool core rests thread }

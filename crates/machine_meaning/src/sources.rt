@@ -15,11 +15,12 @@ ghost use Rattle.segment_laws.specs.Alike.{MayRun};
 ghost use Rattle.stack_certificate.specs.declared.certificates.Certificate.{Certificate};
 ghost use Rattle.stack_image.specs.declared.images.Image.{Image};
 
-/// From a machine thread that rests, at no ECALL, machine and source run alike up to the next modelled call, trap or end, in
-/// both directions, for each source thread and globals that it stands for; just past an ECALL that thread goes on with a0 as
-/// the result of its call, or with any word where no result is wanted. After a modelled call it stands for what the source
-/// reached. Each state on the way is in place with a good access, no step is wrong, and the machine is cut off only at a LINK
-/// where no free chunk fits. The code is that of a valid pair for a well scoped program. It does nothing.
+/// Law: from a machine thread that rests, at no ECALL, machine and source run alike up to the next modelled call, trap
+/// or end, in both directions, for each source thread and globals for which it stands. Just past an ECALL that thread
+/// continues with a0 as the result of its call, or with any word if the call gives no result. After a modelled call it
+/// stands for the state that the source reached. Each state on the way is in place with a good access, no step is
+/// wrong, and the machine is cut off only at a LINK for which no free chunk fits. The code is that of a valid pair for
+/// a well-scoped program.
 pub fn source_law()
     ensures { (program : ProgramTree) (image : Image) (certificate : Certificate) (l : Local) (thread : SourceThread) (globals : List (List ℕ)) (result : ℕ) → IsWellScoped program → IsValid (lowered program) image certificate →
         HasForm (record { flat = lowered program; certificate = certificate }) l → (stands : StandsForThread (record { flat = lowered program; certificate = certificate }) program l thread globals) →
@@ -27,8 +28,8 @@ pub fn source_law()
         RunsAsSource (record { flat = lowered program; certificate = certificate }) image.code program l (going_on thread result globals) }
 {}
 
-/// A machine thread that rests where no ECALL stands may run, and each that may run runs as some source thread: so it is in
-/// place all along, with good accesses, and no step of it is wrong. It does nothing.
+/// Law: a machine thread that rests at no ECALL may run, and each that may run runs as some source thread: so it is in
+/// place all along, with good accesses, and no step of it is wrong.
 pub fn running_law()
     ensures may_run { (program : ProgramTree) (image : Image) (certificate : Certificate) (l : Local) → IsWellScoped program → IsValid (lowered program) image certificate →
         (rests : IsResting (record { flat = lowered program; certificate = certificate }) l.areas.pool l.core) → instruction_at image.code l.core.pc ≢ Ok Instr.Ecall →

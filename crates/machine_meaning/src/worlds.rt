@@ -15,10 +15,11 @@ ghost use Rattle.stack_image.specs.declared.images.Image.{Image};
 ghost use Rattle.machine_meaning.specs.Reached.{IsReached, StepReaches};
 ghost use Rattle.machine_meaning.specs.UnderWay.{IsUnderWay, StandsSettled};
 
-/// One segment of any thread that may run, in the world of a valid pair that stands for a source world. Its pick begins the
-/// source's run of that thread. Each step of it keeps to that run: the values that it puts, the threads that it starts, its
-/// blocking call, end and trap are the source's, and after a blocking call or the end the world stands for the source world
-/// after the run. At each moment every live thread is in place, and the next access is good. It does nothing.
+/// Laws of one segment of any thread that may run, in the world of a valid pair that stands for a source world. Its
+/// pick begins the source's run of that thread. Each step corresponds to that run: the values that it puts, the threads
+/// that it starts, its blocking call, end and trap are the source's, and after a blocking call or the end the world
+/// stands for the source world after the run. At each moment every live thread is in place, and the next access is
+/// good.
 pub fn segment_world_laws()
     ensures picks { (program : ProgramTree) (image : Image) (certificate : Certificate) (s : Setting) (w after : World) (start : source.World) (number : ℕ) → IsWellScoped program → IsValid (lowered program) image certificate → s.code ≡ image.code →
         IsWellFormed (record { flat = lowered program; certificate = certificate }) s w → StandsSettled (record { flat = lowered program; certificate = certificate }) program w start → after_action s w (Pick number) ≡ Some after →

@@ -1,4 +1,4 @@
-// What a source comes to, and the recursions that several tests run.
+// The outcome of a source, and the recursions that several tests run.
 
 ghost use Rattle.codegen_link.specs.Plans.{AreInRange};
 
@@ -15,7 +15,7 @@ pub(crate) const DEEP: &[u8] =
 pub(crate) const ONCE: &[u8] =
     b"int f(int n) { int r; if (n < 1) return 0; r = f(n - 1); return r + 1; } int main() { int r; r = f(1); put(r); return 0; }";
 
-/// The least chunks, of which 100 are linked for the deep recursion.
+/// The smallest chunks, 100 of which are linked for the deep recursion.
 pub(crate) const NARROW: Options = Options {
     chunk: 64,
     max_path: 48,
@@ -24,12 +24,12 @@ pub(crate) const NARROW: Options = Options {
 /// The fuel of a case.
 pub(crate) const FUEL: u64 = 10_000;
 
-/// What is left of the fuel once so many instructions have retired.
+/// Returns the remaining fuel after `retired` instructions have retired.
 pub(crate) fn left_after(retired: u64) -> u64 {
     FUEL.saturating_sub(retired)
 }
 
-/// Whether a source comes to just this, with paths and chunks of these sizes, over so many chunks.
+/// Checks whether a source has exactly this outcome, with paths and chunks of these sizes, over this number of chunks.
 pub(crate) fn comes_to(
     alloc: Global,
     source: &[u8],
@@ -49,7 +49,7 @@ pub(crate) fn comes_to(
     }
 }
 
-/// Whether a program's `main` comes to just this, over so many chunks and with so much fuel.
+/// Checks whether a program's `main` has exactly this outcome, over this number of chunks and with this fuel.
 pub(crate) fn leads_to(
     alloc: Global,
     accepted: &Accepted,

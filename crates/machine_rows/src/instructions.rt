@@ -25,7 +25,8 @@ const OF_NO_ROW: [u32; 8] = [
     0x0000_3003,
 ];
 
-// An instruction has its word, and the word decodes to an instruction that has it, which is the same one, by `table_laws`.
+// Checks whether an instruction has this word, and the word decodes to an instruction that has it; by `table_laws` it
+// is the same one.
 fn has_word(instr: Instr, word: u32) -> bool {
     let again = match decode(word) {
         Some(given) => encode(given) == word,
@@ -34,7 +35,7 @@ fn has_word(instr: Instr, word: u32) -> bool {
     encode(instr) == word && again
 }
 
-// An addition with an immediate.
+// Checks an addition with an immediate.
 fn is_addi(rd: Register, rs1: Register, imm: Immediate, word: u32) -> bool {
     has_word(Instr::Addi { rd, rs1, imm }, word)
 }
@@ -55,7 +56,7 @@ fn is_fence(rd: Register, rs1: Register, imm: Immediate, word: u32) -> bool {
     has_word(Instr::Fence { rd, rs1, imm }, word)
 }
 
-// Each function below has a few instructions: the facts of many in one are dear to prove.
+// Each function below has only a few instructions: the facts of many in one are slow to prove.
 fn additions_have_their_words() -> bool {
     is_addi(Register::A7, ZERO, Immediate::new(30), 0x01e0_0893)
         && is_addi(SP, SP, Immediate::new(-16), 0xff01_0113)
@@ -134,7 +135,7 @@ fn none_decodes(words: &[u32]) -> bool {
     true
 }
 
-// Counts and upper immediates come back as they went in.
+// Counts and upper immediates are returned as they were passed.
 fn operands_come_back() -> bool {
     Immediate::new(-2048).value() == -2048
         && BranchOffset::new(-4096).value() == -4096

@@ -1,5 +1,6 @@
-// Each operation of flat code, each modelled call and each trap of a source. Counts of instructions are sums over the
-// templates: `main` without its body takes 11, of which 2 are the end stub, and `put` of a value that is there 3.
+// Each operation of flat code, each modelled call and each trap of a source. The numbers of instructions are sums over
+// the templates: `main` without its body takes 11, of which 2 are the end stub, and `put` of a value that is already
+// there 3.
 
 use crate::Outcome;
 use crate::cases::{ONCE, comes_to, left_after};
@@ -14,7 +15,7 @@ const WIDE: Options = Options {
     max_path: 112,
 };
 
-// An expression, its value, and the instructions that leave it in a temporary.
+// An expression, its value, and the number of instructions that put it into a temporary.
 const EXPRESSIONS: [(&[u8], u32, u64); 31] = [
     (b"7", 7, 3),
     (b"+7", 7, 3),
@@ -49,7 +50,7 @@ const EXPRESSIONS: [(&[u8], u32, u64); 31] = [
     (b"0 ? 5 : 6", 6, 9),
 ];
 
-// A source that puts one number and ends, the number, and the instructions that retire.
+// A source that puts one number and ends, the number, and the number of retired instructions.
 const PUTS: [(&[u8], u32, u64); 9] = [
     (b"int main() { int x = 5; put(x); return 0; }", 5, 21),
     (b"int main() { int a[3]; put(a[2]); return 0; }", 0, 28),
@@ -82,8 +83,9 @@ const PUTS: [(&[u8], u32, u64); 9] = [
     ),
 ];
 
-// The same, where calls are tested for room: the sizes and the number of chunks too. A call by name finds room in a chunk of
-// 96 bytes and links one where chunks have 80. One by a table finds room at first, and in the callee it links.
+// The same with calls that test the stack, and with the sizes and the number of chunks. A call by name finds room in a
+// chunk of 96 bytes and links one if chunks have 80. A call through a table finds room at first, and links in the
+// callee.
 const LINKS: [(&[u8], Options, u32, u32, u64); 4] = [
     (
         ONCE,
@@ -124,7 +126,8 @@ const LINKS: [(&[u8], Options, u32, u32, u64); 4] = [
     ),
 ];
 
-// A source with another call that is answered at once, the call, the number that is put then, and the instructions.
+// A source with another call that is answered at once, the call, the number that is put then, and the number of
+// instructions.
 const ASKS: [(&[u8], Ask, u32, u64); 3] = [
     (
         b"int main() { int x; x = self(); put(x); return 0; }",
@@ -152,7 +155,7 @@ const ASKS: [(&[u8], Ask, u32, u64); 3] = [
     ),
 ];
 
-// A source with a call that blocks, the call, and the instructions up to and with it.
+// A source with a call that blocks, the call, and the number of instructions up to and including it.
 const BLOCKS: [(&[u8], Block, u64); 6] = [
     (
         b"int main() { int c; c = accept(); put(c); return 0; }",
@@ -188,7 +191,7 @@ const BLOCKS: [(&[u8], Block, u64); 6] = [
     ),
 ];
 
-// A source that traps, the trap, and the instructions before it. An index that is negative is out of range too.
+// A source that traps, the trap, and the number of instructions before it. A negative index is out of range too.
 const TRAPS: [(&[u8], TrapKind, u64); 6] = [
     (
         b"int main() { int a[3]; put(a[3]); return 0; }",
@@ -222,7 +225,7 @@ const TRAPS: [(&[u8], TrapKind, u64); 6] = [
     ),
 ];
 
-// The outcome of a source that first asks this and ends.
+// Returns the outcome of a source that first asks this and ends.
 fn asked(ask: Ask, sum: u32, retired: u64, free: u32) -> Outcome {
     Outcome {
         first: Some(Segment::Asks { ask }),
@@ -234,7 +237,7 @@ fn asked(ask: Ask, sum: u32, retired: u64, free: u32) -> Outcome {
     }
 }
 
-// The outcome of a source that stops at its first answer, on one of four chunks.
+// Returns the outcome of a source that stops at its first answer, on one of four chunks.
 fn stopped(segment: Segment, key: Option<SiteKey>, retired: u64) -> Outcome {
     Outcome {
         first: Some(segment),
@@ -246,7 +249,7 @@ fn stopped(segment: Segment, key: Option<SiteKey>, retired: u64) -> Outcome {
     }
 }
 
-// A program that puts the value of an expression.
+// Returns a program that puts the value of an expression.
 fn putting(alloc: Global, expression: &[u8]) -> Result<Vec<u8>, AllocError> {
     let mut source = Vec::from_slice(alloc, b"int main() { put(")?;
     source.extend_from_slice(expression)?;
@@ -254,7 +257,8 @@ fn putting(alloc: Global, expression: &[u8]) -> Result<Vec<u8>, AllocError> {
     Ok(source)
 }
 
-// Whether `main` puts the value of an expression, in so many instructions more than the expression takes itself.
+// Checks whether `main` puts the value of an expression; `retired` is the number of instructions of the expression
+// itself.
 fn has_value(alloc: Global, expression: &[u8], value: u32, retired: u64) -> bool {
     let Ok(source) = putting(alloc, expression) else {
         return false;

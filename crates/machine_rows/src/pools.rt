@@ -6,8 +6,8 @@ use std::fs;
 use std::rt::Files;
 use std::test::Fail;
 
-// Addresses, and the chunk that has each, in a pool of three chunks of 80 bytes, in one of the most chunks, and in one of the
-// largest.
+// Addresses, and the chunk of each, in a pool of three chunks of 80 bytes, in one with the maximum number of chunks,
+// and in one of the largest chunks.
 const OF_THREE: [(u32, Option<u32>); 10] = [
     (0, None),
     (0x7fff_ffff, None),
@@ -33,7 +33,7 @@ const OF_LARGEST: [(u32, Option<u32>); 3] = [
     (0x8400_0000, None),
 ];
 
-// The same where two chunks of 48 bytes stand behind two of 80.
+// The same for two chunks of 80 bytes followed by two of 48.
 const OF_TWO_SIZES: [(u32, Option<u32>); 8] = [
     (0x8000_0000, Some(0)),
     (0x8000_009f, Some(1)),
@@ -45,7 +45,7 @@ const OF_TWO_SIZES: [(u32, Option<u32>); 8] = [
     (0x7fff_ffff, None),
 ];
 
-// The number that stands in the first word of a chunk.
+// Returns the number in the first word of a chunk.
 fn link(pool: &ChunkPool, id: u32) -> Option<u32>
     requires { id < pool.now.count }
 {
@@ -55,8 +55,8 @@ fn link(pool: &ChunkPool, id: u32) -> Option<u32>
     Some(pool.read(id, 0))
 }
 
-// Whether two chunks are taken dry and given back in another order. The links are those of the machine's layout: the number
-// of the next free chunk, or 2 where there is none.
+// Checks a pool of two chunks that are both taken and given back in another order. The links are those of the machine's
+// layout: the number of the next free chunk, or 2 if there is none.
 fn gives_back(alloc: Global) -> Result<bool, AllocError> {
     let mut pool = ChunkPool::new(alloc, 2, 64, 0, 64)?;
     let first = pool.take(48);
@@ -75,8 +75,8 @@ fn gives_back(alloc: Global) -> Result<bool, AllocError> {
     )
 }
 
-// Whether needs take the smaller of two sizes that has a free chunk which fits, and chunks go back to the list of their size.
-// The last free chunk of each size links to the count of all, 4.
+// Checks whether needs take the smaller of two sizes that has a free chunk that fits, and chunks go back to the list of
+// their size. The last free chunk of each size links to the count of all, 4.
 fn takes_by_need(alloc: Global) -> Result<bool, AllocError> {
     let mut pool = ChunkPool::new(alloc, 2, 80, 2, 48)?;
     let taken = [pool.take(32), pool.take(33), pool.take(65), pool.take(0)];
@@ -99,7 +99,7 @@ fn takes_by_need(alloc: Global) -> Result<bool, AllocError> {
     )
 }
 
-// Whether a chunk keeps what is written.
+// Checks whether a chunk keeps what is written.
 #[tactic(auto, unfolding(chunk_pool::specs::Pool::words_in))]
 fn keeps(alloc: Global) -> Result<bool, AllocError> {
     let mut pool = ChunkPool::new(alloc, 2, 64, 0, 64)?;
@@ -111,7 +111,7 @@ fn keeps(alloc: Global) -> Result<bool, AllocError> {
     Ok(is_kept)
 }
 
-// The number of a pool's chunks and their bytes, and the address of the last one.
+// Checks the number of a pool's chunks, their size in bytes, and the address of the last one.
 fn is_laid_out(pool: &ChunkPool, count: u32, bytes: u32, last_place: u32) -> bool
     requires some_chunks { 1 ≤ count }
     requires of_count { pool.now.count ≡ count }
@@ -123,7 +123,7 @@ fn is_laid_out(pool: &ChunkPool, count: u32, bytes: u32, last_place: u32) -> boo
         && pool.bytes_of(last) == bytes
 }
 
-// Whether each address is in its chunk.
+// Checks whether each address is in its chunk.
 fn finds(pool: &ChunkPool, rows: &[(u32, Option<u32>)]) -> bool {
     for (address, chunk) in rows {
         if pool.chunk_at(*address) != *chunk {
@@ -133,7 +133,8 @@ fn finds(pool: &ChunkPool, rows: &[(u32, Option<u32>)]) -> bool {
     true
 }
 
-// Whether a pool's addresses are those that were worked out by hand: its last chunk's place, and addresses with their chunks.
+// Checks whether a pool's addresses are those that were worked out by hand: the address of its last chunk, and
+// addresses with their chunks.
 fn has_addresses(
     alloc: Global,
     count: u32,
@@ -165,7 +166,7 @@ fn pools(rt: HostRuntime) -> Result<(), Fail> {
     Ok(())
 }
 
-// Whether so many of the largest pools are made, each freed before the next.
+// Makes and frees `pools` of the largest pools, one after another.
 fn makes_and_frees(alloc: Global, pools: u32) -> Result<bool, AllocError> {
     for _ in 0..pools {
         if !has_addresses(alloc, 65_536, 1_024, 0x83ff_fc00, &[])? {
@@ -175,14 +176,15 @@ fn makes_and_frees(alloc: Global, pools: u32) -> Result<bool, AllocError> {
     Ok(true)
 }
 
-// The size of this process in pages of 4,096 bytes, as Linux reports it.
+// Returns the size of this process in pages of 4,096 bytes, as Linux reports it.
 fn pages_of_process<R: Files + Alloc>(rt: &R) -> Option<u64> {
     let text = fs::read_to_string(rt, "/proc/self/statm").ok()?;
     let first = text.split_whitespace().next()?;
     first.parse::<u64>().ok()
 }
 
-// A pool's 64 MiB are 16,384 pages. The first pool may leave the allocator's own tables behind; a hundred more leave nothing.
+// A pool's 64 MiB are 16,384 pages. The first pool may leave the allocator's tables behind; a hundred more leave
+// nothing.
 #[test]
 fn memory_returns(rt: HostRuntime) -> Result<(), Fail> {
     let alloc = rt.alloc();

@@ -2,7 +2,7 @@ ghost use Rattle.std.specs.Prelude.{nat_lt, slice_get, slice_set};
 
 use rv_machine::Memory;
 
-/// Sixteen readable bytes from 0 on, of which the first eight are writable.
+/// Sixteen readable bytes from 0 on, the first eight of which are writable.
 #[derive(Clone, Copy)]
 pub struct Ram {
     pub bytes: [u8; 16],

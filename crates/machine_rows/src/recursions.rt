@@ -24,8 +24,8 @@ fn a_deep_one(alloc: Global) -> bool {
     comes_to(alloc, DEEP, NARROW, 128, want)
 }
 
-// A recursion that blocks at its bottom, ten frames deep: its key goes over eight chunks, and 344 instructions retire, the
-// call among them.
+// A recursion that blocks at its bottom, ten frames deep: its key extends over eight chunks, and 344 instructions
+// retire, including the call.
 fn a_key_across_chunks(alloc: Global) -> bool {
     let blocks = Segment::Blocks {
         block: Block::Yield,

@@ -17,15 +17,15 @@ use segment_run::{
 use stack_build::build;
 use std::alloc::{AllocError, Global};
 
-/// A thread over areas of its own.
+/// A thread with its areas.
 #[derive(Drop)]
 pub struct Begun {
     pub areas: Areas,
     pub context: Context,
 }
 
-/// How far a thread came: its first answer and its last one, the sum of what it put, the key of the call at which it
-/// blocked, the fuel that is left and how many chunks are free.
+/// The outcome of a thread: its first and its last answer, the sum of what it put, the key of the call at which it
+/// blocked, the remaining fuel, and the number of free chunks.
 #[derive(Clone, Copy, PartialEq, Eq)]
 pub struct Outcome {
     pub first: Option<Segment>,
@@ -36,7 +36,7 @@ pub struct Outcome {
     pub free: u32,
 }
 
-/// The accepted program that `build` makes of a source, or None where it makes none.
+/// Returns the accepted program that `build` makes of a source, or `None` if it makes none.
 pub fn accepted_of(alloc: Global, source: &[u8], options: Options) -> Option<Accepted>
     requires { AreInRange options }
 {
@@ -52,7 +52,7 @@ pub fn accepted_of(alloc: Global, source: &[u8], options: Options) -> Option<Acc
     }
 }
 
-/// A thread at the start of a program's `main`, over so many chunks; None where no pool has so many.
+/// Returns a thread at the start of a program's `main`, over this number of chunks, or `None` if there is no such pool.
 #[tactic(auto, unfolding(chunk_pool::specs::Pool::first_bytes_in))]
 pub fn begin(alloc: Global, accepted: &Accepted, chunks: u32) -> Result<Option<Begun>, AllocError>
     ensures areas { IfOk result (λ some. IfSome some (λ begun. AreOf accepted.now begun.areas)) }
@@ -78,8 +78,8 @@ pub fn begin(alloc: Global, accepted: &Accepted, chunks: u32) -> Result<Option<B
     }
 }
 
-/// Runs a thread with so much fuel until it blocks, ends or can't go on. Each call that is answered at once is passed, and
-/// so is the one at which it blocks.
+/// Runs a thread with this fuel until it blocks, ends or can't continue. It passes each call that is answered at once,
+/// and also the one at which it blocks.
 pub fn run_on(accepted: &Accepted, begun: Begun, left: u64) -> Outcome
     requires areas { AreOf accepted.now begun.areas }
     requires ready { IsReady (checked_of accepted.now) (code_of accepted.now) (local_of begun.areas begun.context) }
@@ -122,7 +122,7 @@ fn nothing_yet() -> Outcome {
     }
 }
 
-// An outcome with one more answer.
+// Returns an outcome with one more answer.
 fn with_answer(outcome: Outcome, segment: Segment) -> Outcome {
     let value = match segment {
         Segment::Asks {
@@ -138,7 +138,7 @@ fn with_answer(outcome: Outcome, segment: Segment) -> Outcome {
     }
 }
 
-// What a call that is answered at once results in here: the thread has the number 5, and the next one 6.
+// Returns the result of a call that is answered at once: here the thread has the number 5, and the next one 6.
 fn result_of(ask: Ask) -> Option<u32> {
     match ask {
         Ask::SelfNumber => Some(5),
@@ -147,7 +147,7 @@ fn result_of(ask: Ask) -> Option<u32> {
     }
 }
 
-// Passes the call at whose ECALL a thread stands, with what it results in, if anything.
+// Passes the call at which a thread is, with its result, if it gives one.
 fn pass(
     accepted: &Accepted,
     areas: &Areas,

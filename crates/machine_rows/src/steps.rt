@@ -12,7 +12,7 @@ const SAMPLE: Ram = Ram {
     ],
 };
 
-// The instructions that fail, each with the place of the step and the fault, the first where two hold.
+// The instructions that fault, each with its pc and the fault, the first if two apply.
 const FAULTS: [(u32, u32, FaultKind); 18] = [
     (0x0000_0013, 0x1002, FaultKind::Misaligned),
     (0x0000_0013, 0x0002, FaultKind::Misaligned),
@@ -34,7 +34,7 @@ const FAULTS: [(u32, u32, FaultKind); 18] = [
     (0x0000_0163, 0x1000, FaultKind::Misaligned), // beq x0,x0,.+2
 ];
 
-// An instruction, what register 5 holds after it, and where it goes on.
+// An instruction, the value of register 5 after it, and the next pc.
 const REGISTERS: [(u32, u32, u32); 19] = [
     (0x0ff0_000f, 0x89ab_cdef, 0x1004), // fence
     (0xfff1_008f, 0x89ab_cdef, 0x1004), // fence with other fields
@@ -57,7 +57,7 @@ const REGISTERS: [(u32, u32, u32); 19] = [
     (0x0000_1163, 0x89ab_cdef, 0x1004), // bne x0,x0,.+2, not taken
 ];
 
-// A store of register 5, and the first four bytes after it, the lowest byte first.
+// A store of register 5, and the first four bytes after it.
 const STORES: [(u32, [u8; 4]); 3] = [
     (0x0050_2023, [0xef, 0xcd, 0xab, 0x89]), // sw x5,0(x0)
     (0x0050_1123, [0x80, 0xff, 0xef, 0xcd]), // sh x5,2(x0)
@@ -73,14 +73,14 @@ const WORDS: [(u32, u32, u32); 5] = [
     (0x0050_2423, 0x7f01_ff80, 0x4433_2211), // sw x5,8(x0), which isn't writable
 ];
 
-// A step over the words of the code, or over the code decoded before.
+// A step over the words of the code, or over decoded code.
 #[derive(Clone, Copy)]
 enum Form {
     Words,
     Decoded,
 }
 
-// What a step answers, and the registers and the memory after it.
+// The answer of a step, and the registers and the memory after it.
 #[derive(Clone, Copy)]
 struct After<M> {
     result: StepResult,
@@ -88,7 +88,7 @@ struct After<M> {
     memory: M,
 }
 
-// Register 1 has the code's start, 5 the word 0x89abcdef, 6 seven, and 17 three.
+// Returns registers: 1 has the code's start, 5 the word 0x89abcdef, 6 seven, and 17 three.
 fn start(pc: u32) -> Regs {
     let mut x = [0; 32];
     x[1] = 0x1000;
@@ -98,7 +98,7 @@ fn start(pc: u32) -> Regs {
     Regs { pc, x }
 }
 
-// One step in that form over code that is that word.
+// Makes one step in that form over code that consists of that word.
 fn stepped<M: Memory + Copy>(
     alloc: Global,
     form: Form,
@@ -129,7 +129,7 @@ fn stepped_decoded<M: Memory + Copy>(
     })
 }
 
-// Over an image whose code is that word.
+// Makes one step over an image whose code is that word.
 fn stepped_in_words<M: Memory + Copy>(
     alloc: Global,
     word: u32,
@@ -152,7 +152,7 @@ fn stepped_in_words<M: Memory + Copy>(
     })
 }
 
-// Whether the step fails with that fault, and nothing changes.
+// Checks whether the step has that fault, and nothing changes.
 fn fails(alloc: Global, form: Form, word: u32, pc: u32, kind: FaultKind) -> bool {
     let Ok(after) = stepped(alloc, form, word, start(pc), SAMPLE) else {
         return false;
@@ -162,7 +162,7 @@ fn fails(alloc: Global, form: Form, word: u32, pc: u32, kind: FaultKind) -> bool
         && after.memory.bytes == SAMPLE.bytes
 }
 
-// Whether the step leaves that value in register 5, goes on there, and stores nothing.
+// Checks whether the step leaves that value in register 5, continues at that pc, and stores nothing.
 fn leaves(alloc: Global, form: Form, word: u32, value: u32, pc: u32) -> bool {
     let Ok(after) = stepped(alloc, form, word, start(0x1000), SAMPLE) else {
         return false;
@@ -173,7 +173,7 @@ fn leaves(alloc: Global, form: Form, word: u32, value: u32, pc: u32) -> bool {
         && after.memory.bytes == SAMPLE.bytes
 }
 
-// Whether the step leaves these first four bytes, and the other ones as they were.
+// Checks whether the step leaves these first four bytes, and the others unchanged.
 fn stores(alloc: Global, form: Form, word: u32, bytes: [u8; 4]) -> bool {
     let Ok(after) = stepped(alloc, form, word, start(0x1000), SAMPLE) else {
         return false;
@@ -183,8 +183,8 @@ fn stores(alloc: Global, form: Form, word: u32, bytes: [u8; 4]) -> bool {
         && after.memory.bytes[4..] == SAMPLE.bytes[4..]
 }
 
-// Whether a memory of words has the same bytes after the store, reads a word as the memory of bytes does, and what is no
-// memory stays.
+// Checks whether a memory of words has the same bytes after the store, reads a word as the memory of bytes does, and
+// keeps the numbers that aren't memory.
 fn stores_in_words(alloc: Global, form: Form, word: u32, first: u32, second: u32) -> bool {
     let words = WordRam {
         words: [0x7f01_ff80, 0x4433_2211, 0x0302_0100, 0x0706_0504],
@@ -200,7 +200,7 @@ fn stores_in_words(alloc: Global, form: Form, word: u32, first: u32, second: u32
         && memory.load(7) == Some((second >> 24) as u8)
 }
 
-// Whether ECALL tells register 17 and stays.
+// Checks whether ECALL returns register 17 and pc stays.
 fn calls(alloc: Global, form: Form) -> bool {
     let Ok(call) = stepped(alloc, form, 0x0000_0073, start(0x1000), SAMPLE) else {
         return false;
@@ -210,7 +210,7 @@ fn calls(alloc: Global, form: Form) -> bool {
         && call.memory.bytes == SAMPLE.bytes
 }
 
-// Whether JALR reads its register before it writes it, and register 0 stays 0.
+// Checks whether JALR reads its register before it writes it, and register 0 stays 0.
 fn links(alloc: Global, form: Form) -> bool {
     // jalr x1,5(x1)
     let Ok(link) = stepped(alloc, form, 0x0050_80e7, start(0x1000), SAMPLE) else {
@@ -260,7 +260,7 @@ fn all_store_in_words(alloc: Global, form: Form, rows: &[(u32, u32, u32)]) -> bo
     true
 }
 
-// Whether every row holds of a form of the step.
+// Checks whether every row holds for a form of the step.
 fn holds_of(alloc: Global, form: Form) -> bool {
     all_fail(alloc, form, &FAULTS)
         && all_leave(alloc, form, &REGISTERS)

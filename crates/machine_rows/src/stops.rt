@@ -1,4 +1,4 @@
-// The want of chunks at each LINK of a recursion, and the want of fuel at each instruction of a small program.
+// A lack of chunks at each LINK of a recursion, and of fuel at each instruction of a small program.
 
 ghost use Rattle.codegen_link.specs.Plans.{AreInRange};
 ghost use Rattle.segment_run.specs.Contexts.{checked_of, code_of, local_of, AreOf, IsReady};
@@ -13,7 +13,7 @@ use rv_machine::{Regs, StepResult, step};
 use segment_run::{Areas, Context, Fuel, Segment, run_segment};
 use std::alloc::Global;
 
-// Where nothing was put.
+// Returns the outcome of a run without outputs.
 fn silent(last: Segment, left: u64, free: u32) -> Outcome {
     Outcome {
         first: Some(last),
@@ -25,8 +25,8 @@ fn silent(last: Segment, left: u64, free: u32) -> Outcome {
     }
 }
 
-// Whether a recursion over so many chunks lacks one at the LINK of that number: 43 instructions lead to the first, and 35
-// from each to the next. Where the fuel ends just before it, that is told first.
+// Checks whether a recursion over this number of chunks finds none at the LINK of that number: 43 instructions lead to
+// the first, and 35 from each to the next. If the fuel ends just before it, that is returned first.
 fn lacks_a_chunk(alloc: Global, accepted: &Accepted, chunks: u32) -> bool {
     let before = u64::from(chunks) * 35 + 8;
     let no_fuel = silent(Segment::OutOfFuel, 0, 0);
@@ -35,7 +35,8 @@ fn lacks_a_chunk(alloc: Global, accepted: &Accepted, chunks: u32) -> bool {
         && leads_to(alloc, accepted, chunks, before + 1, no_chunk)
 }
 
-// Whether the recursion of 100 calls lacks each of the 100 chunks that it links beside its first one, and ends with them all.
+// Checks whether the recursion of 100 calls finds no chunk at each of its 100 links with too few chunks, and ends with
+// all of them.
 fn each_chunk_is_lacked(alloc: Global, accepted: &Accepted) -> bool {
     for chunks in 1..=100 {
         if !lacks_a_chunk(alloc, accepted, chunks) {
@@ -55,8 +56,8 @@ fn each_chunk_is_lacked(alloc: Global, accepted: &Accepted) -> bool {
     leads_to(alloc, accepted, 101, 5149, ends)
 }
 
-// What the recursion of one call over two chunks of 80 bytes comes to with so much fuel. The LINK is its instruction 44, the
-// UNLINK 71, the put 91, and the last one 100.
+// Returns the outcome of the recursion of one call over two chunks of 80 bytes with this fuel. The LINK is its
+// instruction 44, the UNLINK 71, the put 91, and the last one 100.
 fn with_fuel(left: u64) -> Outcome {
     let put = Segment::Asks {
         ask: Ask::Put { value: 1 },
@@ -84,7 +85,7 @@ fn with_fuel(left: u64) -> Outcome {
 // The bits of all groups.
 const ALL_GROUPS: u32 = 1023;
 
-// The bit of the group that an operation of a kind begins; 0 for a kind that begins none.
+// Returns the bit of the group that an operation of a kind begins; 0 for a kind that begins none.
 fn group_bit(kind: Kind) -> u32 {
     match kind {
         Kind::LwLw => 1,
@@ -101,7 +102,7 @@ fn group_bit(kind: Kind) -> u32 {
     }
 }
 
-// The bits of the groups in the code of a program.
+// Returns the bits of the groups in the code of a program.
 fn groups(accepted: &Accepted) -> u32 {
     let mut found = 0;
     for op in accepted.ready() {
@@ -119,7 +120,7 @@ fn fuel_runs_out(alloc: Global, accepted: &Accepted) -> bool {
     true
 }
 
-// A thread's registers after its instructions up to the next call, and how many those are.
+// Returns a thread's registers after its instructions up to the next call, and the number of these.
 fn stepped_on(accepted: &Accepted, areas: &mut Areas, context: &Context) -> (Regs, u64) {
     let mut regs = Regs {
         pc: context.pc,
@@ -134,7 +135,8 @@ fn stepped_on(accepted: &Accepted, areas: &mut Areas, context: &Context) -> (Reg
     (regs, 1000)
 }
 
-// What a thread's segment of so much fuel answers, its registers where single steps then lead to, and how many those are.
+// Returns the answer of a thread's segment with this fuel, its registers after the single steps that follow, and the
+// number of these.
 fn cut(accepted: &Accepted, begun: Begun, left: u64) -> (Segment, Regs, u64)
     requires areas { AreOf accepted.now begun.areas }
     requires ready { IsReady (checked_of accepted.now) (code_of accepted.now) (local_of begun.areas begun.context) }
@@ -149,7 +151,7 @@ fn cut(accepted: &Accepted, begun: Begun, left: u64) -> (Segment, Regs, u64)
     (segment, regs, steps)
 }
 
-// The same of a thread that begins on one chunk.
+// Does the same for a thread that begins on one chunk.
 fn cut_after(alloc: Global, accepted: &Accepted, left: u64) -> Option<(Segment, Regs, u64)> {
     match begin(alloc, accepted, 1) {
         Ok(Some(begun)) => Some(cut(accepted, begun, left)),
@@ -157,7 +159,7 @@ fn cut_after(alloc: Global, accepted: &Accepted, left: u64) -> Option<(Segment, 
     }
 }
 
-// The registers at the put, to which one run leads in so many instructions.
+// Returns the registers at the put, which one run reaches after `before` instructions.
 fn at_put(alloc: Global, accepted: &Accepted, before: u64) -> Option<Regs> {
     let put = Segment::Asks {
         ask: Ask::Put { value: 1 },
@@ -168,7 +170,7 @@ fn at_put(alloc: Global, accepted: &Accepted, before: u64) -> Option<Regs> {
     }
 }
 
-// Whether going on leads to just these registers where the fuel runs out so many instructions before the put.
+// Checks whether continuing leads to exactly these registers if the fuel runs out `more` instructions before the put.
 fn goes_on_alike(alloc: Global, accepted: &Accepted, left: u64, more: u64, whole: &Regs) -> bool {
     match cut_after(alloc, accepted, left) {
         Some((segment, regs, steps)) => {
@@ -178,7 +180,7 @@ fn goes_on_alike(alloc: Global, accepted: &Accepted, left: u64, more: u64, whole
     }
 }
 
-// Whether going on leads to the registers at the put, which so many instructions come before, wherever the fuel runs out.
+// Checks whether continuing leads to the registers at the put, after `before` instructions, wherever the fuel runs out.
 fn goes_on(alloc: Global, accepted: &Accepted, before: u64) -> bool {
     let Some(whole) = at_put(alloc, accepted, before) else {
         return false;
@@ -191,7 +193,7 @@ fn goes_on(alloc: Global, accepted: &Accepted, before: u64) -> bool {
     goes_on_alike(alloc, accepted, 0, before, &whole)
 }
 
-// What a program is tried by: the want of each chunk, the want of fuel at each instruction, and going on after it at each
+// A trial of a program: a lack of each chunk, a lack of fuel at each instruction, and continuing after it at each
 // instruction before its put, in code with these groups of ready operations.
 #[derive(Clone, Copy)]
 enum Trial {
@@ -220,7 +222,7 @@ fn holds(alloc: Global, source: &[u8], options: Options, trial: Trial) -> bool
     }
 }
 
-// An array, which is set to zeros by stores in a row, and one of its elements, which is put.
+// An array, which is zeroed by consecutive stores, and one of its elements, which is put.
 const ARRAY: &[u8] = b"int main() { int a[4]; a[1] = 1; put(a[1]); return 0; }";
 
 const SMALL: Options = Options {
@@ -238,8 +240,9 @@ const WIDE: Options = Options {
     max_path: 4080,
 };
 
-// The recursion of one call links a chunk where chunks have 80 bytes, and none where they have 96. Its code has all groups of
-// ready operations but three stores in a row, the code of the array all but a store with a load and a store behind it.
+// The recursion of one call links a chunk if chunks have 80 bytes, and none if they have 96. Its code has all groups of
+// ready operations except three consecutive stores, the code of the array all except a store followed by a load and a
+// store.
 #[test]
 fn stops(rt: HostRuntime) {
     let alloc = rt.alloc();

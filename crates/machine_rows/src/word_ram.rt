@@ -3,12 +3,12 @@ ghost use Rattle.rv_machine.specs.WordBytes.{word_with, byte_in, words_with};
 
 use rv_machine::Memory;
 
-/// The same bytes kept as four words, the lowest byte of each first, beside a list that is no memory. A whole word is
+/// The same bytes stored as four words, the lowest byte of each first, with a list that isn't memory. A whole word is
 /// read and written by its index.
 #[derive(Clone, Copy)]
 pub struct WordRam {
     pub words: [u32; 4],
-    /// Numbers that no load tells and no store changes.
+    /// Numbers that no load returns and no store changes.
     pub free: [u32; 2],
 }
 
@@ -59,7 +59,7 @@ impl Memory for WordRam {
     }
 }
 
-// The word with that byte in the place k of its four bytes.
+// Returns the word with byte k of its four bytes replaced.
 fn put_byte(word: u32, k: u32, byte: u8) -> u32
     requires { k < 4 }
     ensures { result ≡ word_with word k byte }

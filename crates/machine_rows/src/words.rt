@@ -108,7 +108,7 @@ const ROWS: [(Operation, u32, u32, u32); 62] = [
     (Operation::Remu, 1, 0, 1),
 ];
 
-// Whether each row's third word is that of its operation.
+// Checks whether each row's third word is the result of its operation.
 fn all_hold(rows: &[(Operation, u32, u32, u32)]) -> bool {
     for (operation, a, b, want) in rows {
         if of_two(*operation, *a, *b) != *want {

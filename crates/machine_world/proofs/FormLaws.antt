@@ -22,7 +22,8 @@ use Rattle.rv_machine.proofs.WordBytes.{word_with-below}
 use Rattle.rv_machine.proofs.WordLaws.{read-below, IsWords-outcome, TellsWords-outcome}
 use Rattle.machine_world.specs.Areas.{Areas, Spot, InGlobals, InTables, InPayload, spot_of, byte_on, with_byte_on, with_byte}
 use Rattle.machine_world.specs.Held.{copies, copies_in}
-use Rattle.machine_world.specs.Local.{Core, Local, LocalMove, Calls, Starts, Ended, Trapped, NoRoom, Wrong, a0, a1, sp, tp, t1, after_call, with_header, linked_on, unlinked_front, unlinked_on, chunk_with_payload, ended, trapped, asks_or_wrong, package_call, system_call, machine_of, local_move, local_step, with_result, passed}
+use Rattle.stack_certificate.specs.Registers.{sp, tp, t1, a0, a1}
+use Rattle.machine_world.specs.Local.{Core, Local, LocalMove, Calls, Starts, Ended, Trapped, NoRoom, Wrong, after_call, with_header, linked_on, unlinked_front, unlinked_on, chunk_with_payload, ended, trapped, asks_or_wrong, package_call, system_call, machine_of, local_move, local_step, with_result, passed}
 use Rattle.machine_world.specs.Places.{Checked}
 use Rattle.machine_world.specs.WellFormed.{AreWords, AreWellFormed, IsCore}
 use Rattle.machine_world.proofs.AreaLaws.{IsPool-with_byte}

@@ -12,7 +12,8 @@ use Rattle.rv_machine.specs.Registers.{read}
 use Rattle.rv_machine.specs.Rows as rows
 use Rattle.rv_machine.specs.Step.{outcome}
 use Rattle.machine_world.specs.Areas.{Areas, Spot, InGlobals, InTables, InPayload, spot_of, with_byte_on, with_byte}
-use Rattle.machine_world.specs.Local.{Local, Wrong, a0, tp, t1, linked_on, unlinked_front, unlinked_on, chunk_with_payload, ended, trapped, asks_or_wrong, package_call, system_call, machine_of, local_move, local_step}
+use Rattle.stack_certificate.specs.Registers.{tp, t1, a0}
+use Rattle.machine_world.specs.Local.{Local, Wrong, linked_on, unlinked_front, unlinked_on, chunk_with_payload, ended, trapped, asks_or_wrong, package_call, system_call, machine_of, local_move, local_step}
 use Rattle.machine_world.specs.Held.{copies, KeepsCopies, KeepsShape}
 use Rattle.chunk_pool.proofs.ShapeLaws.{copies-after_give}
 

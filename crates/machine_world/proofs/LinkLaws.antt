@@ -8,7 +8,8 @@ use Rattle.chunk_pool.proofs.AddressLaws.{chunk_at-some}
 use Rattle.chunk_pool.proofs.NeedLaws.{taken_for-sound, taken_for-keeps, taken_for-leaves}
 use Rattle.chunk_pool.proofs.PoolLaws.{word_of-with_word_same, word_of-with_word_other, KeepsOthers-with_word, payload_of-after_give, IsPool-with_word}
 use Rattle.rv_machine.specs.Registers.{read, write}
-use Rattle.machine_world.specs.Local.{Local, Wrong, sp, tp, t1, with_header, saved_tp, saved_sp, after_call, linked_on, linked, unlinked_on, unlinked, begins_at, chunk_with_payload}
+use Rattle.stack_certificate.specs.Registers.{sp, tp, t1}
+use Rattle.machine_world.specs.Local.{Local, Wrong, with_header, saved_tp, saved_sp, after_call, linked_on, linked, unlinked_on, unlinked, begins_at, chunk_with_payload}
 use Rattle.machine_world.specs.Links.{IsUndone}
 use Rattle.chunk_pool.proofs.ShapeLaws.{words_of-payload, copies-after_give}
 use Rattle.machine_world.proofs.HeldLaws.{copies-cons}
@@ -78,12 +79,6 @@ twice x a b a' b' r long same_tp same_sp =
 
 HasAddress-payload : (p : Pool) (c : ℕ) → IsPool p → c < p.count → HasAddress p c (payload_place_of p c)
 HasAddress-payload p c sound within = (within, omega arith, omega (arith, words_of-payload p c sound within))
-
-chunk_with_payload-of : (p : Pool) (c : ℕ) → IsPool p → c < p.count → chunk_with_payload p (payload_place_of p c) ≡ Some c
-chunk_with_payload-of p c sound within =
-    let place = payload_place_of p c in
-    ap (begins_at p place) (chunk_at-some p c place (HasAddress-payload p c sound within))
-    ∙ ap (λ (b : Bool). cond b (Some c) None) (eq-eqb place place refl)
 
 -- ---- both
 

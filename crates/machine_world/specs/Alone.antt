@@ -1,5 +1,5 @@
--- What a step leaves alone: of one thread the chunks that it neither holds nor finds free nor accesses, and of the world
--- the other threads.
+-- What a step leaves unchanged: in a step of one thread, the chunks that are neither held by it, nor free, nor
+-- accessed; in a step of the world, the other threads.
 use Rattle.std.specs.Prelude.{◌≡◌, ◌≢◌, ℕ, List, Some}
 use Rattle.cap_word.specs.Runs as runs
 use Rattle.chunk_pool.specs.Pool.{chunk_of}
@@ -15,7 +15,7 @@ pub record IsApart (code : List ℕ) (l : Local) (chunk : ℕ) : Type 0 where
   pub elsewhere : copies_in chunk l ≡ 0
   pub unaccessed : (at offset : ℕ) → IsAccessed (access_at code l) at → spot_of l.areas at ≢ Some (InPayload chunk offset)
 
--- a move leaves the words of the chunk
+-- the chunk has the same words after the move
 abbrev pub KeepsChunk : ℕ → Local → LocalMove → Type 0
 KeepsChunk chunk l (runs.Goes after) = chunk_of after.areas.pool chunk ≡ chunk_of l.areas.pool chunk
 KeepsChunk chunk l (runs.Asks question waiting) = waiting ≡ l
@@ -24,7 +24,7 @@ KeepsChunk chunk l (runs.Stops (Trapped kind)) = Unit {0}
 KeepsChunk chunk l (runs.Stops NoRoom) = Unit {0}
 KeepsChunk chunk l (runs.Stops Wrong) = Unit {0}
 
--- a move leaves the thread of that number
+-- the thread of that number is the same after the move
 abbrev pub KeepsThread : ℕ → World → Move → Type 0
 KeepsThread number w (world.Goes after) = thread_of after number ≡ thread_of w number
 KeepsThread number w (world.Puts value after) = thread_of after number ≡ thread_of w number

@@ -1,10 +1,10 @@
--- The memory of the threads: the pool of chunks, the globals and the tables, each at its place of the map.
+-- The memory of the threads: the pool of chunks, the globals and the tables, each at its address in the map.
 --
---   globals            from 0x10000000, readable and writable
---   tables             from 0x20000000, readable
---   payloads of chunks from 0x80000000, readable and writable, of free chunks too
+--   Globals            from 0x10000000, readable and writable
+--   Tables             from 0x20000000, readable
+--   Payloads of chunks from 0x80000000, readable and writable, of free chunks too
 --
--- Every other byte, and so every header, is neither. The free list is no memory.
+-- Every other byte, and so every header, is neither. The free lists aren't memory.
 use Rattle.std.specs.Prelude.{ℕ, ◌+◌, ◌-◌, ◌*◌, ◌/◌, ◌%◌, ◌&&◌, Bool, true, false, List, length, Option, Some, None, if◌then◌else◌, nat_le, nat_lt}
 use Rattle.chunk_pool.specs.Pool.{Pool, start_pool, chunk_of, word_of, with_word, place_of, payload_place_of, chunk_at}
 use Rattle.rv_machine.specs.WordBytes.{word_with, byte_in, words_with}
@@ -14,8 +14,8 @@ pub record Areas : Type 0 where
   pub globals : List ℕ
   pub tables : List ℕ
 
--- the areas in which a run starts: a new pool of chunks of both sizes, each so many bytes, and the words of the globals
--- and the tables
+-- the areas at the start of a run: a new pool of chunks of both sizes, given in bytes, and the words of the globals and
+-- the tables
 abbrev pub new_areas : (chunks bytes extra extra_bytes : ℕ) → (globals tables : List ℕ) → Areas
 new_areas chunks bytes extra extra_bytes globals tables =
     record { pool = start_pool chunks (bytes / 4) extra (extra_bytes / 4); globals = globals; tables = tables }
@@ -27,17 +27,17 @@ globals_place = 0x1000_0000
 abbrev pub tables_place : ℕ
 tables_place = 0x2000_0000
 
--- where a byte of the map lies: so many bytes from the start of the globals, of the tables, or of a chunk
+-- the place of a byte in the map: its offset in bytes from the start of the globals, of the tables, or of a chunk
 pub data Spot : Type 0 where
   InGlobals : (offset : ℕ) → Spot
   InTables : (offset : ℕ) → Spot
   InPayload : (chunk offset : ℕ) → Spot
 
--- the address is that of a byte of so many words that begin at a place
+-- the address is that of a byte of these words, which begin at a place
 abbrev pub is_within : ℕ → List ℕ → ℕ → Bool
 is_within place words address = nat_le place address && nat_lt address (place + 4 * length words)
 
--- an address in a chunk is a byte of the map where it lies behind the header
+-- the spot of an address in a chunk: a byte of the map exactly if it comes after the header
 abbrev pub payload_spot : Pool → ℕ → Option ℕ → Option Spot
 payload_spot pool address None = None
 payload_spot pool address (Some chunk) =
@@ -57,13 +57,14 @@ byte_on areas (Some (InGlobals offset)) = Some (byte_in areas.globals offset)
 byte_on areas (Some (InTables offset)) = Some (byte_in areas.tables offset)
 byte_on areas (Some (InPayload chunk offset)) = Some (byte_in (chunk_of areas.pool chunk) offset)
 
+-- a byte may be written at this spot
 abbrev pub is_writable_on : Option Spot → Bool
 is_writable_on None = false
 is_writable_on (Some (InGlobals offset)) = true
 is_writable_on (Some (InTables offset)) = false
 is_writable_on (Some (InPayload chunk offset)) = true
 
--- the areas after a byte is written at a spot that is writable; nothing else changes, and no other spot is written
+-- the areas after a byte is written at a writable spot; nothing else changes, and at any other spot nothing is written
 abbrev pub with_byte_on : Areas → Option Spot → ℕ → Areas
 with_byte_on areas None byte = areas
 with_byte_on areas (Some (InGlobals offset)) byte = record areas { globals = words_with areas.globals offset byte }
@@ -73,10 +74,11 @@ with_byte_on areas (Some (InPayload chunk offset)) byte =
 
 -- ---- the areas as memory by bytes
 
--- the byte at an address, where it is readable
+-- the byte at an address, if it is readable
 abbrev pub byte_at : Areas → ℕ → Option ℕ
 byte_at areas address = byte_on areas (spot_of areas address)
 
+-- the address is writable
 abbrev pub is_writable : Areas → ℕ → Bool
 is_writable areas address = is_writable_on (spot_of areas address)
 

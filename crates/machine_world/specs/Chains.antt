@@ -4,11 +4,11 @@ use Rattle.std.specs.List.{count_by}
 use Rattle.machine_world.specs.Threads.{Thread, World}
 use Rattle.chunk_pool.specs.Pool.{Pool, all_free}
 
--- how often a chunk stands in a list of chunks
+-- how often a chunk occurs in a list of chunks
 abbrev pub copies : ℕ → List ℕ → ℕ
 copies chunk chunks = count_by (λ other. nat_eq other chunk) chunks
 
--- and in the chains of threads
+-- how often a chunk occurs in the chains of threads
 abbrev pub held_copies : ℕ → List Thread → ℕ
 held_copies chunk [] = 0
 held_copies chunk (thread ∷ threads) = copies chunk thread.core.chain + held_copies chunk threads
@@ -17,6 +17,7 @@ held_copies chunk (thread ∷ threads) = copies chunk thread.core.chain + held_c
 abbrev pub AreAllFree : Pool → Type 0
 AreAllFree pool = (chunk : ℕ) → copies chunk (all_free pool) ≡ (if nat_lt chunk pool.count then 1 else 0)
 
--- the chains of all live threads and the free chunks hold each number below the count once, and no other number
+-- in the chains of all live threads and the free lists together, each number below the count occurs once, and no other
+-- number occurs
 abbrev pub IsPartition : World → Type 0
 IsPartition w = (chunk : ℕ) → held_copies chunk w.threads + copies chunk (all_free w.areas.pool) ≡ (if nat_lt chunk w.areas.pool.count then 1 else 0)

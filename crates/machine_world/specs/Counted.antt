@@ -1,4 +1,4 @@
--- A world whose threads are numbered and whose chunks are partitioned, and what each move makes of it.
+-- A world whose threads are numbered and whose chunks are partitioned, and moves that keep it so.
 use Rattle.std.specs.Prelude.{Option, Some, None}
 use Rattle.machine_world.specs.Chains.{IsPartition}
 use Rattle.machine_world.specs.Numbered.{IsNumbered}
@@ -8,7 +8,7 @@ pub record IsCounted (w : World) : Type 0 where
   pub numbered : IsNumbered w
   pub partition : IsPartition w
 
--- the world that a move leads to, if it leads to one, is counted
+-- the world after the move, if there is one, is counted
 abbrev pub KeepsCounted : Move → Type 0
 KeepsCounted (Goes after) = IsCounted after
 KeepsCounted (Puts value after) = IsCounted after

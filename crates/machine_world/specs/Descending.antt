@@ -1,11 +1,11 @@
--- A program that links one chunk, run by the definitions: its checked code, its worlds on the way, and its frames just
+-- A program that links one chunk, run by the definitions: its checked code, the worlds of its run, and its frames just
 -- after the link, at the callee's first word, and in the callee.
 --
 --   int f(int n) { int r; if (n < 1) return 0; r = f(n - 1); return r + 1; }
 --   int main() { int r; r = f(1); put(r); return 0; }
 --
--- Chunks have 80 bytes. The frame of main has 16 and that of f 32, so the payload of 64 holds main and f(1), and f(0)
--- needs a chunk of its own.
+-- Chunks have 80 bytes. The frame of main has 16 and that of f 32, so the payload of 64 has room for main and f(1), and
+-- f(0) needs another chunk.
 use Rattle.std.specs.Prelude.{ℕ, true, false, List, [], ◌∷◌, ◌++◌, length, map, flat_map, Option, Some, None}
 use Rattle.std.specs.List.{range_with_len}
 use Rattle.cap_word.specs.declared.stops.Stop.{Stop}
@@ -71,7 +71,7 @@ code =
 abbrev pub setting : Setting
 setting = record { code = code; fuel = 1000; backlog = 64; caps = [] }
 
--- the world of so many chunks when main has begun, and so many steps on
+-- the world with this many chunks when main has begun, after n steps
 abbrev pub begun : ℕ → Option World
 begun chunks =
     and_then (start_world (new_areas chunks 80 0 64 [] []) 4372 48) (after_actions setting (Pick 0 ∷ []))
@@ -79,12 +79,12 @@ begun chunks =
 abbrev pub world_at : ℕ → ℕ → Option World
 world_at chunks n = and_then (begun chunks) (after_steps setting n)
 
--- the step after so many
+-- the move after n steps
 abbrev pub move_of : Option World → Option Move
 move_of None = None
 move_of (Some w) = Some (step setting w)
 
--- what shows at an end: the instructions retired, the free list, and how many threads live
+-- what is visible at an end: the number of retired instructions, the free list, and the number of live threads
 pub record Shown : Type 0 where
   pub cost : ℕ
   pub free : List ℕ
@@ -157,7 +157,7 @@ at_entry = record {
   core = record { pc = 0x1008; x = 0 ∷ 0x10b8 ∷ 0x800000a0 ∷ 0 ∷ 0x80000060 ∷ 0x80000000 ∷ 0x20 ∷ 0 ∷ 0 ∷ 0 ∷ 0 ∷ 0 ∷ 0 ∷ 0 ∷ 0 ∷ 0 ∷ 0 ∷ 1 ∷ 0 ∷ 0 ∷ 0 ∷ 0 ∷ 0 ∷ 0 ∷ 0 ∷ 0 ∷ 0 ∷ 0 ∷ 0 ∷ 0 ∷ 0 ∷ 0 ∷ []; chain = 1 ∷ 0 ∷ [] };
 }
 
--- at the third word of f(0), whose frame is there and holds its return address
+-- at the third word of f(0), which has its frame, with its return address in it
 abbrev pub in_callee : Seen
 in_callee = record {
   pool = pool_of first_chunk (0x80000010 ∷ 0x80000020 ∷ 0 ∷ 0 ∷ 0 ∷ 0 ∷ 0 ∷ 0 ∷ 0 ∷ 0 ∷ 0 ∷ 0 ∷ 0 ∷ 0 ∷ 0 ∷ 0 ∷ 0 ∷ 0 ∷ 0 ∷ 0x10b8 ∷ []);

@@ -12,25 +12,25 @@ use Rattle.machine_world.specs.Descending.{Seen}
 use Rattle.machine_world.specs.Local as local
 use Rattle.machine_world.specs.StandsFor.{SourceThread, Starts}
 
--- what so many source steps of main lead to
+-- the move after n source steps of main
 abbrev pub main_after : ℕ → SourceMove
 main_after n = moves (source_machine recursion) n (started recursion 1 [] [])
 
--- what follows the call of f in f, and the call in main
+-- the items after the call of f in f, and after the call in main
 abbrev pub rest_of_f : List Item
 rest_of_f = before (returns (Binary BinaryOperator.Add (Local 1) (Number 1))) []
 
 abbrev pub rest_of_main : List Item
 rest_of_main = before (puts 2 (Local 0)) (before (returns (Number 0)) [])
 
--- f(1) waits at site 0 and main at site 1, each for a result that goes to its r
+-- f(1) waits at site 0 and main at site 1, each for a result that is assigned to its r
 abbrev pub waiting_f : WaitingFrame
 waiting_f = record { frame = record { function = 0; names = (1 ∷ []) ∷ (0 ∷ []) ∷ []; to_do = rest_of_f }; site = 0; place = InLocal 1 }
 
 abbrev pub waiting_main : WaitingFrame
 waiting_main = record { frame = record { function = 1; names = (0 ∷ []) ∷ []; to_do = rest_of_main }; site = 1; place = InLocal 0 }
 
--- these calls in the text: in f both names are in scope, in main its one
+-- these calls in the text: both names of f are in scope, and the one of main
 abbrev pub call_in_f : CallInText
 call_in_f = record { call = CallFunction 0 0 (Binary BinaryOperator.Subtract (Local 0) (Number 1) ∷ []); target = ToLocal 1; scope = 1 ∷ 0 ∷ []; rest = rest_of_f }
 
@@ -44,6 +44,6 @@ entering = record { frame = pushed recursion 0 (0 ∷ []); below = waiting_f ∷
 abbrev pub entering_thread : SourceThread
 entering_thread = Starts entering.frame entering.below
 
--- a thread that was seen, over areas without globals and tables
+-- a thread of the machine's run, over areas without globals and tables
 abbrev pub local_at : Seen → local.Local
 local_at seen = record { areas = record { pool = seen.pool; globals = []; tables = [] }; core = seen.core }

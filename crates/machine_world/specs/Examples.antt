@@ -1,12 +1,12 @@
--- Small threads, run by the definitions alone: what each comes to is computed.
+-- Small threads, run by the definitions alone: the outcome of each is computed.
 use Rattle.std.specs.Prelude.{ℕ, List, [], ◌∷◌, Option, Some, None, replicate}
 use Rattle.cap_word.specs.Runs.{Goes, Asks, Stops, moves}
 use Rattle.chunk_pool.specs.Pool.{Pool, all_free}
 use Rattle.machine_world.specs.Areas.{Areas}
 use Rattle.machine_world.specs.Local.{Local, LocalMove, Question, End, Ended, Trapped, NoRoom, Wrong, local_machine, passed}
 
--- the code of `int main() { put(7); return 0; }`: the end stub, the prologue, put(7), return 0, and the return that
--- every int function ends with
+-- the code of `int main() { put(7); return 0; }`: the end stub, the prologue, put(7), return 0, and the return at the
+-- end of every int function
 abbrev pub one_put : List ℕ
 one_put =
     0x01e00893 ∷ 0x00000073 ∷
@@ -18,7 +18,7 @@ one_put =
     0x000002b7 ∷ 0x00028293 ∷ 0x00512023 ∷
     0x00012503 ∷ 0x00c12083 ∷ 0x01010113 ∷ 0x00008067 ∷ []
 
--- chunks of 64 bytes, and none of a second size, whose words are all 0, with this free list
+-- a pool of chunks of 64 bytes and none of a second size, all words 0, with this free list
 abbrev pub blank_pool : ℕ → List ℕ → Pool
 blank_pool count free = record {
   count = count;
@@ -33,19 +33,19 @@ blank_pool count free = record {
 abbrev pub blank : ℕ → List ℕ → Areas
 blank count free = record { pool = blank_pool count free; globals = []; tables = [] }
 
--- registers with these values of ra, sp, tp, t1, a0 and a7, and 0 in every other one
+-- registers with these values of ra, sp, tp, t1, a0 and a7, and 0 in all others
 abbrev pub registers : ℕ → ℕ → ℕ → ℕ → ℕ → ℕ → List ℕ
 registers ra sp tp t1 a0 a7 =
     0 ∷ ra ∷ sp ∷ 0 ∷ tp ∷ 0 ∷ t1 ∷ 0 ∷ 0 ∷ 0 ∷ a0 ∷ 0 ∷ 0 ∷ 0 ∷ 0 ∷ 0 ∷ 0 ∷ a7 ∷ replicate 14 0
 
--- a thread at the start of main, on the one chunk of a pool
+-- a thread at the start of main, on the only chunk of a pool
 abbrev pub main_thread : Local
 main_thread = record {
   areas = blank 1 [];
   core = record { pc = 0x1008; x = registers 0x1000 0x8000_0040 0x8000_0010 0 0 0; chain = 0 ∷ [] };
 }
 
--- the same thread after its first question was answered without a result, so many steps on
+-- the same thread n steps after its first question was answered without a result
 abbrev pub after_answer : List ℕ → ℕ → LocalMove → LocalMove
 after_answer code n (Goes l) = Goes l
 after_answer code n (Asks question l) = moves (local_machine code) n (record l { core = passed l.core None })
@@ -67,7 +67,7 @@ free_at_end (Goes l) = None
 free_at_end (Asks question l) = None
 free_at_end (Stops end) = Some (free_at end)
 
--- a thread at an ECALL, which is the whole code, on a pool of two chunks
+-- code that consists of one ECALL, and a thread there on a pool of two chunks
 abbrev pub ecall : List ℕ
 ecall = 0x00000073 ∷ []
 
@@ -77,7 +77,8 @@ at_ecall tp a7 chain free = record {
   core = record { pc = 0x1000; x = registers 0x1000 0x8000_0020 tp 48 0 a7; chain = chain };
 }
 
--- the thread after its LINK: chunk 1 in front, its header with the tp and sp before, tp and sp at its payload and end
+-- the thread after its LINK: chunk 1 is in front, its header has the tp and sp from before, and tp and sp are its
+-- payload and its end
 abbrev pub linked_thread : Local
 linked_thread = record {
   areas = record {

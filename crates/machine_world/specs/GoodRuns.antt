@@ -1,4 +1,4 @@
--- Good runs: what a log tells of the machine, entry by entry, and that each of its segments is a good stretch.
+-- Good runs: the actions of the machine that a log describes, entry by entry, each segment of which is a good stretch.
 use Rattle.std.specs.Prelude.{ℕ, List, [], ◌∷◌, ◌++◌, replicate, Option, Some, None}
 use Rattle.c_mean.specs.ModelledCalls.{Delivery}
 use Rattle.machine_world.specs.Places.{Checked}
@@ -7,11 +7,11 @@ use Rattle.machine_world.specs.Stretches.{IsGoodStretch}
 use Rattle.machine_world.specs.Threads.{World, Setting}
 
 pub data Entry : Type 0 where
-  -- something comes from outside, and joins its queue or is dropped
+  -- an event is delivered: it joins its queue or is dropped
   Comes : (delivery : Delivery) → Entry
-  -- the clock goes on to a time
+  -- the clock advances to a time
   Waits : (to : ℕ) → Entry
-  -- a segment of a thread, in which so many instructions retired
+  -- a segment of a thread, with the number of its retired instructions
   Turn : (number cost : ℕ) → Entry
 
 -- the actions of an entry, and of all entries
@@ -24,14 +24,14 @@ abbrev pub all_actions : List Entry → List Action
 all_actions [] = []
 all_actions (entry ∷ entries) = actions_of entry ++ all_actions entries
 
--- what holds of a world that is there
+-- the world exists and has this property
 abbrev pub InWorld : Option World → (World → Type 0) → Type 0
 InWorld None P = ⊥
 InWorld (Some w) P = P w
 
--- from a world on, each segment of these entries is a good stretch of as many steps as its cost, from the world in which
--- it begins, and each entry can be done. That world has the effect of resuming done: the call's result in a0, and the
--- queues and uses as they are then.
+-- from a world on, each entry can be done, and each segment is a good stretch of as many steps as its cost, from the
+-- world in which it begins. In that world resuming has had its effect: the call's result in a0, and the queues and uses
+-- after it.
 abbrev pub IsGoodRun : Checked → Setting → List Entry → World → Type 0
 IsGoodRun c s [] w = Unit {0}
 IsGoodRun c s (Comes delivery ∷ entries) w = InWorld (after_action s w (Deliver delivery)) (IsGoodRun c s entries)

@@ -1,5 +1,5 @@
--- Frames in place: the frames of a thread, innermost first, where they lie in the chunks of its chain, and what they
--- return to.
+-- Frames in place: the frames of a thread, innermost first, their places in the chunks of its chain, and their return
+-- addresses.
 --
 --   chain:  front ──────────► second ──────────► ..  ──► the thread's first chunk
 --   frames: running, .. first of front │ .. first of second │ .. last frame
@@ -14,11 +14,13 @@ use Rattle.flat_code.specs.declared.operations.Op.{Op}
 use Rattle.flat_code.specs.Codes.{FlatCode, operation_at, members_of}
 use Rattle.stack_certificate.specs.Certificates.{fact_at, global_address, table_address, global_words, member_count}
 use Rattle.stack_certificate.specs.Templates.{kind_of, begin}
-use Rattle.machine_world.specs.Local.{Core, ra, sp, tp, saved_tp, saved_sp}
+use Rattle.stack_certificate.specs.Registers.{ra, sp, tp}
+use Rattle.stack_image.specs.Addresses.{code_start}
+use Rattle.machine_world.specs.Local.{Core, saved_tp, saved_sp}
 use Rattle.machine_world.specs.Places.{Checked, Place, IsAt, before_transfer, through_call, Row, NoFrame, Empty, Fresh, Linking, Whole, row_of, function_of, operation_of}
 
--- a frame: its function, the operation at which it stands, its chunk, its lowest address, its bytes, the address that it
--- returns to, and whether it is the first of its chunk
+-- a frame: its function, its current operation, its chunk, its lowest address, its bytes, its return address, and
+-- whether it is the first of its chunk
 pub record Frame : Type 0 where
   pub function : ℕ
   pub operation : ℕ
@@ -32,7 +34,7 @@ pub record Frame : Type 0 where
 abbrev pub word_in : Pool → ℕ → ℕ → ℕ
 word_in pool chunk address = word_of pool chunk ((address - place_of pool chunk) / 4)
 
--- the bytes of a function's frame, and the word at the place of the return address in a frame of it
+-- the bytes of a function's frame, and the word at the place of the return address in such a frame
 abbrev pub frame_bytes : Checked → ℕ → ℕ
 frame_bytes c f = (fact_at c.certificate f).frame
 
@@ -41,8 +43,8 @@ return_word c pool f chunk low = word_in pool chunk (low + (fact_at c.certificat
 
 -- ---- one frame
 
--- it lies in the payload of its chunk; from the payload's start to its end there are as many bytes as its function's
--- bound; and it is the first of its chunk exactly where it ends at its end
+-- a frame: it lies in the payload of its chunk, there are at least its function's bound of bytes from the payload's
+-- start to its end, and it is the first of its chunk exactly if it ends at the chunk's end
 pub record IsFrame (c : Checked) (pool : Pool) (frame : Frame) : Type 0 where
   pub function : frame.function < length c.flat.functions
   pub chunk : frame.chunk < pool.count
@@ -59,7 +61,7 @@ Calls code (Op.Call site d g args) f = g ≡ f
 Calls code (Op.CallTable site d t i s) f = Contains (members_of code t) f
 Calls code _ f = ⊥
 
--- the words of a call operation up to and with the call instruction that it came by
+-- the number of words of a call operation up to and including the call instruction
 abbrev pub joined : Option ℕ → Option ℕ → Option ℕ
 joined (Some a) (Some b) = Some (a + b)
 joined (Some a) None = None
@@ -68,15 +70,15 @@ joined None b = None
 abbrev pub words_through_call : Checked → Bool → Op → Option ℕ
 words_through_call c second op = joined (before_transfer op) (through_call (kind_of c.certificate op) second)
 
--- it returns to just after a call instruction of an operation that calls its function: the second one of a linked
--- transfer exactly where it is the first of its chunk
+-- a frame returns to just after a call instruction of an operation that calls its function: the second one of a linked
+-- transfer exactly if it is the first of its chunk
 abbrev pub ReturnsInto : Checked → Frame → Frame → Option Op → Type 0
 ReturnsInto c frame below None = ⊥
 ReturnsInto c frame below (Some op) =
     Calls c.flat op frame.function
     × ((words : ℕ) × (words_through_call c frame.is_first op ≡ Some words) × (frame.returns ≡ begin c.flat c.certificate below.function below.operation + 4 * words))
 
--- the chain from the chunk of the next frame on, and where that frame starts
+-- the chain from the chunk of the next frame on, and the lowest address of that frame
 abbrev pub chain_below : Bool → List ℕ → List ℕ
 chain_below true [] = []
 chain_below true (chunk ∷ chain) = chain
@@ -86,6 +88,8 @@ abbrev pub low_below : Pool → Bool → Frame → ℕ
 low_below pool true frame = saved_sp pool frame.chunk
 low_below pool false frame = frame.low + frame.bytes
 
+-- the frame below a frame: it is in the next chunk of the chain or in the same chunk, begins where the other ends or at
+-- the saved sp, and its operation calls the other's function
 pub record IsAbove (c : Checked) (pool : Pool) (chain : List ℕ) (frame below : Frame) : Type 0 where
   pub chunk : slice_get (chain_below frame.is_first chain) 0 ≡ Some below.chunk
   pub low : below.low ≡ low_below pool frame.is_first frame
@@ -93,16 +97,16 @@ pub record IsAbove (c : Checked) (pool : Pool) (chain : List ℕ) (frame below :
   pub returns : below.returns ≡ return_word c pool below.function below.chunk below.low
   pub called : ReturnsInto c frame below (operation_at c.flat below.function below.operation)
 
--- a frame and those below it, in the chain from its chunk on. The last one is the first of the thread's first chunk and
--- returns to the end stub.
+-- a frame and those below it, in the chain from its chunk on. The last frame is the first of the thread's first chunk
+-- and returns to the end stub.
 abbrev pub IsStack : Checked → Pool → List ℕ → Frame → List Frame → Type 0
-IsStack c pool chain frame [] = IsFrame c pool frame × (chain ≡ frame.chunk ∷ []) × (frame.is_first ≡ true) × (frame.returns ≡ 4096)
+IsStack c pool chain frame [] = IsFrame c pool frame × (chain ≡ frame.chunk ∷ []) × (frame.is_first ≡ true) × (frame.returns ≡ code_start)
 IsStack c pool chain frame (below ∷ frames) =
     IsFrame c pool frame × IsAbove c pool chain frame below × IsStack c pool (chain_below frame.is_first chain) below frames
 
 -- ---- the running frame
 
--- the running frame at a place, in the front chunk, with so many bytes
+-- the running frame at a place, in the front chunk, with this number of bytes
 pub record IsRunning (place : Place) (core : Core) (chunk low bytes returns : ℕ) (frame : Frame) : Type 0 where
   pub function : frame.function ≡ function_of place
   pub operation : frame.operation ≡ operation_of place
@@ -111,7 +115,7 @@ pub record IsRunning (place : Place) (core : Core) (chunk low bytes returns : �
   pub bytes_are : frame.bytes ≡ bytes
   pub returns_are : frame.returns ≡ returns
 
--- where the running frame stands and what it returns to, by the row of the table, and the frames below it
+-- the place and the return address of the running frame, by the row of the table, and the frames below it
 abbrev pub FramesAt : Checked → Pool → Core → Place → Row → List ℕ → List Frame → Type 0
 FramesAt c pool core place NoFrame (chunk ∷ []) [] = (chunk < pool.count) × (read core.x sp ≡ end_of pool chunk)
 FramesAt c pool core place Empty (chunk ∷ chain) (frame ∷ below) =
@@ -141,7 +145,7 @@ TpIsFront pool core (chunk ∷ chain) = read core.x tp ≡ payload_place_of pool
 
 -- ---- a thread
 
--- the thread stands at the place with these frames
+-- the thread is at the place and has these frames
 pub record HasFrames (c : Checked) (pool : Pool) (core : Core) (place : Place) (frames : List Frame) : Type 0 where
   pub at : IsAt c core.pc place
   pub frames_are : FramesAt c pool core place (row_of c place) core.chain frames
@@ -158,18 +162,19 @@ IsInPlace c pool core = (place : Place) × (frames : List Frame) × HasFrames c 
 abbrev pub LiesIn : Access → ℕ → ℕ → Type 0
 LiesIn access low high = (low ≤ access.address) × (access.address + access.width ≤ high)
 
--- it lies in the running frame
+-- the access lies in the running frame
 abbrev pub IsFramed : Access → List Frame → Type 0
 IsFramed access [] = ⊥
 IsFramed access (frame ∷ below) = LiesIn access frame.low (frame.low + frame.bytes)
 
--- it lies in one declared global, or in one declared table
+-- the access lies in one declared global, or in one declared table
 abbrev pub IsInGlobal : Checked → Access → Type 0
 IsInGlobal c access = (g : ℕ) × (g < length c.flat.globals) × LiesIn access (global_address c.flat g) (global_address c.flat g + 4 * global_words c.flat g)
 
 abbrev pub IsInTable : Checked → Access → Type 0
 IsInTable c access = (t : ℕ) × (t < length c.flat.tables) × LiesIn access (table_address c.flat t) (table_address c.flat t + 4 * member_count c.flat t)
 
+-- the access, if there is one, lies in the running frame, in one declared global or in one declared table
 abbrev pub IsGoodAccess : Checked → List Frame → Option Access → Type 0
 IsGoodAccess c frames None = Unit {0}
 IsGoodAccess c frames (Some access) = IsFramed access frames ⊎ IsInGlobal c access ⊎ IsInTable c access

@@ -1,12 +1,12 @@
--- What an UNLINK restores of the thread before a LINK.
+-- What an UNLINK just after a LINK restores.
 use Rattle.std.specs.Prelude.{◌≡◌, ℕ}
 use Rattle.chunk_pool.specs.Pool.{payload_of, all_free}
 use Rattle.rv_machine.specs.Registers.{read}
 use Rattle.machine_world.specs.Held.{copies}
 use Rattle.machine_world.specs.Local.{Local}
 
--- chain, registers, globals and tables are as before, each chunk is as often in the free list, and all payloads have
--- their words
+-- chain, registers, globals and tables are as before, each chunk occurs as often in the free lists, and all payloads
+-- have the same words
 pub record IsUndone (old new : Local) : Type 0 where
   pub chain : new.core.chain ≡ old.core.chain
   pub registers : (r : ℕ) → read new.core.x r ≡ read old.core.x r

@@ -1,8 +1,8 @@
--- Which source thread a machine thread that rests stands for. Both have equally many frames of the same functions, which
--- wait at the same sites or stand at their function's start. Each name in scope has its words at the certificate's place,
--- each source frame has still to do what follows its site in the text, and the index of a place that waits for a result
--- stands at the place of the function's first temporary. At a function's first word its parameters stand in the argument
--- registers.
+-- The source thread for which a machine thread that rests stands. Both have equally many frames of the same functions,
+-- which wait at the same sites or are at their function's start. Each name in scope has its words at the certificate's
+-- place. Each source frame has still to do what follows its site in the text, and the index of an element that waits
+-- for a result is at the place of the function's first temporary. At a function's first word its parameters are in the
+-- argument registers.
 use Rattle.std.specs.Prelude.{◌≡◌, ℕ, ◌+◌, ◌<◌, IsTrue, List, [], ◌∷◌, length, map, Option, Some}
 use Rattle.cap_word.specs.Rows.{width, word_at}
 use Rattle.c_tree.specs.Trees.{ProgramTree}
@@ -19,24 +19,25 @@ use Rattle.flat_code.specs.Frames.{FlatFrame}
 use Rattle.machine_world.specs.Globals.{AreGlobals}
 use Rattle.machine_world.specs.InPlace.{Frame}
 use Rattle.machine_world.specs.Keys.{standing, site_in}
-use Rattle.machine_world.specs.Local.{Core, Local, a0}
+use Rattle.stack_certificate.specs.Registers.{a0}
+use Rattle.machine_world.specs.Local.{Core, Local}
 use Rattle.machine_world.specs.Places.{Checked}
 use Rattle.machine_world.specs.Rests.{variable_word, IsResting, AtStart, AtCall, PastCall, StandsForFlat}
 
--- a source thread where a machine thread may rest: its running frame stands at its function's start, or it waits at a
--- modelled call
+-- a source thread at a point where a machine thread may rest: its running frame is at its function's start, or it waits
+-- at a modelled call
 pub data SourceThread : Type 0 where
   Starts : (frame : source.Frame) (below : List WaitingFrame) → SourceThread
   Waits : (waiting : Waiting) → SourceThread
 
--- the thread as it goes on, with these globals, and with this word as the result of its call if it waits at one
+-- the thread as it continues with these globals, and, if it waits at a call, with this word as the result
 abbrev pub going_on : SourceThread → ℕ → List (List ℕ) → Running
 going_on (Starts frame below) result globals = record { frame = frame; below = below; globals = globals }
 going_on (Waits waiting) result globals = source_resume waiting (record { result = result; globals = globals })
 
 -- ---- one frame
 
--- the frame has the names of its function, each with as many words as it is declared with
+-- the frame has the names of its function, each with its declared number of words
 abbrev pub HasNames : ProgramTree → source.Frame → Type 0
 HasNames program frame = map length frame.names ≡ (function_at program frame.function).sizes
 
@@ -49,13 +50,13 @@ HoldsNames c pool frame names scope =
 abbrev pub first_temporary : ProgramTree → ℕ → ℕ
 first_temporary program f = length (function_at program f).sizes
 
--- the index of a place that waits for a result stands in that variable
+-- the index of an element that waits for a result is in that variable
 abbrev pub HoldsIndex : Checked → Pool → Frame → ℕ → source.Place → Type 0
 HoldsIndex c pool frame temporary (InLocalElement a i) = variable_word c pool frame temporary 0 ≡ i
 HoldsIndex c pool frame temporary (InGlobalElement a i) = variable_word c pool frame temporary 0 ≡ i
 HoldsIndex c pool frame temporary _ = Unit {0}
 
--- a frame that stands at an operation, and a source frame that waits at a call of its function's text
+-- a frame with its current operation, and a source frame that waits at a call of its function's text
 pub record IsWaitingFrame (c : Checked) (program : ProgramTree) (pool : Pool) (frame : Frame) (op : Option Op) (waiting : WaitingFrame) : Type 0 where
   pub function : frame.function ≡ waiting.frame.function
   pub site : site_in op ≡ Some waiting.site
@@ -91,7 +92,7 @@ StandAtCall c program pool op [] waiting = ⊥
 StandAtCall c program pool op (frame ∷ frames) waiting =
     IsWaitingFrame c program pool frame (Some op) waiting.front × AreWaitingFrames c program pool frames waiting.below
 
--- the thread that rests so stands for the source thread
+-- the thread that rests in this way stands for the source thread
 abbrev pub StandsFor : (c : Checked) (program : ProgramTree) (pool : Pool) (core : Core) → IsResting c pool core → SourceThread → Type 0
 StandsFor c program pool core (AtStart f frames in_place) (Starts frame below) = StandAtStart c program pool core frames frame below
 StandsFor c program pool core (AtCall f i op word frames in_place) (Waits waiting) = StandAtCall c program pool op frames waiting
@@ -106,7 +107,7 @@ pub record StandsForThread (c : Checked) (program : ProgramTree) (l : Local) (th
   pub stands : StandsFor c program l.areas.pool l.core rests thread
   pub globals_are : AreGlobals c.flat globals l.areas.globals
 
--- and for a thread of flat code with these frames, innermost first, and these globals
+-- a thread over the areas stands for a thread of flat code with these frames, innermost first, and these globals
 pub record StandsForFlatThread (c : Checked) (l : Local) (flats : List FlatFrame) (globals : List (List ℕ)) : Type 0 where
   pub rests : IsResting c l.areas.pool l.core
   pub stands : StandsForFlat c l.areas.pool l.core rests flats

@@ -1,5 +1,6 @@
--- Which source world a machine world stands for, between segments: every live thread stands for its source thread at its
--- blocking call or its start, and globals, queues, uses, numbers and what each thread is blocked at are equal.
+-- The source world for which a machine world stands, between segments: every live thread stands for its source thread
+-- at its blocking call or its start, and globals, queues, uses, numbers and the calls at which threads are blocked are
+-- equal.
 use Rattle.std.specs.Prelude.{◌≡◌, ℕ, List, [], length, Option, Some, None, option_map, slice_get}
 use Rattle.cap_word.specs.declared.calls.Block.{Block}
 use Rattle.c_tree.specs.Trees.{ProgramTree}
@@ -32,7 +33,8 @@ pub record IsBlockedAt (c : Checked) (program : ProgramTree) (pool : Pool) (thre
   pub past : IsPast c pool thread.core rests
   pub stands : StandsFor c program pool thread.core rests (Waits waiting)
 
--- the live thread of a number, if there is one, and where the source thread of that number rests, if one has started
+-- the live thread of a number, if there is one, and the state at rest of the source thread of that number, if it has
+-- started
 abbrev pub StandsForRest : Checked → ProgramTree → Pool → Option Thread → Option source.Rest → Type 0
 StandsForRest c program pool None None = Unit {0}
 StandsForRest c program pool None (Some source.Ended) = Unit {0}

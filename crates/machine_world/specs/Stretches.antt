@@ -1,5 +1,6 @@
--- Good stretches: so many steps of a world along which no step is wrong, every live thread is in place, held and free
--- chunks are exactly the pool, and each load or store lies in the running frame or in one declared global or table.
+-- Good stretches: a number of steps of a world along which no step is wrong, every live thread is in place, held and
+-- free chunks are exactly the pool, and each load or store lies in the running frame or in one declared global or
+-- table.
 use Rattle.std.specs.Prelude.{ℕ, zero, suc, List, Option, Some, None}
 use Rattle.std.specs.List.{AllByRecursion}
 use Rattle.machine_world.specs.Local.{access_at}
@@ -24,7 +25,7 @@ abbrev pub IsFramedNext : Checked → Setting → World → Option ℕ → Type 
 IsFramedNext c s w None = ⊥
 IsFramedNext c s w (Some number) = IsFramedStep c s w (thread_of w number)
 
--- this holds of the world that a move leads to; a stop leads to none, nor does a step that is wrong
+-- the world after a move has this property; after a stop or a wrong step there is no world
 abbrev pub OnWorld : Move → (World → Type 0) → Type 0
 OnWorld (Goes after) P = P after
 OnWorld (Puts value after) P = P after
@@ -34,7 +35,7 @@ OnWorld (Ends after) P = P after
 OnWorld (Stops stop) P = ⊥
 OnWorld Wrong P = ⊥
 
--- a stretch of so many steps from a world is good
+-- a stretch of n steps from a world is good
 abbrev pub IsGoodStretch : Checked → Setting → ℕ → World → Type 0
 IsGoodStretch c s zero w = IsSound c w
 IsGoodStretch c s (suc n) w = IsSound c w × IsFramedNext c s w w.running × OnWorld (step s w) (IsGoodStretch c s n)

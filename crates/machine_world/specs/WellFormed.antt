@@ -1,5 +1,5 @@
--- What every world of a run keeps, whatever its code does: registers and memory are words, the pool keeps what pools keep,
--- the areas have the sizes that the program declares, and the counts stay within the fuel.
+-- The invariant of every world of a run, whatever its code does: registers and memory are words, the invariant of the
+-- pool holds, the areas have the sizes that the program declares, and the counts stay within the fuel.
 use Rattle.std.specs.Prelude.{◌≡◌, ℕ, ◌+◌, ◌^◌, ◌<◌, ◌≤◌, List, length, map, sum, All, Option, Some, None}
 use Rattle.std.specs.List.{AllByRecursion, flat_map}
 use Rattle.c_mean.specs.ModelledCalls.{Exchange, Arrival, Message}
@@ -13,6 +13,7 @@ use Rattle.machine_world.specs.Places.{Checked}
 use Rattle.machine_world.specs.Runs.{Action, Deliver, Advance, Pick, Step}
 use Rattle.machine_world.specs.Threads.{World, Setting, Move, Goes, Puts, Spawns, Blocks, Ends, Stops, Wrong}
 
+-- each value is a word
 abbrev pub AreWords : List ℕ → Type 0
 AreWords values = All (λ value. value < 2 ^ 32) values
 
@@ -27,20 +28,20 @@ pub record AreWellFormed (c : Checked) (areas : Areas) : Type 0 where
   pub global_words : AreWords areas.globals
   pub tables : areas.tables ≡ member_entries c
 
--- 32 registers, which are words as pc is
+-- pc and 32 registers, all of them words
 pub record IsCore (core : Core) : Type 0 where
   pub pc : core.pc < 2 ^ 32
   pub count : length core.x ≡ 32
   pub registers : AreWords core.x
 
--- what waits in the queues are words; there are 64 channels, and uses by the numbers 0 to 7
+-- the values in the queues are words, and there are 64 channels and the uses of the resources 0 to 7
 pub record IsExchange (x : Exchange) : Type 0 where
   pub arrivals : AreWords x.arrivals
   pub channels : All AreWords x.channels
   pub channel_count : length x.channels ≡ 64
   pub use_count : length x.uses ≡ 8
 
--- as many instructions as a run may have at most
+-- the maximum number of instructions of a run
 abbrev pub most_fuel : ℕ
 most_fuel = 1000000000
 
@@ -49,12 +50,12 @@ pub record IsWellFormed (c : Checked) (s : Setting) (w : World) : Type 0 where
   pub cores : AllByRecursion (λ thread. IsCore thread.core) w.threads
   pub counted : IsCounted w
   pub exchange : IsExchange w.exchange
-  -- each start of a thread but the first retires an instruction, so that every number is a word
+  -- each start of a thread, except the first, retires an instruction; so every number is a word
   pub fuel : s.fuel ≤ most_fuel
   pub cost : w.cost ≤ s.fuel
   pub next : w.next ≤ w.cost + 1
 
--- the world that a move leads to, if it leads to one, is well formed
+-- the world after a move, if there is one, is well formed
 abbrev pub KeepsWellFormed : Checked → Setting → Move → Type 0
 KeepsWellFormed c s (Goes after) = IsWellFormed c s after
 KeepsWellFormed c s (Puts value after) = IsWellFormed c s after
@@ -68,7 +69,7 @@ abbrev pub IsWellFormedIf : Checked → Setting → Option World → Type 0
 IsWellFormedIf c s None = Unit {0}
 IsWellFormedIf c s (Some w) = IsWellFormed c s w
 
--- what is delivered is a word
+-- the delivered value is a word
 abbrev pub DeliversWords : Action → Type 0
 DeliversWords (Deliver (Arrival value)) = value < 2 ^ 32
 DeliversWords (Deliver (Message channel value)) = value < 2 ^ 32

@@ -5,9 +5,9 @@ ghost use Rattle.cap_word.specs.declared.calls.Ask.TheVariants.{Put};
 ghost use Rattle.machine_world.specs.Examples.{one_put, main_thread, after_answer, question_of, free_at_end, ecall, at_ecall, linked_thread};
 ghost use Rattle.machine_world.specs.Local.{Calls, NoRoom, Wrong, local_machine, local_step};
 
-/// Small threads, run by the definitions: `main` that puts 7 asks for that in its eighth instruction and has ended nine
-/// later, its chunk free; a LINK with a free chunk and one without; a fault, an UNLINK of a chunk that isn't in front, an
-/// END with two chunks and a call that there isn't, each wrong. It does nothing.
+/// Law: small threads, run by the definitions. `main` of a program that puts 7 asks for that in its eighth instruction,
+/// and has ended nine later, with its chunk free. A LINK runs with a free chunk and without one. Wrong steps are a
+/// fault, an UNLINK of a chunk that isn't in front, an END with two chunks, and an undefined call.
 pub fn local_examples()
     ensures puts { question_of (moves (local_machine one_put) 8 main_thread) ≡ Some (Calls (Immediate (Put 7))) }
     ensures ends { free_at_end (after_answer one_put 9 (moves (local_machine one_put) 8 main_thread)) ≡ Some (0 ∷ []) }

@@ -5,8 +5,8 @@ ghost use Rattle.machine_world.specs.Keys.{called_at_links, chunk_ahead};
 ghost use Rattle.machine_world.specs.Local.{Core};
 ghost use Rattle.machine_world.specs.Places.{Checked, Place, row_of};
 
-/// The chain of a thread in place is never longer than 1 plus the number of its frames that were called at a linked
-/// site, plus 1 while a link has no frame in its chunk yet, or no more. It does nothing.
+/// Law: the chain of a thread in place has at most one chunk, one more for each of its frames that was called at a
+/// linked site, and one more while a linked chunk has no frame yet or no longer has one.
 pub fn chain_law()
     ensures { (c : Checked) (pool : Pool) (core : Core) (place : Place) (frames : List Frame) → HasFrames c pool core place frames →
         length core.chain ≤ 1 + called_at_links c frames + chunk_ahead (row_of c place) }

@@ -6,10 +6,11 @@ ghost use Rattle.rv_machine.specs.Registers.{read};
 ghost use Rattle.machine_world.specs.Areas.{Areas, spot_of, byte_at, is_writable, with_byte};
 ghost use Rattle.machine_world.specs.Held.{KeepsCopies, KeepsShape};
 ghost use Rattle.machine_world.specs.Links.{IsUndone};
-ghost use Rattle.machine_world.specs.Local.{Local, tp, linked, unlinked, local_step};
+ghost use Rattle.stack_certificate.specs.Registers.{tp};
+ghost use Rattle.machine_world.specs.Local.{Local, linked, unlinked, local_step};
 
-/// The laws of the areas as memory by bytes: a byte that is written is there, every other one stays, the map stays, and
-/// so does all that a pool keeps. It does nothing.
+/// Laws of the areas as memory by bytes: a written byte has its value, every other byte stays, the map stays, and so do
+/// the invariant and the free lists of the pool.
 pub fn area_laws()
     ensures bytes { (areas : Areas) (a b at : ℕ) → IsPool areas.pool → is_writable areas a ≡ true → b < 2 ^ 8 →
         byte_at (with_byte areas a b) at ≡ put_byte (byte_at areas) a b at }
@@ -19,8 +20,8 @@ pub fn area_laws()
     ensures tables { (areas : Areas) (a b : ℕ) → (with_byte areas a b).tables ≡ areas.tables }
 {}
 
-/// The laws of chunks under one thread: no step loses one or holds one twice or changes the pool's shape, and an UNLINK just after a LINK undoes it.
-/// It does nothing.
+/// Laws of chunks under one thread: no step loses a chunk, holds one twice or changes the pool's shape, and an UNLINK
+/// just after a LINK undoes it.
 pub fn chunk_laws()
     ensures kept { (code : List ℕ) (l : Local) (chunk : ℕ) → KeepsCopies chunk l (local_step code l) }
     ensures shape { (code : List ℕ) (l : Local) → KeepsShape l (local_step code l) }

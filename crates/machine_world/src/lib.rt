@@ -1,13 +1,13 @@
 // The machine world: live threads over one pool of linked chunks, as definitions that the crates
-// above cite.
+// above cite, with laws. A law has no effect at run time: its contract is the theorem.
 //
 // Memory of the threads: Areas. One thread: Local (its steps and the calls of the run time), Held
-// and Links (chunks under them). All threads: Threads (a step), Runs, Numbered, Chains and Counted
-// (held and free chunks), WellFormed, Alone (what stays). Frames in place: Places, InPlace, Keys,
-// Rests, Stretches, GoodRuns. Against the source: Globals, StandsFor, StandsForWorld. Computed
-// examples: Examples, Descending. Sources: RISC-V unprivileged manual, chapters "RV32I" and "M";
-// Capriccio (von Behren et al., SOSP 2003), "Linked Stack Management". The crates above use the
-// definitions and the laws in src/.
+// and Links (its chunks). All threads: Threads (a step), Runs, Numbered, Chains and Counted (held
+// and free chunks), WellFormed, Alone (what a step leaves unchanged). Frames in place: Places,
+// InPlace, Keys, Rests, Stretches, GoodRuns. Against the source: Globals, StandsFor,
+// StandsForWorld. Computed examples: Examples, Descending. Sources: RISC-V unprivileged manual,
+// chapters "RV32I" and "M"; Capriccio (von Behren et al., SOSP 2003), "Linked Stack Management".
+// The crates above use the definitions and the laws in src/.
 #![tactic(auto)]
 
 mod examples;

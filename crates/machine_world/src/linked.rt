@@ -4,9 +4,9 @@ ghost use Rattle.machine_world.specs.Descending.{checked, words_of, code, world_
 ghost use Rattle.machine_world.specs.InPlace.{HasFrames};
 ghost use Rattle.machine_world.specs.Places.{InPrologue, InOperation};
 
-/// A program that links one chunk: its code is its templates' words, it puts 1 in its 91st instruction and has ended after
-/// 100, both chunks free; with one chunk alone it stops before its 44th. Its frames are in place just after the link, at
-/// the callee's first word, and in the callee. It does nothing.
+/// Law: a program that links one chunk. Its code consists of the words of its templates. It puts 1 in its 91st
+/// instruction, and has ended after 100, with both chunks free; with only one chunk it stops before its 44th. Its
+/// frames are in place just after the link, at the callee's first word, and in the callee.
 pub fn linked_example()
     ensures code { code ≡ words_of checked }
     ensures puts { put_in (move_of (world_at 2 90)) ≡ Some 1 }

@@ -5,8 +5,8 @@ ghost use Rattle.machine_world.specs.Runs.{after_actions, after_steps};
 ghost use Rattle.machine_world.specs.Stretches.{IsGoodStretch};
 ghost use Rattle.machine_world.specs.Threads.{World, Setting};
 
-/// The laws of good stretches and runs: a good stretch of m steps and then one of n steps are a good stretch of m + n
-/// steps, and the actions of a good run can be done. It does nothing.
+/// Laws of good stretches and runs: a good stretch of m steps followed by one of n steps is a good stretch of m + n
+/// steps, and the actions of a good run can be done.
 pub fn stretch_laws()
     ensures joined { (c : Checked) (s : Setting) (m n : ℕ) (w after : World) → IsGoodStretch c s m w → after_steps s m w ≡ Some after →
         IsGoodStretch c s n after → IsGoodStretch c s (m + n) w }

@@ -1,4 +1,4 @@
-// What holds of the graph, the placement and the pair of a program.
+// Laws of the graph, the placement and the pair of a program.
 ghost use Rattle.std.specs.Prelude.{ℕ, ◌≡◌};
 ghost use Rattle.c_lower.specs.ProgramCode.{lowered};
 ghost use Rattle.c_tree.specs.Trees.{ProgramTree};
@@ -17,16 +17,16 @@ ghost use Rattle.stack_image.specs.declared.images.Image.{Image};
 ghost use Rattle.stack_image.specs.Spelling as image;
 ghost use Rattle.stack_plan.specs.Plans.{IsGraphOf};
 
-/// Flat code has at most one graph, that of a well scoped program is a call graph, and a call graph has at most one placement for
-/// paths of a length. It does nothing: the law is the contract.
+/// Law: flat code has at most one graph, that of a well-scoped program is a call graph, and a call graph has at most
+/// one placement for each max path.
 pub fn one_plan_law()
     ensures graph { (code : FlatCode) (a b : CallGraphState) → IsGraphOf code a → IsGraphOf code b → a ≡ b }
     ensures lowered { (program : ProgramTree) (graph : CallGraphState) → IsWellScoped program → IsGraphOf (lowered program) graph → IsCallGraph graph }
     ensures placement { (graph : CallGraphState) (max_path : ℕ) (a b : Plan) → IsCallGraph graph → IsPlacement graph (back_edges graph) max_path a → IsPlacement graph (back_edges graph) max_path b → a ≡ b }
 {}
 
-/// A valid image of a well scoped program, and a valid certificate that is made of a placement of it, are within the limits of their
-/// files. It does nothing: the law is the contract.
+/// Law: a valid image of a well-scoped program, and a valid certificate for a placement of it, are within the limits of
+/// their files.
 pub fn pairs_fit_law()
     ensures images { (program : ProgramTree) (i : Image) (c : Certificate) → IsWellScoped program → IsValid (lowered program) i c → image.IsWithinLimits i }
     ensures certificates { (program : ProgramTree) (plan : Plan) (options : Options) (i : Image) (c : Certificate) → IsWellScoped program → IsValid (lowered program) i c →

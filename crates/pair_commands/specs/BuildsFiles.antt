@@ -30,7 +30,7 @@ abbrev pub built : (image_name certificate_name : List ℕ) → Image → Certif
 built image_name certificate_name i c =
     record { status = 0; out = built_line i; line = []; stores = (image_name, image.spelling i) ∷ (certificate_name, certificate.spelling c) ∷ []; last = None; reads_trace = false }
 
--- what is written of an image and a certificate
+-- the files that a build writes for an image and a certificate
 pub record IsProductsOf (i : Image) (c : Certificate) (products : Products) : Type 0 where
   pub image_bytes : products.image.items ≡ image.spelling i
   pub certificate_bytes : products.certificate.items ≡ certificate.spelling c
@@ -40,23 +40,24 @@ abbrev pub stored_products : (image_name certificate_name : List ℕ) → Produc
 stored_products image_name certificate_name products =
     record { status = 0; out = products.line.items; line = []; stores = (image_name, products.image.items) ∷ (certificate_name, products.certificate.items) ∷ []; last = None; reads_trace = false }
 
--- no placement's code is too large
+-- the code isn't too large for any placement
 abbrev pub HasFittingCode : ProgramTree → Options → Type 0
 HasFittingCode program options = (words : ℕ) → ¬ IsTooLarge (lowered program) options (CodeTooLarge words)
 
--- a frame is too large, or none is and the code is
+-- a frame is too large, or no frame is but the code is
 abbrev pub IsUnbuilt : Options → ProgramTree → Outcome → Type 0
 IsUnbuilt options program outcome =
     IsFrameRefused program options.max_path outcome
     ⊎ (HasFittingFrames program options.max_path × (words : ℕ) × IsTooLarge (lowered program) options (CodeTooLarge words) × (outcome ≡ refusal (cause.Code words)))
 
--- the pair that is laid out for the placement is stored, where no frame and not the code is too large
+-- if no frame is too large and the code isn't, the pair that is laid out for the placement is stored
 abbrev pub BuildsProgram : Options → (image_name certificate_name : List ℕ) → ProgramTree → Outcome → Type 0
 BuildsProgram options image_name certificate_name program outcome =
     IsUnbuilt options program outcome
     ⊎ (HasFittingFrames program options.max_path × HasFittingCode program options
     × (i : Image) × (c : Certificate) × IsLaidOut (lowered program) options i c × (outcome ≡ built image_name certificate_name i c))
 
+-- what is due for the words of `build`
 abbrev pub Builds : Option Files → (name image_name certificate_name : List ℕ) → Options → Outcome → Type 0
 Builds files name image_name certificate_name options =
     AfterLoad document.Source files name (λ source. AfterSource source (BuildsProgram options image_name certificate_name))

@@ -24,19 +24,20 @@ verdict_line (Rejected rule function index) = rejected_words rule function index
 abbrev pub verdict_outcome : Verdict → Outcome
 verdict_outcome verdict = printed (verdict_status verdict) (verdict_line verdict)
 
--- every rule holds of the pair, or the first failure is named
+-- every rule holds of the pair, or the verdict is the first failure
 abbrev pub IsVerdict : ProgramTree → Image → Certificate → Verdict → Type 0
 IsVerdict program i c Accepted = IsValid (lowered program) i c
 IsVerdict program i c (Rejected rule function index) = IsFirstFailure (lowered program) i c rule function index
 
+-- what is due for a pair: its verdict
 abbrev pub ChecksPair : ProgramTree → Image → Certificate → Outcome → Type 0
 ChecksPair program i c outcome = (verdict : Verdict) × IsVerdict program i c verdict × (outcome ≡ verdict_outcome verdict)
 
--- of the bytes of the three files the source is read first, then the image, then the certificate
+-- the bytes of the three files are read in the order source, image, certificate
 abbrev pub ChecksBytes : (source image certificate : List ℕ) → Outcome → Type 0
 ChecksBytes source image certificate =
     AfterSource source (λ program. AfterImage image (λ i. AfterCertificate certificate (λ c. ChecksPair program i c)))
 
--- all three files are loaded before one of them is read
+-- what is due for the words of `check`; all three files are loaded before any of them is read
 abbrev pub Checks : Option Files → (source_name image_name certificate_name : List ℕ) → Outcome → Type 0
 Checks files source_name image_name certificate_name = AfterThree files source_name image_name certificate_name ChecksBytes

@@ -17,7 +17,7 @@ use Rattle.command_files.specs.Loads.{AfterLoad, AfterSource}
 abbrev pub names_of : ProgramTree → List (List ℕ)
 names_of program = map (λ (f : FunctionTree). f.name) program.functions
 
--- the text is that of the program's analysis for paths of so many bytes
+-- the text is that of the program's analysis for paths of this many bytes
 pub record IsAnalysed (program : ProgramTree) (path : ℕ) (text : List ℕ) : Type 0 where
   pub graph : CallGraphState
   pub back : List ℕ
@@ -36,11 +36,12 @@ pub record IsFrameRefused (program : ProgramTree) (path : ℕ) (outcome : Outcom
 abbrev pub HasFittingFrames : ProgramTree → ℕ → Type 0
 HasFittingFrames program path = frame_refusal (lowered program) path ≡ None
 
+-- what is due for a program: the refusal of its first frame that is too large, or its analysis
 abbrev pub GraphsProgram : ℕ → ProgramTree → Outcome → Type 0
 GraphsProgram path program outcome =
     IsFrameRefused program path outcome
     ⊎ (HasFittingFrames program path × ((text : List ℕ) × IsAnalysed program path text × (outcome ≡ printed 0 text)))
 
--- the analysis of the source of this name, for paths of so many bytes
+-- what is due for the words of `graph`: the analysis of the source of this name, for paths of this many bytes
 abbrev pub Graphs : Option Files → (name : List ℕ) → (path : ℕ) → Outcome → Type 0
 Graphs files name path = AfterLoad document.Source files name (λ source. AfterSource source (GraphsProgram path))

@@ -1,4 +1,4 @@
--- What the bytes of a source, an image and a certificate are read as, one after another.
+-- How the bytes of a source, an image and a certificate are read, one after another.
 use Rattle.std.specs.Prelude.{ℕ, List}
 use Rattle.c_tree.specs.ProgramView.{program_tree}
 use Rattle.c_tree.specs.Trees.{ProgramTree}

@@ -1,4 +1,4 @@
--- What the steps to a run hand on, and why a run doesn't begin.
+-- What the steps before a run return, and why a run doesn't start.
 use Rattle.std.specs.Prelude.{ℕ, ◌≡◌, List, Option}
 use Rattle.accepted_pairs.specs.Accepting.{accepted_tree}
 use Rattle.accepted_pairs.specs.Acceptance.{Acceptance}
@@ -12,7 +12,7 @@ use Rattle.command_outcomes.specs.declared.stops.Stop.TheVariants.{Refused, Fail
 use Rattle.command_outcomes.specs.Outcome.{Outcome}
 use Rattle.pair_commands.specs.Runs.{RunsOn, setup_of}
 
--- what the run of an accepted pair does under these options is due
+-- what the run of an accepted pair under these options does is due
 abbrev pub LeadsOn : Option (List ℕ) → RunOptions → Acceptance → (Outcome → Type 0) → Type 0
 LeadsOn trace policy accepted due =
     (outcome : Outcome) → RunsOn trace (setup_of (accepted_tree accepted) accepted.image accepted.certificate policy) outcome → due outcome

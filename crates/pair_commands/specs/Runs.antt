@@ -44,12 +44,12 @@ stop_status (StopLine.Cut thread cut.NoChunk cost free) = 12
 stop_status (StopLine.Cut thread cut.Fuel cost free) = 13
 stop_status (StopLine.Cut thread cut.Threads cost free) = 14
 
--- the rule of choices of a run, by the options of its words
+-- the rule of choice of a run, by the options of its words
 abbrev pub rule_of : RuleOption → Rule
 rule_of option.Graph = by_graph
 rule_of (option.Stride tickets) = by_stride (pairs_of tickets)
 
--- the policy of a run, by the options of its words: the pressures of all resources have one knee, which is 0 where none is given
+-- the policy of a run, by the options of its words: the pressure curves of all resources have one knee, 0 by default
 abbrev pub policy_of : RunOptions → Policy
 policy_of options = record {
   chunks = options.chunks;
@@ -64,6 +64,7 @@ policy_of options = record {
   rule = rule_of options.rule;
 }
 
+-- the setup of a run of this pair, by the options of its words
 abbrev pub setup_of : ProgramTree → Image → Certificate → RunOptions → Setup
 setup_of program image certificate options = record { program = program; image = image; certificate = certificate; policy = policy_of options }
 
@@ -90,13 +91,13 @@ pub record IsAccepted (setup : Setup) : Type 0 where
   pub globals : AreWords setup.image.globals
   pub valid : IsValid (lowered setup.program) setup.image setup.certificate
 
--- the same of some bytes, which are the trace's own where it tells them; else they are some that it could have had
+-- the same on some bytes: the trace's own if it exposes them, and otherwise some bytes that it could have had
 pub record IsRunOfSome (setup : Setup) (trace : Option (List ℕ)) (entries : List Entry) (stop : StopLine) (end : World) : Type 0 where
   pub bytes : List ℕ
   pub told : IfSome trace (λ its. its ≡ bytes)
   pub run : IsRun setup bytes entries stop end
 
--- a run of an accepted pair on the trace, where the trace is told, and else on some bytes
+-- a run of an accepted pair on the trace, if the trace is exposed, and otherwise on some bytes
 abbrev pub RunsOn : Option (List ℕ) → Setup → Outcome → Type 0
 RunsOn trace setup outcome =
     IsAccepted setup × (entries : List Entry) × (stop : StopLine) × (end : World)
@@ -105,19 +106,20 @@ RunsOn trace setup outcome =
 
 -- ---- serve
 
--- the pair that is laid out for the program runs, where no frame and not the code is too large
+-- if no frame is too large and the code isn't, the pair that is laid out for the program runs
 abbrev pub ServesProgram : Option (List ℕ) → Options → RunOptions → ProgramTree → Outcome → Type 0
 ServesProgram trace sizes policy program outcome =
     IsUnbuilt sizes program outcome
     ⊎ (HasFittingFrames program sizes.max_path × HasFittingCode program sizes
     × (i : Image) × (c : Certificate) × IsLaidOut (lowered program) sizes i c × RunsOn trace (setup_of program i c policy) outcome)
 
+-- what is due for the words of `serve`
 abbrev pub Serves : Option Files → Option (List ℕ) → (name : List ℕ) → Options → RunOptions → Outcome → Type 0
 Serves files trace name sizes policy = AfterLoad document.Source files name (λ source. AfterSource source (ServesProgram trace sizes policy))
 
 -- ---- run
 
--- how many bytes the chunks of both sizes have
+-- the size of the chunks of both sizes together, in bytes
 abbrev pub pool_bytes : RunOptions → Certificate → ℕ
 pool_bytes policy c = policy.chunks * c.chunk + policy.extra * policy.extra_bytes
 
@@ -133,5 +135,6 @@ abbrev pub RunsBytes : Option (List ℕ) → RunOptions → (source image certif
 RunsBytes trace policy source image certificate =
     AfterSource source (λ program. AfterImage image (λ i. AfterCertificate certificate (λ c. RunsPair trace policy program i c)))
 
+-- what is due for the words of `run`; all three files are loaded before any of them is read
 abbrev pub Runs : Option Files → Option (List ℕ) → (source_name image_name certificate_name : List ℕ) → RunOptions → Outcome → Type 0
 Runs files trace source_name image_name certificate_name policy = AfterThree files source_name image_name certificate_name (RunsBytes trace policy)

@@ -1,4 +1,4 @@
-// The command `budget`: how many chunks are enough for a source with its image and certificate.
+// The command `budget`: the number of chunks that is enough for a source with its image and certificate.
 ghost use Rattle.std.specs.Prelude.{ℕ, List, Option, ◌≡◌, ◌++◌, ◌≤◌, length, MatchResult, IfOk, OnOk};
 ghost use Rattle.cap_io.specs.Files.{KeepsFiles};
 ghost use Rattle.c_tree.specs.ProgramView.{program_tree};
@@ -23,7 +23,7 @@ use stack_certificate::Certificate;
 use stack_image::Image;
 use std::alloc::{AllocError, Global};
 
-/// The command `budget`.
+/// Does the command `budget`.
 pub fn do_budget<F: Shelf, K: Sink>(
     alloc: Global,
     shelf: &mut F,
@@ -42,7 +42,7 @@ pub fn do_budget<F: Shelf, K: Sink>(
     print(out, text.as_slice(), 0)
 }
 
-/// The text of the least budget of the files of these names.
+/// Returns the text of the least budget of the files of these names.
 fn budget_files<F: Shelf>(
     alloc: Global,
     shelf: &mut F,
@@ -68,7 +68,7 @@ fn budget_files<F: Shelf>(
     )
 }
 
-/// The text of the least budget of files of these bytes.
+/// Returns the text of the least budget of files of these bytes.
 fn budget_bytes(
     alloc: Global,
     source: &[u8],
@@ -88,7 +88,7 @@ fn budget_bytes(
     budget_pair(alloc, program, image, certificate)
 }
 
-/// The text of the least budget of a program with its image and certificate.
+/// Returns the text of the least budget of a program with its image and certificate.
 fn budget_pair(
     alloc: Global,
     program: Program,
@@ -109,7 +109,7 @@ fn budget_pair(
     }
 }
 
-/// The text of the least budget of an accepted program.
+/// Returns the text of the least budget of an accepted program.
 fn budget_accepted(alloc: Global, accepted: &Accepted) -> Result<Vec<u8>, Stop>
     ensures { MatchResult result
         (λ text. BudgetsPair (accepted_tree accepted.now) accepted.now.image
@@ -130,7 +130,7 @@ fn budget_accepted(alloc: Global, accepted: &Accepted) -> Result<Vec<u8>, Stop>
     }
 }
 
-/// The refusal of the least function that lies on a cycle of calls.
+/// Returns the refusal of the least function on a cycle of calls.
 fn cycle_stop(alloc: Global, program: &Program, function: u32) -> Stop
     requires { IsLeast (IsOnCycle (lowered (program_tree program.now))) function }
     ensures { IsStop (IsCycleRefused (program_tree program.now)) result }
@@ -142,7 +142,7 @@ fn cycle_stop(alloc: Global, program: &Program, function: u32) -> Stop
     }
 }
 
-/// The text of a budget.
+/// Returns the text of a budget.
 fn text_of(alloc: Global, budget: &Budget) -> Result<Vec<u8>, AllocError>
     ensures { IfOk result (λ text. text.items ≡ budget_text budget.now) }
 {

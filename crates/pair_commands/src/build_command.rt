@@ -28,11 +28,11 @@ pub struct Products {
     pub image: Vec<u8>,
     /// The text of the certificate.
     pub certificate: Vec<u8>,
-    /// The line that tells of the image.
+    /// The line about the image.
     pub line: Vec<u8>,
 }
 
-/// The command `build`.
+/// Does the command `build`.
 pub fn do_build<F: Shelf, K: Sink>(
     alloc: Global,
     shelf: &mut F,
@@ -118,7 +118,7 @@ fn build_program(alloc: Global, program: &Program, options: Options) -> Result<P
     }
 }
 
-/// The bytes of an image and a certificate, and the line that tells of them.
+/// Returns the bytes of an image and a certificate, and the line about the image.
 fn products_of(alloc: Global, built: &Built) -> Result<Products, AllocError>
     requires image { images.IsWithinLimits built.now.image }
     requires certificate { texts.IsWithinLimits built.now.certificate }
@@ -136,7 +136,7 @@ fn products_of(alloc: Global, built: &Built) -> Result<Products, AllocError>
     })
 }
 
-/// Appends the line that tells of an image.
+/// Appends the line about an image.
 fn put_built(line: &mut Vec<u8>, image: &Image) -> Result<(), AllocError>
     ensures { OnOk result (line.new.items ≡ line.old.items ++ built_line image.now) }
 {

@@ -1,4 +1,4 @@
-// The command `check`: a source, an image and a certificate are checked.
+// The command `check`: checks a source, an image and a certificate.
 ghost use Rattle.std.specs.Prelude.{ℕ, List, Option, ◌≡◌, ◌≤◌, length, MatchResult, IfOk};
 ghost use Rattle.cap_io.specs.Files.{KeepsFiles};
 ghost use Rattle.c_tree.specs.ProgramView.{program_tree};
@@ -16,7 +16,7 @@ use stack_certificate::Certificate;
 use stack_image::Image;
 use std::alloc::{AllocError, Global};
 
-/// What the checker says of a pair.
+/// The verdict of the checker on a pair.
 #[derive(Clone, Copy)]
 pub enum Verdict {
     /// Every rule holds.
@@ -27,13 +27,13 @@ pub enum Verdict {
         rule: u32,
         /// The number of the function.
         function: u32,
-        /// What the index means depends on the rule.
+        /// An index, whose meaning depends on the rule.
         index: u32,
     },
 }
 
 impl Verdict {
-    /// The status that the command ends with.
+    /// Returns the status of a command with this verdict.
     fn status(self) -> u8
         ensures { result ≡ verdict_status self }
     {
@@ -43,7 +43,7 @@ impl Verdict {
         }
     }
 
-    /// The line that tells the verdict.
+    /// Returns the line of the verdict.
     fn line(self, alloc: Global) -> Result<Vec<u8>, AllocError>
         ensures { IfOk result (λ line. line.items ≡ verdict_line self) }
     {
@@ -61,7 +61,7 @@ impl Verdict {
     }
 }
 
-/// The command `check`.
+/// Does the command `check`.
 pub fn do_check<F: Shelf, K: Sink>(
     alloc: Global,
     shelf: &mut F,

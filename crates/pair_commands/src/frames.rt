@@ -11,7 +11,7 @@ use c_tree::Program;
 use command_outcomes::{Cause, Fault, Stop};
 use std::alloc::Global;
 
-/// The refusal of the frame of a function, the first that is too large for paths of so many bytes.
+/// Returns the refusal of the first function whose frame is too large for paths of this many bytes.
 pub(crate) fn frame_stop(
     alloc: Global,
     program: &Program,

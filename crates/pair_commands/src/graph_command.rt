@@ -1,4 +1,4 @@
-// The command `graph`: what the calls of a source need of the stack.
+// The command `graph`: the stack that the calls of a source need.
 ghost use Rattle.std.specs.Prelude.{ℕ, List, Option, ◌≡◌, ◌≤◌, length, ◌⊎◌, Some, MatchResult};
 ghost use Rattle.cap_io.specs.Files.{KeepsFiles};
 ghost use Rattle.c_tree.specs.ProgramView.{program_tree};
@@ -22,7 +22,7 @@ use command_outcomes::{Document, Fault, Stop, print};
 use stack_build::{Analysis, BuildError, analyse};
 use std::alloc::{AllocError, Global};
 
-/// The command `graph`.
+/// Does the command `graph`.
 pub fn do_graph<F: Shelf, K: Sink>(
     alloc: Global,
     shelf: &mut F,
@@ -40,7 +40,7 @@ pub fn do_graph<F: Shelf, K: Sink>(
     print(out, text.as_slice(), 0)
 }
 
-/// The text of the analysis of the source of this name.
+/// Returns the text of the analysis of the source of this name.
 fn graph_source<F: Shelf>(
     alloc: Global,
     shelf: &mut F,
@@ -59,7 +59,7 @@ fn graph_source<F: Shelf>(
     graph_bytes(alloc, source.as_slice(), options)
 }
 
-/// The text of the analysis of a source of these bytes.
+/// Returns the text of the analysis of a source of these bytes.
 fn graph_bytes(alloc: Global, source: &[u8], options: Options) -> Result<Vec<u8>, Stop>
     requires { length source.now ≤ 1048576 }
     ensures { MatchResult result
@@ -72,7 +72,7 @@ fn graph_bytes(alloc: Global, source: &[u8], options: Options) -> Result<Vec<u8>
     text
 }
 
-/// The text of the analysis of a program.
+/// Returns the text of the analysis of a program.
 fn graph_program(alloc: Global, program: &Program, options: Options) -> Result<Vec<u8>, Stop>
     ensures { MatchResult result
         (λ text. GraphsProgram options.max_path (program_tree program.now) (printed 0 text.items))
@@ -85,7 +85,7 @@ fn graph_program(alloc: Global, program: &Program, options: Options) -> Result<V
     text_of(alloc, program, &analysis, options.max_path)
 }
 
-/// Why a program isn't analysed for paths of at most so many bytes.
+/// Returns why a program isn't analysed for paths of at most `max_path` bytes.
 fn analysis_stop(alloc: Global, program: &Program, max_path: u32, error: BuildError) -> Stop
     requires { (error ≡ errors.Memory)
         ⊎ (frame_refusal (lowered (program_tree program.now)) max_path ≡ Some error) }
@@ -100,7 +100,7 @@ fn analysis_stop(alloc: Global, program: &Program, max_path: u32, error: BuildEr
     }
 }
 
-/// The text of a program's analysis for paths of at most so many bytes.
+/// Returns the text of a program's analysis for paths of at most `max_path` bytes.
 fn text_of(
     alloc: Global,
     program: &Program,

@@ -14,7 +14,7 @@ use command_outcomes::{Cause, Fault, Stop};
 use stack_build::BuildError;
 use std::alloc::Global;
 
-/// Why a program isn't laid out.
+/// Returns why a program isn't laid out.
 pub(crate) fn layout_stop(
     alloc: Global,
     program: &Program,

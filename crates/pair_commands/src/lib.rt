@@ -1,4 +1,4 @@
-// The commands over a pair that run nothing, and the accepted pair for those that run.
+// The commands over a pair without a run, and the accepted pair for the commands with one.
 //
 // In: a shelf of files, an output, the names and sizes of a command. Out: what the commands
 // `build`, `check`, `graph` and `budget` print and store (`do_build` and the like); for `serve`,

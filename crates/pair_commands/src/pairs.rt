@@ -1,4 +1,4 @@
-// What the files of a pair are read as.
+// Reads the files of a pair.
 ghost use Rattle.std.specs.Prelude.{◌≡◌, ◌≤◌, length, MatchResult};
 ghost use Rattle.command_files.specs.Loads.{AfterCertificate, IsCertificateText};
 ghost use Rattle.command_outcomes.specs.Outcome.{NoMore};
@@ -12,7 +12,7 @@ use stack_certificate::Certificate;
 use stack_image::Image;
 use std::alloc::Global;
 
-/// A program with an image and a certificate, as they are read.
+/// A program with an image and a certificate, as read from files.
 #[derive(Drop)]
 pub struct ReadPair {
     /// The program.
@@ -23,7 +23,7 @@ pub struct ReadPair {
     pub certificate: Certificate,
 }
 
-/// What a source, an image and a certificate of these bytes are, read in this order.
+/// Reads the bytes of a source, an image and a certificate, in this order.
 pub(crate) fn read_pair(
     alloc: Global,
     source: &[u8],
@@ -44,7 +44,7 @@ pub(crate) fn read_pair(
     }
 }
 
-/// A program and an image, with the certificate of these bytes.
+/// Returns a program and an image with the certificate that is read from these bytes.
 fn with_certificate(
     alloc: Global,
     program: Program,

@@ -1,4 +1,4 @@
-// The commands `serve` and `run`: a program that the checker accepts runs on the trace.
+// The commands `serve` and `run`: they run a program that the checker accepts on the trace.
 ghost use Rattle.std.specs.Prelude.{◌≡◌, ◌≤◌, ℕ, List, Option, length, MatchResult};
 ghost use Rattle.cap_io.specs.Files.{KeepsFiles};
 ghost use Rattle.c_tree.specs.ProgramView.{program_tree};
@@ -26,7 +26,7 @@ use stack_certificate::Certificate;
 use stack_image::Image;
 use std::alloc::Global;
 
-/// The source of this name, built and accepted.
+/// Loads, builds and accepts the source of this name.
 pub fn accept_source<F: Shelf>(
     alloc: Global,
     shelf: &mut F,
@@ -48,7 +48,7 @@ pub fn accept_source<F: Shelf>(
     accept_source_bytes(alloc, source.as_slice(), sizes)
 }
 
-/// A source of these bytes, built and accepted.
+/// Builds and accepts a source of these bytes.
 fn accept_source_bytes(alloc: Global, source: &[u8], sizes: Options) -> Result<Accepted, Stop>
     requires range { AreInRange sizes }
     requires few { length source.now ≤ 1048576 }
@@ -62,7 +62,7 @@ fn accept_source_bytes(alloc: Global, source: &[u8], sizes: Options) -> Result<A
     accept_program(alloc, program, sizes)
 }
 
-/// A program, built and accepted.
+/// Builds and accepts a program.
 pub fn accept_program(alloc: Global, program: Program, sizes: Options) -> Result<Accepted, Stop>
     requires { AreInRange sizes }
     ensures { (trace : Option (List ℕ)) (policy : RunOptions) → MatchResult result
@@ -97,7 +97,7 @@ pub fn accept_program(alloc: Global, program: Program, sizes: Options) -> Result
     }
 }
 
-/// The files of these names, accepted, with a pool of this policy that isn't too large.
+/// Loads and accepts the files of these names, and checks the size of the pool.
 pub fn accept_files<F: Shelf>(
     alloc: Global,
     shelf: &mut F,
@@ -129,7 +129,7 @@ pub fn accept_files<F: Shelf>(
     )
 }
 
-/// Files of these bytes, accepted.
+/// Accepts files of these bytes.
 fn accept_bytes(
     alloc: Global,
     source: &[u8],
@@ -153,7 +153,7 @@ fn accept_bytes(
     accept_pair(alloc, program, image, certificate, policy)
 }
 
-/// A program with its image and certificate, accepted.
+/// Accepts a program with its image and certificate.
 fn accept_pair(
     alloc: Global,
     program: Program,
@@ -175,7 +175,7 @@ fn accept_pair(
     }
 }
 
-/// Why a pair isn't accepted.
+/// Returns why a pair isn't accepted.
 pub(crate) fn check_stop(error: CheckError) -> Stop
     ensures { IsUnaccepted error result }
 {
@@ -184,7 +184,7 @@ pub(crate) fn check_stop(error: CheckError) -> Stop
     stop
 }
 
-/// The stop by an error of the checker, which still holds what it was given.
+/// Returns the stop of a checker's error, which still has the pair.
 fn stop_of(error: &CheckError) -> Stop
     ensures { IsUnaccepted error.now result }
 {
@@ -203,7 +203,7 @@ fn stop_of(error: &CheckError) -> Stop
     }
 }
 
-/// An accepted program, where the pool of this policy isn't too large.
+/// Returns the accepted program, if the pool of this policy isn't too large.
 fn within_pool(accepted: Accepted, policy: Policy) -> Result<Accepted, Stop>
     requires { IsRunPolicy policy }
     ensures { (trace : Option (List ℕ)) → MatchResult result

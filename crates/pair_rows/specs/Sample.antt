@@ -1,4 +1,4 @@
--- A program in flat code with an operation of each kind, and its certificate, as plain data.
+-- A program in flat code with an operation of each kind, and its certificate.
 use Rattle.std.specs.Prelude.{true, List, [], ◌∷◌, Some, None}
 use Rattle.flat_code.specs.declared.operations.Op.{Op}
 use Rattle.flat_code.specs.declared.operators.BinOp.{BinOp}

@@ -1,4 +1,4 @@
-// What the check of a budget answers.
+// The answers of the check of a budget.
 
 use crate::budget_sources::{LINKED, PLAIN, SPAWNING, TABLE};
 use crate::built::{SMALL, accepted_in_range};
@@ -8,8 +8,8 @@ use chunk_budget::BudgetError::{Length, Low, Root, Zero};
 use chunk_budget::{Budget, BudgetError, check_budget};
 use std::alloc::Global;
 
-// A source, how many chunks a thread may hold, the heights of its functions, and the answer. Sites are numbered in the order
-// in which they stand in the source.
+// A source, the number of chunks that a thread may hold, the heights of its functions, and the answer. Sites are
+// numbered in the order of the source.
 const ROWS: &[(&[u8], u32, &[u32], Result<(), BudgetError>)] = &[
     // A linked call adds a chunk.
     (LINKED, 2, &[0, 1], Ok(())),
@@ -17,7 +17,7 @@ const ROWS: &[(&[u8], u32, &[u32], Result<(), BudgetError>)] = &[
     (LINKED, 1, &[0, 1], Err(Root { function: 1 })),
     (LINKED, 2, &[0, 0], Err(Low { site: 0 })),
     (LINKED, 2, &[1, 1], Err(Low { site: 0 })),
-    // The refusals come in their order.
+    // The refusals are tested in this order.
     (
         LINKED,
         0,
@@ -38,7 +38,7 @@ const ROWS: &[(&[u8], u32, &[u32], Result<(), BudgetError>)] = &[
     ),
     (LINKED, 0, &[0, 0], Err(Zero)),
     (LINKED, 1, &[9, 9], Err(Low { site: 0 })),
-    // A height may be any number of 32 bits: the one above the greatest is no height.
+    // A height may be any number of 32 bits: the next number is no height.
     (
         LINKED,
         4_294_967_295,
@@ -59,13 +59,13 @@ const ROWS: &[(&[u8], u32, &[u32], Result<(), BudgetError>)] = &[
     (TABLE, 3, &[0, 0, 1, 1], Err(Low { site: 1 })),
     (TABLE, 3, &[0, 0, 0, 0], Err(Low { site: 0 })),
     (TABLE, 2, &[0, 0, 1, 2], Err(Root { function: 3 })),
-    // The function that a thread is started with counts as `main` does, and its start is no call.
+    // The function with which a thread is started counts as `main` does, and its start is no call.
     (SPAWNING, 2, &[0, 1, 0], Ok(())),
     (SPAWNING, 1, &[0, 1, 0], Err(Root { function: 1 })),
     (SPAWNING, 1, &[0, 1, 1], Err(Root { function: 1 })),
 ];
 
-// What the check of a budget answers; None where memory is wanting.
+// Returns the answer of the check of a budget, or `None` if memory runs out.
 fn answer_of(
     alloc: Global,
     accepted: &Accepted,
@@ -91,7 +91,7 @@ fn is_answer(found: Option<Result<(), BudgetError>>, answer: Result<(), BudgetEr
     }
 }
 
-// Whether the check of a budget of a source answers so.
+// Checks whether the check of a budget of a source gives this answer.
 fn is_row(
     alloc: Global,
     source: &[u8],

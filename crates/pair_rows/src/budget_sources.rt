@@ -1,9 +1,9 @@
-// The programs of the rows of budgets.
+// The programs in the rows of budgets.
 
 use std::alloc::Global;
 use workload::make_program;
 
-/// `main` calls `g`. With frames of 16 and 32 bytes the call is linked where a path has at most 32.
+/// `main` calls `g`. With frames of 16 and 32 bytes the call is linked if a path has at most 32.
 pub(crate) const LINKED: &[u8] =
     b"int g(int x) { return x; } int main() { int a; int b; int c; a = g(1); return a; }";
 
@@ -15,7 +15,7 @@ pub(crate) const PLAIN: &[u8] =
 pub(crate) const TABLE: &[u8] =
     b"int low(int x) { return x; } int flat(int x) { return x; } int steep(int x) { int a; int b; int c; a = low(x); return a; } int (*both[2])(int) = { flat, steep }; int main() { int a; int b; int c; a = both[1](1); return a; }";
 
-/// Nobody calls `worker`: `main` starts a thread with it, which calls `low` at a linked site.
+/// No function calls `worker`: `main` starts a thread with it, which calls `low` at a linked site.
 pub(crate) const SPAWNING: &[u8] =
     b"int low(int x) { return x; } void worker(int x) { int a; int b; int c; a = low(x); } int main() { spawn(worker, 1); return 0; }";
 
@@ -27,7 +27,7 @@ pub(crate) const RECURSIVE: &[u8] =
 pub(crate) const MUTUAL: &[u8] =
     b"int leaf(int n) { return n; } int even(int n); int odd(int n) { int a; int b; if (n < 1) return 0; a = even(n - 1); return a; } int even(int n) { int a; int b; if (n < 1) return leaf(1); a = odd(n - 1); return a; } int main() { int a; a = even(3); return a; }";
 
-/// The source of the workload of number 1000.
+/// Returns the source of the workload of number 1000.
 pub(crate) fn workload_of(alloc: Global) -> Option<Vec<u8>> {
     match make_program(alloc, 1000) {
         Ok(source) => Some(source),

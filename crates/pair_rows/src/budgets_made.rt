@@ -1,4 +1,4 @@
-// What budgets are made.
+// The budgets that are computed.
 
 use crate::budget_sources::{LINKED, MUTUAL, PLAIN, RECURSIVE, SPAWNING, TABLE, workload_of};
 use crate::built::{SMALL, USUAL, accepted_in_range};
@@ -6,9 +6,9 @@ use accepted_pairs::Accepted;
 use chunk_budget::{Budget, MakeBudgetError, check_budget, make_budget};
 use std::alloc::Global;
 
-// A source, and the least budget of it: the chunks of a thread and the heights of its functions.
+// A source, and its least budget: the chunks of a thread and the heights of its functions.
 const ROWS: &[(&[u8], u32, &[u32])] = &[
-    // `main` is one higher than what it calls at a linked site.
+    // The height of `main` is one more than that of the function that it calls at a linked site.
     (LINKED, 2, &[0, 1]),
     (PLAIN, 1, &[0, 0]),
     // The highest member counts.
@@ -17,10 +17,10 @@ const ROWS: &[(&[u8], u32, &[u32])] = &[
     (SPAWNING, 2, &[0, 1, 0]),
 ];
 
-// A source whose calls lead back, and the least function from which they do.
+// A source with a cycle of calls, and the least function on one.
 const CYCLES: &[(&[u8], u32)] = &[(RECURSIVE, 0), (MUTUAL, 1)];
 
-// The budget that is made of a program, where one is.
+// Returns the budget of a program, if it has one.
 fn budget_of(alloc: Global, accepted: &Accepted) -> Option<Budget> {
     match make_budget(alloc, accepted) {
         Ok(budget) => Some(budget),
@@ -32,7 +32,7 @@ fn is_accepted(accepted: &Accepted, budget: &Budget) -> bool {
     matches!(check_budget(accepted, budget), Ok(()))
 }
 
-// Whether that is the budget that is made of a program, and the check accepts it.
+// Checks whether that is the computed budget of a program, and the check accepts it.
 fn is_budget(alloc: Global, accepted: &Accepted, per_thread: u32, heights: &[u32]) -> bool {
     match budget_of(alloc, accepted) {
         None => false,
@@ -66,7 +66,7 @@ fn all_hold(alloc: Global, rows: &[(&[u8], u32, &[u32])]) -> bool {
     true
 }
 
-// The function that is named where no budget is made of a program.
+// Returns the function that is named if a program has no budget.
 fn cycle_in(alloc: Global, accepted: &Accepted) -> Option<u32> {
     match make_budget(alloc, accepted) {
         Err(MakeBudgetError::Cycle { function }) => Some(function),
@@ -101,7 +101,7 @@ fn all_are_cycles(alloc: Global, rows: &[(&[u8], u32)]) -> bool {
     true
 }
 
-// How many chunks a thread of a program may hold, or 0.
+// Returns the number of chunks that a thread of a program may hold, or 0.
 fn chunks_in(alloc: Global, accepted: &Accepted) -> u32 {
     match budget_of(alloc, accepted) {
         None => 0,
@@ -124,7 +124,7 @@ fn chunks_of(alloc: Global, source: &[u8]) -> u32 {
     }
 }
 
-// How many chunks a thread of the workload of number 1000 may hold, or 0.
+// Returns the number of chunks that a thread of the workload of number 1000 may hold, or 0.
 fn chunks_of_workload(alloc: Global) -> u32 {
     match workload_of(alloc) {
         None => 0,

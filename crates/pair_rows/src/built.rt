@@ -1,4 +1,4 @@
-// What `build` makes of a source: the valid pairs, word for word and line for line, and what is too large.
+// What `build` makes of a source: the valid pairs, word for word and line for line, and refusals of what is too large.
 
 ghost use Rattle.codegen_link.specs.Plans.{AreInRange};
 ghost use Rattle.std.specs.Prelude.{IfSome};
@@ -15,13 +15,13 @@ use stack_certificate::{Certificate, FunctionFact, SiteFact};
 use stack_image::Image;
 use std::alloc::Global;
 
-/// The sizes that the words give where they say none.
+/// The default sizes.
 pub(crate) const USUAL: Options = Options {
     chunk: 4096,
     max_path: 2032,
 };
 
-/// Where a path has at most 32 bytes.
+/// The sizes with paths of at most 32 bytes.
 pub(crate) const SMALL: Options = Options {
     chunk: 64,
     max_path: 32,
@@ -32,7 +32,7 @@ const NARROW: Options = Options {
     max_path: 16,
 };
 
-// The source of a pair, the sizes for which it is built, and how the lines differ from those of the pair. Where a path has
+// The source of a pair, the sizes for which it is built, and how the lines differ from those of the pair. If a path has
 // at most 16 bytes, the call is linked.
 const PAIRS: &[(Of, Options, &[Change])] = &[
     (Plain, SMALL, &[]),
@@ -95,7 +95,7 @@ site 0 linked 48
 const TWO_FRAMES: &[u8] =
     b"int f(int x) { int a[8]; return x; } int g(int x) { return x; } int (*t[2])(int) = { g, f }; int main() { return t[1](2); }";
 
-// The accepted program that `build` makes of a source.
+// Returns the accepted program that `build` makes of a source.
 fn accepted(alloc: Global, source: &[u8], options: Options) -> Option<Accepted>
     requires { AreInRange options }
 {
@@ -114,8 +114,8 @@ fn accepted_program(alloc: Global, program: Program, options: Options) -> Option
     }
 }
 
-// Why a source isn't built: 1, the function and the bytes of a frame that is too large; 2, 0 and the words of code that
-// are too many; three zeroes where it is built or memory is wanting.
+// Returns why a source isn't built: 1, the function and the bytes of a frame that is too large; 2, 0 and the words of
+// code that is too large; three zeros if it is built or memory runs out.
 fn refusal(alloc: Global, source: &[u8], options: Options) -> (u32, u32, u64)
     requires { AreInRange options }
 {
@@ -137,7 +137,7 @@ fn told(built: Result<Accepted, BuildError>) -> (u32, u32, u64) {
     }
 }
 
-// Whether two images have the same words.
+// Checks whether two images have the same words.
 fn are_same(found: &Image, wanted: &Image) -> bool {
     found.code.as_slice() == wanted.code.as_slice()
         && found.globals.as_slice() == wanted.globals.as_slice()
@@ -145,7 +145,7 @@ fn are_same(found: &Image, wanted: &Image) -> bool {
         && found.entries.as_slice() == wanted.entries.as_slice()
 }
 
-// Whether two functions' facts say the same.
+// Checks whether the facts of two functions are the same.
 fn are_alike(found: &FunctionFact, wanted: &FunctionFact) -> bool {
     found.entry == wanted.entry
         && found.words == wanted.words
@@ -179,7 +179,7 @@ fn are_same_sites(found: &[SiteFact], wanted: &[SiteFact]) -> bool {
     true
 }
 
-// Whether two certificates say the same.
+// Checks whether two certificates are the same.
 fn say_the_same(found: &Certificate, wanted: &Certificate) -> bool {
     are_all_alike(found.functions.as_slice(), wanted.functions.as_slice())
         && are_same_sites(found.sites.as_slice(), wanted.sites.as_slice())
@@ -187,7 +187,7 @@ fn say_the_same(found: &Certificate, wanted: &Certificate) -> bool {
         && found.max_path == wanted.max_path
 }
 
-// Whether a certificate is the one of a text.
+// Checks whether a certificate is that of a text.
 fn has_text(alloc: Global, found: &Certificate, text: &[u8]) -> bool {
     match certificate_in(alloc, text) {
         Some(wanted) => {
@@ -199,7 +199,7 @@ fn has_text(alloc: Global, found: &Certificate, text: &[u8]) -> bool {
     }
 }
 
-// Whether a source is built to an image with the text of a certificate.
+// Checks whether a source is built to an image with the text of a certificate.
 fn has_lines(alloc: Global, source: &[u8], options: Options, text: &[u8]) -> bool
     requires { AreInRange options }
 {
@@ -213,7 +213,7 @@ fn has_lines(alloc: Global, source: &[u8], options: Options, text: &[u8]) -> boo
     }
 }
 
-// Whether a source is built to just an image and the text of a certificate.
+// Checks whether a source is built to exactly an image and the text of a certificate.
 fn is_built(alloc: Global, source: &[u8], options: Options, image: &Image, text: &[u8]) -> bool
     requires { AreInRange options }
 {
@@ -228,7 +228,7 @@ fn is_built(alloc: Global, source: &[u8], options: Options, image: &Image, text:
     }
 }
 
-// Whether a pair's source is built to just the pair.
+// Checks whether a pair's source is built to exactly the pair.
 fn is_pair(alloc: Global, of: Of, options: Options, changes: &[Change]) -> bool
     requires { AreInRange options }
 {
@@ -252,7 +252,7 @@ fn is_pair_of(alloc: Global, pair: &Pair, options: Options, changes: &[Change], 
     }
 }
 
-// The number of words of the code that is made of a source, or 0.
+// Returns the number of words of the code of a source, or 0.
 fn words_of_code(alloc: Global, source: &[u8], options: Options) -> usize
     requires { AreInRange options }
 {
@@ -266,7 +266,7 @@ fn words_of_code(alloc: Global, source: &[u8], options: Options) -> usize
     }
 }
 
-// The sizes, where they are in their ranges.
+// Returns the sizes, if they are in their ranges.
 fn in_range(options: Options) -> Option<Options>
     ensures { IfSome result AreInRange }
 {
@@ -281,7 +281,7 @@ fn in_range(options: Options) -> Option<Options>
     Some(Options { chunk, max_path })
 }
 
-/// The accepted program that `build` makes of a source, where the sizes are in their ranges.
+/// Returns the accepted program that `build` makes of a source, if the sizes are in their ranges.
 pub(crate) fn accepted_in_range(
     alloc: Global,
     source: &[u8],
@@ -325,7 +325,7 @@ fn all_have_lines(alloc: Global, rows: &[(&[u8], Options, &[u8])]) -> bool {
     true
 }
 
-// Whether a source is refused so.
+// Checks whether a source is refused like this.
 fn is_refused(alloc: Global, source: &[u8], options: Options, want: (u32, u32, u64)) -> bool
     requires { AreInRange options }
 {
@@ -333,7 +333,7 @@ fn is_refused(alloc: Global, source: &[u8], options: Options, want: (u32, u32, u
     kind == want.0 && function == want.1 && size == want.2
 }
 
-// Puts a part behind a text so many times, and tells whether there was memory.
+// Appends a part to a text `times` times. Returns `false` if memory runs out.
 fn put(text: &mut Vec<u8>, part: &[u8], times: u32) -> bool {
     for _ in 0..times {
         if matches!(text.extend_from_slice(part), Err(_)) {
@@ -343,7 +343,7 @@ fn put(text: &mut Vec<u8>, part: &[u8], times: u32) -> bool {
     true
 }
 
-// A main of 28 words of code, and 4 more for each assignment and 1 for each `break`; and whether it is whole.
+// Returns a `main` of 28 words of code, plus 4 for each assignment and 1 for each `break`; and whether it is complete.
 fn long_source(alloc: Global, assignments: u32, breaks: u32) -> (Vec<u8>, bool) {
     let mut text = Vec::new(alloc);
     let is_whole = put(&mut text, b"int main() { int x; while (1) {", 1)

@@ -16,7 +16,7 @@ site 7 plain
 site 4294967295 spawn 32
 ";
 
-// Whether these are the facts of the example's functions.
+// Checks whether these are the facts of the example's functions.
 fn are_functions(facts: &[FunctionFact]) -> bool {
     let [first, second] = facts else {
         return false;
@@ -31,7 +31,7 @@ fn are_functions(facts: &[FunctionFact]) -> bool {
         && second.places.is_empty()
 }
 
-// Whether these are the facts of the example's sites.
+// Checks whether these are the facts of the example's sites.
 fn are_sites(facts: &[SiteFact]) -> bool {
     let [linked, plain, spawned] = facts else {
         return false;
@@ -43,7 +43,7 @@ fn are_sites(facts: &[SiteFact]) -> bool {
         && spawned.kind == LinkKind::Spawned { need: 32 }
 }
 
-// Whether the example is read as it says.
+// Checks whether the example is read with these values.
 fn is_read(alloc: Global) -> bool {
     match read_cert(alloc, EXAMPLE) {
         Ok(certificate) => {
@@ -58,7 +58,7 @@ fn is_read(alloc: Global) -> bool {
     }
 }
 
-// Whether a text is read, and written again as it was.
+// Checks whether a text is read, and written as the same text.
 fn comes_back(alloc: Global, text: &[u8]) -> bool {
     match read_cert(alloc, text) {
         Ok(certificate) => {
@@ -77,7 +77,7 @@ fn is_written(written: Result<Vec<u8>, AllocError>, text: &[u8]) -> bool {
     }
 }
 
-// The number of the first line of a text that is refused, or 0.
+// Returns the number of the first refused line of a text, or 0.
 fn refused_line(alloc: Global, text: &[u8]) -> u32 {
     match read_cert(alloc, text) {
         Ok(certificate) => {
@@ -89,7 +89,8 @@ fn refused_line(alloc: Global, text: &[u8]) -> u32 {
     }
 }
 
-// Texts whose first line that isn't as said has that number. The longer ones are spoiled certificates of whole programs.
+// Texts whose first line without the format has that number. The longer ones are modified certificates of whole
+// programs.
 const REFUSED: &[(&[u8], u32)] = &[
     (b"", 1),
     (b"capriccio certificate 1", 1),
@@ -158,7 +159,7 @@ const REFUSED: &[(&[u8], u32)] = &[
     ),
 ];
 
-// Whether the first other line of each text is named.
+// Checks whether the first such line of each text is named.
 fn all_are_refused(alloc: Global, rows: &[(&[u8], u32)]) -> bool {
     for (text, number) in rows {
         if refused_line(alloc, text) != *number {
@@ -168,7 +169,7 @@ fn all_are_refused(alloc: Global, rows: &[(&[u8], u32)]) -> bool {
     true
 }
 
-// Puts a part behind a text so many times, and tells whether there was memory.
+// Appends a part to a text `times` times. Returns `false` if memory runs out.
 fn put(text: &mut Vec<u8>, part: &[u8], times: u32) -> bool {
     for _ in 0..times {
         if matches!(text.extend_from_slice(part), Err(_)) {
@@ -178,7 +179,7 @@ fn put(text: &mut Vec<u8>, part: &[u8], times: u32) -> bool {
     true
 }
 
-// Puts a function with a thousand places.
+// Appends a function with a thousand places.
 fn put_function(text: &mut Vec<u8>) -> bool {
     put(text, b"function 4104 16 16 12 16", 1) && put(text, b" 0", 1_010) && put(text, b"\n", 1)
 }
@@ -192,7 +193,7 @@ fn put_functions(text: &mut Vec<u8>) -> bool {
     true
 }
 
-// Whether a text of eight megabytes comes back.
+// Checks whether a text of eight megabytes is read and written again.
 fn a_large_text_comes_back(alloc: Global) -> bool {
     let head = b"capriccio certificate 1\nchunk 64\nmax-path 32\nfunctions 4096\n";
     let mut text = Vec::new(alloc);

@@ -1,4 +1,4 @@
-// A pair with some things changed, and the checker's answer on it.
+// A pair with some changes, and the checker's answer on it.
 
 use crate::pairs::{Of, Pair, pair_of};
 use accepted_pairs::Accepted;
@@ -23,31 +23,31 @@ pub(crate) enum List {
 /// One thing that is changed in a pair.
 #[derive(Clone, Copy)]
 pub(crate) enum Change {
-    /// The certificate's line of this number, from 1, reads so.
+    /// The certificate's line of this number, from 1, is this.
     Line(usize, &'static [u8]),
     /// The certificate has no line of this number.
     NoLine(usize),
-    /// The word of this index in a list is another.
+    /// The word at this index of a list is another one.
     Word(List, usize, u32),
-    /// One word more stands at the end of a list.
+    /// A list has one more word at its end.
     More(List, u32),
-    /// A list has just so many of its words.
+    /// A list is cut to this number of words.
     Cut(List, usize),
-    /// Words 0 follow in a list until it has so many.
+    /// A list is padded with words 0 to this number of words.
     Padded(List, usize),
 }
 
-/// What the checker says of a pair.
+/// The checker's answer on a pair.
 #[derive(Clone, Copy, PartialEq, Eq)]
 pub(crate) enum Answer {
     Accepted,
     /// The rule, the function and the index that fail first.
     Rejected(u32, u32, u32),
-    /// The source or the certificate isn't read.
+    /// The source or the certificate can't be read.
     Unread,
 }
 
-/// What the checker says of a pair with these things changed.
+/// Returns the checker's answer on a pair with these changes.
 pub(crate) fn check_changed(alloc: Global, of: Of, changes: &[Change]) -> Answer {
     let pair = pair_of(of);
     match image_of(alloc, &pair, changes) {
@@ -77,7 +77,7 @@ fn check_pair(alloc: Global, pair: &Pair, image: Image, certificate: Certificate
     }
 }
 
-// The checker's call. It has no clause, so that those of `check` aren't among what its callers know.
+// Calls the checker. It has no clauses, so that proof search in its callers doesn't try those of `check`.
 fn checked(
     alloc: Global,
     program: Program,
@@ -87,7 +87,8 @@ fn checked(
     check(alloc, program, image, certificate)
 }
 
-// Where a pair is rejected, what is handed back is checked once more, and the checker is to say the same.
+// Returns the answer. If a pair is rejected, the values that are returned are checked once more, and the answer has to
+// be the same.
 fn answer_of(alloc: Global, found: Result<Accepted, CheckError>, pair: &Pair) -> Answer {
     let answer = answer_told(&found, pair);
     match checked_again(alloc, found) {
@@ -100,7 +101,7 @@ fn answer_of(alloc: Global, found: Result<Accepted, CheckError>, pair: &Pair) ->
     }
 }
 
-// What the checker says of the three values that it hands back with a rejected pair.
+// Returns the checker's answer on the three values that it returned with a rejected pair.
 fn checked_again(
     alloc: Global,
     found: Result<Accepted, CheckError>,
@@ -148,7 +149,7 @@ fn answer_told(found: &Result<Accepted, CheckError>, pair: &Pair) -> Answer {
     }
 }
 
-// The certificate of a pair with these things changed, where it is read.
+// Returns the certificate of a pair with these changes, if it can be read.
 fn certificate_of(alloc: Global, pair: &Pair, changes: &[Change]) -> Option<Certificate> {
     match text_of(alloc, pair, changes) {
         Ok(text) => certificate_in(alloc, &text),
@@ -156,7 +157,7 @@ fn certificate_of(alloc: Global, pair: &Pair, changes: &[Change]) -> Option<Cert
     }
 }
 
-/// The certificate of a text, where it is one.
+/// Returns the certificate of a text, if it is one.
 pub(crate) fn certificate_in(alloc: Global, text: &[u8]) -> Option<Certificate> {
     match read_cert(alloc, text) {
         Ok(certificate) => Some(certificate),
@@ -164,7 +165,7 @@ pub(crate) fn certificate_in(alloc: Global, text: &[u8]) -> Option<Certificate> 
     }
 }
 
-/// The program of a source, where it is one.
+/// Returns the program of a source, if it is one.
 pub(crate) fn program_of(alloc: Global, source: &[u8]) -> Option<Program> {
     if source.len() > 1_048_576 {
         return None;
@@ -175,7 +176,7 @@ pub(crate) fn program_of(alloc: Global, source: &[u8]) -> Option<Program> {
     }
 }
 
-// An accepted program tells what was handed in.
+// Checks that an accepted program returns what was passed.
 fn told(accepted: &Accepted, pair: &Pair) -> Answer {
     if accepted.image().globals.as_slice() == pair.globals
         && accepted.certificate().functions.len() == accepted.program().functions().len()
@@ -187,7 +188,7 @@ fn told(accepted: &Accepted, pair: &Pair) -> Answer {
     }
 }
 
-/// The image of a pair with these things changed.
+/// Returns the image of a pair with these changes.
 pub(crate) fn image_of(
     alloc: Global,
     pair: &Pair,
@@ -233,7 +234,7 @@ fn change_words(words: &mut Vec<u32>, list: List, change: Change) -> Result<(), 
     Ok(())
 }
 
-/// The text of a pair's certificate with these things changed.
+/// Returns the text of a pair's certificate with these changes.
 pub(crate) fn text_of(
     alloc: Global,
     pair: &Pair,
@@ -249,7 +250,7 @@ pub(crate) fn text_of(
     Ok(text)
 }
 
-// The line of this number, where there is one.
+// Returns the line of this number, if there is one.
 fn line_of<'a>(line: &'a [u8], here: usize, changes: &[Change]) -> Option<&'a [u8]> {
     let mut line = Some(line);
     for change in changes {

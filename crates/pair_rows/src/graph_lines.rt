@@ -9,7 +9,7 @@ use c_tree::Function;
 use call_graph::GraphSite;
 use std::alloc::{AllocError, Global};
 
-/// Puts a function of this name behind others, of which nothing else is asked, where there is memory.
+/// Appends a function of this name, with arbitrary other values. Returns `false` if memory runs out.
 fn put_named(alloc: Global, list: &mut Vec<Function>, name: &[u8]) -> bool {
     match Vec::from_slice(alloc, name) {
         Ok(name) => {
@@ -26,7 +26,7 @@ fn put_named(alloc: Global, list: &mut Vec<Function>, name: &[u8]) -> bool {
     }
 }
 
-/// Functions of these names.
+/// Returns functions of these names.
 fn functions_named(alloc: Global, names: &[&[u8]]) -> Vec<Function> {
     let mut list = Vec::new(alloc);
     for name in names {
@@ -37,7 +37,7 @@ fn functions_named(alloc: Global, names: &[&[u8]]) -> Vec<Function> {
     list
 }
 
-/// Whether the text of these findings about functions of these names is so.
+/// Checks whether the text of these results about functions of these names is this.
 fn has_text(
     alloc: Global,
     names: &[&[u8]],
@@ -89,7 +89,7 @@ fn a_plain_call_has_its_text(alloc: Global) -> bool {
     )
 }
 
-/// Over it the call is checkpointed.
+/// A longer call is checkpointed.
 fn a_call_over_max_path_has_its_text(alloc: Global) -> bool {
     has_text(
         alloc,

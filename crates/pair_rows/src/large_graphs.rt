@@ -1,5 +1,5 @@
-// A graph as large as a program may have it: a chain of 4,096 functions, and a table of 65,536 members that is
-// called at 60,000 sites.
+// The largest graph of a program: a chain of 4,096 functions, and a table of 65,536 members that is called at 60,000
+// sites.
 ghost use Rattle.std.specs.Prelude.{◌≡◌, ◌+◌, ◌<◌, ◌≤◌, ◌^◌, ℕ, List, [], ◌∷◌, length, IfOk};
 ghost use Rattle.std.specs.List.{AllByRecursion};
 ghost use Rattle.call_graph.specs.Graph.{IsRising, IsSiteOf};
@@ -9,8 +9,8 @@ use checkpoint_place::{PlaceError, Plan, place};
 use cycle_break::back_edges;
 use std::alloc::{AllocError, Global};
 
-/// Up to the last function each calls the next one at the site of its own number. At any other site the first
-/// calls the table.
+/// Returns a site: each function except the last calls the next one at the site of its number. At any other site the
+/// first one calls the table.
 fn site_of(last: u32, number: u32) -> GraphSite
     requires { last < 2 ^ 16 }
     ensures number { result.number ≡ number }
@@ -43,7 +43,7 @@ fn sites_of(alloc: Global, last: u32, count: u32) -> Result<Vec<GraphSite>, Allo
     Ok(sites)
 }
 
-/// The graph of `last + 1` functions of 16 bytes, and a table that has the last one so many times.
+/// Returns the graph of `last + 1` functions of 16 bytes, and a table that has the last one `members` times.
 fn graph_of(alloc: Global, last: u32, members: u32, sites: u32) -> Result<CallGraph, AllocError>
     requires last { last < 2 ^ 16 }
     requires members { 0 < members }
@@ -54,7 +54,7 @@ fn graph_of(alloc: Global, last: u32, members: u32, sites: u32) -> Result<CallGr
     Ok(CallGraph::new(weights, vec![in alloc; table]?, sites, 0))
 }
 
-/// Whether a plan has no checkpoint, the first function's bound is the whole chain and the last one's its frame.
+/// Checks whether a plan has no checkpoint, the first function's bound is the whole chain and the last one's its frame.
 fn is_whole_chain(plan: Result<Plan, PlaceError>) -> bool {
     match plan {
         Ok(plan) => {

@@ -1,5 +1,5 @@
-// The programs with a valid pair each, before anything is changed. The words of the code are those of the table of
-// templates, put together by hand for the first three.
+// Five programs, each with a valid pair, before any change. The words of the code are those of the table of templates,
+// assembled by hand for the first three.
 
 /// A program with an image and the lines of a certificate.
 #[derive(Clone, Copy)]
@@ -12,7 +12,7 @@ pub(crate) struct Pair {
     pub certificate: &'static [&'static [u8]],
 }
 
-/// Whose pair it is.
+/// Which program the pair is of.
 #[derive(Clone, Copy)]
 pub(crate) enum Of {
     /// One call, which is plain.

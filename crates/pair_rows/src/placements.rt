@@ -7,7 +7,7 @@ use checkpoint_place::{PlaceError, Plan, place};
 use cycle_break::back_edges;
 use std::alloc::{AllocError, Global};
 
-/// A graph of these weights and sites, without a table; None where memory is wanting.
+/// Returns a graph of these weights and sites, without a table, or `None` if memory runs out.
 fn graph_of(alloc: Global, weights: &[u32], sites: &[GraphSite], main: u32) -> Option<CallGraph>
     requires { IsCallGraph (record { weights = weights.now; tables = []; sites = sites.now; main = main }) }
 {
@@ -23,7 +23,7 @@ fn graph_of(alloc: Global, weights: &[u32], sites: &[GraphSite], main: u32) -> O
     }
 }
 
-/// One table, whose members are functions 0 and 1.
+/// Returns one table, whose members are functions 0 and 1.
 fn one_table(alloc: Global) -> Result<Vec<Callees>, AllocError>
     ensures { IfOk result (λ tables. tables.items ≡ (0 ∷ 1 ∷ []) ∷ []) }
 {
@@ -31,7 +31,7 @@ fn one_table(alloc: Global) -> Result<Vec<Callees>, AllocError>
     Ok(Vec::from_array(alloc, [members])?)
 }
 
-/// Two functions, of which the second calls the table.
+/// Returns a graph of two functions, of which the second calls the table.
 fn graph_of_table(alloc: Global) -> Result<CallGraph, AllocError> {
     let tables = one_table(alloc)?;
     let site = GraphSite {
@@ -48,7 +48,7 @@ fn are_numbers(found: &[u32], want: &[u32]) -> bool {
     found == want
 }
 
-/// A plan's checkpointed sites and bounds are these.
+/// Checks whether these are a plan's checkpointed sites and bounds.
 fn is_plan(plan: Result<Plan, PlaceError>, checkpointed: &[u32], bounds: &[u32]) -> bool {
     match plan {
         Ok(plan) => {
@@ -61,7 +61,7 @@ fn is_plan(plan: Result<Plan, PlaceError>, checkpointed: &[u32], bounds: &[u32])
     }
 }
 
-/// A graph's back edges, checkpointed sites and bounds are these.
+/// Checks whether these are a graph's back edges, checkpointed sites and bounds.
 fn is_placed(
     alloc: Global,
     graph: &CallGraph,
@@ -81,7 +81,7 @@ fn is_placed(
     }
 }
 
-/// The same of a graph that is let go.
+/// Does the same for a graph, which it drops.
 fn leads_to(
     alloc: Global,
     graph: Option<CallGraph>,
@@ -100,7 +100,7 @@ fn leads_to(
     }
 }
 
-/// A call at max path is plain, and one above it is not.
+/// A call at max path is plain, and a longer one isn't.
 fn a_call_is_placed(alloc: Global) -> bool {
     let at = graph_of(alloc, &[16, 16], &[call(0, 1, 0)], 1);
     leads_to(alloc, at, 32, &[], &[], &[16, 32])
@@ -118,7 +118,7 @@ fn a_pair_is_placed(alloc: Global) -> bool {
     leads_to(alloc, first, 2032, &[1], &[1], &[64, 32, 80])
 }
 
-/// Entered in the middle, the other of the two is.
+/// If the walk enters the cycle at the other function, the other edge is the back edge.
 fn a_pair_entered_in_the_middle_is_placed(alloc: Global) -> bool {
     let sites = [call(0, 0, 1), call(1, 1, 0), call(2, 2, 1)];
     let middle = graph_of(alloc, &[16, 32, 16], &sites, 2);
@@ -131,7 +131,7 @@ fn a_self_call_is_placed(alloc: Global) -> bool {
     leads_to(alloc, own, 2032, &[0], &[0], &[16])
 }
 
-/// A call of a table with its caller is a back edge.
+/// A call of a table that has the caller is a back edge.
 fn a_table_is_placed(alloc: Global) -> bool {
     match graph_of_table(alloc) {
         Ok(graph) => leads_to(alloc, Some(graph), 2032, &[7], &[7], &[16, 32]),
@@ -139,7 +139,7 @@ fn a_table_is_placed(alloc: Global) -> bool {
     }
 }
 
-/// A function never reached has its bound.
+/// A function that is never reached has its bound.
 fn a_function_never_reached_is_placed(alloc: Global) -> bool {
     let graph = graph_of(alloc, &[16, 32], &[call(0, 0, 1)], 1);
     leads_to(alloc, graph, 2032, &[], &[], &[48, 32])
@@ -155,7 +155,7 @@ fn each_is_placed(alloc: Global) -> bool {
         && a_function_never_reached_is_placed(alloc)
 }
 
-/// The function and the bytes of the frame that is too large, behind a 1; three zeroes where there is a plan.
+/// Returns 1, the function and the bytes of the frame that is too large; three zeros if there is a plan.
 fn refusal_of(plan: Result<Plan, PlaceError>) -> (u32, u32, u32) {
     match plan {
         Ok(plan) => {
@@ -167,7 +167,7 @@ fn refusal_of(plan: Result<Plan, PlaceError>) -> (u32, u32, u32) {
     }
 }
 
-/// The refusal of a graph.
+/// Returns the refusal of a graph.
 fn refusal(alloc: Global, graph: &CallGraph, max_path: u32) -> (u32, u32, u32) {
     match back_edges(alloc, graph) {
         Ok(back) => {
@@ -179,7 +179,7 @@ fn refusal(alloc: Global, graph: &CallGraph, max_path: u32) -> (u32, u32, u32) {
     }
 }
 
-/// Whether functions of these weights that call nothing are refused so.
+/// Checks whether functions of these weights that call nothing are refused like this.
 fn is_refused(alloc: Global, weights: &[u32], max_path: u32, want: (u32, u32, u32)) -> bool
     requires { IsCallGraph (record { weights = weights.now; tables = []; sites = []; main = 0 }) }
 {

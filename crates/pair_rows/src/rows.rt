@@ -1,5 +1,5 @@
-// What is changed in a valid pair, and what the checker says then. Beside what is refused stands the nearest that is
-// accepted, or that fails only by a later rule.
+// Changes of valid pairs, and the checker's answers. Next to each refusal is a similar change that is accepted, or that
+// fails only by a later rule.
 
 use crate::changes::Answer::{Accepted, Rejected};
 use crate::changes::Change::{Cut, Line, More, NoLine, Padded, Word};
@@ -9,7 +9,7 @@ use crate::pairs::Of;
 use crate::pairs::Of::{Linked, Plain, Putting, Spawning, Tables};
 use std::alloc::Global;
 
-/// A pair, what is changed in it, and what the checker answers: the rule, the function and the index that fail first.
+/// A pair, its changes, and the checker's answer: the rule, the function and the index that fail first.
 type Row = (Of, &'static [Change], Answer);
 
 // Rows of the valid pairs.
@@ -58,7 +58,7 @@ const THE_COUNTS: [Row; 6] = [
     ),
 ];
 
-// Rows of the sites; index 5 stands before index 4 of a later function.
+// Rows of the sites; index 5 comes before index 4 of a later function.
 const THE_SITES: [Row; 9] = [
     (Plain, &[Line(7, b"sites 0"), NoLine(8)], Rejected(1, 0, 5)),
     (Plain, &[Line(8, b"site 1 plain")], Rejected(1, 0, 5)),
@@ -91,7 +91,7 @@ const THE_SITES: [Row; 9] = [
     ),
 ];
 
-// Rows of where the words of a function stand.
+// Rows of the places of a function's words.
 const WHERE_THE_WORDS_OF_A_FUNCTION_STAND: [Row; 11] = [
     (
         Plain,
@@ -348,7 +348,7 @@ const BOUNDS: [Row; 6] = [
     ),
 ];
 
-// Rows of paths; index 3 stands before index 2 of a later function.
+// Rows of paths; index 3 comes before index 2 of a later function.
 const PATHS: [Row; 8] = [
     (
         Plain,
@@ -384,7 +384,7 @@ const STARTING_VALUES: [Row; 5] = [
     (Spawning, &[More(Globals, 0)], Rejected(12, 0, 3)),
 ];
 
-// Whether each row of a table is answered so.
+// Checks whether each row of a table has its expected answer.
 fn hold(alloc: Global, rows: &[Row]) -> bool {
     for (of, changes, wanted) in rows {
         if check_changed(alloc, *of, changes) != *wanted {
@@ -394,7 +394,7 @@ fn hold(alloc: Global, rows: &[Row]) -> bool {
     true
 }
 
-// The tables before those of the code, by what is changed.
+// Checks the tables on places, by what is changed.
 fn places_hold(alloc: Global) -> bool {
     hold(alloc, &THE_VALID_PAIRS)
         && hold(alloc, &THE_SIZES)
@@ -405,7 +405,7 @@ fn places_hold(alloc: Global) -> bool {
         && hold(alloc, &PLACES)
 }
 
-// The tables of the code and of what is reckoned of it.
+// Checks the tables on code, and on what is computed from it.
 fn code_holds(alloc: Global) -> bool {
     hold(alloc, &PROLOGUES)
         && hold(alloc, &OPERATIONS)

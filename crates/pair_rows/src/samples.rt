@@ -212,7 +212,7 @@ fn main_of_rows(alloc: Global) -> Result<FlatFunction, AllocError>
     })
 }
 
-/// The program.
+/// Returns the program.
 pub fn program(alloc: Global) -> Result<FlatProgram, AllocError>
     ensures { IfOk result (λ flat. program_code flat ≡ sample_code) }
 {
@@ -255,7 +255,7 @@ fn tables_of_rows(alloc: Global) -> Result<Vec<Words>, AllocError>
     Ok(Vec::from_array(alloc, [one, two])?)
 }
 
-/// Its certificate.
+/// Returns its certificate.
 pub fn certificate(alloc: Global) -> Result<Certificate, AllocError>
     ensures { IfOk result (λ c. c ≡ sample_certificate) }
 {
@@ -301,7 +301,7 @@ pub fn certificate(alloc: Global) -> Result<Certificate, AllocError>
     })
 }
 
-/// The program `int main() { put(7); return 0; }`.
+/// Returns the program `int main() { put(7); return 0; }`.
 pub fn putting(alloc: Global) -> Result<FlatProgram, AllocError>
     ensures { IfOk result (λ flat. program_code flat ≡ putting_code) }
 {
@@ -340,7 +340,7 @@ fn putting_main(alloc: Global) -> Result<FlatFunction, AllocError>
     })
 }
 
-/// Its certificate, as the format's worked example has it.
+/// Returns its certificate, as in the format's worked example.
 pub fn certificate_of_putting(alloc: Global) -> Result<Certificate, AllocError>
     ensures { IfOk result (λ c. c ≡ putting_certificate) }
 {
@@ -360,7 +360,7 @@ pub fn certificate_of_putting(alloc: Global) -> Result<Certificate, AllocError>
     })
 }
 
-/// A function of one variable of so many words.
+/// Returns a function of one variable with this number of words.
 pub fn of_words(alloc: Global, size: u32) -> Result<FlatFunction, AllocError>
     ensures { IfOk result (λ f. f.sizes ≡ size ∷ []) }
 {

@@ -1,4 +1,4 @@
-// The words of templates, as llvm-mc assembles the instructions of the table by hand: `llvm-mc -triple=riscv32
+// The words of templates, compared with those of llvm-mc for the instructions of the table: `llvm-mc -triple=riscv32
 // -mattr=+m --show-encoding`.
 
 ghost use Rattle.std.specs.Prelude.{◌≡◌, ◌<◌, ◌≤◌, length};
@@ -12,7 +12,7 @@ use flat_code::{FlatProgram, weight};
 use stack_certificate::{Certificate, prologue_word, stub_word, template_word};
 use std::alloc::Global;
 
-// Whether the operation's template has these words and no more.
+// Checks whether the operation's template has exactly these words.
 fn has_words(
     flat: &FlatProgram,
     certificate: &Certificate,
@@ -231,7 +231,7 @@ const OPERATIONS: &[(u32, &[u32])] = &[
     (36, &[0x0081_2503, 0x03c1_2083, 0x0401_0113, 0x0000_8067]),
 ];
 
-// Whether each operation of the program has its words.
+// Checks whether each operation of the program has its words.
 fn program_has_words(flat: &FlatProgram, certificate: &Certificate, rows: &[(u32, &[u32])]) -> bool
     requires flat { program_code flat.now ≡ sample_code }
     requires certificate { certificate.now ≡ sample_certificate }
@@ -262,7 +262,7 @@ fn program_is_right(alloc: Global) -> bool {
     }
 }
 
-// The code of `int main() { put(7); return 0; }`, as the format's worked example has it.
+// The code of `int main() { put(7); return 0; }`, as in the format's worked example.
 const EXAMPLE: &[(u32, &[u32])] = &[
     (0, &[0x0000_02b7, 0x0072_8293, 0x0051_2023]),
     (1, &[0x0001_2503, 0x0030_0893, 0x0000_0073]),
@@ -272,7 +272,7 @@ const EXAMPLE: &[(u32, &[u32])] = &[
     (5, &[0x0001_2503, 0x00c1_2083, 0x0101_0113, 0x0000_8067]),
 ];
 
-// Whether each operation of the example has its words.
+// Checks whether each operation of the example has its words.
 fn example_has_words(flat: &FlatProgram, certificate: &Certificate, rows: &[(u32, &[u32])]) -> bool
     requires flat { program_code flat.now ≡ putting_code }
     requires certificate { certificate.now ≡ putting_certificate }
@@ -303,7 +303,7 @@ fn example_is_right(alloc: Global) -> bool {
     }
 }
 
-// Whether a template's word is this one.
+// Checks whether a template's word is this one.
 fn is_word(found: Option<u32>, word: u32) -> bool {
     match found {
         Some(found) => found == word,
@@ -311,14 +311,14 @@ fn is_word(found: Option<u32>, word: u32) -> bool {
     }
 }
 
-// Whether the code of any program begins with these two words.
+// Checks whether the code of any program begins with these two words.
 fn code_begins() -> bool {
     is_word(stub_word(0), 0x01e0_0893)
         && is_word(stub_word(1), 0x0000_0073)
         && matches!(stub_word(2), None)
 }
 
-// Whether the example's function begins with these two words.
+// Checks whether the example's function begins with these two words.
 fn function_begins(certificate: &Certificate) -> bool {
     let [fact] = certificate.functions.as_slice() else {
         return false;
@@ -339,7 +339,7 @@ fn example_begins(alloc: Global) -> bool {
     }
 }
 
-// Whether the frame of a function whose variable has so many words has so many bytes.
+// Checks whether the frame of a function whose variable has `size` words has `bytes` bytes.
 fn has_weight(alloc: Global, size: u32, bytes: u32) -> bool
     requires { size ≤ 1048576 }
 {

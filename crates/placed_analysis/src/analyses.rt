@@ -4,8 +4,8 @@ use report_text::Text;
 use source_places::Places;
 use std::alloc::{AllocError, Global};
 
-/// Appends the lines that `graph` printed, where a path between two checkpoints has so many bytes at most, each with its place; of a call
-/// with its text, what it calls, and why it is checkpointed.
+/// Appends the lines that `graph` printed, each with its place; for a call also its text, its callees, and why it is
+/// checkpointed. A path between two checkpoints has at most this many bytes.
 pub fn put_analysis(
     alloc: Global,
     text: &mut Text,
@@ -27,7 +27,7 @@ pub fn put_analysis(
     }
 }
 
-/// Appends the place of the line `function I ..`, or the call of the line `site S CALLER KIND` with what there is to tell of it.
+/// Appends the place of the line `function I ..`, or the call of the line `site S CALLER KIND` with its details.
 fn put_note(
     alloc: Global,
     text: &mut Text,
@@ -49,7 +49,8 @@ fn put_note(
     }
 }
 
-/// Appends what a call through a table may call, and why a site is checkpointed, of whose line these fields are left.
+/// Appends the possible callees of a call through a table, and why a site is checkpointed, from the remaining fields of
+/// its line.
 fn put_reason(
     alloc: Global,
     text: &mut Text,
@@ -76,7 +77,7 @@ fn put_reason(
     drop(callees)
 }
 
-/// Appends which functions a call through a table may call.
+/// Appends the functions that a call through a table may call.
 fn put_callees(text: &mut Text, places: &Places, callees: &[u32]) {
     if callees.len() < 2 {
         return;
@@ -110,7 +111,7 @@ fn put_over(
     )
 }
 
-/// The greatest bound of these functions.
+/// Returns the greatest bound of these functions.
 fn greatest_of(functions: &[Measure], callees: &[u32]) -> u64 {
     let mut greatest: u64 = 0;
     for callee in callees {

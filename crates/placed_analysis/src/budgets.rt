@@ -2,7 +2,7 @@ use cap_text::{Fields, Lines};
 use report_text::Text;
 use source_places::Places;
 
-/// Appends the lines that `budget` printed, each with what its number is of.
+/// Appends the lines that `budget` printed, each with the meaning of its number.
 pub fn put_budget(text: &mut Text, places: &Places, budget: &[u8]) {
     for line in Lines::new(budget) {
         text.bytes(line);
@@ -11,7 +11,8 @@ pub fn put_budget(text: &mut Text, places: &Places, budget: &[u8]) {
     }
 }
 
-/// Appends what the number of a line is of: for `chunks K` each thread, and for `height I H` the function of that number.
+/// Appends the meaning of a line's number: for `chunks K` each thread, and for `height I H` the function of that
+/// number.
 fn put_note(text: &mut Text, places: &Places, line: &[u8]) {
     let mut fields = Fields::new(line, b' ');
     let Some(kind) = fields.next() else {

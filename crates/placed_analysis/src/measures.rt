@@ -1,14 +1,15 @@
 use cap_text::{Fields, Lines};
 use std::alloc::{AllocError, Global};
 
-/// The bytes of a function's frame, and its bound: the most bytes of a path of calls from it that passes no checkpoint.
+/// The size of a function's frame in bytes, and its bound: the maximum number of bytes of a path of calls from it that
+/// passes no checkpoint.
 #[derive(Clone, Copy)]
 pub(crate) struct Measure {
     pub(crate) frame: u64,
     pub(crate) bound: u64,
 }
 
-/// The measures of all functions of an analysis, by their numbers.
+/// Returns the measures of all functions of an analysis, by number.
 pub(crate) fn measures_in(alloc: Global, analysis: &[u8]) -> Result<Vec<Measure>, AllocError> {
     let mut measures = Vec::new(alloc);
     for line in Lines::new(analysis) {
@@ -19,7 +20,7 @@ pub(crate) fn measures_in(alloc: Global, analysis: &[u8]) -> Result<Vec<Measure>
     Ok(measures)
 }
 
-/// The measure in the line `function I NAME frame F bound B`; none in another line.
+/// Returns the measure in the line `function I NAME frame F bound B`, or `None` for another line.
 fn measure_of(line: &[u8]) -> Option<Measure> {
     let mut fields = Fields::new(line, b' ');
     if fields.next()? != b"function".as_slice() {

@@ -1,34 +1,10 @@
--- The program without names is well scoped, and a chain of numbers names nothing.
-use Rattle.std.proofs.Common.{ℕ, refl, lit≤, lit<, List, [], ◌∷◌, ◌++◌, eqb}
-use Rattle.std.specs.List.{IsDistinct}
+-- A chain of numbers names nothing.
+use Rattle.std.proofs.Common.{ℕ, List, [], ◌∷◌, ◌++◌}
 use Rattle.c_tree.specs.declared.operators.Infix.{Infix}
 use Rattle.c_tree.specs.Trees.{ExprTree}
 use Rattle.c_tree.specs.Views.{joined, chained}
-use Rattle.c_tree.specs.WellScoped.{IsFunctionScoped, IsWellScoped}
 use Rattle.c_mean.specs.Layout.{IsInRange}
 use Rattle.c_mean.proofs.ChainLemmas.{OperandsInRange}
-use Rattle.reader_rows.specs.Small.{main_tree, small_tree}
-
-main_scoped : IsFunctionScoped small_tree main_tree
-main_scoped = record { params = lit≤ tt; sizes = refl; order = tt; words = lit≤ tt; temporaries = lit≤ tt; body = ((refl, lit< tt), tt) }
-
-none : IsDistinct eqb []
-unfolding IsDistinct
-none = tt
-
-pub small_scoped : IsWellScoped small_tree
-small_scoped = record {
-  bodies = (main_scoped, tt);
-  functions = lit≤ tt;
-  main_defined = lit< tt;
-  main_params = refl;
-  site_numbers = (none, tt);
-  sites = lit≤ tt;
-  global_sizes = tt;
-  global_words = lit≤ tt;
-  tables = tt;
-  table_members = lit≤ tt;
-}
 
 pub operands_push : (sizes widths : List ℕ) (ps : List (Infix × ExprTree)) (p : Infix × ExprTree) → OperandsInRange sizes widths ps → IsInRange sizes widths p.1 → OperandsInRange sizes widths (ps ++ p ∷ [])
 operands_push sizes widths [] p h k = (k, tt)

@@ -1,9 +1,9 @@
-// Long sources, made of parts that are repeated.
+// Long sources, made of repeated parts.
 
 use crate::lines::{first_part, number};
 use std::alloc::{AllocError, Global};
 
-// Appends the part so many times.
+// Appends the part `times` times.
 fn repeat(text: &mut Vec<u8>, part: &[u8], times: usize) -> Result<(), AllocError> {
     for _ in 0..times {
         text.extend_from_slice(part)?;
@@ -11,7 +11,7 @@ fn repeat(text: &mut Vec<u8>, part: &[u8], times: usize) -> Result<(), AllocErro
     Ok(())
 }
 
-// Appends what the parts say, with `more` repetitions beside theirs.
+// Appends the source that the parts describe, with `more` additional repetitions of the first repeated part.
 fn build(text: &mut Vec<u8>, parts: &str, more: usize) -> Result<(), AllocError> {
     let (before, parts) = first_part(parts);
     let (part, parts) = first_part(parts);
@@ -26,8 +26,8 @@ fn build(text: &mut Vec<u8>, parts: &str, more: usize) -> Result<(), AllocError>
     text.extend_from_slice(after.as_bytes())
 }
 
-/// The source of `before|part|times|middle|end|after`: `before`, so many times `part`, `middle`, so many times `end`, and
-/// `after`; with `more` repetitions beside `times`.
+/// Returns the source of `before|part|times|middle|end|after`: `before`, `part` repeated `times` times, `middle`, `end`
+/// repeated `times` times, and `after`; with `more` additional repetitions.
 pub(crate) fn built(alloc: Global, parts: &str, more: usize) -> Result<Vec<u8>, AllocError> {
     let mut text = Vec::new(alloc);
     match build(&mut text, parts, more) {

@@ -1,11 +1,12 @@
-// How deep constructs may be open, and how long a source without depth may be.
+// The maximum depth of open constructs, and the length of a source without depth.
 
 use crate::built::built;
 use crate::grammar::gives;
 use crate::lines::{first_line, wanted};
 use std::alloc::Global;
 
-// The refusal with one part more than what fits, and the parts with the most repetitions in which nothing is too deep.
+// The refusal with one part more than fits, and the parts with the maximum number of repetitions at which nothing is
+// too deep.
 const LIMITS: &str = "TooDeep 72: int f() |{|64||}|
 TooDeep 77: int f() { a = |(|63|1|)|; }
 TooDeep 141: int f() { a = |a[|63|1|]|; }
@@ -19,7 +20,7 @@ TooDeep 447: int f() { |for(;;)|62|;|| }
 TooDeep 694: int f() { |if(1);else |62|;|| }
 TooDeep 77: int f() { a = |!|63|1?2:3||; }";
 
-// Long sources that open nothing for long, and such that open too much or fit nothing.
+// Long sources that never have much open, and sources that have too much open or fit no rule.
 const LONG: &str = "tree 1: int f() { a = 1|+1|500000|||; }
 tree 1: int f() { |a=1;|100000|||}
 tree 1: int f(int|,int|65000|||);
@@ -43,7 +44,7 @@ tree 1: int f() { |if(1);else;|100||| }
 tree 1: int f() { |while(1);|100||| }
 tree 1: int f() { |for(;;);|100||| }";
 
-// Whether the grammar gives this answer for the source of the parts.
+// Checks whether the grammar gives this answer for the source of the parts.
 fn built_gives(alloc: Global, parts: &str, more: usize, want: &str) -> bool {
     match built(alloc, parts, more) {
         Ok(source) => {
@@ -66,7 +67,7 @@ fn the_limit_of_each_construct(rt: HostRuntime) {
         rows = after;
     }
     assert!(rt; rows.is_empty());
-    // the 65th parenthesis fits nothing behind a number
+    // the 65th parenthesis is unexpected after a number
     let both = "int f() { a = |(|63|1(|)|; }";
     assert!(rt; built_gives(rt.alloc(), both, 0, "Unexpected 78"));
 }

@@ -1,4 +1,4 @@
-// Which tokens are a tree, with the number of its items, and what the others are refused for.
+// Which tokens are a tree, with the number of its items, and why the others are refused.
 
 ghost use Rattle.std.specs.Prelude.{◌≤◌, length};
 
@@ -8,7 +8,7 @@ use c_parse::{ParseError, parse};
 use grammar_laws::{else_to_the_nearest, one_tree, one_verdict};
 use std::alloc::Global;
 
-// Each alternative of the grammar; then what fits nothing, and the first call that is not whole.
+// Each alternative of the grammar; then tokens that fit no rule, and the first call that isn't whole.
 const ROWS: &str = "tree 0: 
 tree 1: int a;
 tree 4: int a, b = 5, c = -7, d[3];
@@ -83,7 +83,7 @@ NestedCall 18: void f() { for (; g(); ) ; }
 NestedCall 23: void f() { for (;; i = g() + 1) ; }
 Unexpected 20: int f() { g(h()); } 1";
 
-// The tree's number of items, or the refusal with its place.
+// Returns the tree's number of items, or the refusal with its place.
 fn parsed(alloc: Global, source: &[u8], tokens: &[Token]) -> (&'static str, usize)
     requires { length source.now ≤ 1048576 }
 {
@@ -100,7 +100,7 @@ fn parsed(alloc: Global, source: &[u8], tokens: &[Token]) -> (&'static str, usiz
     }
 }
 
-// The answer for a source, which has tokens.
+// Returns the answer for a source that consists of tokens.
 fn answer(alloc: Global, source: &[u8]) -> (&'static str, usize) {
     if source.len() > 1048576 {
         return ("too long", 0);
@@ -115,7 +115,7 @@ fn answer(alloc: Global, source: &[u8]) -> (&'static str, usize) {
     }
 }
 
-/// Whether the grammar gives this answer: `tree` with the number of its items, or a refusal with its place.
+/// Checks whether the grammar gives this answer: `tree` with the number of its items, or a refusal with its place.
 pub(crate) fn gives(alloc: Global, source: &[u8], want: &str) -> bool {
     let (name, count) = answer(alloc, source);
     match want.split_once(' ') {
@@ -136,7 +136,7 @@ fn reads_and_refuses(rt: HostRuntime) {
     assert!(rt; rows.is_empty());
 }
 
-// The laws have nothing to run.
+// Calls the laws, which have no effect at run time.
 #[test]
 fn laws(_rt: HostRuntime) {
     one_verdict();

@@ -4,8 +4,8 @@
 // out by hand from ISO/IEC 9899:2018, 6.4 to 6.9, and the rules and limits of the subset that docs/LANGUAGE.md gives. A
 // table is one text, a row a line: what is wanted, a colon, and the source (`lines`); a long source is made of parts
 // (`built`). No crate stands on this one: it is apart from the libraries so that they are proved once and not a second
-// time with their tests. The small programs of `trees` and `values` are made by `Program::new`, so a well-scoped program
-// exists (specs/Sample.antt).
+// time with their tests. The small program of `trees` is made by `Program::new`, so a well-scoped program exists
+// (specs/Sample.antt).
 #![tactic(auto)]
 
 #[cfg(test)]

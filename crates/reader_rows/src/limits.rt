@@ -5,7 +5,7 @@ use crate::lines::{first_line, wanted};
 use crate::programs::tells;
 use std::alloc::{AllocError, Global};
 
-// In the last rows: scopes of one name, each closed before the next; and the first limit of those exceeded.
+// In the last rows: scopes of one name, each closed before the next; and the first of several exceeded limits.
 const ROWS: &str = "program: int main() { |yield();|65535||| return 0; }
 Limit sites: int main() { |yield();|65536||| return 0; }
 program: int f(int x) { return x; } int (*t[65536])(int) = { f|, f|65535||| }; int main() { return 0; }
@@ -19,7 +19,7 @@ Limit params: int f(int a, int b, int c, int d, int e, int g, int h||0|||) { ret
 program: int main() { int a; |{ int a; a = 1; }|4095||| return 0; }
 Limit globals: int a[65536], b; int main() { int a[4097];||0||| return 0; }";
 
-// Whether the source of the parts is told this.
+// Checks whether the source of the parts gets this answer.
 fn built_tells(alloc: Global, parts: &str, want: &str) -> bool {
     match built(alloc, parts, 0) {
         Ok(source) => {
@@ -31,7 +31,7 @@ fn built_tells(alloc: Global, parts: &str, want: &str) -> bool {
     }
 }
 
-// Appends so many functions.
+// Appends `count` functions.
 fn append_functions(alloc: Global, text: &mut Vec<u8>, count: u32) -> Result<(), AllocError> {
     for number in 0..count {
         let function = format!(in alloc; "void f{number}() {{}}")?;
@@ -40,7 +40,7 @@ fn append_functions(alloc: Global, text: &mut Vec<u8>, count: u32) -> Result<(),
     Ok(())
 }
 
-// Whether `main` and so many functions beside it are told this.
+// Checks whether `main` with `count` other functions gets this answer.
 fn functions_tell(alloc: Global, count: u32, want: &str) -> bool {
     match Vec::from_slice(alloc, b"int main() { return 0; }") {
         Ok(mut source) => {

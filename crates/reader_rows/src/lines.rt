@@ -1,6 +1,6 @@
 // Tables in one text.
 
-/// The first line of the text, and what follows it.
+/// Returns the first line of the text, and the rest.
 pub(crate) fn first_line(text: &str) -> (&str, &str) {
     match text.split_once('\n') {
         Some(parts) => parts,
@@ -8,7 +8,7 @@ pub(crate) fn first_line(text: &str) -> (&str, &str) {
     }
 }
 
-/// What stands before the first `|`, and what follows it.
+/// Returns the text before the first `|`, and the rest.
 pub(crate) fn first_part(text: &str) -> (&str, &str) {
     match text.split_once('|') {
         Some(parts) => parts,
@@ -16,7 +16,7 @@ pub(crate) fn first_part(text: &str) -> (&str, &str) {
     }
 }
 
-/// What a row wants, and its source.
+/// Returns the expected result of a row, and its source.
 pub(crate) fn wanted(row: &str) -> (&str, &str) {
     match row.split_once(": ") {
         Some(parts) => parts,
@@ -24,7 +24,7 @@ pub(crate) fn wanted(row: &str) -> (&str, &str) {
     }
 }
 
-/// The number that the text is.
+/// Returns the number that the text spells.
 pub(crate) fn number(text: &str) -> usize {
     match text.parse::<usize>() {
         Ok(number) => number,

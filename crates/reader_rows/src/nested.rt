@@ -1,12 +1,12 @@
-// Sources with calls inside expressions: which are programs, and what the others are refused for.
+// Sources with calls inside expressions: which are programs, and why the others are refused.
 
 use crate::lines::{first_line, wanted};
 use crate::programs::is_printed;
 use c_hoist::read_nested;
 use std::alloc::Global;
 
-// Each form in which a call may stand; each part in the parentheses of a `for`; then which refusal comes first, the rules of scope
-// at the places of the source, and the words of the new names.
+// Each form in which a call may occur; each part in the parentheses of a `for`; then which refusal comes first, the
+// rules of scope at the places of the source, and the limits with the new names.
 const ROWS: &str = "program: int main() { put(self() + 1); return 0; }
 program: int main() { int a[3]; return a[self()] + -self() + (self()) + !self(); }
 program: int main() { return self() + self() * self(); }
@@ -45,7 +45,7 @@ program: int main() { int a[4095]; return 1 + self(); }
 Limit locals: int main() { int a[4096]; return 1 + self(); }
 Limit locals: int main() { int a[4095]; return self() + self(); }";
 
-// Whether the source is told this: its refusal as it is printed, or `program`.
+// Checks whether the source gets this answer: its refusal as it is printed, or `program`.
 fn tells_nested(alloc: Global, source: &[u8], want: &str) -> bool {
     if source.len() > 1048576 {
         return false;

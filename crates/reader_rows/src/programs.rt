@@ -1,11 +1,12 @@
-// Which sources are programs, and what the others are refused for.
+// Which sources are programs, and why the others are refused.
 
 use crate::lines::{first_line, wanted};
 use c_scope::{SourceError, read_program};
 use std::alloc::Global;
 
-// The readers one after another: tokens, tree, rules, `main`, where a later reading has no word if an earlier one refuses
-// (the first fourteen); then the rules of scope, each broken and beside it kept; then what is declared again or hides.
+// The readers one after another: tokens, tree, rules, `main`, each of which runs only if none before it refuses (the
+// first fourteen rows). Then the rules of scope, each broken and kept; then names that are declared twice or hide
+// others.
 const ROWS: &str = "program: int main() { put(7); return 0; }
 NoMain: 
 OpenComment at 0: /* x
@@ -80,7 +81,7 @@ Kind at 31: int a[2]; int main() { int a = a; return 0; }
 Kind at 10: int f(int put) { return 0; } int main() { return 0; }
 Kind at 10: int f(int spawn); int f(int x) { return x; } int main() { return 0; }";
 
-/// Whether the refusal is printed so.
+/// Checks whether the refusal is printed like this.
 pub(crate) fn is_printed(alloc: Global, error: &SourceError, want: &str) -> bool {
     match error.to_string(alloc) {
         Ok(text) => {
@@ -92,7 +93,7 @@ pub(crate) fn is_printed(alloc: Global, error: &SourceError, want: &str) -> bool
     }
 }
 
-/// Whether the source is told this: its refusal as it is printed, or `program`.
+/// Checks whether the source gets this answer: its refusal as it is printed, or `program`.
 pub(crate) fn tells(alloc: Global, source: &[u8], want: &str) -> bool {
     if source.len() > 1048576 {
         return false;

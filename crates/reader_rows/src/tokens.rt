@@ -1,4 +1,4 @@
-// Sources and their tokens, or the refusal of one that has none.
+// Sources and their tokens, or their refusal.
 
 use crate::lines::{first_line, number, wanted};
 use c_lex::{
@@ -27,7 +27,7 @@ BadNumber 0: 0X
 BadNumber 2: x 12u
 BadNumber 0: 0x100000000";
 
-// What a token is, if it is no number.
+// Returns the name of a token's kind, unless it is a number.
 fn word(kind: TokenKind) -> &'static str {
     match kind {
         TokenKind::Name => "name",
@@ -37,7 +37,7 @@ fn word(kind: TokenKind) -> &'static str {
     }
 }
 
-// Whether the token is what is told: its word or number, its place and its length.
+// Checks whether the token has this word or number, place and length.
 fn is_token(token: Token, told: &str) -> bool {
     let Some((what, numbers)) = told.split_once(' ') else {
         return false;
@@ -52,7 +52,7 @@ fn is_token(token: Token, told: &str) -> bool {
     is_kind && number(at) == token.at as usize && number(length) == token.length as usize
 }
 
-// Whether the tokens are those that are told.
+// Checks whether these are the tokens.
 fn are_tokens(tokens: &[Token], told: &str) -> bool {
     let mut told = told;
     for token in tokens {
@@ -67,7 +67,7 @@ fn are_tokens(tokens: &[Token], told: &str) -> bool {
     told == "end"
 }
 
-// Whether a refusal is this one.
+// Checks whether a refusal is this one.
 fn is_refusal(error: LexError, told: &str) -> bool {
     let (name, place) = match error {
         LexError::BadByte { at } => ("BadByte", at),
@@ -81,7 +81,7 @@ fn is_refusal(error: LexError, told: &str) -> bool {
     }
 }
 
-// Whether the source has these tokens, or this refusal.
+// Checks whether the source has these tokens, or this refusal.
 fn gives(alloc: Global, source: &[u8], want: &str) -> bool {
     if source.len() > 1048576 {
         return false;
@@ -111,7 +111,7 @@ fn splits_and_refuses(rt: HostRuntime) {
     assert!(rt; gives(rt.alloc(), b"\x80", "BadByte 0"));
 }
 
-// How many tokens a source of so many such lines has, or 0.
+// Returns the number of tokens of a source of `lines` such lines, or 0.
 fn count(alloc: Global, line: &[u8], lines: usize) -> usize {
     let mut source = Vec::new(alloc);
     for _ in 0..lines {
@@ -128,14 +128,14 @@ fn count(alloc: Global, line: &[u8], lines: usize) -> usize {
     }
 }
 
-// Nearly the longest source, of 31,775 lines with nine tokens and a comment each.
+// Nearly the longest source: 31,775 lines with nine tokens and a comment each.
 #[test]
 fn reads_a_megabyte(rt: HostRuntime) {
     let line = b"int x1 = 0x10 + y << 2;  // note\n";
     assert!(rt; count(rt.alloc(), line, 31775) == 9 * 31775);
 }
 
-// The laws have nothing to run.
+// Calls the laws, which have no effect at run time.
 #[test]
 fn laws(rt: HostRuntime) {
     reading_is_unique();

@@ -56,7 +56,7 @@ fn long_body(alloc: Global) -> Result<Vec<Stmt>, AllocError> {
     Ok(body)
 }
 
-// How many temporaries the long sum needs, or 0.
+// Returns the number of temporaries that the long sum needs, or 0.
 fn sum_temporaries(alloc: Global) -> u32 {
     match long_sum(alloc) {
         Ok(sum) => {
@@ -68,7 +68,7 @@ fn sum_temporaries(alloc: Global) -> u32 {
     }
 }
 
-// How many temporaries a function of the long body needs, or 0.
+// Returns the number of temporaries that a function with the long body needs, or 0.
 fn body_temporaries(alloc: Global) -> u32 {
     match long_body(alloc) {
         Ok(body) => {
@@ -114,7 +114,7 @@ fn long_raw_body(alloc: Global) -> Result<Vec<RawStmt>, AllocError> {
     Ok(body)
 }
 
-// How many statements the long raw list has, or 0.
+// Returns the number of statements of the long raw list, or 0.
 fn raw_length(alloc: Global) -> usize {
     match long_raw_body(alloc) {
         Ok(body) => {
@@ -190,7 +190,7 @@ fn sample(alloc: Global) -> Result<Program, AllocError> {
     Program::new(alloc, functions, globals, tables, 1)
 }
 
-// Whether the program tells the parts of the sample.
+// Checks whether the program returns the parts of the sample.
 fn tells_parts(program: &Program) -> bool {
     let site = Site {
         number: 0,
@@ -203,7 +203,7 @@ fn tells_parts(program: &Program) -> bool {
         && program.sites().first().copied() == Some(site)
 }
 
-// Whether the sample is made, and tells its parts.
+// Checks whether the sample is made, and returns its parts.
 fn sample_tells_parts(alloc: Global) -> bool {
     match sample(alloc) {
         Ok(program) => {
@@ -239,24 +239,34 @@ fn modelled_calls_have_numbers(rt: HostRuntime) {
     }
 }
 
-// `spawn(f, 4)`, where f is function 2 and the site has number 9.
-#[test]
-fn a_spawn_tells_its_site(rt: HostRuntime) {
+// The site of `spawn(f, 4)`, where f is function 2 and the site has number 9.
+fn site_of_a_spawn(alloc: Global) -> Result<Site, AllocError> {
+    let argument = Box::new(alloc, Expr::Number(4))?;
     let call = Call::Spawn {
         site: 9,
         function: 2,
-        argument: Expr::Number(4),
+        argument,
     };
     let told = call.site();
     drop(call);
-    let site = Site {
-        number: 9,
-        kind: SiteKind::Spawn(2),
-    };
-    assert!(rt; told == site);
+    Ok(told)
 }
 
-// How many items a raw program of `int g = 7;` tells, or 0.
+#[test]
+fn a_spawn_tells_its_site(rt: HostRuntime) {
+    let told = site_of_a_spawn(rt.alloc());
+    assert!(rt;
+        matches!(
+            told,
+            Ok(Site {
+                number: 9,
+                kind: SiteKind::Spawn(2)
+            })
+        )
+    );
+}
+
+// Returns the number of items of a raw program of `int g = 7;`, or 0.
 fn raw_items(alloc: Global) -> Result<usize, AllocError> {
     let text = vec![in alloc; b'g']?;
     let items = vec![in alloc;

@@ -1,4 +1,4 @@
-// The source and the trace of the workload, whole.
+// The whole source and trace of the workload.
 use crate::programs::tells;
 use std::alloc::Global;
 use workload::{make_program, make_trace};
@@ -26,10 +26,10 @@ data 1000000 0 0
 data 1000010 1 1
 ";
 
-// The last line of the trace of the workload of 66, whose channels have gone round once.
+// The last line of the trace of the workload of 66, after all channels have been used once.
 const LAST_OF_66: &[u8] = b"\ndata 1000650 1 65\n";
 
-// Whether this is the source of the workload of n.
+// Checks whether this is the source of the workload of n.
 fn is_source(alloc: Global, n: u32, want: &[u8]) -> bool {
     if n < 1 || n > 1000 {
         return false;
@@ -44,7 +44,7 @@ fn is_source(alloc: Global, n: u32, want: &[u8]) -> bool {
     }
 }
 
-// Whether the source of the workload of n is read as a program.
+// Checks whether the source of the workload of n is read as a program.
 fn is_read(alloc: Global, n: u32) -> bool {
     if n < 1 || n > 1000 {
         return false;

@@ -1,4 +1,4 @@
--- What a queue means, and what it keeps.
+-- The state of a queue, and its invariant.
 use Rattle.std.specs.Prelude.{◌≡◌, Option, List, length}
 use Rattle.ready_tree.specs.declared.entries.Entry.{Entry}
 use Rattle.ready_tree.specs.declared.ready_tree.ReadyTree.TheInside.{Inside}

@@ -1,4 +1,4 @@
--- What threads wait for, and when a need is met.
+-- The needs of threads, and when a need is met.
 use Rattle.std.specs.Prelude.{ℕ, zero, suc, ◌≡◌, ◌==◌, ◌&&◌, ◌||◌, not, Bool, true, false, nat_le, nat_lt, bit_and, List, slice_index}
 use Rattle.ready_tree.specs.declared.needs.Need.{Need}
 use Rattle.ready_tree.specs.declared.needs.Needs.{Needs}
@@ -30,7 +30,7 @@ is_same_need (Need.Event channels from) (Need.Event other_channels other_from) =
 is_same_need (Need.Amount resource amount) (Need.Amount other_resource other_amount) = resource == other_resource && amount == other_amount
 is_same_need _ _ = false
 
--- whether of one of the first resources the amount is unused
+-- whether the amount of one of the first resources is unused
 unfoldable pub fits_first : List ℕ → List ℕ → ℕ → Bool
 fits_first amounts unused zero = false
 fits_first amounts unused (suc r) = fits_first amounts unused r || nat_le (slice_index amounts r) (slice_index unused r)
@@ -43,6 +43,6 @@ is_some_met bounds needs =
     || (is_shared bounds.channels needs.channels
     || (nat_le needs.from bounds.clock || fits_first needs.amounts bounds.unused 8)))
 
--- what some of those of the one or of the other wait for
+-- the needs of both groups of threads together
 pub record IsJoin (needs left right : Needs) : Type 0 where
   pub met : (bounds : Bounds) → is_some_met bounds needs ≡ (is_some_met bounds left || is_some_met bounds right)

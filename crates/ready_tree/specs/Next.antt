@@ -10,7 +10,8 @@ use Rattle.ready_tree.specs.Nodes.{doubled, IsLevel, node_at}
 pub record NoneBetween (bounds : Bounds) (nodes : List Needs) (from to : ℕ) : Type 0 where
   pub none : (leaf : ℕ) → from ≤ leaf → leaf < to → is_some_met bounds (node_at nodes leaf) ≡ false
 
--- a subtree so many levels above the leaves; from the first leaf on and before its own no need is met
+-- a subtree at this number of levels above the leaves, such that no need is met from the leaf at
+-- which the search starts up to the subtree
 pub record IsReached (bounds : Bounds) (nodes : List Needs) (subtree : Subtree) : Type 0 where
   pub above : ℕ
   pub leaves : length nodes / 2 ≡ doubled above subtree.level
@@ -21,12 +22,12 @@ pub record IsReached (bounds : Bounds) (nodes : List Needs) (subtree : Subtree) 
   pub at : subtree.first ≤ doubled above subtree.node
   pub before : NoneBetween bounds nodes subtree.first (doubled above subtree.node)
 
--- the next subtree from this leaf on, and none where from there on no need is met
+-- the next subtree from this leaf on, and none if from there on no need is met
 abbrev pub IsNextSubtree : Bounds → List Needs → ℕ → Option Subtree → Type 0
 IsNextSubtree bounds nodes first None = NoneBetween bounds nodes first (length nodes)
 IsNextSubtree bounds nodes first (Some subtree) = (subtree.first ≡ first) × IsReached bounds nodes subtree
 
--- the next leaf from this one on, and none where from there on no need is met
+-- the next leaf from this one on, and none if from there on no need is met
 pub record IsNextLeaf (bounds : Bounds) (nodes : List Needs) (first leaf : ℕ) : Type 0 where
   pub behind : first ≤ leaf
   pub there : leaf < length nodes

@@ -1,27 +1,27 @@
--- How the tree stands in a list: the node i above its children 2 * i and 2 * i + 1, from node 1 on, and the leaves in the second
--- half, a power of 2 of them.
+-- The layout of the tree in a list: node i has the children 2 * i and 2 * i + 1, from node 1 on, and the leaves, a
+-- power of 2 of them, are the second half.
 use Rattle.std.specs.Prelude.{ℕ, zero, suc, ◌≡◌, ◌≢◌, ◌+◌, ◌-◌, ◌*◌, ◌/◌, ◌^◌, ◌<◌, ◌≤◌, false, List, length, replicate, slice_index_or}
 use Rattle.ready_tree.specs.declared.needs.Needs.{Needs}
 use Rattle.ready_tree.specs.Needs.{IsJoin}
 
--- nobody waits
+-- the needs of no threads
 abbrev pub no_needs : Needs
 no_needs = record { nothing = false; arrival = false; channels = 0; from = 2 ^ 64 - 1; amounts = replicate 8 (2 ^ 32 - 1) }
 
 abbrev pub node_at : List Needs → ℕ → Needs
 node_at nodes i = slice_index_or nodes i no_needs
 
--- a number that is doubled so often
+-- a number doubled this number of times
 unfoldable pub doubled : ℕ → ℕ → ℕ
 doubled zero n = n
 doubled (suc times) n = doubled times (2 * n)
 
--- a level that begins with this node is so many levels above the leaves
+-- a level that begins with this node is this number of levels above the leaves
 pub record IsLevel (leaves first : ℕ) : Type 0 where
   pub above : ℕ
   pub same : leaves ≡ doubled above first
 
--- as many nodes as leaves, with node 0, which isn't used
+-- as many inner nodes as leaves, including node 0, which isn't used
 pub record IsWhole (nodes : List Needs) : Type 0 where
   pub some : 1 ≤ length nodes / 2
   pub even : length nodes ≡ 2 * (length nodes / 2)
@@ -40,7 +40,7 @@ pub record AreJoinedBut (nodes : List Needs) (but : ℕ) : Type 0 where
   pub whole : IsWhole nodes
   pub node : (i : ℕ) → 1 ≤ i → i < length nodes / 2 → i ≢ but → IsNode nodes i
 
--- a tree over the blocks of at least so many places, at which nobody waits
+-- a tree over the blocks of at least this number of places, without waiting threads
 pub record IsBlank (nodes : List Needs) (places : ℕ) : Type 0 where
   pub joined : AreJoined nodes
   pub enough : places < 16 * (length nodes / 2)

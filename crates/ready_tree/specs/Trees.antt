@@ -8,27 +8,27 @@ use Rattle.ready_tree.specs.Needs.{is_some_met}
 use Rattle.ready_tree.specs.Nodes.{AreJoined, node_at, IsBlank}
 use Rattle.ready_tree.specs.Entries.{entries_of, place_at, may_go}
 
--- where the need of who is at the place is met, the need of some thread may be
+-- if the need of the thread at the place is met, the joined needs may be met
 pub record Covers (needs : Needs) (place : Option Entry) : Type 0 where
   pub met : (bounds : Bounds) → may_go bounds place ≡ true → is_some_met bounds needs ≡ true
 
--- so of each thread
+-- the same for each thread
 abbrev pub CoversAll : Needs → List Entry → Type 0
 CoversAll needs entries = AllByRecursion (λ entry. Covers needs (Some entry)) entries
 
--- the tree stands above the blocks of these places
+-- the tree is that above the blocks of these places
 pub record IsAbove (nodes : List Needs) (places : List (Option Entry)) : Type 0 where
   pub joined : AreJoined nodes
   pub fits : length places ≤ 16 * (length nodes / 2)
   pub covers : (place : ℕ) → place < length places → Covers (node_at nodes (length nodes / 2 + place / 16)) (place_at places place)
 
--- it does but for the leaf of one block
+-- the same except for the leaf of one block
 pub record IsAboveBut (nodes : List Needs) (places : List (Option Entry)) (block : ℕ) : Type 0 where
   pub joined : AreJoined nodes
   pub fits : length places ≤ 16 * (length nodes / 2)
   pub covers : (place : ℕ) → place < length places → place / 16 ≢ block → Covers (node_at nodes (length nodes / 2 + place / 16)) (place_at places place)
 
--- so where there is a tree
+-- the same if there is a tree
 abbrev pub IsAboveIf : List Needs → List (Option Entry) → Type 0
 IsAboveIf nodes places = 1 ≤ length nodes → IsAbove nodes places
 
@@ -41,11 +41,11 @@ AreJoinedIf nodes = 1 ≤ length nodes → AreJoined nodes
 abbrev pub IsBlankIf : List Needs → ℕ → Type 0
 IsBlankIf nodes places = 1 ≤ length nodes → IsBlank nodes places
 
--- more than so many places have a block below the tree
+-- more than this number of places have a block below the tree
 abbrev pub HasPlaces : List Needs → ℕ → Type 0
 HasPlaces nodes count = 1 ≤ length nodes → count < 16 * (length nodes / 2)
 
--- one more place has
+-- there is room for one more place
 abbrev pub HasRoom : List Needs → List (Option Entry) → Type 0
 HasRoom nodes places = HasPlaces nodes (length places)
 

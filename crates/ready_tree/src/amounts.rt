@@ -2,7 +2,7 @@
 ghost use Rattle.std.specs.Prelude.{◌≡◌, ℕ, ◌<◌, min, slice_index};
 ghost use Rattle.ready_tree.specs.Needs.{fits_first};
 
-/// Whether of some resource the amount is unused.
+/// Returns whether the amount of some resource is unused.
 pub(crate) fn fits_some(amounts: &[u32; 8], unused: &[u32; 8]) -> bool
     ensures { result ≡ fits_first amounts.now unused.now 8 }
 {
@@ -13,7 +13,7 @@ pub(crate) fn fits_some(amounts: &[u32; 8], unused: &[u32; 8]) -> bool
     fits
 }
 
-/// For each resource the lesser of two amounts.
+/// Returns the lesser of two amounts, for each resource.
 pub(crate) fn lesser(amounts: &[u32; 8], others: &[u32; 8]) -> [u32; 8]
     ensures { (r : ℕ) → r < 8 → slice_index result r ≡ min (slice_index amounts.now r) (slice_index others.now r) }
 {
@@ -24,7 +24,7 @@ pub(crate) fn lesser(amounts: &[u32; 8], others: &[u32; 8]) -> [u32; 8]
     least
 }
 
-/// An amount of one resource, and of no other.
+/// Returns an amount of one resource, and of no other.
 pub(crate) fn only(resource: u32, amount: u32) -> [u32; 8]
     ensures { resource < 8 → slice_index result resource ≡ amount }
 {

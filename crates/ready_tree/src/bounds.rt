@@ -4,21 +4,21 @@ ghost use Rattle.ready_tree.specs.Needs.{is_met, is_some_met};
 use crate::amounts::fits_some;
 use crate::needs::{Need, Needs};
 
-/// What is there now for threads that wait.
+/// What is available now for waiting threads.
 #[derive(Clone, Copy)]
 pub struct Bounds {
-    /// Whether an arrival waits.
+    /// Whether an arrival is queued.
     pub arrival: bool,
-    /// The channels that hold a message. Bit c stands for channel c.
+    /// The channels that have a message. Bit c stands for channel c.
     pub channels: u64,
     /// The time.
     pub clock: u64,
-    /// How much of each resource is unused.
+    /// The unused amount of each resource.
     pub unused: [u32; 8],
 }
 
 impl Bounds {
-    /// Whether a need is met.
+    /// Returns whether a need is met.
     pub fn meet(&self, need: Need) -> bool
         ensures { result ≡ is_met self.now need }
     {
@@ -32,7 +32,7 @@ impl Bounds {
         }
     }
 
-    /// Whether the need of some thread may be met.
+    /// Returns whether the need of some thread may be met.
     #[tactic(auto, unfolding(crate::specs::Needs::is_some_met))]
     pub fn meet_some(&self, needs: &Needs) -> bool
         ensures { result ≡ is_some_met self.now needs.now }

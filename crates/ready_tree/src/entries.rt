@@ -1,11 +1,11 @@
 use crate::needs::Need;
 use cap_word::ThreadId;
 
-/// A thread that waits, and its need.
+/// A waiting thread and its need.
 #[derive(Clone, Copy)]
 pub struct Entry {
     /// The thread.
     pub thread: ThreadId,
-    /// What it waits for.
+    /// Its need.
     pub need: Need,
 }

@@ -1,11 +1,12 @@
-// A queue of threads that finds the first whose need is met without looking at those before it.
+// A queue of threads that finds the first thread whose need is met, without testing those before it.
 //
-// A need says what must be so for a thread to be ready: nothing, an arrival, a message of a channel or a time, or an amount of
-// a resource that is unused. In: threads with their needs, in order of joining, and the bounds of what is there now. Out: the
-// first thread whose need is met (`ReadyTree::first`). Needs stand in blocks, and above the blocks a tree has what some thread
-// below waits for, so a search goes down from the root and then along one block. `NeedTree` has the same tree above several
-// queues by number, and finds the next one in which a need is met (`NeedTree::next`). A world that knows what its threads wait
-// for is `Bounded`: a need that it vouches for is met exactly where the thread is ready. The scheduler chooses by it.
+// A need is the condition under which a thread is ready: nothing, an arrival, a message on one of some channels or a
+// time, or an unused amount of a resource. In: threads with their needs, in order of joining, and the bounds, which say
+// what is available now. Out: the first thread whose need is met (`ReadyTree::first`). Needs are stored in blocks; a
+// tree above the blocks records the needs below each node, so a search follows one path from the root and then one
+// block. `NeedTree` has the same tree above several queues by number, and finds the next queue in which a need is met
+// (`NeedTree::next`). A world that knows the needs of its threads is `Bounded`: a need that it guarantees is met
+// exactly if the thread is ready. The scheduler chooses by it.
 #![tactic(auto)]
 
 mod amounts;

@@ -10,8 +10,8 @@ use crate::subtrees::{first_leaf_in, next_subtree};
 use std::alloc::{AllocError, Global};
 use std::marker::Model;
 
-/// What the threads of several queues wait for, by the numbers of the queues, with a tree of joined needs above them. What it
-/// means is the list of its nodes, of which the second half stands for the queues.
+/// The needs of the threads of several queues, by the numbers of the queues, with a tree of joined needs above them.
+/// Contracts see the list of its nodes, of which the second half stands for the queues.
 #[derive(Drop)]
 pub struct NeedTree {
     nodes: Vec<Needs>,
@@ -31,7 +31,7 @@ impl Model for NeedTree {
 }
 
 impl NeedTree {
-    /// A tree without queues. It takes no memory.
+    /// Returns a tree without queues. It doesn't allocate.
     pub fn new(alloc: Global) -> NeedTree
         ensures { result ≡ [] }
     {
@@ -40,14 +40,14 @@ impl NeedTree {
         }
     }
 
-    /// How many queues have a place.
+    /// Returns the number of queues that have a place.
     pub fn len(&self) -> usize
         ensures { result ≡ queues_of self.now }
     {
         self.nodes.len() / 2
     }
 
-    /// Makes a place for a queue, and for those with a lower number. Where memory is refused nothing changes.
+    /// Makes a place for a queue, and for those with lower numbers. If an allocation fails, nothing changes.
     pub fn make_place(&mut self, queue: u32) -> Result<(), AllocError>
         ensures more { queues_of self.old ≤ queues_of self.new }
         ensures same { (other : ℕ) → other < queues_of self.old → needs_of self.new other ≡ needs_of self.old other }
@@ -63,7 +63,7 @@ impl NeedTree {
         Ok(())
     }
 
-    /// Puts what the threads of a queue wait for. It takes as many steps as the tree is high.
+    /// Sets the needs of the threads of a queue. Its time is linear in the height of the tree.
     pub fn put(&mut self, queue: usize, needs: &Needs)
         requires { queue < queues_of self.old }
         ensures same { queues_of self.new ≡ queues_of self.old }
@@ -74,7 +74,8 @@ impl NeedTree {
         set_leaf(&mut self.nodes, leaf, needs);
     }
 
-    /// The first queue from this number on in which a need may be met. It takes at most four steps for each level of the tree.
+    /// Returns the first queue from this number on in which a need may be met. It takes at most four steps for each
+    /// level of the tree.
     pub fn next(&self, from: usize, bounds: &Bounds) -> Option<usize>
         ensures { IsNextQueue bounds.now self.now from result }
     {

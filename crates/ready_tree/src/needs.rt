@@ -4,42 +4,43 @@ ghost use Rattle.ready_tree.specs.Needs.{is_met, is_some_met, IsJoin};
 
 use crate::amounts::{lesser, only};
 
-/// What must be so for a thread to be ready.
+/// The condition under which a thread is ready.
 #[derive(Clone, Copy)]
 pub enum Need {
-    /// Nothing: the thread is ready.
+    /// None: the thread is ready.
     Nothing,
-    /// An arrival waits.
+    /// An arrival is queued.
     Arrival,
-    /// One of the channels holds a message, or the clock is at least `from`. Bit c of `channels` stands for channel c.
+    /// One of the channels has a message, or the clock is at least `from`. Bit c of `channels` stands for channel c.
     Event { channels: u64, from: u64 },
     /// At least the amount of the resource is unused.
     Amount { resource: u32, amount: u32 },
 }
 
 impl Need {
-    /// The time of an event that no clock brings.
+    /// The time of an event that never comes.
     pub const NEVER: u64 = u64::MAX;
 }
 
-/// What some of several threads wait for.
+/// The needs of several threads together.
 #[derive(Clone, Copy)]
 pub struct Needs {
-    /// Whether one waits for nothing.
+    /// Whether one of them needs nothing.
     pub nothing: bool,
-    /// Whether one waits for an arrival.
+    /// Whether one of them needs an arrival.
     pub arrival: bool,
-    /// The channels for which one waits, by bits.
+    /// The channels on which one of them waits, by bits.
     pub channels: u64,
-    /// The earliest time for which one waits.
+    /// The earliest time at which one of them wakes.
     pub from: u64,
-    /// The least amount of each resource for which one waits, and the greatest number where nobody does. As an amount that
-    /// number would be looked for in vain where all of it were unused, which costs steps and answers the same.
+    /// The least amount of each resource that one of them needs, and the greatest number if none does. If the whole
+    /// range of a resource were unused, that number would count as met: the search would then take more steps, with the
+    /// same result.
     pub amounts: [u32; 8],
 }
 
 impl Needs {
-    /// Nobody waits.
+    /// The needs of no threads.
     pub const NONE: Needs = Needs {
         nothing: false,
         arrival: false,
@@ -48,7 +49,7 @@ impl Needs {
         amounts: [u32::MAX; 8],
     };
 
-    /// What some of those of the one or of the other wait for.
+    /// Returns the needs of both groups of threads together.
     pub fn join(&self, other: &Needs) -> Needs
         ensures { IsJoin result self.now other.now }
     {
@@ -61,7 +62,7 @@ impl Needs {
         }
     }
 
-    /// What one thread waits for.
+    /// Returns the needs of one thread.
     pub fn of(need: Need) -> Needs
         ensures { (bounds : Bounds) → is_met bounds need ≡ true → is_some_met bounds result ≡ true }
     {

@@ -1,4 +1,4 @@
-// The tree above the blocks: node i stands above its children 2 * i and 2 * i + 1, and the leaves, one for each block, are the
+// The tree above the blocks: node i has the children 2 * i and 2 * i + 1, and the leaves, one for each block, are the
 // second half of the nodes.
 ghost use Rattle.std.specs.Prelude.{◌≡◌, ◌≢◌, ℕ, ◌+◌, ◌*◌, ◌/◌, ◌<◌, ◌≤◌, ◌^◌, length, IfOk};
 ghost use Rattle.ready_tree.specs.Nodes.{AreJoined, AreJoinedBut, IsLevel, node_at, IsBlank};
@@ -6,10 +6,10 @@ ghost use Rattle.ready_tree.specs.Nodes.{AreJoined, AreJoinedBut, IsLevel, node_
 use crate::needs::Needs;
 use std::alloc::{AllocError, Global};
 
-/// How many places a block has.
+/// The number of places of a block.
 pub(crate) const BLOCK: usize = 16;
 
-/// The least power of 2 that is no less.
+/// Returns the least power of 2 that isn't less.
 fn leaves_for(count: usize) -> usize
     requires some { 1 ≤ count }
     requires small { count < 2 ^ 40 }
@@ -25,7 +25,7 @@ fn leaves_for(count: usize) -> usize
     leaves
 }
 
-/// The nodes of a tree over the blocks of so many places, at which nobody waits.
+/// Returns the nodes of a tree over the blocks of this number of places, without waiting threads.
 pub(crate) fn blank_nodes(alloc: Global, places: usize) -> Result<Vec<Needs>, AllocError>
     requires { places < 2 ^ 40 }
     ensures { IfOk result (λ nodes. IsBlank nodes.items places) }
@@ -35,7 +35,7 @@ pub(crate) fn blank_nodes(alloc: Global, places: usize) -> Result<Vec<Needs>, Al
     Ok(nodes)
 }
 
-/// The needs of a node.
+/// Returns the needs of a node.
 pub(crate) fn needs_at(nodes: &[Needs], node: usize) -> Needs
     requires { node < length nodes.now }
     ensures { result ≡ node_at nodes.now node }
@@ -43,7 +43,7 @@ pub(crate) fn needs_at(nodes: &[Needs], node: usize) -> Needs
     nodes[node]
 }
 
-/// Makes each inner node above this one the join of its two children.
+/// Sets each inner node above this one to the join of its two children.
 pub(crate) fn renew_above(nodes: &mut [Needs], changed: usize)
     requires there { changed < length nodes.old }
     requires inner { 1 ≤ changed }
@@ -60,7 +60,7 @@ pub(crate) fn renew_above(nodes: &mut [Needs], changed: usize)
     }
 }
 
-/// Puts other needs at a leaf, and brings the nodes above it up to date.
+/// Sets the needs of a leaf, and updates the nodes above it.
 pub(crate) fn set_leaf(nodes: &mut [Needs], leaf: usize, needs: &Needs)
     requires joined { AreJoined nodes.old }
     requires behind { length nodes.old / 2 ≤ leaf }

@@ -1,4 +1,4 @@
-// The places of a queue with the tree above their blocks. Where there is one block there is no tree.
+// The places of a queue with the tree above their blocks. If there is only one block, there is no tree.
 ghost use Rattle.std.specs.Prelude.{◌≡◌, ℕ, ◌+◌, ◌*◌, ◌/◌, ◌<◌, ◌≤◌, ◌^◌, ◌++◌, ◌∷◌, [], None, Some, Option, true, false, length, position, slice_set, IfOk, OnOk, OnErr};
 ghost use Rattle.ready_tree.specs.declared.entries.Entry.{Entry};
 ghost use Rattle.ready_tree.specs.Entries.{entries_of, place_at, may_go, is_of, is_taken};
@@ -12,10 +12,10 @@ use crate::subtrees::first_leaf;
 use cap_word::ThreadId;
 use std::alloc::{AllocError, Global};
 
-/// More threads than wait in a queue: a thread's place is a `u32`.
+/// More threads than a queue can have: a thread's place is a `u32`.
 const TOO_MANY: usize = 1 << 33;
 
-/// Whether the need of who is at a place is met.
+/// Returns whether the need of the thread at a place is met.
 fn is_met_at(place: &Option<Entry>, bounds: &Bounds) -> bool
     ensures { result ≡ may_go bounds.now place.now }
 {
@@ -25,7 +25,7 @@ fn is_met_at(place: &Option<Entry>, bounds: &Bounds) -> bool
     }
 }
 
-/// So many places from the first on have no need that is met.
+/// Returns a number of places from the first on that have no need that is met.
 pub(crate) fn skipped(places: &[Option<Entry>], nodes: &[Needs], bounds: &Bounds) -> usize
     requires { IsAboveIf nodes.now places.now }
     ensures { (place : ℕ) → place < result → place < length places.now → may_go bounds.now (place_at places.now place) ≡ false }
@@ -37,7 +37,7 @@ pub(crate) fn skipped(places: &[Option<Entry>], nodes: &[Needs], bounds: &Bounds
     blocks.min(places.len() / BLOCK + 1) * BLOCK
 }
 
-/// The first place at which a need is met, where none of the first is.
+/// Returns the first place at which a need is met, given that none before `start` is.
 pub(crate) fn first_met(places: &[Option<Entry>], start: usize, bounds: &Bounds) -> Option<usize>
     requires { (place : ℕ) → place < start → place < length places.now → may_go bounds.now (place_at places.now place) ≡ false }
     ensures { result ≡ position (may_go bounds.now) places.now }
@@ -50,7 +50,7 @@ pub(crate) fn first_met(places: &[Option<Entry>], start: usize, bounds: &Bounds)
     None
 }
 
-/// Whether it is the thread's place.
+/// Returns whether it is the thread's place.
 fn is_place_of(place: &Option<Entry>, thread: ThreadId) -> bool
     ensures { result ≡ is_of thread place.now }
 {
@@ -60,14 +60,14 @@ fn is_place_of(place: &Option<Entry>, thread: ThreadId) -> bool
     }
 }
 
-/// The first place of a thread.
+/// Returns the first place of a thread.
 pub(crate) fn first_of(places: &[Option<Entry>], thread: ThreadId) -> Option<usize>
     ensures { result ≡ position (is_of thread) places.now }
 {
     places.iter().position(|place| is_place_of(place, thread))
 }
 
-/// The needs with those of who is at a place.
+/// Returns the needs joined with those of the thread at a place.
 fn with(needs: &Needs, place: &Option<Entry>) -> Needs
     ensures covers { Covers result place.now }
     ensures keeps { (other : Option Entry) → Covers needs.now other → Covers result other }
@@ -78,7 +78,7 @@ fn with(needs: &Needs, place: &Option<Entry>) -> Needs
     }
 }
 
-/// What those at the places from one on and before another wait for.
+/// Returns the needs of the threads at the places from one on and before another.
 fn needs_between(places: &[Option<Entry>], start: usize, end: usize) -> Needs
     requires { end ≤ length places.now }
     ensures { (other : ℕ) → start ≤ other → other < end → Covers result (place_at places.now other) }
@@ -90,7 +90,7 @@ fn needs_between(places: &[Option<Entry>], start: usize, end: usize) -> Needs
     needs
 }
 
-/// What those of the block of a place wait for.
+/// Returns the needs of the threads in the block of a place.
 fn needs_of_block(places: &[Option<Entry>], place: usize) -> Needs
     requires { place < length places.now }
     ensures { (other : ℕ) → other < length places.now → other / 16 ≡ place / 16 → Covers result (place_at places.now other) }
@@ -100,7 +100,7 @@ fn needs_of_block(places: &[Option<Entry>], place: usize) -> Needs
     needs_between(places, start, end)
 }
 
-/// What those at the places wait for. Where there is a tree it looks at none of them.
+/// Returns the needs of the threads at the places. If there is a tree, it reads only its root.
 pub(crate) fn needs_of_all(places: &[Option<Entry>], nodes: &[Needs]) -> Needs
     requires { IsAboveIf nodes.now places.now }
     ensures { CoversAll result (entries_of places.now) }
@@ -111,7 +111,7 @@ pub(crate) fn needs_of_all(places: &[Option<Entry>], nodes: &[Needs]) -> Needs
     needs_at(nodes, 1)
 }
 
-/// Brings the tree up to date after a change at a place.
+/// Updates the tree after a change at a place.
 pub(crate) fn renew(places: &[Option<Entry>], nodes: &mut [Needs], place: usize)
     requires there { place < length places.now }
     requires above { IsAboveButIf nodes.old places.now (place / 16) }
@@ -125,7 +125,7 @@ pub(crate) fn renew(places: &[Option<Entry>], nodes: &mut [Needs], place: usize)
     renew_above(nodes, leaf);
 }
 
-/// Puts a thread at the end, where there is room.
+/// Appends a thread, for which there is room.
 pub(crate) fn append(
     places: &mut Vec<Option<Entry>>,
     nodes: &mut Vec<Needs>,
@@ -144,7 +144,7 @@ pub(crate) fn append(
     Ok(())
 }
 
-/// Empties a place, and tells how many threads are left.
+/// Empties a place, and returns the number of remaining threads.
 pub(crate) fn empty(places: &mut [Option<Entry>], place: usize, live: usize) -> usize
     requires there { place < length places.old }
     requires live { live ≡ length (entries_of places.old) }
@@ -159,7 +159,7 @@ pub(crate) fn empty(places: &mut [Option<Entry>], place: usize, live: usize) -> 
     left
 }
 
-/// The nodes of a tree for so many places, or none where they are one block.
+/// Returns the nodes of a tree for this number of places, or none if they are one block.
 fn nodes_for(alloc: Global, count: usize) -> Result<Vec<Needs>, AllocError>
     requires { count < 2 ^ 40 }
     ensures { IfOk result (λ nodes. IsBlankIf nodes.items count) }
@@ -170,7 +170,7 @@ fn nodes_for(alloc: Global, count: usize) -> Result<Vec<Needs>, AllocError>
     blank_nodes(alloc, count)
 }
 
-/// Puts who is at a place at the end, where there is room.
+/// Appends the thread at a place, for which there is room.
 fn keep(
     kept: &mut Vec<Option<Entry>>,
     nodes: &mut Vec<Needs>,
@@ -189,7 +189,7 @@ fn keep(
     }
 }
 
-/// The threads at places without a gap, with room for half as many more.
+/// Returns the threads at places without gaps, with room for half as many more.
 fn gathered(
     alloc: Global,
     places: &[Option<Entry>],
@@ -210,8 +210,8 @@ fn gathered(
     Ok((kept, nodes))
 }
 
-/// Whether there is no room for one more. Where there is a tree the places never take more memory than was made for them, so
-/// that they don't double.
+/// Returns whether there is no room for one more. If there is a tree, the places never exceed the capacity that was
+/// allocated for them, so they don't double.
 fn is_full(places: &Vec<Option<Entry>>, nodes: &[Needs]) -> bool
     ensures { result ≡ false → HasRoom nodes.now places.now.items }
 {
@@ -222,7 +222,7 @@ fn is_full(places: &Vec<Option<Entry>>, nodes: &[Needs]) -> bool
     }
 }
 
-/// Whether somebody waits at a place.
+/// Returns whether there is a thread at a place.
 fn is_taken(place: &Option<Entry>) -> bool
     ensures { result ≡ is_taken place.now }
 {
@@ -232,7 +232,7 @@ fn is_taken(place: &Option<Entry>) -> bool
     }
 }
 
-/// Builds the tree anew above the places, block by block.
+/// Rebuilds the tree above the places, block by block.
 fn rebuild(places: &[Option<Entry>], nodes: &mut [Needs])
     requires joined { AreJoinedIf nodes.old }
     requires room { HasRoom nodes.old places.now }
@@ -247,7 +247,7 @@ fn rebuild(places: &[Option<Entry>], nodes: &mut [Needs])
     }
 }
 
-/// Takes the empty places out, in the memory that they have.
+/// Removes the empty places, without an allocation.
 fn gather(
     places: &mut Vec<Option<Entry>>,
     nodes: &mut Vec<Needs>,
@@ -268,8 +268,8 @@ fn gather(
     Ok(())
 }
 
-/// Whether a fifth of the places or more are empty, so that they are gathered in the memory that they have. Where three quarters
-/// are, less memory is made for them.
+/// Returns whether at least a fifth of the places are empty, so that they are removed in place. If three quarters are
+/// empty, less memory is allocated for the rest.
 fn is_roomy(places: &Vec<Option<Entry>>, nodes: &[Needs], live: usize) -> bool
     ensures { result ≡ true → HasPlaces nodes.now live }
 {
@@ -277,7 +277,7 @@ fn is_roomy(places: &Vec<Option<Entry>>, nodes: &[Needs], live: usize) -> bool
     room / 4 <= live && live <= room - room / 5 && live / BLOCK < nodes.len() / 2
 }
 
-/// Makes room for one more. So many threads join before it is to be made again that each costs a few steps for it.
+/// Makes room for one more. It is amortized: so many threads join before the next time that each costs a few steps.
 pub(crate) fn make_room(
     places: &mut Vec<Option<Entry>>,
     nodes: &mut Vec<Needs>,

@@ -10,8 +10,8 @@ use cap_word::ThreadId;
 use std::alloc::{AllocError, Global};
 use std::marker::Model;
 
-/// Threads in order of joining, each with its need. What it means is the list of its places, of which those whose thread has
-/// gone are empty. A place stays that of its thread until the next `push`.
+/// Threads in order of joining, each with its need. Contracts see the list of its places; the place of a thread that
+/// has left is empty. A thread keeps its place until the next `push`.
 #[derive(Drop)]
 pub struct ReadyTree {
     places: Vec<Option<Entry>>,
@@ -33,7 +33,7 @@ impl Model for ReadyTree {
 }
 
 impl ReadyTree {
-    /// A queue in which nobody waits. It takes no memory.
+    /// Returns a queue without threads. It doesn't allocate.
     pub fn new(alloc: Global) -> ReadyTree
         ensures { result ≡ [] }
     {
@@ -44,21 +44,21 @@ impl ReadyTree {
         }
     }
 
-    /// How many places there are.
+    /// Returns the number of places.
     pub fn places(&self) -> usize
         ensures { result ≡ length self.now }
     {
         self.places.len()
     }
 
-    /// How many threads wait.
+    /// Returns the number of waiting threads.
     pub fn len(&self) -> usize
         ensures { result ≡ length (entries_of self.now) }
     {
         self.live
     }
 
-    /// The thread at a place with its need, or none where it has gone.
+    /// Returns the thread at a place with its need, or `None` if it has left.
     pub fn at(&self, place: usize) -> Option<Entry>
         requires { place < length self.now }
         ensures { result ≡ place_at self.now place }
@@ -66,7 +66,7 @@ impl ReadyTree {
         self.places[place]
     }
 
-    /// Puts a thread at the end. Where memory is refused the same threads wait in the same order.
+    /// Appends a thread. If an allocation fails, the same threads wait in the same order.
     pub fn push(&mut self, entry: Entry) -> Result<(), AllocError>
         ensures ok { OnOk result (entries_of self.new ≡ entries_of self.old ++ entry ∷ []) }
         ensures err { OnErr result (entries_of self.new ≡ entries_of self.old) }
@@ -77,7 +77,7 @@ impl ReadyTree {
         Ok(())
     }
 
-    /// The first place at which a need is met. It takes as many steps as the tree is high, and those of one block.
+    /// Returns the first place at which a need is met. Its time is linear in the height of the tree, plus one block.
     pub fn first(&self, bounds: &Bounds) -> Option<usize>
         ensures { result ≡ position (may_go bounds.now) self.now }
     {
@@ -85,21 +85,21 @@ impl ReadyTree {
         first_met(&self.places, start, bounds)
     }
 
-    /// What some of the threads wait for. Where there is a tree it looks at no thread.
+    /// Returns the needs of the threads together. If there is a tree, it reads no thread.
     pub fn needs(&self) -> Needs
         ensures { CoversAll result (entries_of self.now) }
     {
         needs_of_all(&self.places, &self.nodes)
     }
 
-    /// The first place of a thread. It looks at each place before that.
+    /// Returns the first place of a thread. It tests each place before that.
     pub fn place_of(&self, thread: ThreadId) -> Option<usize>
         ensures { result ≡ position (is_of thread) self.now }
     {
         first_of(&self.places, thread)
     }
 
-    /// The thread at a place goes. It takes no memory.
+    /// Removes the thread at a place. It doesn't allocate.
     pub fn remove(&mut self, place: usize)
         requires { place < length self.old }
         ensures { self.new ≡ slice_set self.old place None }

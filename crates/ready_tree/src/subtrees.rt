@@ -1,5 +1,5 @@
-// The search for a leaf at which a need is met: it climbs past subtrees in which none is, and goes down the first in which one
-// is. From the root it only goes down.
+// The search for a leaf at which a need is met: it skips subtrees in which none is, moving up, and descends into the
+// first in which one is. From the root it only descends.
 ghost use Rattle.std.specs.Prelude.{◌≡◌, ℕ, ◌-◌, ◌*◌, ◌/◌, ◌<◌, ◌≤◌, ◌^◌, List, length, false, IfSome};
 ghost use Rattle.ready_tree.specs.declared.bounds.Bounds.{Bounds as BoundsOf};
 ghost use Rattle.ready_tree.specs.declared.needs.Needs.{Needs as NeedsOf};
@@ -11,11 +11,11 @@ use crate::bounds::Bounds;
 use crate::needs::Needs;
 use crate::nodes::needs_at;
 
-/// A node of a level of the tree with all that is below it, in a search from a leaf on. A level begins with a power of 2,
-/// which is how many nodes it has.
+/// A node of a level of the tree with its subtree, in a search from a leaf on. A level begins at a power of 2, which is
+/// its number of nodes.
 #[derive(Clone, Copy)]
 pub(crate) struct Subtree {
-    /// The leaf.
+    /// The leaf at which the search starts.
     pub first: usize,
     /// The first node of the level.
     pub level: usize,
@@ -24,7 +24,7 @@ pub(crate) struct Subtree {
 }
 
 impl Subtree {
-    /// The subtree that begins where this one ends, where there is one. It is larger where it can be.
+    /// Returns the subtree that begins where this one ends, if there is one, as large as possible.
     fn next(self) -> Option<Subtree>
         requires to { self.node < 2 * self.level }
         requires small { self.level < 2 ^ 62 }
@@ -46,7 +46,8 @@ impl Subtree {
     }
 }
 
-/// The first subtree in which a need is met, where there is one: no leaf from this one on and before those of the subtree has one.
+/// Returns the first subtree in which a need is met, if there is one: no leaf from this one on and before the subtree
+/// has one.
 pub(crate) fn next_subtree(nodes: &[Needs], bounds: &Bounds, first: usize) -> Option<Subtree>
     requires joined { AreJoined nodes.now }
     requires behind { length nodes.now / 2 ≤ first }
@@ -64,7 +65,7 @@ pub(crate) fn next_subtree(nodes: &[Needs], bounds: &Bounds, first: usize) -> Op
     Some(subtree)
 }
 
-/// The first leaf of a subtree below which a need is met, where one is.
+/// Returns the first leaf of a subtree below which a need is met, if there is one.
 pub(crate) fn first_leaf_in(nodes: &[Needs], bounds: &Bounds, subtree: Subtree) -> usize
     requires joined { AreJoined nodes.now }
     requires reached { IsReached bounds.now nodes.now subtree }
@@ -82,7 +83,7 @@ pub(crate) fn first_leaf_in(nodes: &[Needs], bounds: &Bounds, subtree: Subtree) 
     half.node
 }
 
-/// The first leaf below which a need is met, where there is one. Whichever it is, none before it has one.
+/// Returns the first leaf below which a need is met, if there is one; in any case none before it has one.
 pub(crate) fn first_leaf(nodes: &[Needs], bounds: &Bounds) -> usize
     requires { AreJoined nodes.now }
     ensures behind { length nodes.now / 2 ≤ result }

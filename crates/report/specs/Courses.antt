@@ -1,4 +1,4 @@
--- What stands beside a run that is made again, and one choice more of it.
+-- The additional data of a repeated run, and the next choice of it.
 use Rattle.std.specs.Prelude.{◌≡◌, ℕ, Bool, List, Some}
 use Rattle.blocking_graph.specs.Graph.{GraphState, empty_graph}
 use Rattle.cap_word.specs.declared.threads.ThreadId.{ThreadId}
@@ -14,22 +14,23 @@ use Rattle.report.specs.Reasons.{IsReason}
 use Rattle.report.specs.declared.again.reasons.Choices.{Choices}
 use Rattle.report.specs.declared.again.reasons.Reason.{Reason}
 
--- the threads that wait, the blocking graph, the resources, and the counts of what decided the choices so far
+-- the waiting threads, the blocking graph, the resources, and the counts of reasons for the choices so far
 pub record Course : Type 0 where
   pub scheduler : SchedulerState
   pub graph : GraphState
   pub monitor : MonitorState
   pub choices : Choices
 
--- before the first choice
+-- the state before the first choice
 abbrev pub start_of : MonitorState → Course
 start_of monitor = record { scheduler = started; graph = empty_graph; monitor = monitor; choices = record { by_gate = 0; by_score = 0; by_turn = 0 } }
 
--- the resources once these uses were seen
+-- the resources after these uses are observed
 abbrev pub seen : MonitorState → List ℕ → MonitorState
 seen monitor uses = record monitor { uses = uses; is_open = gate_after monitor.high monitor.low monitor.is_open (pressures monitor.curves uses monitor.caps) }
 
--- a choice is made among the threads of a world at these uses: it is the lawful one, its thread leaves its node, and what decided it is counted
+-- a choice among the threads of a world at these uses: it is the lawful one, its thread leaves its node, and its reason
+-- is counted
 pub record Decides (is_ready at_accept : ThreadId → Bool) (any_elsewhere : Bool) (uses : List ℕ) (old new : Course) (choice : Choice) : Type 0 where
   pub monitor : new.monitor ≡ seen old.monitor uses
   pub graph : new.graph ≡ old.graph

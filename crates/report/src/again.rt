@@ -1,13 +1,14 @@
-// The run that is made once more, line by line of its log, for what the log doesn't tell.
+// The run that is repeated, line by line of its log, for what the log doesn't contain.
 //
-// What comes and which thread runs is taken from the log; the segments are made by the world. Where the choice made here isn't the
-// log's, or the world can't do what a line says, there is no answer: the log is of another run.
+// Events and the thread of each segment are taken from the log; the world runs the segments. If a choice differs from
+// the log's, or the world can't do what a line says, there is no answer: the log is of another run.
 //
-// Beside the world stands a `Choosing`: the scheduler's queues, the graph and the resources. It makes the choices and counts what
-// decided each (specs/Courses.antt): the gate, the scores, or whose turn it was (`Reason`). The reason is told by two choices more,
-// which are made and not noted: one at which no thread counts as one at `accept`, so that the gate keeps none back, and one over a
-// graph without edges, at which every score is 0 (specs/Reasons.antt). For each resource stand its `Holders`: what a thread holds is
-// what its segments changed its use by.
+// In addition to the world there is a `Choosing`: the scheduler's queues, the graph and the resources. It makes the
+// choices and counts the reason for each (specs/Courses.antt): the gate, the scores, or the turn of the thread
+// (`Reason`). The reason follows from two further choices, which are made but not recorded: one in which no thread
+// counts as one at `accept`, so that the gate holds none back, and one over a graph without edges, in which every score
+// is 0 (specs/Reasons.antt). For each resource there are its `Holders`: what a thread holds is the sum of the changes
+// by its segments.
 pub mod choosing;
 pub mod deciding;
 pub mod holders;
@@ -39,7 +40,7 @@ use std::alloc::{AllocError, Global};
 use std::collections::BTreeMap;
 use thread_core::World;
 
-/// The node at which threads start, and that at which they end.
+/// The node at which threads start, and the one at which they end.
 const START: u32 = 0;
 
 const END: u32 = 1;
@@ -47,23 +48,23 @@ const END: u32 = 1;
 /// A cost that no segment has.
 const TOO_DEAR: u64 = 1 << 40;
 
-/// What a run that was made again tells.
+/// The results of a repeated run.
 #[derive(Drop)]
 pub struct Told {
-    /// What decided its choices, where threads are chosen by the blocking graph. Where they are chosen by strides, nothing is told of it.
+    /// The reasons for its choices under the priority rule, or `None` under the stride rule.
     pub decided: Option<Decided>,
-    /// What each thread holds of the resources 1 to 7, in their order.
+    /// The units that each thread holds of the resources 1 to 7, in that order.
     pub holders: Vec<Holders>,
-    /// The threads that were started, by their numbers.
+    /// The threads that were started, by number.
     pub threads: BTreeMap<u32, ThreadId>,
     /// The threads that segments started, in order.
     pub spawned: Vec<Spawned>,
 }
 
-/// What decided the choices of a run by the blocking graph.
+/// The reasons for the choices of a run under the priority rule.
 #[derive(Clone, Copy)]
 pub struct Decided {
-    /// What decided the choices.
+    /// The counts of reasons.
     pub choices: Choices,
     /// When the gate was closed, from the start to the end.
     pub spells: Spells,
@@ -71,7 +72,7 @@ pub struct Decided {
     pub ended: u64,
 }
 
-/// A segment that ran: its thread, the node it began at, and the uses before and after it.
+/// A segment that ran: its thread, the node from which it began, and the uses before and after it.
 #[derive(Clone, Copy)]
 struct Ran {
     thread: ThreadId,
@@ -80,7 +81,7 @@ struct Ran {
     after: [u32; 8],
 }
 
-/// What stands beside the world.
+/// The data of a repeated run, in addition to its world.
 #[derive(Drop)]
 struct Again<C: Measure> {
     choosing: Choosing<C>,
@@ -89,16 +90,16 @@ struct Again<C: Measure> {
     holders: Vec<Holders>,
     threads: BTreeMap<u32, ThreadId>,
     spawned: Vec<Spawned>,
-    /// How many segments are over.
+    /// The number of finished segments.
     segments: u64,
     ran: Option<Ran>,
     /// The clock at which the last segment ended.
     ended: u64,
 }
 
-/// Makes the run of a world that was just made once more, by its log. What stands beside it has noted nothing so far, and `by_graph`
-/// says whether threads are chosen by the blocking graph. None where the log is of another run: a line is no entry's, another thread
-/// would be chosen, or the world can't do what a line says; and where there is no memory.
+/// Repeats the run of a newly made world along its log. Its additional data is empty, and `by_graph` says whether
+/// threads are chosen by the priority rule. Returns `None` if the log is of another run, that is, if a line isn't that
+/// of an entry, another thread would be chosen, or the world can't do what a line says; and if memory runs out.
 pub fn make_again<C: Measure + Drop>(
     alloc: Global,
     world: &mut World,
@@ -131,7 +132,8 @@ pub fn make_again<C: Measure + Drop>(
 }
 
 impl<C: Measure + Drop> Again<C> {
-    /// Makes the run from its start, where nobody holds anything and the first thread waits at node 0. The gate moves by the uses then.
+    /// Repeats the run from its start, at which no thread holds anything and the first thread waits at node 0. The gate
+    /// is updated from the uses then.
     fn make(&mut self, alloc: Global, world: &mut World, log: &[u8]) -> Option<()>
         requires { IsBetween world.old }
     {
@@ -146,7 +148,7 @@ impl<C: Measure + Drop> Again<C> {
         self.read(alloc, world, log)
     }
 
-    /// What was told.
+    /// Returns the results.
     fn told(self) -> Told {
         let Again {
             choosing,
@@ -172,7 +174,7 @@ impl<C: Measure + Drop> Again<C> {
         }
     }
 
-    /// Makes the run by all lines of its log.
+    /// Repeats the run along all lines of its log.
     fn read(&mut self, alloc: Global, world: &mut World, log: &[u8]) -> Option<()>
         requires { IsBetween world.old }
     {
@@ -187,7 +189,7 @@ impl<C: Measure + Drop> Again<C> {
         Some(())
     }
 
-    /// Does what one line more says. False where the run has stopped, and none where that can't be done.
+    /// Does what the next line says. Returns `false` if the run has stopped, and `None` if the line is impossible.
     fn take(&mut self, alloc: Global, world: &mut World, entry: &Entry) -> Option<bool>
         requires { IsBetween world.old }
         ensures { IfSome result (λ goes. GoesOn goes world.new) }
@@ -214,7 +216,7 @@ impl<C: Measure + Drop> Again<C> {
         }
     }
 
-    /// A thread runs, and its segment with it.
+    /// Runs a thread for one segment.
     fn run(
         &mut self,
         alloc: Global,
@@ -253,7 +255,7 @@ impl<C: Measure + Drop> Again<C> {
         Some(goes)
     }
 
-    /// The gate moves by the uses as they stand, at the clock at which the last segment ended.
+    /// Updates the gate from the current uses, at the clock at which the last segment ended.
     fn watch(&mut self, world: &World) -> Option<()> {
         let caps = self.choosing.caps();
         self.choosing.observe(uses_of(world, &caps));
@@ -261,7 +263,7 @@ impl<C: Measure + Drop> Again<C> {
         Some(())
     }
 
-    /// The choice at these uses, which is to be that of this thread at this node.
+    /// Makes the choice at these uses, which has to be this thread at this node.
     fn choose(&mut self, world: &World, uses: [u32; 8], thread: u32, node: u32) -> Option<()>
         requires { NoneAbove uses self.old.choosing.monitor.caps }
     {
@@ -274,7 +276,7 @@ impl<C: Measure + Drop> Again<C> {
         Some(())
     }
 
-    /// The segment under way has started threads: they wait at node 0.
+    /// Takes up the threads that the segment in progress has started: they wait at node 0.
     fn start_all(&mut self, started: &[ThreadId]) -> Option<()> {
         for thread in started {
             self.start(*thread)?;
@@ -288,7 +290,7 @@ impl<C: Measure + Drop> Again<C> {
         Some(())
     }
 
-    /// A thread was started.
+    /// Takes up a thread that was started.
     fn start(&mut self, thread: ThreadId) -> Option<()> {
         match self.choosing.wait(START, thread) {
             Ok(()) => match self.threads.insert(thread.number, thread) {
@@ -299,7 +301,7 @@ impl<C: Measure + Drop> Again<C> {
         }
     }
 
-    /// The thread of the last segment has blocked at a node.
+    /// Takes up the block of the last segment's thread at a node.
     fn block(&mut self, node: u32, cost: u64) -> Option<()> {
         self.record(node, cost)?;
         match self.choosing.wait(node, self.ran?.thread) {
@@ -308,7 +310,7 @@ impl<C: Measure + Drop> Again<C> {
         }
     }
 
-    /// The last segment led to a node at that cost.
+    /// Takes up the record of the last segment, to a node at that cost.
     fn record(&mut self, to: u32, cost: u64) -> Option<()> {
         let ran = self.ran?;
         if cost >= TOO_DEAR {
@@ -328,7 +330,7 @@ impl<C: Measure + Drop> Again<C> {
         }
     }
 
-    /// What the thread of a segment holds now.
+    /// Updates what the thread of a segment holds.
     fn hold(&mut self, ran: &Ran) -> Option<()> {
         let mut resource: usize = 1;
         for holders in self.holders.as_mut_slice() {

@@ -1,4 +1,4 @@
-// What `graph` and `budget` print, shown beside the text of the source.
+// The output of `graph` and `budget`, shown with the places in the source.
 
 use crate::failures::Failure;
 use crate::inputs::load;
@@ -12,7 +12,7 @@ use report_text::Text;
 use source_places::Places;
 use std::alloc::{AllocError, Global};
 
-/// Whether the words ask for `graph` or `budget`.
+/// Checks whether the words ask for `graph` or `budget`.
 pub(crate) fn is_analysis(alloc: Global, words: &Vec<String>) -> bool {
     match read_words(alloc, words) {
         Ok(Command::Graph { .. }) => true,
@@ -21,7 +21,8 @@ pub(crate) fn is_analysis(alloc: Global, words: &Vec<String>) -> bool {
     }
 }
 
-/// Does the command of these words, and shows what it printed beside the text of the source, where it ended well. The answer is its status.
+/// Does the command of these words, and shows its output with the places in the source if it succeeded. Returns its
+/// status.
 pub(crate) fn show_analysis<F: Shelf, K: Sink, E: Sink>(
     alloc: Global,
     words: &Vec<String>,
@@ -57,7 +58,7 @@ pub(crate) fn show_analysis<F: Shelf, K: Sink, E: Sink>(
     }
 }
 
-/// Shows what the command of these words printed; of another command than `graph` and `budget` the same as it is.
+/// Shows the output of the command of these words; that of a command other than `graph` and `budget` is unchanged.
 fn show_printed<F: Shelf, K: Sink>(
     alloc: Global,
     words: &Vec<String>,
@@ -76,8 +77,8 @@ fn show_printed<F: Shelf, K: Sink>(
     }
 }
 
-/// Shows the lines of `graph`, where a path between two checkpoints has so many bytes at most, and else those of `budget`, beside the
-/// source in the file of that name.
+/// Shows the lines of `graph`, given the maximum path between two checkpoints in bytes, or else those of `budget`, with
+/// the places in the source, in the file of that name.
 fn show_beside<F: Shelf, K: Sink>(
     alloc: Global,
     name: &str,
@@ -99,7 +100,7 @@ fn show_beside<F: Shelf, K: Sink>(
     }
 }
 
-/// Shows the same by the places of the source.
+/// Shows the same, given the places of the source.
 fn show_placed<K: Sink>(
     alloc: Global,
     places: &Places,

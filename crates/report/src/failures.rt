@@ -3,24 +3,24 @@ use report_lines::LinesError;
 use source_places::PlacesError;
 use std::alloc::AllocError;
 
-/// Why there is no report, or not all of it.
+/// Why there is no report, or only a part of it.
 #[derive(Clone, Copy)]
 pub enum Failure {
-    /// The words are those of no command, or those behind `--log` are those of no run.
+    /// The words are those of no command, or those after `--log` are those of no run.
     Words,
-    /// The file of the source is none.
+    /// The source file isn't a source.
     Source,
-    /// The file of the log is none.
+    /// The log file isn't a log.
     Log,
-    /// There is no file of the source.
+    /// The source file doesn't exist.
     NoSource,
-    /// There is no file of the log.
+    /// The log file doesn't exist.
     NoLog,
-    /// A file or the trace could not be read.
+    /// A file or the trace couldn't be read.
     Read,
-    /// The report or a picture could not be written.
+    /// The report or a picture couldn't be written.
     Write,
-    /// There was no memory.
+    /// Out of memory.
     Memory,
 }
 
@@ -49,8 +49,8 @@ impl From<LinesError> for Failure {
 }
 
 impl Failure {
-    /// The status of the program, which is that of Capriccio where that means the same, and the line that standard error takes, with
-    /// its line feed.
+    /// Returns the status of the program, which is Capriccio's for the same failure, and the line for standard error,
+    /// with its line feed.
     pub fn told(self) -> (u8, &'static [u8]) {
         match self {
             Failure::Words => (
@@ -68,7 +68,7 @@ impl Failure {
     }
 }
 
-/// Writes the line of a failure, and answers the status.
+/// Writes the line of a failure, and returns the status.
 pub fn tell<E: Sink>(err: &mut E, failure: Failure) -> u8 {
     let (status, line) = failure.told();
     match put_all(err, line) {

@@ -1,4 +1,4 @@
-/// What `report --help` says: the usage of the program, with its own options.
+/// The output of `report --help`: the usage of the program, with its additional options.
 pub const HELP: &str =
     "usage: report [OPTION ..] serve SRC .. | run SRC IMG CRT ..     the trace on standard input
        report [OPTION ..] --log LOG serve SRC ..                a stored log, and its trace on standard input

@@ -2,7 +2,7 @@ use crate::failures::Failure;
 use cap_io::{Shelf, ShelfError};
 use std::alloc::Global;
 
-/// The bytes of a file. Where there is none the failure is `absent`.
+/// Loads a file. If it doesn't exist, the failure is `absent`.
 pub fn load<F: Shelf>(
     alloc: Global,
     shelf: &mut F,

@@ -1,14 +1,15 @@
 // A program that makes a run of Capriccio and shows what happened in it.
 //
-// In: options of its own and the words of the run, the source in a file, and the trace on standard input. Out: a report on
+// In: its options and the words of the run, the source in a file, and the trace on standard input. Out: a report on
 // standard output, pictures in files, and the status of the run. The run is that of `capriccio`, which `make_run` calls
-// over a log in memory; with `--log` a stored log is read in place of a run. docs/REPORT.md says what the report tells. `show` of
-// outcome.rt is the whole program over the objects that it is handed; `main` makes the real ones.
+// with a log in memory; with `--log` a stored log is read instead. docs/REPORT.md describes the report. `show` of
+// outcome.rt is the whole program over objects that are passed to it; `main` makes the real ones.
 //
-// What each entry of a log tells, and the numbers of a whole log, are those of `run_history`; `report_lines` writes the lines that tell
-// them, `run_pictures` the pictures, and `source_places` says where the calls of a source stand. The run that is made once more is in
-// `again`, what the world at the stop tells in `report`, what `graph` and `budget` print in `analysis`. What is shown is written into a
-// `Text` of `report_text`: what is whole has each piece that was put into it, each number in decimal digits.
+// The happenings of a log's entries and the numbers of a whole log are those of `run_history`; `report_lines` writes
+// the lines about them, `run_pictures` the pictures, and `source_places` has the places of a source's calls. The
+// repeated run is in `again`, the report on the world at the stop in `report`, the output of `graph` and `budget` in
+// `analysis`. All output is written into a `Text` of `report_text`: a complete text has each piece that was put into
+// it, and each number in decimal digits.
 #![tactic(auto)]
 
 mod again;

@@ -23,13 +23,13 @@ use source_places::Places;
 use std::alloc::{AllocError, Global};
 use thread_core::World;
 
-/// The last line of a run in which no thread can go on.
+/// The last line of the log of a run in which no thread is ready.
 const IDLE: &[u8] = b"stop idle";
 
-/// The most bytes of a source.
+/// The maximum size of a source in bytes.
 pub(crate) const MOST_BYTES: u32 = 1_048_576;
 
-/// Shows what the words ask for, and answers the status: that of the run, or 0 where a stored log is read.
+/// Shows what the words ask for, and returns the status: that of the run, or 0 if a stored log is read.
 pub fn show<F: Shelf, S: Source, K: Sink, E: Sink>(
     alloc: Global,
     words: Vec<String>,
@@ -60,7 +60,8 @@ fn show_help<K: Sink>(out: &mut K) -> Result<u8, Failure> {
     }
 }
 
-/// Shows what is asked for, with the trace that is read; `graph` and `budget` read none. Words of no command are refused before.
+/// Shows what the words ask for, with the trace that is read; `graph` and `budget` read none. Words of no command are
+/// refused before.
 fn show_wanted<F: Shelf, S: Source, K: Sink, E: Sink>(
     alloc: Global,
     wanted: &Wanted,
@@ -79,7 +80,7 @@ fn show_wanted<F: Shelf, S: Source, K: Sink, E: Sink>(
     }
 }
 
-/// Shows what is asked for, with that trace.
+/// Shows what the words ask for, with that trace.
 fn show_trace<F: Shelf, K: Sink, E: Sink>(
     alloc: Global,
     wanted: &Wanted,
@@ -119,7 +120,7 @@ fn show_stored<F: Shelf, K: Sink>(
     }
 }
 
-/// Shows a run by its log alone.
+/// Shows a run from its log alone.
 fn show_kept<'a, F: Shelf, K: Sink>(
     alloc: Global,
     wanted: &'a Wanted,
@@ -142,8 +143,8 @@ fn show_kept<'a, F: Shelf, K: Sink>(
     Ok(0)
 }
 
-/// Makes the run that the words ask for and shows it. Of anything else that they ask for, and of a run that came to no stop, it
-/// hands on what was written.
+/// Makes the run that the words ask for and shows it. If they ask for something else, or if the run reaches no stop,
+/// its output is passed on unchanged.
 fn show_run<F: Shelf, K: Sink, E: Sink>(
     alloc: Global,
     wanted: &Wanted,
@@ -177,7 +178,7 @@ fn show_run<F: Shelf, K: Sink, E: Sink>(
     }
 }
 
-/// Shows a run that was made, by its log and the world at its stop.
+/// Shows a run from its log and the world at its stop.
 fn show_made<'a, F: Shelf, K: Sink>(
     alloc: Global,
     wanted: &'a Wanted,
@@ -205,8 +206,8 @@ fn show_made<'a, F: Shelf, K: Sink>(
     }
 }
 
-/// What a run tells where it is made once more: with `--why`, and for who holds what where no thread goes on while some resource is in
-/// use. It fails where a file can't be read again.
+/// Repeats the run if that is needed: with `--why`, and for the holders of resources if no thread is ready while some
+/// resource is in use. It fails if a file can't be read again.
 fn told_of<F: Shelf>(
     alloc: Global,
     wanted: &Wanted,
@@ -228,8 +229,8 @@ fn told_of<F: Shelf>(
     }
 }
 
-/// A run that is shown: what its words say, the times of its trace, its log, and what is seen of it beside its log: the world at its
-/// stop, and what it told when it was made once more.
+/// A run to be shown: what its words say, the times of its trace, its log, and, in addition to the log, the world at
+/// its stop and the results of the repeated run.
 #[derive(Clone, Copy)]
 struct Run<'a> {
     subject: Subject<'a>,
@@ -239,7 +240,7 @@ struct Run<'a> {
     told: Option<&'a Told>,
 }
 
-/// Shows a run by its log and, where they are there, the world at its stop and what it told when it was made once more.
+/// Shows a run from its log and, if available, the world at its stop and the results of the repeated run.
 fn show_log<F: Shelf, K: Sink>(
     alloc: Global,
     wanted: &Wanted,
@@ -261,8 +262,8 @@ fn show_log<F: Shelf, K: Sink>(
     }
 }
 
-/// Shows a run by the places of its source: the report, and the pictures that are asked for. The blocking graph is stored as DOT where
-/// the file's name ends so, and else as SVG.
+/// Shows a run, given the places of its source: the report, and the pictures that the words ask for. The blocking graph
+/// is stored as DOT if the file's name ends with that, and otherwise as SVG.
 fn show_placed<F: Shelf, K: Sink>(
     alloc: Global,
     wanted: &Wanted,
@@ -289,7 +290,7 @@ fn show_placed<F: Shelf, K: Sink>(
     }
 }
 
-/// The clocks between which the report is asked for, if it is not of all.
+/// Returns the window of clocks that the report covers, unless it covers all.
 fn window_of(wanted: &Wanted) -> Option<Window> {
     match (wanted.from, wanted.to) {
         (None, None) => None,
@@ -300,7 +301,7 @@ fn window_of(wanted: &Wanted) -> Option<Window> {
     }
 }
 
-/// Writes all of this.
+/// Writes all bytes.
 pub(crate) fn put<K: Sink>(out: &mut K, bytes: &[u8]) -> Result<(), Failure> {
     match put_all(out, bytes) {
         Ok(()) => Ok(()),
@@ -331,7 +332,7 @@ fn put_text<K: Sink>(
     shown
 }
 
-/// Appends the report: what the log tells, where the run stopped, and the last line of its log.
+/// Appends the report: the numbers from the log, where the run stopped, and the last line of its log.
 fn write_text(
     alloc: Global,
     text: &mut Text,
@@ -368,7 +369,8 @@ fn write_text(
     Ok(found)
 }
 
-/// Which outputs are the answers to requests: as a user says, and else with `--why` also those of threads that work for a request.
+/// Returns which outputs are the answers to requests: those that the user chooses, or otherwise with `--why` also those
+/// of threads that work for a request.
 fn answering_of<'a>(told: Option<&'a Told>, wanted: &Wanted) -> Answering<'a> {
     match (wanted.answers, told) {
         (Some(pairing), _) => Answering::ByPairing(pairing),
@@ -377,7 +379,7 @@ fn answering_of<'a>(told: Option<&'a Told>, wanted: &Wanted) -> Answering<'a> {
     }
 }
 
-/// Stores a picture that was written, where it could be.
+/// Stores a picture, if it is complete.
 fn store_whole<F: Shelf>(
     alloc: Global,
     shelf: &mut F,

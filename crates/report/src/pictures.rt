@@ -15,16 +15,20 @@ use source_places::Places;
 use std::alloc::{AllocError, Global};
 use std::collections::BTreeMap;
 
-/// How many threads have a row in which a place is one column wide; with more, places are wider, so that the picture stays small.
+/// The maximum number of rows with places one column wide; with more rows, places are wider, so that the picture stays
+/// small.
 const NARROW_ROWS: u64 = 100;
 
-/// How many columns a place has then.
+/// The number of columns of a place then.
 const WIDE: u32 = 3;
 
-/// Appends the timeline of the run with this log, as SVG, by what the report on it found, between the clocks that are asked for, and
-/// else from 0 to the end of the last segment. None of its entries is kept. `Log` comes
-/// where a line is no entry's, or a clock or a count would be 2^64 or more, and `Memory` where there is none for the rows; whether
-/// there was memory for all that was appended, the text says.
+/// Appends the timeline of the run with this log, as SVG, given what the report on it found, for the window of clocks,
+/// or from 0 to the end of the last segment. It keeps none of the entries. The text records whether it is complete.
+///
+/// # Errors
+///
+/// `Log` if a line isn't that of an entry, or a clock or a count would be 2^64 or more; `Memory` if an allocation for
+/// the rows fails.
 pub fn put_times(
     alloc: Global,
     text: &mut Text,
@@ -47,7 +51,8 @@ pub fn put_times(
     Ok(())
 }
 
-/// Marks what all lines of a log tell, and then the waits that are under way when the run ends, as if they ended then.
+/// Marks the happenings of all lines of a log, and then the waits that are in progress when the run ends, as if they
+/// ended then.
 fn mark_all(alloc: Global, log: &[u8], found: Found, rows: &mut Rows) -> Result<(), Failure> {
     let mut history = History::new(alloc);
     for line in Lines::new(log) {
@@ -62,7 +67,7 @@ fn mark_all(alloc: Global, log: &[u8], found: Found, rows: &mut Rows) -> Result<
     Ok(())
 }
 
-/// The wait of a thread that is still under way when the run ends, at that clock.
+/// Returns the wait of a thread that is in progress when the run ends, at that clock.
 fn wait_left(history: &History, thread: u32, end: u64) -> Option<Wait> {
     match history.thread(thread) {
         Some(known) => match known.standing {
@@ -94,8 +99,11 @@ fn add_sites(
     Ok(())
 }
 
-/// Appends the blocking graph of the run with this log, as SVG or as DOT. `Log` comes where a line is no entry's, and `Memory` where
-/// there is none for the nodes and edges; whether there was memory for all that was appended, the text says.
+/// Appends the blocking graph of the run with this log, as SVG or as DOT. The text records whether it is complete.
+///
+/// # Errors
+///
+/// `Log` if a line isn't that of an entry; `Memory` if an allocation for the nodes and edges fails.
 pub fn put_blocking(
     alloc: Global,
     text: &mut Text,
@@ -116,7 +124,7 @@ pub fn put_blocking(
     Ok(())
 }
 
-/// Notes the nodes and the edges of a log.
+/// Collects the nodes and the edges of a log.
 fn note_all(
     edges: &mut Vec<GraphEdge>,
     nodes: &mut BTreeMap<u32, SiteKey>,
@@ -131,7 +139,7 @@ fn note_all(
     Ok(())
 }
 
-/// Notes the node of a `block`, by its key, and an edge.
+/// Collects the node of a `block`, by its key, and an edge.
 fn note(
     edges: &mut Vec<GraphEdge>,
     nodes: &mut BTreeMap<u32, SiteKey>,
@@ -162,8 +170,8 @@ fn note(
     }
 }
 
-/// Adds the names of the nodes by their numbers: 0 is where threads begin, 1 where they end, and from 2 on stand the places at which
-/// they block, each with the line and column of the calls that led to it, the innermost first.
+/// Adds the names of the nodes by number: 0 is the start of threads, 1 their end, and from 2 on come the places at
+/// which they block, each with the line and column of the calls that led to it, the innermost first.
 fn add_nodes(
     alloc: Global,
     places: &Places,
@@ -178,7 +186,7 @@ fn add_nodes(
     Ok(())
 }
 
-/// The place of the innermost of the sites of a key, and the lines and columns of the others.
+/// Returns the place of the innermost site of a key, with the lines and columns of the others.
 fn name_of(alloc: Global, places: &Places, sites: &[u32]) -> Result<String, AllocError> {
     let mut name = Text::new(alloc);
     let mut is_innermost = true;

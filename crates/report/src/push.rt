@@ -1,6 +1,6 @@
 use std::alloc::AllocError;
 
-/// Appends one more to a list.
+/// Appends an item to a list.
 pub fn push<T: Drop>(all: &mut Vec<T>, one: T) -> Result<(), AllocError> {
     match all.push(one) {
         Ok(()) => Ok(()),

@@ -1,8 +1,8 @@
-// The text of a report on a run: requests and their latencies, waits by place, chunks, choices, the gate, who is left where, and
-// where it stopped.
+// The text of a report on a run: requests and their latencies, waits by place, chunks, choices, the gate, which threads
+// are left and where, and where the run stopped.
 //
-// A log is read once for its numbers, by `numbers_of`, and a `Course` looks on. What a run tells that was made once more beside its
-// log (`Decided`) stands in the lines on choices and the gate; what only the world at the stop tells, in those of `put_stop`.
+// `numbers_of` reads a log once for its numbers, and a `Course` observes it. The results of a repeated run (`Decided`)
+// are in the lines on choices and the gate; the lines of `put_stop` have what only the world at the stop shows.
 pub mod circles;
 pub mod code;
 pub mod left;
@@ -31,58 +31,59 @@ use std::alloc::{AllocError, Global};
 use std::mem;
 use thread_core::World;
 
-/// What a report takes from the options of the run.
+/// The options of the run that a report uses.
 #[derive(Clone, Copy)]
 pub struct Options {
-    /// The number of chunks, of both sizes, and when the gate closes and opens.
+    /// The number of chunks, of both sizes, and the thresholds of the gate.
     pub marks: Marks,
-    /// Whether the run has resources beside its chunks. A log doesn't tell their use, so the gate isn't shown then.
+    /// Whether the run has resources in addition to its chunks. A log doesn't have their use, so the gate isn't shown
+    /// then.
     pub has_caps: bool,
 }
 
-/// What the report on a run found, for what is shown beside it.
+/// What the report on a run found, for other output.
 #[derive(Clone, Copy)]
 pub struct Found {
-    /// How many of the threads that ran are left.
+    /// The number of threads that ran and are left.
     pub left: u64,
-    /// One more than the greatest number of a thread that ran.
+    /// The greatest number of a thread that ran, plus one.
     pub threads: u32,
-    /// How many threads ran.
+    /// The number of threads that ran.
     pub started: u64,
     /// The clock at which the last segment ended.
     pub ended: u64,
 }
 
-/// What is read off a log beside its numbers, as it is read.
+/// What is read from a log in addition to its numbers.
 #[derive(Drop)]
 pub(crate) struct Course<'a> {
-    /// At the number of each site, whether its call is `accept`.
+    /// For each site, whether its call is `accept`.
     pub(crate) accepts: &'a [bool],
-    /// And whether it is `take`.
+    /// For each site, whether its call is `take`.
     at_take: &'a [bool],
-    /// And whether it is one at which threads wait.
+    /// For each site, whether its call is one at which threads wait.
     waiting: &'a [bool],
-    /// The times of the trace's events, in order, and how many of them came or were dropped so far.
+    /// The times of the trace's events, in order, and the number of events that came or were dropped so far.
     times: &'a TickList,
     events: usize,
-    /// Whether each event so far is one of the trace's, and each wait one of the source's.
+    /// Whether each event so far is in the trace, and each wait in the source.
     fits: bool,
     options: Options,
-    /// The wait at `take` that each thread went past last, since it took its request.
+    /// The last wait at `take` of each thread, since it took its request.
     pub(crate) takes: Takes,
-    /// What threads put that served no request.
+    /// The outputs of threads that served no request.
     pub(crate) unasked: Unasked,
-    /// One more than the greatest number of a thread that ran, and how many threads ran.
+    /// The greatest number of a thread that ran, plus one, and the number of threads that ran.
     pub(crate) threads: u32,
     started: u64,
     counts: Counts,
     spells: Spells,
     /// The clock at which the last segment ended.
     ended: u64,
-    /// How many requests wait, and how many threads are at `accept`.
+    /// The number of waiting requests, and the number of threads at `accept`.
     requests: u64,
     at_accept: u64,
-    /// At how many choices the closed gate held back a request that a thread waited for.
+    /// The number of choices at which the closed gate held back a request for which a thread waited.
     held_back: u64,
 }
 
@@ -112,7 +113,7 @@ impl<'a> Watch for Course<'a> {
 }
 
 impl<'a> Course<'a> {
-    /// Before the first entry.
+    /// Returns the state before the first entry.
     fn new(
         alloc: Global,
         accepts: &'a [bool],
@@ -144,7 +145,7 @@ impl<'a> Course<'a> {
         }
     }
 
-    /// Takes one entry more, and what it tells; at a choice the gate is as it was before.
+    /// Takes up the next entry and its happening; at a choice the gate is as it was before.
     #[inline(always)]
     fn take(&mut self, entry: &Entry, told: Happening) -> Result<(), HistoryError> {
         match entry {
@@ -182,7 +183,7 @@ impl<'a> Course<'a> {
         Ok(())
     }
 
-    /// Takes what a segment that is over tells: the gate turns only then.
+    /// Takes up a finished segment: the gate changes only then.
     fn rest(&mut self, told: Happening) -> Result<(), HistoryError> {
         match self.spells.with(in_range(self.options.marks), told) {
             Some(spells) => {
@@ -195,7 +196,7 @@ impl<'a> Course<'a> {
         }
     }
 
-    /// Takes an event that came or was dropped at that clock: the next of the trace, whose time isn't later.
+    /// Takes up an event that came or was dropped at that clock: the next one of the trace, whose time isn't later.
     fn come(&mut self, clock: u64) {
         let is_next = match self.times.get(self.events) {
             Some(time) => time <= clock,
@@ -205,7 +206,7 @@ impl<'a> Course<'a> {
         self.events = self.events.saturating_add(1);
     }
 
-    /// Takes a choice at that clock, by what it tells.
+    /// Takes up a choice at that clock, by its happening.
     fn choose(&mut self, told: Happening, clock: u64) {
         if let Happening::Waited(wait) = told {
             if wait.request.is_some() {
@@ -221,7 +222,7 @@ impl<'a> Course<'a> {
     }
 }
 
-/// The marks of a gate, whose knee is at most 999 in every run.
+/// Returns the thresholds of a gate, with a knee of at most 999 as in every run.
 fn in_range(marks: Marks) -> Marks
     ensures { result.knee ≤ 999 }
 {
@@ -229,7 +230,7 @@ fn in_range(marks: Marks) -> Marks
     Marks { knee, ..marks }
 }
 
-/// Whether the innermost call of a key is at one of these sites.
+/// Checks whether the innermost call of a key is at one of these sites.
 fn is_innermost_in(sites: &[bool], key: &SiteKey) -> bool {
     match key.sites().first() {
         Some(site) => is_one(sites, *site),
@@ -237,7 +238,7 @@ fn is_innermost_in(sites: &[bool], key: &SiteKey) -> bool {
     }
 }
 
-/// Whether a site is one of these.
+/// Checks whether a site is one of these.
 pub(crate) fn is_one(sites: &[bool], site: u32) -> bool {
     match sites.get(site as usize) {
         Some(is_one) => *is_one,
@@ -245,25 +246,34 @@ pub(crate) fn is_one(sites: &[bool], site: u32) -> bool {
     }
 }
 
-/// What a report is made of beside its source: the run's log and its options, the times of the trace's events in order, the world at
-/// the stop, where the run was made, what it tells where it was made once more, and the request whose parts are asked for.
+/// The input of a report in addition to its source: the run's log and its options, the times of the trace's events in
+/// order, the world at the stop if the run was made, the results of the repeated run if there is one, and the request
+/// that the user asks for.
 #[derive(Clone, Copy)]
 pub struct RunLog<'a> {
+    /// The log.
     pub log: &'a [u8],
+    /// The options of the run.
     pub options: Options,
+    /// The times of the trace's events, in order.
     pub times: &'a TickList,
+    /// The world at the stop, if the run was made.
     pub world: Option<&'a World>,
+    /// The reasons for choices, if the run was repeated under the priority rule.
     pub decided: Option<Decided>,
+    /// The request whose parts are shown, if the user asks for one.
     pub request: Option<u64>,
     /// Which outputs are the answers to requests.
     pub answering: Answering<'a>,
-    /// The clocks between which it is told, if not all are.
+    /// The window of clocks that is shown, unless all are.
     pub window: Option<Window>,
 }
 
-/// Appends the report on a run, up to what is left at its end. `Log` comes where the log has no
-/// numbers (`numbers_of`), and `Memory` where there is none for what is read off it; whether there was memory for all that was
-/// appended, the text says.
+/// Appends the report on a run, up to what is left at its end. The text records whether it is complete.
+///
+/// # Errors
+///
+/// `Log` if the log has no numbers (`numbers_of`); `Memory` if an allocation fails.
 pub fn put_report(
     alloc: Global,
     text: &mut Text,
@@ -285,7 +295,8 @@ pub fn put_report(
     put_course(alloc, text, places, run, course)
 }
 
-/// Appends the report on the run with this log, by what is read off it beside its numbers. It is refused as `put_report` is.
+/// Appends the report on the run with this log, from its numbers and from what was read in addition. It fails as
+/// `put_report` does.
 fn put_course(
     alloc: Global,
     text: &mut Text,
@@ -322,7 +333,7 @@ fn put_course(
     }
 }
 
-/// Appends how outputs answer requests, where a user says so.
+/// Appends how outputs answer requests, if the user chooses that.
 fn put_pairing(text: &mut Text, answering: Answering) {
     match answering {
         Answering::ByPairing(Pairing::First) => text.words(
@@ -339,7 +350,7 @@ fn put_pairing(text: &mut Text, answering: Answering) {
 /// The first line on a log of another source or trace.
 const FOREIGN: &str = "this log is not of this source and trace: the numbers below mix two runs\n";
 
-/// Appends what was read off a log. The answer is how many threads are left.
+/// Appends the numbers of a log. Returns how many threads are left.
 fn put_numbers(
     alloc: Global,
     text: &mut Text,
@@ -375,7 +386,7 @@ fn put_numbers(
     Ok(put_left(alloc, text, places, &reading.history, course, run.world))
 }
 
-/// Appends between which clocks the run is told, if not all are.
+/// Appends the window of clocks that is shown, unless all are.
 fn put_window(text: &mut Text, window: Option<Window>) {
     if let Some(Window { from, to }) = window {
         text.form("window: the requests that arrived from $ ", &[from]);
@@ -388,7 +399,7 @@ fn put_window(text: &mut Text, window: Option<Window>) {
     }
 }
 
-/// Appends the lines on chunks, choices and the gate. What decided the choices is known of all of them alone.
+/// Appends the lines on chunks, choices and the gate. The reasons for choices are known only for all of them together.
 fn put_choices(text: &mut Text, numbers: &Numbers, course: &Course, decided: Option<Decided>) {
     text.line(&ChunksLine {
         most_held: course.counts.most_held_in(numbers),
@@ -412,7 +423,7 @@ fn put_choices(text: &mut Text, numbers: &Numbers, course: &Course, decided: Opt
     }
 }
 
-/// Appends the line on the gate. At how many choices it held a request back isn't always known.
+/// Appends the line on the gate. The number of choices at which it held a request back isn't always known.
 fn put_gate(text: &mut Text, closed: Closed, held_back: Option<u64>) {
     text.words("gate: closed ");
     text.counted(closed.times, "time", "times");
@@ -430,7 +441,7 @@ fn put_gate(text: &mut Text, closed: Closed, held_back: Option<u64>) {
     })
 }
 
-/// The last line of a log. It looks back from the end, up to the line feed before it.
+/// Returns the last line of a log, by a search from the end back to the line feed before it.
 pub fn last_line(log: &[u8]) -> &[u8] {
     let Some((last, body)) = log.split_last() else {
         return log;

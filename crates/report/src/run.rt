@@ -1,13 +1,13 @@
-// The run that the report is on.
+// The run that is reported.
 
 use cap_io::{Shelf, Sink, Source};
 use capriccio_call::capriccio;
 use std::alloc::Global;
 use thread_core::World;
 
-/// Makes the run that the words ask for, and answers its status: what `capriccio` does with the same, with all that is proved of it.
-/// `last` is then the world at the stop, where there was one. It has no clause, so that those of `capriccio` aren't among what its
-/// callers know.
+/// Makes the run that the words ask for, and returns its status: it calls `capriccio`, with all that is proved of it.
+/// `last` is then the world at the stop, if there is one. It has no clauses, so that proof search in its callers
+/// doesn't try those of `capriccio`.
 pub(crate) fn make_run<F: Shelf, S: Source, K: Sink, E: Sink>(
     alloc: Global,
     words: &Vec<String>,

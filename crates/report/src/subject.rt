@@ -4,14 +4,20 @@ use command_words::{Command, Policy, WordsError, read_words};
 use run_history::Marks;
 use std::alloc::Global;
 
-/// The run that is to be shown: the name of its source, and what its options say.
+/// The run to be shown: the name of its source, and what its options say.
 #[derive(Clone, Copy)]
 pub struct Subject<'a> {
+    /// The file name of the source.
     pub source: &'a str,
+    /// The options that the report uses.
     pub options: Options,
 }
 
-/// The run that words ask for; none where they ask for something else. `Words` comes where they are those of no command.
+/// Returns the run that words ask for, or `None` if they ask for something else.
+///
+/// # Errors
+///
+/// `Words` if they are those of no command.
 pub fn subject_of<'a>(
     alloc: Global,
     words: &'a Vec<String>,
@@ -31,7 +37,7 @@ pub fn subject_of<'a>(
     }
 }
 
-/// What the report takes from the options of a run.
+/// Returns the options of a run that the report uses.
 fn options_of(policy: Policy) -> Options {
     let mut has_caps = false;
     for cap in policy.caps {

@@ -4,19 +4,20 @@ use cap_text::{Fields, Lines};
 use report_figures::TickList;
 use std::alloc::{AllocError, Global};
 
-/// The most bytes of a trace that is read.
+/// The maximum size of a trace that is read, in bytes.
 const MOST_BYTES: usize = 1_073_741_824;
 
 /// The trace of a run.
 #[derive(Drop)]
 pub struct Trace {
+    /// The bytes of the trace.
     pub bytes: Vec<u8>,
-    /// The times of its events, in order, up to the first line that has none.
+    /// The times of its events, in order, up to the first line without one.
     pub times: TickList,
 }
 
 impl Trace {
-    /// The trace that a source gives.
+    /// Reads the trace from a source.
     pub fn read<S: Source>(alloc: Global, source: &mut S) -> Result<Trace, Failure> {
         let mut trace = Trace {
             bytes: Vec::new(alloc),
@@ -31,7 +32,7 @@ impl Trace {
         }
     }
 
-    /// Takes all bytes that a source gives, and the times in them.
+    /// Reads all bytes of a source, and the times in them.
     fn take_all<S: Source>(&mut self, source: &mut S) -> Result<(), Failure> {
         let mut block = [0u8; 4096];
         for _ in 0..u64::MAX {
@@ -51,7 +52,7 @@ impl Trace {
         self.note_times()
     }
 
-    /// Notes the times.
+    /// Collects the times.
     fn note_times(&mut self) -> Result<(), Failure> {
         for line in Lines::new(self.bytes.as_slice()) {
             match time_of(line) {
@@ -63,7 +64,7 @@ impl Trace {
     }
 }
 
-/// The time of the event of a line: its second field.
+/// Returns the time of the event on a line: its second field.
 fn time_of(line: &[u8]) -> Option<u64> {
     let mut fields = Fields::new(line, b' ');
     fields.next()?;

@@ -4,24 +4,29 @@ use cap_text::read_dec;
 use run_history::Pairing;
 use std::alloc::Global;
 
-/// What is asked for: the files that the pictures go to, the file of a stored log, whether the run is made once more, and the words
-/// of the run.
+/// What the words ask for: the files of the pictures, the file of a stored log, whether the run is repeated, and the
+/// words of the run.
 #[derive(Drop)]
 pub struct Wanted {
+    /// The file for the timeline.
     pub timeline: Option<String>,
+    /// The file for the blocking graph.
     pub graph: Option<String>,
+    /// The file of a stored log.
     pub log: Option<String>,
-    /// Whether the run is made once more beside its log, for what decided its choices and who holds what.
+    /// Whether the run is repeated along its log, for the reasons for its choices and the holders of resources.
     pub why: bool,
-    /// The request whose parts are asked for, by its number from 1 in the order in which requests came.
+    /// The request whose parts are shown, by its number from 1 in the order in which requests came.
     pub request: Option<u64>,
-    /// How outputs answer requests, where that is said.
+    /// How outputs answer requests, if that is given.
     pub answers: Option<Pairing>,
-    /// The clocks between which the timeline is asked for.
+    /// The first clock of the window that is shown.
     pub from: Option<u64>,
+    /// The last clock of the window that is shown.
     pub to: Option<u64>,
-    /// Whether the usage is asked for.
+    /// Whether the usage is shown.
     pub help: bool,
+    /// The words of the run.
     pub words: Vec<String>,
 }
 
@@ -41,7 +46,11 @@ enum Next {
 }
 
 impl Wanted {
-    /// What these words ask for. `Words` comes where a number is none, or a window ends before it begins.
+    /// Reads these words.
+    ///
+    /// # Errors
+    ///
+    /// `Words` if a number is malformed, or a window ends before it begins.
     pub fn read(alloc: Global, words: Vec<String>) -> Result<Wanted, Failure> {
         let mut wanted = Wanted {
             timeline: None,
@@ -64,7 +73,7 @@ impl Wanted {
         }
     }
 
-    /// Takes all words.
+    /// Reads all words.
     fn take_all(&mut self, words: Vec<String>) -> Result<(), Failure> {
         let mut next = Next::Any;
         for word in words {
@@ -111,7 +120,7 @@ impl Wanted {
         }
     }
 
-    /// Whether a clock lies between those that are given.
+    /// Checks that a given window doesn't end before it begins.
     fn has_window(&self) -> bool {
         match (self.from, self.to) {
             (Some(from), Some(to)) => from <= to,
@@ -119,7 +128,7 @@ impl Wanted {
         }
     }
 
-    /// Takes a word that may be one of the report's options; the first that is none begins the words of the run.
+    /// Reads a word that may be one of the report's options; the first that isn't begins the words of the run.
     fn begin(&mut self, word: String) -> Result<Next, Failure> {
         match word.as_str() {
             "--timeline" => Ok(Next::Timeline),
@@ -145,7 +154,7 @@ impl Wanted {
     }
 }
 
-/// The number of a word, at least that one.
+/// Returns the number of a word, at least `least`.
 fn number_in(word: &str, least: u64) -> Result<u64, Failure> {
     match read_dec(word.as_bytes(), u64::MAX) {
         Ok(number) if number >= least => Ok(number),
@@ -153,7 +162,7 @@ fn number_in(word: &str, least: u64) -> Result<u64, Failure> {
     }
 }
 
-/// How outputs answer requests, by its word.
+/// Returns how outputs answer requests, by its word.
 fn pairing_in(word: &str) -> Result<Pairing, Failure> {
     match word {
         "first" => Ok(Pairing::First),

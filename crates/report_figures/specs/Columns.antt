@@ -1,4 +1,4 @@
--- Where a clock stands in a timeline.
+-- The column of a clock in a timeline.
 use Rattle.std.specs.Prelude.{ℕ, ◌*◌, ◌/◌, nat_lt, if◌then◌else◌}
 
 -- the run's time in 1,200 columns of the same width, up to its end

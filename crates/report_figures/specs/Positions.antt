@@ -6,10 +6,10 @@ use Rattle.report_figures.specs.declared.positions.Position.{Position}
 abbrev pub first_position : Position
 first_position = record { line = 1; column = 1 }
 
--- behind a line feed the next line begins; behind any other byte is the next column
+-- after a line feed the next line begins; after any other byte comes the next column
 abbrev pub position_behind : Position → ℕ → Position
 position_behind p byte = if byte == 10 then record { line = p.line + 1; column = 1 } else record { line = p.line; column = p.column + 1 }
 
--- behind these bytes of a text's beginning
+-- the position after these first bytes of a text
 abbrev pub position_after : List ℕ → Position
 position_after bytes = fold position_behind first_position bytes

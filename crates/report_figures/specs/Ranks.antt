@@ -1,14 +1,14 @@
--- Numbers at ranks: where a number stands among others in order of size.
+-- Numbers at ranks: the place of a number among others in increasing order.
 use Rattle.std.specs.Prelude.{◌≡◌, ℕ, ◌+◌, ◌-◌, ◌*◌, ◌/◌, List, length, Some, slice_get, IsPermutation, IsSorted}
 use Rattle.std.specs.Ordering.{nat_cmp}
 use Rattle.report_figures.specs.declared.spread.Spread.{Spread}
 
--- the place, from 0, of the nearest rank for so many of a hundred among so many numbers: the rank, from 1, is the least with
--- at least so many of a hundred at or before it
+-- the place, from 0, of the nearest rank for p hundredths among n numbers: the rank, from 1, is the least with at least
+-- p percent of the numbers at or before it
 abbrev pub place_at : ℕ → ℕ → ℕ
 place_at hundredths count = (hundredths * count + 99) / 100 - 1
 
--- the spread that is read off numbers in order of size
+-- the spread of numbers in increasing order
 pub record IsReadOff (in_order : List ℕ) (s : Spread) : Type 0 where
   pub count : s.count ≡ length in_order
   pub least : slice_get in_order 0 ≡ Some s.least
@@ -17,7 +17,7 @@ pub record IsReadOff (in_order : List ℕ) (s : Spread) : Type 0 where
   pub ninety_ninth : slice_get in_order (place_at 99 (length in_order)) ≡ Some s.ninety_ninth
   pub greatest : slice_get in_order (length in_order - 1) ≡ Some s.greatest
 
--- the spread of these numbers, in whatever order they are
+-- the spread of these numbers, in any order
 pub record IsSpread (numbers : List ℕ) (s : Spread) : Type 0 where
   pub in_order : List ℕ
   pub same : IsPermutation numbers in_order

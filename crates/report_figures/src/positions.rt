@@ -10,7 +10,7 @@ pub struct Position {
     pub column: u32,
 }
 
-/// The position of the byte at that place, or of the end.
+/// Returns the position of the byte at index `at`, or of the end.
 pub fn position_of(text: &[u8], at: usize) -> Position
     requires inside { at ≤ length text.now }
     requires short { length text.now < 2 ^ 31 }
@@ -23,7 +23,7 @@ pub fn position_of(text: &[u8], at: usize) -> Position
     position
 }
 
-/// The position behind a byte.
+/// Returns the position after a byte.
 fn behind(position: Position, byte: u8) -> Position
     requires line { position.line < 2 ^ 31 }
     requires column { position.column < 2 ^ 31 }

@@ -5,23 +5,28 @@ ghost use Rattle.report_figures.specs.Ticks.{ticks_in};
 use crate::TickList;
 use std::alloc::AllocError;
 
-/// How numbers are spread: each field but `count` is one of them.
+/// The spread of some numbers: each field except `count` is one of them.
 #[derive(Clone, Copy)]
 pub struct Spread {
-    /// How many numbers there are, at least one.
+    /// The number of numbers, at least one.
     pub count: u64,
+    /// The least number.
     pub least: u64,
     /// Half of them are at most this.
     pub median: u64,
-    /// 90 of a hundred of them are at most this.
+    /// 90 percent of them are at most this.
     pub ninetieth: u64,
-    /// 99 of a hundred of them are at most this.
+    /// 99 percent of them are at most this.
     pub ninety_ninth: u64,
+    /// The greatest number.
     pub greatest: u64,
 }
 
-/// How the numbers are spread; there is none only where there are no numbers. It leaves them in order of size. It is refused only where
-/// a number is kept in 8 bytes, and takes no memory else.
+/// Returns the spread of the numbers, or `None` if there are none, and leaves them sorted.
+///
+/// # Errors
+///
+/// `AllocError` if an allocation fails; only a list with numbers in 8 bytes allocates.
 pub fn spread_of(numbers: &mut TickList) -> Result<Option<Spread>, AllocError>
     ensures spread { IfOk result (λ read. IfSome read (IsSpread (ticks_in numbers.old))) }
     ensures none { IfOk result (λ read. IfNone read (ticks_in numbers.old ≡ [])) }
@@ -36,7 +41,7 @@ pub fn spread_of(numbers: &mut TickList) -> Result<Option<Spread>, AllocError>
     Ok(Some(read))
 }
 
-/// The spread of numbers that are in order of size.
+/// Returns the spread of sorted numbers.
 fn read_off(in_order: &TickList) -> Spread
     requires { 1 ≤ length (ticks_in in_order.now) }
     ensures { IsReadOff (ticks_in in_order.now) result }
@@ -57,7 +62,7 @@ fn read_off(in_order: &TickList) -> Spread
     }
 }
 
-/// The number at a place.
+/// Returns the number at a place.
 fn number_at(numbers: &TickList, place: usize) -> u64
     requires { place < length (ticks_in numbers.now) }
     ensures { slice_get (ticks_in numbers.now) place ≡ Some result }
@@ -65,7 +70,7 @@ fn number_at(numbers: &TickList, place: usize) -> u64
     numbers.at(place)
 }
 
-/// The place, from 0, of the nearest rank for so many of a hundred.
+/// Returns the place, from 0, of the nearest rank for this many hundredths.
 fn place_of(count: usize, hundredths: u8) -> usize
     requires some { 1 ≤ count }
     requires most { hundredths ≤ 100 }

@@ -2,21 +2,23 @@ ghost use Rattle.std.specs.Prelude.{◌≡◌, ◌++◌, OnOk};
 
 use std::alloc::{AllocError, Global};
 
-/// A list of numbers. Pushed, each takes 4 bytes up to the first that is 2^32 or more, and 8 bytes from there on. Where `set` puts
-/// such a number among those of 4 bytes, all take 8.
+/// A list of numbers. A pushed number takes 4 bytes up to the first one of at least 2^32, and 8 bytes from there on. If
+/// `set` puts such a number among those of 4 bytes, all take 8.
 #[derive(Drop)]
 pub struct TickList {
     alloc: Global,
+    /// The first numbers, in 4 bytes each.
     pub small: Vec<u32>,
+    /// The other numbers, in 8 bytes each.
     pub large: Vec<u64>,
 }
 
 impl TickList {
-    ghost use Rattle.std.specs.Prelude.{◌≡◌, ℕ, ◌<◌, ◌+◌, ◌-◌, ◌++◌, ◌∷◌, [], IfOk, IsPermutation, IsSorted, OnErr, OnOk, get_or, length, set, slice_get};
+    ghost use Rattle.std.specs.Prelude.{◌≡◌, ℕ, ◌<◌, ◌+◌, ◌-◌, ◌++◌, ◌∷◌, [], IsPermutation, IsSorted, OnErr, OnOk, get_or, length, set, slice_get};
     ghost use Rattle.std.specs.Ordering.{nat_cmp};
     ghost use Rattle.report_figures.specs.Ticks.{ticks_in};
 
-    /// An empty list. It takes no memory.
+    /// Returns an empty list. It doesn't allocate.
     pub fn new(alloc: Global) -> TickList
         ensures { ticks_in result ≡ [] }
     {
@@ -27,7 +29,7 @@ impl TickList {
         }
     }
 
-    /// Appends a number. After a refusal nothing is said.
+    /// Appends a number. After an error the contents are unspecified.
     pub fn push(&mut self, ticks: u64) -> Result<(), AllocError>
         ensures { OnOk result (ticks_in self.new ≡ ticks_in self.old ++ ticks ∷ []) }
     {
@@ -39,14 +41,14 @@ impl TickList {
         Ok(())
     }
 
-    /// How many numbers there are.
+    /// Returns the number of numbers.
     pub fn len(&self) -> usize
         ensures { result ≡ length (ticks_in self.now) }
     {
         self.small.len() + self.large.len()
     }
 
-    /// The number at a place, from 0.
+    /// Returns the number at a place, from 0.
     pub fn get(&self, place: usize) -> Option<u64>
         ensures { result ≡ slice_get (ticks_in self.now) place }
     {
@@ -57,14 +59,14 @@ impl TickList {
         self.large.as_slice().get(place - count).copied()
     }
 
-    /// The number at a place, and 0 behind the last.
+    /// Returns the number at a place, or 0 after the last one.
     pub fn at(&self, place: usize) -> u64
         ensures { result ≡ get_or (ticks_in self.now) place 0 }
     {
         self.get(place).unwrap_or(0)
     }
 
-    /// Puts another number at a place. After a refusal nothing is said.
+    /// Replaces the number at a place. After an error the contents are unspecified.
     pub fn set(&mut self, place: usize, ticks: u64) -> Result<(), AllocError>
         requires { place < length (ticks_in self.old) }
         ensures { OnOk result (ticks_in self.new ≡ set (ticks_in self.old) place ticks) }
@@ -81,7 +83,7 @@ impl TickList {
         Ok(())
     }
 
-    /// Appends 0 until there is a number at that place. After a refusal nothing is said.
+    /// Appends zeros until there is a number at that place. After an error the contents are unspecified.
     pub fn reach(&mut self, place: usize) -> Result<(), AllocError>
         ensures same { (other : ℕ) → OnOk result (get_or (ticks_in self.new) other 0 ≡ get_or (ticks_in self.old) other 0) }
         ensures count { OnOk result (length (ticks_in self.new) ≡ length (ticks_in self.old) + (place + 1 - length (ticks_in self.old))) }
@@ -90,21 +92,6 @@ impl TickList {
             self.push(0)?;
         }
         Ok(())
-    }
-
-    /// A list of the same numbers.
-    pub fn copy(&self) -> Result<TickList, AllocError>
-        ensures { IfOk result (λ copy. ticks_in copy ≡ ticks_in self.now) }
-    {
-        let mut small = Vec::new(self.alloc);
-        small.extend_from_slice(self.small.as_slice())?;
-        let mut large = Vec::new(self.alloc);
-        large.extend_from_slice(self.large.as_slice())?;
-        Ok(TickList {
-            alloc: self.alloc,
-            small,
-            large,
-        })
     }
 
     /// Puts the numbers in order of size. It is refused only where a number is kept in 8 bytes, and takes no memory else. After a
@@ -124,7 +111,7 @@ impl TickList {
         Ok(())
     }
 
-    /// Keeps all numbers in 8 bytes. After a refusal nothing is said.
+    /// Stores all numbers in 8 bytes. After an error the contents are unspecified.
     fn widen(&mut self) -> Result<(), AllocError>
         ensures small { OnOk result (self.new.small.items ≡ []) }
         ensures large { OnOk result (self.new.large.items ≡ ticks_in self.old) }

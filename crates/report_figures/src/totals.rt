@@ -3,7 +3,7 @@ ghost use Rattle.report_figures.specs.Ticks.{ticks_in};
 
 use crate::TickList;
 
-/// The sum of the numbers, or none where it is 2^128 or more.
+/// Returns the sum of the numbers, or `None` if it is 2^128 or more.
 pub fn total_of(numbers: &TickList) -> Option<u128>
     ensures total { IfSome result (λ total. total ≡ sum (ticks_in numbers.now)) }
     ensures none { IfNone result (2 ^ 128 ≤ sum (ticks_in numbers.now)) }
@@ -12,7 +12,7 @@ pub fn total_of(numbers: &TickList) -> Option<u128>
     with_large(small, numbers.large.as_slice())
 }
 
-/// That total with these numbers, or none where it is 2^128 or more.
+/// Adds these numbers to a total; `None` if it is 2^128 or more.
 #[tactic(auto, using(crate::proofs::Sums::sum_more_le))]
 fn with_small(before: u128, numbers: &[u32]) -> Option<u128>
     ensures total { IfSome result (λ total. total ≡ before + sum numbers.now) }
@@ -25,7 +25,7 @@ fn with_small(before: u128, numbers: &[u32]) -> Option<u128>
     Some(total)
 }
 
-/// That total with these numbers, or none where it is 2^128 or more.
+/// Adds these numbers to a total; `None` if it is 2^128 or more.
 #[tactic(auto, using(crate::proofs::Sums::sum_more_le))]
 fn with_large(before: u128, numbers: &[u64]) -> Option<u128>
     ensures total { IfSome result (λ total. total ≡ before + sum numbers.now) }

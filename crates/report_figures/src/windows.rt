@@ -1,34 +1,42 @@
-ghost use Rattle.std.specs.Prelude.{◌≡◌};
+ghost use Rattle.std.specs.Prelude.{◌≡◌, ◌-◌};
+ghost use Rattle.report_figures.specs.Columns.{column_at};
 ghost use Rattle.report_figures.specs.Windows.{is_within};
 
 use crate::columns::{COLUMNS, column_of};
 
-/// The clocks from one to another, with both.
+/// The clocks from one to another, both included.
 #[derive(Clone, Copy)]
 pub struct Window {
+    /// The first clock.
     pub from: u64,
+    /// The last clock.
     pub to: u64,
 }
 
 impl Window {
-    /// Whether it has a clock.
+    /// Checks whether the clock is in the window.
     pub fn has(self, clock: u64) -> bool
         ensures { result ≡ is_within self.from self.to clock }
     {
         self.from <= clock && clock <= self.to
     }
 
-    /// How many ticks it has.
-    pub fn ticks(self) -> u64 {
+    /// Returns the number of ticks from the first clock to the last, or 0 if the last comes before the first.
+    pub fn ticks(self) -> u64
+        ensures { result ≡ self.to - self.from }
+    {
         self.to.saturating_sub(self.from)
     }
 
-    /// The column of a clock in a timeline, from 0: the first of an earlier clock, and the last of a later one.
-    pub fn column(self, clock: u64) -> u32 {
+    /// Returns the column, from 0, of a clock in a timeline: the first column for an earlier clock, and the last for a
+    /// later one.
+    pub fn column(self, clock: u64) -> u32
+        ensures { result ≡ column_at (clock - self.from) (self.to - self.from) }
+    {
         column_of(clock.saturating_sub(self.from), self.ticks())
     }
 
-    /// The first clock of a column, and the window's last of a column beyond the last one.
+    /// Returns the first clock of a column, or the window's last clock for a column past the last.
     pub fn clock(self, column: u32) -> u64 {
         let columns = u128::from(COLUMNS);
         let part = u128::from(column.min(COLUMNS)) * u128::from(self.ticks());

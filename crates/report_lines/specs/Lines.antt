@@ -10,7 +10,7 @@ requests_line l =
     codes "requests: " ++ decimal l.came ++ codes " came, " ++ decimal l.dropped ++ codes " dropped, "
     ++ decimal l.taken ++ codes " taken, " ++ decimal l.answered ++ codes " answered"
 
--- the part of the line of a place that has its waits
+-- the part of a place's line about its waits
 abbrev pub waits_part : WaitsPart → List ℕ
 waits_part p =
     decimal p.count ++ codes ", " ++ decimal p.total ++ codes ", " ++ decimal p.median ++ codes ", "

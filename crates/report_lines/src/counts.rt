@@ -3,17 +3,18 @@ use report_figures::{TickList, Window};
 use run_history::{Happening, Numbers, Spells};
 use schedule_log::Item;
 
-/// What is counted in a window of a run, or in all of it.
+/// Counts over a window of a run, or over all of it.
 #[derive(Clone, Copy)]
 pub struct Counts {
+    /// The window, or `None` for the whole run.
     pub window: Option<Window>,
-    /// How many requests were dropped.
+    /// The number of dropped requests.
     dropped: u64,
-    /// The most chunks that were held after a segment.
+    /// The maximum number of chunks held after a segment.
     most_held: u32,
-    /// How often a thread was chosen.
+    /// The number of choices.
     pub choices: u64,
-    /// When the gate was closed, up to the beginning and up to the end of the window.
+    /// When the gate was closed, before the window and up to its end.
     before: Spells,
     within: Spells,
 }
@@ -21,13 +22,16 @@ pub struct Counts {
 /// How often a gate was closed, for how many ticks, and whether it is closed at the end.
 #[derive(Clone, Copy)]
 pub struct Closed {
+    /// How often the gate was closed.
     pub times: u64,
+    /// The number of ticks for which it was closed.
     pub ticks: u64,
+    /// Whether it is closed at the end.
     pub is_closed: bool,
 }
 
 impl Counts {
-    /// Before the first entry, with the gate as it is at the start.
+    /// Returns the counts before the first entry, with the gate as at the start.
     pub fn new(window: Option<Window>, start: Spells) -> Counts {
         let before = match window {
             Some(_) => start,
@@ -43,7 +47,7 @@ impl Counts {
         }
     }
 
-    /// Whether a clock is counted.
+    /// Checks whether a clock is counted.
     pub fn has(&self, clock: u64) -> bool {
         match self.window {
             Some(window) => window.has(clock),
@@ -51,14 +55,15 @@ impl Counts {
         }
     }
 
-    /// A thread was chosen at that clock.
+    /// Counts a choice at that clock.
     pub fn choose(&mut self, clock: u64) {
         if self.has(clock) {
             self.choices = self.choices.saturating_add(1);
         }
     }
 
-    /// What one entry more tells, of a run with so many chunks, and when the gate was closed up to then.
+    /// Adds the happening of the next entry, of a run with this number of chunks, given when the gate was closed up to
+    /// then.
     pub fn add(&mut self, told: Happening, chunks: u32, spells: Spells) {
         match told {
             Happening::Lost {
@@ -75,7 +80,7 @@ impl Counts {
         }
     }
 
-    /// The gate is so after a segment that ended at that clock.
+    /// Updates the gate after a segment that ended at that clock.
     fn turn(&mut self, ended: u64, spells: Spells) {
         match self.window {
             None => self.within = spells,
@@ -90,7 +95,7 @@ impl Counts {
         }
     }
 
-    /// How often and for how long the gate was closed in the window, in a run that ended at that clock.
+    /// Returns how often and for how long the gate was closed in the window, in a run that ended at that clock.
     pub fn closed(&self, ended: u64) -> Closed {
         let (from, to) = match self.window {
             Some(window) => (window.from.min(ended), window.to.min(ended)),
@@ -105,7 +110,7 @@ impl Counts {
         }
     }
 
-    /// How many requests were dropped, of the run with these numbers.
+    /// Returns the number of dropped requests, of the run with these numbers.
     pub fn dropped_in(&self, numbers: &Numbers) -> u64 {
         match self.window {
             Some(_) => self.dropped,
@@ -113,7 +118,7 @@ impl Counts {
         }
     }
 
-    /// The most chunks that were held after a segment, of the run with these numbers.
+    /// Returns the maximum number of chunks held after a segment, of the run with these numbers.
     pub fn most_held_in(&self, numbers: &Numbers) -> u32 {
         match self.window {
             Some(_) => self.most_held,
@@ -121,7 +126,7 @@ impl Counts {
         }
     }
 
-    /// The scope of these numbers.
+    /// Returns the scope of these numbers.
     pub fn scope<'a>(&self, numbers: &'a Numbers, times: &'a TickList) -> Scope<'a> {
         Scope {
             numbers,

@@ -6,7 +6,7 @@ use report_figures::{TickList, spread_of};
 use report_text::Text;
 use std::alloc::AllocError;
 
-/// How long a request took: from when it arrived to an answer, its number, and the thread that took it.
+/// The latency of a request, from its arrival to an answer, with its number and the thread that took it.
 #[derive(Clone, Copy)]
 struct Latency {
     request: usize,
@@ -15,7 +15,7 @@ struct Latency {
     thread: u32,
 }
 
-/// A request that was answered: when it arrived, when its last answer was there, and the thread that took it.
+/// A request that was answered: its arrival, its last answer, and the thread that took it.
 #[derive(Clone, Copy)]
 struct Taken {
     arrived: u64,
@@ -23,12 +23,12 @@ struct Taken {
     thread: u32,
 }
 
-/// Appends the lines on requests, of which so many were dropped: how many came, were dropped, were taken and were answered, and how
-/// long that took, from a request's time in the trace to its first answer and to its last one. The answer is the request that took
-/// longest to its last answer, the earliest of such.
+/// Appends the lines on requests: how many came, were dropped, were taken and were answered, and the latencies from a
+/// request's time in the trace to its first and to its last answer. Returns the request with the longest latency to its
+/// last answer, the earliest of equally long ones.
 ///
-/// `firsts` has the clocks of the first answers, at the places of their requests. It is used up for the ticks, so that no list is
-/// made beside those of the run.
+/// `firsts` has the clocks of the first answers, at the places of their requests. It is overwritten with latencies, so
+/// that no further list is allocated.
 pub fn put_requests(
     text: &mut Text,
     scope: Scope,
@@ -51,7 +51,8 @@ pub fn put_requests(
     put_lasts(text, scope, firsts)
 }
 
-/// Appends the line on latencies to the last answer. The answer is the request that took longest, the earliest of such.
+/// Appends the line on latencies to the last answer. Returns the request with the longest one, the earliest of equally
+/// long ones.
 fn put_lasts(
     text: &mut Text,
     scope: Scope,
@@ -69,7 +70,7 @@ fn put_lasts(
     }
 }
 
-/// The slower of two requests, the first where they took as long.
+/// Returns the slower of two requests, the first if they are equally slow.
 fn slower_of(before: Option<Latency>, latency: Latency) -> Option<Latency> {
     match before {
         Some(slow) if slow.ticks >= latency.ticks => Some(slow),
@@ -77,8 +78,8 @@ fn slower_of(before: Option<Latency>, latency: Latency) -> Option<Latency> {
     }
 }
 
-/// Puts in place of the clocks of the first answers how long each request took to its first answer. The answer is the one that took
-/// longest, the earliest of such.
+/// Replaces the clock of each first answer by the request's latency to its first answer. Returns the longest one, the
+/// earliest of equally long ones.
 fn to_latencies(firsts: &mut TickList, scope: Scope) -> Result<Option<Latency>, AllocError> {
     let mut slowest: Option<Latency> = None;
     let mut count: usize = 0;
@@ -109,7 +110,8 @@ fn to_latencies(firsts: &mut TickList, scope: Scope) -> Result<Option<Latency>, 
     Ok(slowest)
 }
 
-/// Adds how long each request that was answered took to its last answer. The answer is the one that took longest, the earliest of such.
+/// Adds the latency of each answered request to its last answer. Returns the longest one, the earliest of equally long
+/// ones.
 fn add_latencies(ticks: &mut TickList, scope: Scope) -> Result<Option<Latency>, AllocError> {
     let mut slowest: Option<Latency> = None;
     for request in 0..scope.numbers.answers.len() {
@@ -134,7 +136,7 @@ fn add_latencies(ticks: &mut TickList, scope: Scope) -> Result<Option<Latency>, 
     Ok(slowest)
 }
 
-/// The request of that number, where it is told of and was answered.
+/// Returns the request of that number, if it is in the scope and was answered.
 fn taken_of(scope: Scope, request: usize) -> Option<Taken> {
     let arrived = scope.arrived(request)?;
     match (
@@ -150,14 +152,14 @@ fn taken_of(scope: Scope, request: usize) -> Option<Taken> {
     }
 }
 
-/// The line on latencies to the first answer, and to the last one.
+/// The forms of the lines on latencies to the first and to the last answer.
 const FIRST: &str =
     "latency to the first answer: least $, median $, 90th $, 99th $, greatest $ (arrived $, thread $)\n";
 
 const LAST: &str =
     "latency to the last answer: least $, median $, 90th $, 99th $, greatest $ (arrived $, thread $)\n";
 
-/// Appends the line on latencies of that form, in ticks; nothing where there are none.
+/// Appends the line on latencies in that form, in ticks, or nothing if there are none.
 fn put_latencies(
     text: &mut Text,
     form: &str,

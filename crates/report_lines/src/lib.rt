@@ -1,9 +1,10 @@
-// The lines of a report that tell what the numbers of a run are: its requests and their latencies, how they were queued, the parts of
-// one request's time, the waits by place, and the outputs of threads that served no request.
+// The lines of a report about the numbers of a run: its requests and their latencies, the time in the queue, the parts
+// of one request's time, the waits by place, and the outputs of threads that served no request.
 //
-// In: the numbers of a run, the times of its trace, a window of clocks, and the places of its source. Out: lines in a `Text`. A
-// `Scope` says which requests and which waits are told: without a window all of them, and else the requests that arrived in it and
-// the waits that ended in it; `Counts` counts drops, choices, chunks and the gate in it. The numbers are those of `run_history`, their spreads those of `report_figures`.
+// In: the numbers of a run, the times of its trace, a window of clocks, and the places of its source. Out: lines in a
+// `Text`. A `Scope` determines which requests and which waits are included: all of them without a window, and otherwise
+// the requests that arrived in it and the waits that ended in it. `Counts` counts drops, choices, chunks and the gate
+// in it. The numbers are those of `run_history`, their spreads those of `report_figures`.
 #![tactic(auto)]
 
 mod counts;

@@ -1,13 +1,17 @@
-// The lines of a report that show numbers, each with the text that it is.
+// The lines of a report that show numbers, each with its text as a clause.
 
 use std::fmt;
 
-/// How many requests came, were dropped, were taken and were answered.
+/// The numbers of requests that came, were dropped, were taken and were answered.
 #[derive(Clone, Copy)]
 pub struct RequestsLine {
+    /// The requests that came.
     pub came: u64,
+    /// The requests that were dropped.
     pub dropped: u64,
+    /// The requests that were taken.
     pub taken: u64,
+    /// The requests that were answered.
     pub answered: u64,
 }
 
@@ -29,13 +33,18 @@ impl fmt::Display for RequestsLine {
     }
 }
 
-/// The waits at a place: how many, and how long in ticks.
+/// The waits at a place: their number, and their lengths in ticks.
 #[derive(Clone, Copy)]
 pub struct WaitsPart {
+    /// The number of waits.
     pub count: u64,
+    /// The sum of their lengths.
     pub total: u128,
+    /// Half of the waits have at most this length.
     pub median: u64,
+    /// 99 percent of the waits have at most this length.
     pub ninety_ninth: u64,
+    /// The greatest length.
     pub greatest: u64,
 }
 
@@ -55,10 +64,12 @@ impl fmt::Display for WaitsPart {
     }
 }
 
-/// The most chunks that were held between segments, of so many.
+/// The maximum number of chunks held between segments, and the number of all chunks.
 #[derive(Clone, Copy)]
 pub struct ChunksLine {
+    /// The maximum number of held chunks.
     pub most_held: u32,
+    /// The number of all chunks.
     pub chunks: u32,
 }
 

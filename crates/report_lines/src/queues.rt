@@ -6,15 +6,15 @@ use report_text::Text;
 use run_history::{Queued, queued_of};
 use std::alloc::AllocError;
 
-/// The request that was queued longest: its number, from 0, and how it was queued.
+/// The request that was longest in the queue: its number, from 0, and its time in the queue.
 #[derive(Clone, Copy)]
 struct Longest {
     request: usize,
     queued: Queued,
 }
 
-/// Appends the row on how long requests were queued, from their arrival to the `accept` that took them; nothing where none was taken.
-/// The ticks are put into `room`, in place of what is there.
+/// Appends the row on the time of requests in the queue, from their arrival to the `accept` that took them, or nothing
+/// if none was taken. `room` is overwritten with the ticks.
 pub fn put_queue(text: &mut Text, scope: Scope, room: &mut TickList) {
     cut(room, 0);
     if put_row(text, scope, room).is_err() {
@@ -22,7 +22,8 @@ pub fn put_queue(text: &mut Text, scope: Scope, room: &mut TickList) {
     }
 }
 
-/// Adds how long each request was queued that is told of. The answer is the one that was queued longest, the earliest of such.
+/// Adds the time in the queue of each request in the scope. Returns the one with the longest time, the earliest of
+/// equally long ones.
 fn add_queued(ticks: &mut TickList, scope: Scope) -> Result<Option<Longest>, AllocError> {
     let mut longest: Option<Longest> = None;
     for request in 0..scope.numbers.takers.len() {
@@ -37,7 +38,7 @@ fn add_queued(ticks: &mut TickList, scope: Scope) -> Result<Option<Longest>, All
     Ok(longest)
 }
 
-/// How the request of that number was queued, if it is told of.
+/// Returns the time in the queue of the request of that number, if it is in the scope.
 fn queued_in(scope: Scope, request: usize) -> Option<Queued> {
     let queued = queued_of(scope.numbers, scope.times, request)?;
     if scope.has(queued.arrived) {
@@ -47,7 +48,7 @@ fn queued_in(scope: Scope, request: usize) -> Option<Queued> {
     }
 }
 
-/// For how many ticks a request was queued.
+/// Returns the number of ticks that a request was in the queue.
 pub(crate) fn ticks_of(queued: Queued) -> u64 {
     queued.taken.saturating_sub(queued.arrived)
 }

@@ -9,22 +9,22 @@ use run_history::{Happening, History, Numbers, Part, Parts, queued_of};
 use source_places::Places;
 use std::alloc::{AllocError, Global};
 
-/// The most parts of the slowest request that are listed; of a request that is asked for all are.
+/// The maximum number of parts of the slowest request that are listed; of a request that the user asks for, all are.
 const LISTED: usize = 20;
 
-/// A request whose parts are shown.
+/// A request that is shown in parts.
 #[derive(Clone, Copy)]
 pub struct Asked {
-    /// Its number, from 0 in the order in which requests are taken.
+    /// Its number, from 0, in the order in which requests are taken.
     pub request: u64,
     /// Whether it is shown as the slowest.
     pub is_slowest: bool,
-    /// The clock of its last answer, where it has one.
+    /// The clock of its last answer, if it has one.
     pub until: Option<u64>,
 }
 
 impl Asked {
-    /// The request of that number, from 1.
+    /// Returns the request of that number, from 1.
     pub fn of(numbers: &Numbers, number: u64) -> Asked {
         let request = number.saturating_sub(1);
         Asked {
@@ -38,7 +38,7 @@ impl Asked {
     }
 }
 
-/// Appends the parts of a request's time, up to its last answer, where it has one.
+/// Appends the parts of a request's time, up to its last answer, if it has one.
 pub fn put_parts(
     alloc: Global,
     text: &mut Text,
@@ -77,7 +77,7 @@ pub fn put_parts(
     read
 }
 
-/// Appends why a request of that number, from 0, has no parts, where so many came.
+/// Appends why a request of that number, from 0, has no parts; `came` is the number of requests that came.
 fn put_untaken(text: &mut Text, came: u64, request: u64) {
     if request < came {
         text.words(": no accept took it\n")
@@ -88,8 +88,8 @@ fn put_untaken(text: &mut Text, came: u64, request: u64) {
     }
 }
 
-/// Reads a log for the parts of a request, up to its last answer, where it has one. The answer is the thread that put that, if it is
-/// another than the one that took the request.
+/// Reads a log for the parts of a request, up to its last answer, if it has one. Returns the thread that put that
+/// answer, if it isn't the one that took the request.
 fn read_parts(
     alloc: Global,
     parts: &mut Parts,
@@ -111,7 +111,7 @@ fn read_parts(
     Ok(None)
 }
 
-/// The thread whose segment ends at the clock of the last answer, if it does.
+/// Returns the thread whose segment ends at the clock of the last answer, if this one does.
 fn answering_in(told: Happening, until: Option<u64>) -> Option<u32> {
     match (told, until) {
         (Happening::Ran { segment, .. }, Some(clock)) if segment.ended == clock => {
@@ -121,7 +121,7 @@ fn answering_in(told: Happening, until: Option<u64>) -> Option<u32> {
     }
 }
 
-/// The clock at which the last of these parts ends, of a request that was taken at that clock.
+/// Returns the clock at which the last of these parts ends, of a request that was taken at that clock.
 fn end_of(parts: &[Part], taken: u64) -> u64 {
     match parts.last() {
         Some(Part::Runs { ended, .. }) => *ended,
@@ -130,7 +130,7 @@ fn end_of(parts: &[Part], taken: u64) -> u64 {
     }
 }
 
-/// Appends the time from then to the last answer, where another thread put it.
+/// Appends the time from the end of the parts to the last answer, if another thread put it.
 fn put_rest(text: &mut Text, end: u64, until: Option<u64>, other: Option<u32>) {
     if let (Some(clock), Some(thread)) = (until, other) {
         if end < clock {
@@ -143,7 +143,7 @@ fn put_rest(text: &mut Text, end: u64, until: Option<u64>, other: Option<u32>) {
     }
 }
 
-/// Whether the last of these parts ends with the last answer.
+/// Checks whether the last of these parts ends with the last answer.
 fn is_over(parts: &[Part], until: Option<u64>) -> bool {
     match (parts.last(), until) {
         (Some(Part::Runs { ended, .. }), Some(clock)) => *ended >= clock,
@@ -151,8 +151,8 @@ fn is_over(parts: &[Part], until: Option<u64>) -> bool {
     }
 }
 
-/// Appends a line for each part, in order. Of the slowest request at most 20 are listed, those that took longer than all others, and
-/// then how many others there are and their ticks in all.
+/// Appends a line for each part, in order. Of the slowest request at most 20 are listed, those that took longest,
+/// followed by the number of the others and their total ticks.
 fn put_listed(alloc: Global, text: &mut Text, places: &Places, parts: &[Part], asked: Asked) {
     let most = if asked.is_slowest {
         LISTED
@@ -170,7 +170,7 @@ fn put_listed(alloc: Global, text: &mut Text, places: &Places, parts: &[Part], a
     }
 }
 
-/// The ticks of the longest part that isn't listed, where so many are at most; none where all are.
+/// Returns the ticks of the longest part that isn't listed, if at most `most` are, or `None` if all are.
 fn longest_left_out(alloc: Global, parts: &[Part], most: usize) -> Result<Option<u64>, AllocError> {
     let mut ticks = Vec::new(alloc);
     for part in parts {
@@ -184,7 +184,7 @@ fn longest_left_out(alloc: Global, parts: &[Part], most: usize) -> Result<Option
     Ok(ticks.as_slice().get(left_out - 1).copied())
 }
 
-/// Appends a line for each part that is longer than that, and one for all others.
+/// Appends a line for each part that is longer than `bound`, and one for all others.
 fn put_longer(text: &mut Text, places: &Places, parts: &[Part], bound: u64) {
     let mut others: u64 = 0;
     let mut total: u64 = 0;
@@ -202,7 +202,7 @@ fn put_longer(text: &mut Text, places: &Places, parts: &[Part], bound: u64) {
     text.form(": $\n", &[total])
 }
 
-/// For how many ticks a part lasted.
+/// Returns the length of a part in ticks.
 fn length_of(part: Part) -> u64 {
     match part {
         Part::Runs { began, ended } => ended.saturating_sub(began),

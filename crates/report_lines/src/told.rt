@@ -2,12 +2,12 @@ use run_history::{Happening, History, HistoryError};
 use schedule_log::read_entry;
 use std::alloc::AllocError;
 
-/// Why a log is read no further.
+/// Why a log can't be read further.
 #[derive(Clone, Copy)]
 pub enum LinesError {
-    /// A line is no entry's, or a clock or a count would be 2^64 or more.
+    /// A line isn't that of an entry, or a clock or a count would be 2^64 or more.
     Log,
-    /// There is no memory.
+    /// Out of memory.
     Memory,
 }
 
@@ -17,8 +17,8 @@ impl From<AllocError> for LinesError {
     }
 }
 
-/// What one line more of a log tells. At the number of each site stands in `accepts` whether its call is `accept`; without them no wait
-/// takes a request.
+/// Returns the happening of the next line of a log. `accepts` has at each site's number whether its call is `accept`;
+/// without entries, no wait takes a request.
 pub fn told_by(
     history: &mut History,
     line: &[u8],

@@ -1,10 +1,11 @@
 use report_text::Text;
 use run_history::Unasked;
 
-/// The most threads that are listed.
+/// The maximum number of threads that are listed.
 const LISTED: u64 = 20;
 
-/// Appends how many outputs threads put that served no request, and which threads, the first 20 of them; nothing where there are none.
+/// Appends the number of outputs of threads that served no request, and the first 20 such threads, or nothing if there
+/// are none.
 pub fn put_unasked(text: &mut Text, unasked: &Unasked) {
     let total = total_in(unasked);
     if total == 0 {
@@ -25,7 +26,7 @@ pub fn put_unasked(text: &mut Text, unasked: &Unasked) {
     text.words("\n")
 }
 
-/// How many outputs these are in all.
+/// Returns the total number of these outputs.
 fn total_in(unasked: &Unasked) -> u64 {
     let mut total: u64 = 0;
     for (_, puts) in &unasked.puts {

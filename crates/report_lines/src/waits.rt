@@ -5,7 +5,7 @@ use run_history::{SiteWaits, WaitLists};
 use source_places::Places;
 use std::alloc::AllocError;
 
-/// Appends the rows of waits by the place at which threads waited. It leaves the waits of each in order of size.
+/// Appends the rows of waits by the place at which threads waited. It leaves the waits of each place sorted by length.
 pub fn put_waits(text: &mut Text, places: &Places, lists: &mut WaitLists) {
     for (site, waits) in &mut lists.sites {
         if put_site_waits(text, places, *site, waits).is_err() {
@@ -14,7 +14,7 @@ pub fn put_waits(text: &mut Text, places: &Places, lists: &mut WaitLists) {
     }
 }
 
-/// Appends the row of a site: its waits, who waited longest there, and until when.
+/// Appends the row of a site: its waits, the thread with the longest one, and the end of that.
 fn put_site_waits(
     text: &mut Text,
     places: &Places,
@@ -33,7 +33,7 @@ fn put_site_waits(
     Ok(())
 }
 
-/// Appends how many waits there are, and how long they were, by these ticks; nothing where there are none.
+/// Appends the number of waits and their lengths, from these ticks, or nothing if there are none.
 pub(crate) fn put_part(text: &mut Text, ticks: &mut TickList) -> Result<(), AllocError> {
     let total = total_of(ticks).unwrap_or(u128::MAX);
     if let Some(spread) = spread_of(ticks)? {

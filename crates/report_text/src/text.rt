@@ -2,8 +2,8 @@ use std::alloc::{AllocError, Global};
 use std::fmt;
 use std::marker::Model;
 
-/// A text that is written piece by piece. If there is no memory for a piece it takes none that follows, and is not whole: so what
-/// writes it has nothing to answer, and a reader asks whether it is whole.
+/// A text that is written piece by piece. If memory runs out for a piece, it takes no further piece and isn't complete.
+/// So functions that write to it return no errors, and its reader checks whether it is complete.
 #[derive(Drop)]
 pub struct Text {
     written: String,
@@ -26,7 +26,7 @@ impl Text {
     ghost use Rattle.std.specs.String.{string_bytes};
     ghost use Rattle.report_text.specs.Written.{Adds, Extends, Fills, counted, filled};
 
-    /// An empty text. It takes no memory.
+    /// Returns an empty text. It doesn't allocate.
     pub fn new(alloc: Global) -> Text
         ensures bytes { result.bytes ≡ [] }
         ensures whole { result.is_whole ≡ true }
@@ -37,7 +37,7 @@ impl Text {
         }
     }
 
-    /// What was written, if all of it is there.
+    /// Returns what was written, if it is complete.
     pub fn whole(&self) -> Result<&str, AllocError>
         ensures ok { IfOk result (λ text. (text.now ≡ self.now.bytes) × (self.now.is_whole ≡ true)) }
         ensures err { OnErr result (self.now.is_whole ≡ false) }
@@ -49,7 +49,7 @@ impl Text {
         }
     }
 
-    /// The same, as a text that is written no more.
+    /// Consumes the text and returns what was written, if it is complete.
     pub fn into_whole(self) -> Result<String, AllocError>
         ensures ok { IfOk result (λ text. (string_bytes text ≡ self.bytes) × (self.is_whole ≡ true)) }
         ensures err { OnErr result (self.is_whole ≡ false) }
@@ -63,7 +63,7 @@ impl Text {
         }
     }
 
-    /// What is written next needs memory of its own, and there is none: the text is not whole.
+    /// Marks the text as incomplete: memory ran out for the next piece.
     pub fn lack(&mut self)
         ensures { self.new.is_whole ≡ false }
     {
@@ -88,7 +88,7 @@ impl Text {
         }
     }
 
-    /// Appends the display of a value: a line of a report, a part of one, or a number in decimal digits.
+    /// Appends the `Display` output of a value: a line of a report, a part of one, or a number in decimal digits.
     pub fn line<L: fmt::Display>(&mut self, line: &L)
         ensures { IfSome (L.output line.now) (λ bytes. Adds bytes self.old self.new) }
     {
@@ -97,7 +97,7 @@ impl Text {
         }
     }
 
-    /// Appends a form: the first `$` of it stands for the first of the numbers, in decimal digits, and so on.
+    /// Appends a form, in which each `$` is replaced by the next of the numbers, in decimal digits.
     pub fn form(&mut self, form: &str, numbers: &[u64])
         ensures { Adds (filled form.now numbers.now) self.old self.new }
     {
@@ -108,7 +108,8 @@ impl Text {
         self.words(rest)
     }
 
-    /// Appends a form up to its first `$`, with the number in place of that, and returns the rest of the form; nothing if there is no `$`.
+    /// Appends a form up to its first `$`, with the number in place of it, and returns the rest of the form. Appends
+    /// nothing if there is no `$`.
     fn fill<'a>(&mut self, form: &'a str, number: u64) -> &'a str
         ensures { Fills number form.now result.now self.old self.new }
     {
@@ -122,7 +123,7 @@ impl Text {
         }
     }
 
-    /// Appends a number and the noun for it: `one` for 1, and `more` for each other number.
+    /// Appends a number and its noun: `one` for 1, and `more` for every other number.
     pub fn counted(&mut self, number: u64, one: &str, more: &str)
         ensures { Adds (counted number one.now more.now) self.old self.new }
     {
@@ -140,7 +141,7 @@ impl Text {
         }
     }
 
-    /// Appends a name as the text of an SVG element: `&`, `<` and `>` by their entities.
+    /// Appends a name as the text of an SVG element, with `&`, `<` and `>` as entities.
     pub fn escaped(&mut self, name: &str)
         ensures { Extends self.old self.new }
     {

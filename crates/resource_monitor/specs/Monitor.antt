@@ -1,11 +1,11 @@
--- What a monitor means.
+-- The state of a monitor, and its invariant.
 use Rattle.std.specs.Prelude.{ℕ, ◌≡◌, ◌<◌, ◌≤◌, Bool, true, IsTrue, List, length, replicate, slice_index, slice_index_or}
 use Rattle.resource_monitor.specs.declared.curves.Curve.{Curve}
 use Rattle.resource_monitor.specs.declared.curves.Curve.TheVariants.{Linear}
 use Rattle.resource_monitor.specs.Pressure.{pressure, IsInRange}
 
--- of the eight resources the curves of their gauges and the caps, the two bounds of the gate, the last uses observed
--- and the gate
+-- the curves of the gauges and the caps of the eight resources, the two bounds of the gate, the uses observed last, and
+-- the gate
 pub record MonitorState : Type 0 where
   pub curves : List Curve
   pub caps : List ℕ
@@ -18,7 +18,7 @@ pub record MonitorState : Type 0 where
 abbrev pub curve_at : List Curve → ℕ → Curve
 curve_at curves resource = slice_index_or curves resource Linear
 
--- the pressure of a resource, by its gauge's curve, of the last uses observed
+-- the pressure of a resource, by its gauge's curve, at the use observed last
 abbrev pub pressure_at : MonitorState → ℕ → ℕ
 pressure_at monitor resource = pressure (curve_at monitor.curves resource) (slice_index monitor.uses resource) (slice_index monitor.caps resource)
 
@@ -34,12 +34,12 @@ SmallCaps caps = (resource : ℕ) → resource < 8 → slice_index caps resource
 abbrev pub AreInRange : List Curve → Type 0
 AreInRange curves = (resource : ℕ) → resource < 8 → IsInRange (curve_at curves resource)
 
--- a monitor to begin with: nothing in use, and the gate open
+-- the initial monitor: all uses are 0, and the gate is open
 abbrev pub started : List Curve → List ℕ → ℕ → ℕ → MonitorState
 started curves caps high low = record { curves = curves; caps = caps; high = high; low = low; uses = replicate 8 0; is_open = true }
 
--- what a monitor keeps: eight curves in their ranges, eight caps of at most 1,000,000, eight uses within them, bounds of the gate
--- from 0 to 1000, and an open gate only where no pressure is at its upper bound
+-- the invariant of a monitor: eight curves in their ranges, eight caps of at most 1,000,000, eight uses within them,
+-- bounds of the gate from 0 to 1000, and the gate isn't open if some pressure is at its upper bound
 pub record IsMonitor (monitor : MonitorState) : Type 0 where
   pub eight_curves : length monitor.curves ≡ 8
   pub in_range : AreInRange monitor.curves

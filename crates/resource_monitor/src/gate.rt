@@ -14,7 +14,7 @@ fn all_at_most(seen: &[u32], low: u32) -> bool
     seen.iter().all(|pressure| *pressure <= low)
 }
 
-/// Whether the gate is open after these pressures are seen.
+/// Returns whether the gate is open after these pressures are observed.
 pub(crate) fn is_open_after(high: u32, low: u32, was_open: bool, seen: &[u32]) -> bool
     ensures { result ≡ gate_after high low was_open seen.now }
 {

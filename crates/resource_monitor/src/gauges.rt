@@ -5,8 +5,8 @@ use crate::curves::Curve;
 use crate::measures::Measure;
 use std::marker::Model;
 
-/// A closure over the use and the cap of a resource, kept with the curve that it answers. What a gauge
-/// means is that curve.
+/// A closure over the use and the cap of a resource, with the curve whose values it returns. Contracts see that
+/// curve.
 #[derive(Drop)]
 pub struct Gauge<C: Measure> {
     curve: Curve,
@@ -25,8 +25,8 @@ impl<C: Measure> Model for Gauge<C> {
 }
 
 impl<C: Measure> Gauge<C> {
-    /// The gauge of a closure that answers the curve, which is in its range, at every use up to a cap from 1 to
-    /// 1,000,000.
+    /// Returns the gauge of a closure that returns the curve's value for every cap from 1 to 1,000,000 and
+    /// every use up to it. The curve is in its range.
     #[tactic(auto, using(crate::proofs::CurveLemmas::pressure_curve))]
     pub fn new(curve: Curve, call: C) -> Gauge<C>
         requires in_range { IsInRange curve }
@@ -37,7 +37,7 @@ impl<C: Measure> Gauge<C> {
         Gauge { curve, call }
     }
 
-    /// The curve that the closure answers.
+    /// Returns the curve whose values the closure returns.
     pub(crate) fn curve(&self) -> Curve
         ensures value { result ≡ self.now }
         ensures in_range { IsInRange self.now }
@@ -45,8 +45,8 @@ impl<C: Measure> Gauge<C> {
         self.curve
     }
 
-    /// The pressure where `used` of `cap` is in use, from 0 to 1000. The closure is called only where
-    /// there is a cap.
+    /// Returns the pressure at a use of `used` with the cap `cap`, from 0 to 1000. The closure isn't called
+    /// with a cap of 0.
     #[tactic(auto, using(crate::proofs::CurveLemmas::pressures_bounded))]
     pub(crate) fn reading(&self, used: u32, cap: u32) -> u32
         requires within { used ≤ cap }

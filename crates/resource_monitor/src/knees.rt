@@ -2,9 +2,10 @@ ghost use Rattle.std.specs.Prelude.{◌≡◌, ◌≤◌};
 ghost use Rattle.resource_monitor.specs.Pressure.{IsReading, curve_value};
 ghost use Rattle.resource_monitor.specs.declared.curves.Curve.TheVariants.{Knee};
 
-/// The value of the curve `Knee` where `used` of `cap` is in use, from 0 to 1000. `knee` is in thousandths of the cap, at most 999;
-/// `cap` is from 1 to 1,000,000, and `used` at most `cap`. Up to the knee it is 0, and it rises from there without a jump; with
-/// knee 0 it is linear in the use. A closure that makes this call answers the curve, so a gauge may keep it.
+/// Returns the value of the curve `Knee` at a use of `used` with the cap `cap`, from 0 to 1000. `knee` is in
+/// thousandths of the cap, at most 999; `cap` is from 1 to 1,000,000, and `used` at most `cap`. Up to the knee it is 0,
+/// and it increases from there without a jump; with knee 0 it is linear in the use. A closure that makes this call
+/// returns the values of the curve, so a gauge may have it.
 #[tactic(auto, using(crate::proofs::CurveLemmas::pressure_curve))]
 pub fn past_knee(knee: u32, used: u32, cap: u32) -> u32
     requires in_range { knee ≤ 999 }

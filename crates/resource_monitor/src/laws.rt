@@ -1,9 +1,9 @@
-// What holds of the curves.
+// Laws of the curves.
 ghost use Rattle.std.specs.Prelude.{◌≡◌, ℕ};
 ghost use Rattle.resource_monitor.specs.Pressure.{IsReading, curve_value};
 ghost use Rattle.resource_monitor.specs.declared.curves.Curve.TheVariants.{Linear, Knee};
 
-/// A knee at 0 is the curve `Linear`. It does nothing: the law is the contract.
+/// Law: a knee at 0 is the curve `Linear`.
 pub fn knee_0_is_linear()
     ensures { (used cap : ℕ) → IsReading used cap → curve_value (Knee 0) used cap ≡ curve_value Linear used cap }
 {}

@@ -1,12 +1,12 @@
-// Pressure on resources, and the gate that keeps arrivals back.
+// Pressure on resources, and the gate that delays requests.
 //
-// Eight resources have a cap and a use. The pressure of a resource is a curve at its use and cap, which a
-// closure of the caller's answers; a gauge keeps that closure and the fact that it answers the curve which
-// it stands for. `past_knee` is the curve `Knee` as a call. The monitor takes the uses after each segment of a
-// run (`observe`) and gives pressures, by its gauges' curves and from 0 to 1000, and whether the gate is open.
-// The scheduler and the runner cite `specs/Monitor.antt`, `specs/Pressure.antt` and `specs/Gate.antt`. The idea,
-// to hold arrivals back while resources are short, is that of Capriccio (von Behren et al., SOSP 2003);
-// pressure and gate are our own.
+// Each of eight resources has a cap and a use. The pressure of a resource is the value of a curve at its use and
+// cap, computed by a closure of the caller; a gauge has that closure and the proof that it returns the values of
+// its curve. `past_knee` computes the curve `Knee`. The monitor takes the uses after each segment of a run
+// (`observe`), and returns pressures from 0 to 1000, by its gauges' curves, and whether the gate is open. The
+// scheduler and the runner cite `specs/Monitor.antt`, `specs/Pressure.antt` and `specs/Gate.antt`. The idea of
+// delaying requests while resources are scarce is Capriccio's (von Behren et al., SOSP 2003); pressure and gate
+// are our own. A law has no effect at run time: its contract is a theorem.
 #![tactic(auto)]
 
 mod curves;

@@ -8,8 +8,8 @@ use crate::gauges::Gauge;
 use crate::measures::Measure;
 use std::marker::Model;
 
-/// The eight resources of a run: their caps, their gauges, the last uses observed, and the gate.
-/// Resource 0 is the pool of chunks; 1 to 7 are those that a caller gives.
+/// The eight resources of a run: their caps, their gauges, the uses observed last, and the gate. Resource 0 is
+/// the pool of chunks; resources 1 to 7 have the caps that the caller gives them.
 #[derive(Drop)]
 pub struct Monitor<C: Measure> {
     gauges: Vec<Gauge<C>>,
@@ -31,8 +31,8 @@ impl<C: Measure> Model for Monitor<C> {
 }
 
 impl<C: Measure> Monitor<C> {
-    /// A monitor of nothing in use, whose gate is open. The gate closes at a pressure of `high` or more,
-    /// and opens where none is above `low`.
+    /// Returns a monitor with all uses 0 and the gate open. The gate closes at a pressure of at least `high`,
+    /// and opens if all pressures are at most `low`.
     pub fn new(gauges: Vec<Gauge<C>>, caps: [u32; 8], high: u32, low: u32) -> Monitor<C>
         requires eight { vec_len gauges ≡ 8 }
         requires small { SmallCaps caps }
@@ -51,7 +51,7 @@ impl<C: Measure> Monitor<C> {
         }
     }
 
-    /// Takes the uses of the eight resources, each at most its cap, and moves the gate.
+    /// Observes the uses of the eight resources, each at most its cap, and updates the gate.
     pub fn observe(&mut self, uses: [u32; 8])
         requires { NoneAbove uses self.old.caps }
         ensures seen { self.new ≡ record self.old { uses = uses; is_open = gate_after self.old.high self.old.low self.old.is_open (pressures self.old.curves uses self.old.caps) } }
@@ -62,8 +62,8 @@ impl<C: Measure> Monitor<C> {
         self.uses = uses;
     }
 
-    /// The pressure of a resource, from 0 to 1000: its gauge's curve at the last use observed and the cap, or 0
-    /// where the cap is 0.
+    /// Returns the pressure of a resource, from 0 to 1000: the value of its gauge's curve at the use observed
+    /// last and the cap, or 0 if the cap is 0.
     pub fn pressure(&self, resource: u32) -> u32
         requires { resource < 8 }
         ensures value { result ≡ pressure_at self.now resource }
@@ -73,7 +73,7 @@ impl<C: Measure> Monitor<C> {
         self.gauges[place].reading(self.uses[place], self.caps[place])
     }
 
-    /// Whether the gate is open.
+    /// Returns whether the gate is open.
     pub fn gate(&self) -> bool
         ensures { result ≡ self.now.is_open }
     {
@@ -81,7 +81,7 @@ impl<C: Measure> Monitor<C> {
     }
 }
 
-/// Looks at each gauge's curve, of which the gauge keeps that it is in its range.
+/// Uses the invariant of each gauge: its curve is in its range.
 fn know_ranges<C: Measure>(gauges: &[Gauge<C>])
     requires { length gauges.now ≡ 8 }
     ensures { AreInRange gauges.now }

@@ -1,4 +1,4 @@
--- Marks on words that are taken by runs of words.
+-- Marks on words that are in ranges.
 use Rattle.std.specs.Prelude.{◌≡◌, ℕ, ◌+◌, ◌*◌, ◌%◌, ◌<◌, ◌≤◌, Bool, true, false, List, length, slice_index_or}
 use Rattle.certificate_rules.specs.Ranges.{IsIn}
 
@@ -6,8 +6,8 @@ use Rattle.certificate_rules.specs.Ranges.{IsIn}
 abbrev pub is_marked : List Bool → ℕ → Bool
 is_marked marks word = slice_index_or marks word false
 
--- just the words of the first n runs are marked, where run y has so many words from byte `start y` on, and word 0 stands at
--- the byte `base`; each run begins at a whole word and lies among the words that there are
+-- exactly the words of the first n ranges are marked; range y has this number of words from byte `start y` on, word 0
+-- is at byte `base`, and each range begins at a word boundary and consists of words that exist
 pub record AreMarked (base : ℕ) (start words : ℕ → ℕ) (n : ℕ) (marks : List Bool) : Type 0 where
   pub aligned : (y : ℕ) → y < n → start y % 4 ≡ 0
   pub inside : (y : ℕ) → y < n → (base ≤ start y) × (start y + 4 * words y ≤ base + 4 * length marks)

@@ -1,4 +1,4 @@
--- What is known of the tables that are made of a program and its certificate.
+-- What is known of the tables that are computed from a program and its certificate.
 use Rattle.std.specs.Prelude.{◌≡◌, ℕ, ◌<◌, length, map, slice_index}
 use Rattle.flat_code.specs.Codes.{FlatCode}
 use Rattle.stack_certificate.specs.declared.certificates.Certificate.{Certificate}

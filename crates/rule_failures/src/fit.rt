@@ -12,7 +12,7 @@ use stack_certificate::Certificate;
 use stack_image::Image;
 use std::alloc::{AllocError, Global};
 
-/// Where V1 fails first. Only its index 4 is looked at for each function; the others are at function 0.
+/// Returns the first failure of V1. Only index 4 is tested for each function; the others are at function 0.
 pub fn first_unfit(
     alloc: Global,
     flat: &FlatProgram,
@@ -29,8 +29,8 @@ pub fn first_unfit(
     Ok(spot_of_rest(first_without_places(flat, certificate), named))
 }
 
-// Where V1 fails first behind its first three indices, by the first function without a place for each variable, and whether
-// the certificate names the program's sites.
+// The first failure of V1 after its first three indices, by the first function without a place for each variable, and
+// whether the certificate names the program's sites.
 fn spot_of_rest(function: Option<u32>, named: bool) -> Option<Spot>
     ensures { result ≡ unfit_spot function named }
 {
@@ -59,7 +59,7 @@ fn spot_of_rest(function: Option<u32>, named: bool) -> Option<Spot>
     }
 }
 
-// Which of the indices 1 to 3 of V1 fails first.
+// The first of the indices 1 to 3 at which V1 fails.
 fn first_unfit_count(flat: &FlatProgram, image: &Image, certificate: &Certificate) -> Option<u64>
     ensures { IsFirst (λ i. i ≤ 3 → V1 (program_code flat.now) image.now certificate.now 0 i) result }
 {
@@ -77,7 +77,7 @@ fn first_unfit_count(flat: &FlatProgram, image: &Image, certificate: &Certificat
     None
 }
 
-// The first function that hasn't as many places as variables.
+// The first function with fewer or more places than variables.
 fn first_without_places(flat: &FlatProgram, certificate: &Certificate) -> Option<u32>
     requires few { length (program_code flat.now).functions ≤ 2 ^ 32 }
     requires count { length certificate.now.functions ≡ length (program_code flat.now).functions }

@@ -3,10 +3,9 @@ ghost use Rattle.flat_code.specs.Codes.{FlatCode};
 ghost use Rattle.certificate_rules.specs.Rules.{V3, V11};
 ghost use Rattle.rule_failures.specs.First.{IsFirst};
 
-use accepted_pairs::fact_of;
-use stack_certificate::Certificate;
+use stack_certificate::{Certificate, fact_of};
 
-/// At which index V3 fails first in a function.
+/// Returns the first index at which V3 fails in a function.
 pub fn first_wrong_frame(certificate: &Certificate, function: u32) -> Option<u64>
     requires { function < length certificate.now.functions }
     ensures { (code : FlatCode) → length code.functions ≡ length certificate.now.functions → IsFirst (V3 code certificate.now function) result }
@@ -19,7 +18,7 @@ pub fn first_wrong_frame(certificate: &Certificate, function: u32) -> Option<u64
     }
 }
 
-/// At which index V11 fails first in a function.
+/// Returns the first index at which V11 fails in a function.
 pub fn first_outside_path(certificate: &Certificate, function: u32) -> Option<u64>
     requires { function < length certificate.now.functions }
     ensures { (code : FlatCode) → length code.functions ≡ length certificate.now.functions → IsFirst (V11 code certificate.now function) result }

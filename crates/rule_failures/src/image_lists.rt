@@ -4,12 +4,11 @@ ghost use Rattle.stack_certificate.specs.Certificates.{fact_at};
 ghost use Rattle.certificate_rules.specs.Rules.{V8, V12};
 ghost use Rattle.rule_failures.specs.First.{IsFirst, IsFirstOther};
 
-use accepted_pairs::fact_of;
 use flat_code::FlatProgram;
-use stack_certificate::Certificate;
+use stack_certificate::{Certificate, fact_of};
 use stack_image::Image;
 
-/// At which index V8 fails first.
+/// Returns the first index at which V8 fails.
 pub fn first_wrong_member(
     flat: &FlatProgram,
     image: &Image,
@@ -29,7 +28,7 @@ pub fn first_wrong_member(
     first_too_many(words, passed)
 }
 
-// The first of a table's members, which follow so many others, whose entry isn't the word at its place.
+// The first of a table's members, after the others, whose entry isn't the word at its place.
 fn first_other_entry(
     certificate: &Certificate,
     members: &[u32],
@@ -48,7 +47,7 @@ fn first_other_entry(
     None
 }
 
-/// At which index V12 fails first.
+/// Returns the first index at which V12 fails.
 pub fn first_wrong_global(flat: &FlatProgram, image: &Image) -> Option<u64>
     ensures { (f : ℕ) → IsFirst (V12 (program_code flat.now) image.now f) result }
 {
@@ -63,7 +62,7 @@ pub fn first_wrong_global(flat: &FlatProgram, image: &Image) -> Option<u64>
     first_too_many(words, passed)
 }
 
-// The first word of a global, which follows so many others, that isn't its starting value.
+// The first word of a global, after the others, that isn't its initial value.
 fn first_other_start(count: u32, start: u32, words: &[u32], passed: usize) -> Option<usize>
     requires { passed + count ≤ 65536 }
     ensures { IsFirstOther (replicate count start) words.now passed result }
@@ -86,7 +85,7 @@ fn is_at(words: &[u32], index: usize, word: u32) -> bool
     }
 }
 
-// The first of the words that are more than so many.
+// The first word after the expected number of words.
 fn first_too_many(words: &[u32], count: usize) -> Option<u64>
     ensures { result ≡ (if nat_lt count (length words.now) then Some count else None) }
 {

@@ -1,9 +1,9 @@
-// Where each rule of valid pairs first fails, except V9 and V10, which compare the needs and bounds
-// of sites.
+// The first failure of each rule of valid pairs, except V9 and V10, which compare the needs and
+// bounds of sites.
 //
 // In: a program in flat code, an image and a certificate. Out: for each of the rules V1 to V8, V11
 // and V12 the first place at which it fails, or none: the least index in a function, or, if the
-// rule is about all functions at once, the least function and in it the least index. The rules are
+// rule concerns all functions at once, the least function and in it the least index. The rules are
 // the definitions of certificate_rules. The checker, certificate_check, tries the rules in order;
 // it decides V9 and V10 itself.
 #![tactic(auto)]

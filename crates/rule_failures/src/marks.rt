@@ -2,7 +2,7 @@ ghost use Rattle.std.specs.Prelude.{◌≡◌, ℕ, ◌+◌, ◌*◌, ◌%◌, �
 ghost use Rattle.certificate_rules.specs.Ranges.{AreApart};
 ghost use Rattle.rule_failures.specs.Marks.{AreMarked};
 
-// Marks the words of a run, which lies among those that there are; false where one of them was marked before.
+// Marks the words of a range, which exist; returns false if one of them was marked before.
 pub(crate) fn mark_run(marks: &mut [bool], start: usize, words: usize) -> bool
     requires { start + words ≤ length marks.old }
     ensures apart { (base n : ℕ) (starts runs : ℕ → ℕ) → base % 4 ≡ 0 → AreMarked base starts runs n marks.old → starts n ≡ base + 4 * start → runs n ≡ words →

@@ -13,8 +13,8 @@ use flat_code::{FlatProgram, Op};
 use stack_certificate::{Certificate, LinkKind, SiteFact};
 use std::alloc::{AllocError, Global};
 
-// Whether the certificate's sites are just those of the program at which a function or a table is called or a
-// thread is started, each once, with rising numbers, and `spawn` at the last of these alone.
+// Whether the certificate's sites are exactly those of the program at which a function or a table is called
+// or a thread is started, each once, with increasing numbers, and exactly those that start a thread marked `spawn`.
 pub(crate) fn names_sites(
     alloc: Global,
     flat: &FlatProgram,
@@ -29,7 +29,7 @@ pub(crate) fn names_sites(
     Ok(names_each(flat, certificate, &mut seen))
 }
 
-// The same, where the numbers of the certificate's sites rise; the facts that are met are noted.
+// The same, if the numbers of the certificate's sites increase; notes the facts found.
 fn names_each(flat: &FlatProgram, certificate: &Certificate, seen: &mut [bool]) -> bool
     requires rising { IsStrictlyIncreasing (fact_numbers certificate.now.sites) }
     requires count { length seen.old ≡ length certificate.now.sites }
@@ -45,7 +45,7 @@ fn names_each(flat: &FlatProgram, certificate: &Certificate, seen: &mut [bool]) 
     are_all_seen(seen)
 }
 
-// Whether the numbers of facts rise.
+// Whether the numbers of facts increase.
 fn rises(facts: &[SiteFact]) -> bool
     ensures { IsTrue result ↔ IsStrictlyIncreasing (fact_numbers facts.now) }
 {
@@ -57,7 +57,7 @@ fn rises(facts: &[SiteFact]) -> bool
     true
 }
 
-// Whether each operation's site is among the facts as it should be; the facts that are met are noted.
+// Whether each operation's site has the right fact; notes the facts found.
 fn note_sites(ops: &[Op], facts: &[SiteFact], seen: &mut [bool]) -> bool
     requires rising { IsStrictlyIncreasing (fact_numbers facts.now) }
     requires seen { length seen.old ≡ length facts.now }
@@ -73,7 +73,7 @@ fn note_sites(ops: &[Op], facts: &[SiteFact], seen: &mut [bool]) -> bool
     true
 }
 
-// Whether an operation's site, if it has one, is among the facts as it should be; its fact is noted.
+// Whether an operation's site, if it has one, has the right fact; notes the fact.
 fn note_site(op: &Op, facts: &[SiteFact], seen: &mut [bool]) -> bool
     requires rising { IsStrictlyIncreasing (fact_numbers facts.now) }
     requires seen { length seen.old ≡ length facts.now }
@@ -87,7 +87,7 @@ fn note_site(op: &Op, facts: &[SiteFact], seen: &mut [bool]) -> bool
     }
 }
 
-// Whether the site of an operation is among the facts as it should be; its fact is noted.
+// Whether the site of an operation has the right fact; notes the fact.
 fn note_named(op: &Op, site: u32, facts: &[SiteFact], seen: &mut [bool]) -> bool
     requires rising { IsStrictlyIncreasing (fact_numbers facts.now) }
     requires seen { length seen.old ≡ length facts.now }
@@ -108,14 +108,14 @@ fn note_named(op: &Op, site: u32, facts: &[SiteFact], seen: &mut [bool]) -> bool
     }
 }
 
-// Whether a site is certified as one that starts a thread just where the operation starts one.
+// Whether a site is certified as one that starts a thread exactly if the operation starts one.
 fn agrees(kind: LinkKind, op: &Op) -> bool
     ensures { IsTrue result ↔ (is_spawned kind ≡ starts_thread op.now) }
 {
     is_spawned_kind(kind) == starts_a_thread(op)
 }
 
-// Whether each fact was met.
+// Whether each fact was found.
 fn are_all_seen(seen: &[bool]) -> bool
     ensures { IsTrue result ↔ EachIndex seen.now (λ k. is_marked seen.now k ≡ true) }
 {

@@ -12,13 +12,13 @@ ghost use Rattle.rule_failures.specs.TablesOf.{AreTablesOf};
 use crate::settings::setting_of;
 use crate::tables::Tables;
 use crate::words::stands_at;
-use accepted_pairs::{fact_of, function_of, words_before_each};
+use accepted_pairs::{function_of, words_before_each};
 use flat_code::FlatProgram;
-use stack_certificate::{Certificate, Setting, operation_size, operation_word};
+use stack_certificate::{Certificate, Setting, fact_of, operation_size, operation_word};
 use stack_image::Image;
 use std::alloc::{AllocError, Global};
 
-/// At which index V6 fails first in a function.
+/// Returns the first index at which V6 fails in a function.
 pub fn first_wrong_operation(
     alloc: Global,
     flat: &FlatProgram,
@@ -36,7 +36,7 @@ pub fn first_wrong_operation(
     Ok(first_astray(flat, image, certificate, tables, function, &before))
 }
 
-// The same, where it is known how many words stand before each operation.
+// The same, given the number of words before each operation.
 fn first_astray(
     flat: &FlatProgram,
     image: &Image,
@@ -68,7 +68,7 @@ fn first_astray(
     None
 }
 
-// Whether the words of an operation stand in the code.
+// Whether the words of an operation are in the code.
 fn operation_stands(
     flat: &FlatProgram,
     image: &Image,

@@ -6,15 +6,14 @@ ghost use Rattle.rule_failures.specs.First.{IsFirst};
 ghost use Rattle.accepted_pairs.specs.Held.{IsReadable};
 ghost use Rattle.rule_failures.specs.Marks.{AreMarked, is_marked};
 
-use crate::lookups::placed_fact_of;
 use crate::marks::mark_run;
 use accepted_pairs::function_of;
 use flat_code::FlatProgram;
-use stack_certificate::{Certificate, FunctionFact};
+use stack_certificate::{Certificate, FunctionFact, placed_fact_of};
 use std::alloc::{AllocError, Global};
 
-/// At which index V4 fails first in a function. Each word of the frame is marked by what claims it, so that no two
-/// variables are compared.
+/// Returns the first index at which V4 fails in a function. It marks the words of the frame that are in use, instead of
+/// comparing each pair of variables.
 pub fn first_wrong_place(
     alloc: Global,
     flat: &FlatProgram,
@@ -31,8 +30,8 @@ pub fn first_wrong_place(
     Ok(first_untaken(fact, sizes, &mut marks))
 }
 
-// The first variable, or the number of variables for the return address, whose place isn't as V4 says, over marks for the
-// words of the frame of which none is set.
+// The first variable, or the number of variables for the return address, whose place breaks V4. Initially no word of
+// the frame is marked.
 fn first_untaken(fact: &FunctionFact, sizes: &[u32], marks: &mut [bool]) -> Option<u64>
     requires places { length fact.now.places ≡ length sizes.now }
     requires count { length marks.old ≡ fact.now.frame / 4 }
@@ -51,7 +50,7 @@ fn first_untaken(fact: &FunctionFact, sizes: &[u32], marks: &mut [bool]) -> Opti
     None
 }
 
-// Whether a place is a multiple of 4 and its words lie in the frame and are unmarked; they are marked then.
+// Whether a place is a multiple of 4 and its words are in the frame and unmarked; marks them.
 fn takes_place(frame: u32, place: u32, words: u32, marks: &mut [bool]) -> bool
     requires { length marks.old ≡ frame / 4 }
     ensures placed { (n : ℕ) (starts runs : ℕ → ℕ) → AreMarked 0 starts runs n marks.old → starts n ≡ place → runs n ≡ words →

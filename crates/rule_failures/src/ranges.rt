@@ -1,6 +1,7 @@
 ghost use Rattle.std.specs.Prelude.{false, ℕ, ◌≡◌, ◌+◌, ◌*◌, ◌%◌, ◌<◌, ◌≤◌, ◌↔◌, IsTrue, IfOk, IfNone, length};
 ghost use Rattle.flat_code.specs.Codes.{FlatCode};
 ghost use Rattle.flat_code.specs.ProgramView.{program_code};
+ghost use Rattle.stack_image.specs.Addresses.{code_start};
 ghost use Rattle.stack_certificate.specs.Certificates.{fact_at};
 ghost use Rattle.certificate_rules.specs.Rules.{V2};
 ghost use Rattle.rule_failures.specs.First.{HoldBelow, IsFirst, IsFirstSpot};
@@ -9,14 +10,13 @@ ghost use Rattle.rule_failures.specs.Marks.{AreMarked, is_marked};
 
 use crate::marks::mark_run;
 use crate::spots::Spot;
-use accepted_pairs::fact_of;
 use flat_code::FlatProgram;
-use stack_certificate::{Certificate, FunctionFact};
-use stack_image::Image;
+use stack_certificate::{Certificate, FunctionFact, fact_of};
+use stack_image::{CODE_START, Image};
 use std::alloc::{AllocError, Global};
 
-/// Where V2 fails first. Each word of the code is marked by the function that claims it, so that no two functions are
-/// compared.
+/// Returns the first failure of V2. It marks the words of the code that are in use, instead of comparing each pair of
+/// functions.
 pub fn first_wrong_range(
     alloc: Global,
     flat: &FlatProgram,
@@ -31,7 +31,7 @@ pub fn first_wrong_range(
     Ok(first_over_ranges(flat, image, certificate, &mut marks))
 }
 
-// The same, over marks for the words of the code of which none is set.
+// The same. Initially no word of the code is marked.
 fn first_over_ranges(
     flat: &FlatProgram,
     image: &Image,
@@ -53,7 +53,7 @@ fn first_over_ranges(
     None
 }
 
-// At which index V2 fails first in a function, where the words of the lower functions are marked.
+// The first index at which V2 fails in a function, when the words of the lower functions are marked.
 fn first_in_range(
     image: &Image,
     certificate: &Certificate,
@@ -64,9 +64,9 @@ fn first_in_range(
     requires entries { length image.now.entries ≡ length certificate.now.functions }
     requires code { length image.now.code ≤ 200000 }
     requires count { length marks.old ≡ length image.now.code }
-    requires marks { AreMarked 0x1000 (λ g. (fact_at certificate.now g).entry) (λ g. (fact_at certificate.now g).words) function marks.old }
+    requires marks { AreMarked code_start (λ g. (fact_at certificate.now g).entry) (λ g. (fact_at certificate.now g).words) function marks.old }
     ensures first { (code : FlatCode) → length code.functions ≡ length certificate.now.functions → IsFirst (V2 code image.now certificate.now function) result }
-    ensures marked { IfNone result (AreMarked 0x1000 (λ g. (fact_at certificate.now g).entry) (λ g. (fact_at certificate.now g).words) (function + 1) marks.new) }
+    ensures marked { IfNone result (AreMarked code_start (λ g. (fact_at certificate.now g).entry) (λ g. (fact_at certificate.now g).words) (function + 1) marks.new) }
 {
     let fact = fact_of(certificate, function);
     if !lies_in_code(fact, image.code.len()) {
@@ -75,18 +75,20 @@ fn first_in_range(
     if image.entries.as_slice()[function as usize] != fact.entry {
         return Some(2);
     }
-    let start = (fact.entry - 0x1000) / 4;
+    let start = (fact.entry - CODE_START) / 4;
     if !mark_run(marks, start as usize, fact.words as usize) {
         return Some(3);
     }
     None
 }
 
-// Whether a function's words lie in the code past its first two words.
+// Whether a function's words are in the code after its first two words.
 fn lies_in_code(fact: &FunctionFact, code: usize) -> bool
     requires { code ≤ 200000 }
-    ensures { IsTrue result ↔ ((fact.now.entry % 4 ≡ 0) × (0x1008 ≤ fact.now.entry) × (fact.now.entry + 4 * fact.now.words ≤ 0x1000 + 4 * code)) }
+    ensures { IsTrue result ↔ ((fact.now.entry % 4 ≡ 0) × (code_start + 4 * 2 ≤ fact.now.entry) × (fact.now.entry + 4 * fact.now.words ≤ code_start + 4 * code)) }
 {
     let end = u64::from(fact.entry) + 4 * u64::from(fact.words);
-    fact.entry % 4 == 0 && fact.entry >= 0x1008 && end <= 0x1000 + 4 * code as u64
+    fact.entry % 4 == 0
+        && fact.entry >= CODE_START + 4 * 2
+        && end <= u64::from(CODE_START) + 4 * code as u64
 }

@@ -2,18 +2,17 @@ ghost use Rattle.std.specs.Prelude.{◌≡◌, ◌^◌, ◌<◌, length};
 ghost use Rattle.flat_code.specs.Codes.{function_at, operation_at};
 ghost use Rattle.flat_code.specs.ProgramView.{program_code};
 ghost use Rattle.flat_code.specs.WellFormed.{IsOperation, context_of};
-ghost use Rattle.stack_certificate.specs.Certificates.{member_count};
 ghost use Rattle.stack_certificate.specs.Templates.{begin, setting_at, goes_to, named_entry, named_address, named_count};
 ghost use Rattle.accepted_pairs.specs.Held.{IsReadable, AreWordsBefore};
 ghost use Rattle.rule_failures.specs.TablesOf.{AreTablesOf};
 
 use crate::tables::Tables;
-use accepted_pairs::{fact_of, kind_of_operation, operation_of};
+use accepted_pairs::{kind_of_operation, operation_of};
 use flat_code::{FlatProgram, Op};
-use stack_certificate::{Certificate, Setting};
+use stack_certificate::{Certificate, Setting, fact_of, members_of_table, words_of_global};
 
-// What the template of an operation takes from the rest of the program, where it is known how many words stand before
-// each operation of the function.
+// What the template of an operation needs from the rest of the program, given the number of words before each
+// operation of the function.
 pub(crate) fn setting_of(
     flat: &FlatProgram,
     certificate: &Certificate,
@@ -64,7 +63,7 @@ fn target(
     }
 }
 
-// The address at which the words of an operation begin.
+// The address of the first word of an operation.
 fn address_behind(
     flat: &FlatProgram,
     certificate: &Certificate,
@@ -117,23 +116,15 @@ fn address(
     }
 }
 
-// The words of the array or the members of the table that an operation names.
+// The size in words of the array, or the number of members of the table, that an operation names.
 fn count(flat: &FlatProgram, function: u32, op: &Op) -> u32
     requires formed { IsOperation (context_of (program_code flat.now) (function_at (program_code flat.now) function)) op.now }
     ensures { result ≡ named_count (program_code flat.now) op.now }
 {
     match op {
-        Op::LoadArray { a, .. } => flat.globals()[*a as usize].words,
-        Op::StoreArray { a, .. } => flat.globals()[*a as usize].words,
+        Op::LoadArray { a, .. } => words_of_global(flat, *a),
+        Op::StoreArray { a, .. } => words_of_global(flat, *a),
         Op::CallTable { t, .. } => members_of_table(flat, *t),
         _ => 0,
     }
-}
-
-// The number of a table's members.
-fn members_of_table(flat: &FlatProgram, t: u32) -> u32
-    requires { t < length (program_code flat.now).tables }
-    ensures { result ≡ member_count (program_code flat.now) t }
-{
-    flat.tables()[t as usize].len() as u32
 }

@@ -1,4 +1,4 @@
-/// Where a rule fails: the function and the index.
+/// The place at which a rule fails: the function and the index.
 #[derive(Clone, Copy, PartialEq, Eq)]
 pub struct Spot {
     pub function: u32,

@@ -1,5 +1,5 @@
-/// Where each global and table stands, and the greatest bound of each table's members: taken once, so that no operation
-/// needs a search of its own.
+/// The address of each global and table, and the greatest bound of each table's members: computed once, so that no
+/// operation needs a search.
 #[derive(Drop)]
 pub struct Tables {
     pub global_addresses: Vec<u32>,

@@ -7,24 +7,23 @@ ghost use Rattle.certificate_rules.specs.Rules.{V5, V7};
 ghost use Rattle.rule_failures.specs.First.{IsFirst};
 ghost use Rattle.accepted_pairs.specs.Held.{IsReadable};
 
-use crate::lookups::placed_fact_of;
 use accepted_pairs::function_of;
 use flat_code::FlatProgram;
-use stack_certificate::{Certificate, prologue_word, stub_word};
-use stack_image::Image;
+use stack_certificate::{Certificate, placed_fact_of, prologue_word, stub_word};
+use stack_image::{CODE_START, Image};
 
-// Whether a word is there and stands in the code at an address.
+// Whether a word exists and is in the code at an address.
 pub(crate) fn stands_at(image: &Image, address: u64, word: Option<u32>) -> bool
     ensures { (instr : Instr) → IsWordOf (Some instr) word → (IsTrue result ↔ Stands image.now address instr) }
 {
-    let place = address.saturating_sub(0x1000) / 4;
+    let place = address.saturating_sub(u64::from(CODE_START)) / 4;
     match (word, image.code.as_slice().get(place as usize)) {
         (Some(word), Some(there)) => word == *there,
         _ => false,
     }
 }
 
-/// At which index V5 fails first in a function.
+/// Returns the first index at which V5 fails in a function.
 pub fn first_wrong_prologue_word(
     flat: &FlatProgram,
     image: &Image,
@@ -49,12 +48,13 @@ pub fn first_wrong_prologue_word(
     None
 }
 
-/// At which index V7 fails first.
+/// Returns the first index at which V7 fails.
 pub fn first_wrong_stub_word(image: &Image) -> Option<u64>
     ensures { (f : ℕ) → IsFirst (V7 image.now f) result }
 {
     for word in 0..2 {
-        if !stands_at(image, 0x1000 + 4 * word as u64, stub_word(word)) {
+        let address = u64::from(CODE_START) + 4 * word as u64;
+        if !stands_at(image, address, stub_word(word)) {
             return Some(word as u64);
         }
     }

@@ -1,7 +1,7 @@
--- The nodes of threads, by the places of their records.
+-- The nodes of threads, by the slots of their records.
 use Rattle.std.specs.Prelude.{ℕ, ◌≡◌, ◌≢◌, ◌<◌, ◌≤◌, List, length, slice_index}
 
--- a node was put at a place, and every other stays; there are no fewer places than before
+-- a node was stored at a place, and all others are unchanged; there are no fewer places than before
 pub record IsPut (old new : List ℕ) (slot node : ℕ) : Type 0 where
   pub place : slot < length new
   pub here : slice_index new slot ≡ node

@@ -13,24 +13,24 @@ use Rattle.rule_state.specs.Strides.{StridesState, IsChoiceByStrides, IsNotedByS
 use Rattle.rule_state.specs.declared.rules.RuleState.{RuleState}
 use Rattle.rule_state.specs.declared.rules.RuleState.TheVariants.{Graph, Stride}
 
--- ---- what a call asks for
+-- ---- what a call requires
 
--- a thread may start: the stride rule has none of its number
+-- a thread may be started: the stride rule has none with its number
 abbrev pub MayStart : RuleState → ThreadId → Type 0
 MayStart (Graph scheduler) thread = ⊤
 MayStart (Stride strides) thread = IsAbsent thread.number strides.rule.clients
 
--- the world vouches for the needs that were told
+-- the world guarantees the needs
 abbrev pub AreKnownTo : (ThreadId → Need → Type 0) → RuleState → Type 0
 AreKnownTo vouches (Graph scheduler) = AreKnown vouches scheduler
 AreKnownTo vouches (Stride strides) = known.AreKnown vouches strides.rule
 
--- no segment is under way, as far as the rule keeps that
+-- no segment is in progress, as far as the rule records that
 abbrev pub HasNone : RuleState → Type 0
 HasNone (Graph scheduler) = ⊤
 HasNone (Stride strides) = strides.rule.running ≡ None
 
--- a thread's segment is under way, as far as the rule keeps that
+-- a thread's segment is in progress, as far as the rule records that
 pub record IsRunning (strides : StridesState) (thread : ThreadId) : Type 0 where
   pub running : strides.rule.running ≡ Some thread.number
   pub place : thread.slot < length strides.nodes
@@ -50,7 +50,7 @@ abbrev pub IsLawfulOf : RuleState → (ThreadId → Bool) → (ℕ → ℤ) → 
 IsLawfulOf (Graph scheduler) eligible score choice = IsLawfulChoice (queue_of scheduler) eligible score (last_of scheduler) choice
 IsLawfulOf (Stride strides) eligible score choice = IsChoiceByStrides strides eligible choice
 
--- ---- what the calls do
+-- ---- the effects of the calls
 
 -- a thread joined the end of a node's queue with its need, and nothing else changed
 pub record IsQueued (old new : SchedulerState) (thread : ThreadId) (node : ℕ) (need : Need) : Type 0 where
@@ -68,19 +68,19 @@ HasStarted (Graph old) (Graph new) thread = IsQueued old new thread 0 Need.Nothi
 HasStarted (Stride old) (Stride new) thread = strides.IsStarted old new thread
 HasStarted _ _ thread = ⊥
 
--- a choice was taken
+-- a choice was made and noted
 abbrev pub HasTaken : RuleState → RuleState → (ThreadId → Bool) → Choice → Type 0
 HasTaken (Graph old) (Graph new) eligible choice = IsUnqueued old new choice
 HasTaken (Stride old) (Stride new) eligible choice = IsNotedByStrides old new eligible choice
 HasTaken _ _ eligible choice = ⊥
 
--- the thread whose segment was under way waits at a node, with its need
+-- the thread whose segment was in progress waits at a node, with its need
 abbrev pub HasRejoined : RuleState → RuleState → ThreadId → ℕ → Need → Type 0
 HasRejoined (Graph old) (Graph new) thread node need = IsQueued old new thread node need
 HasRejoined (Stride old) (Stride new) thread node need = strides.IsRejoined old new thread node need
 HasRejoined _ _ thread node need = ⊥
 
--- the thread whose segment was under way is gone
+-- the thread whose segment was in progress has left
 abbrev pub HasLeft : RuleState → RuleState → ThreadId → Type 0
 HasLeft (Graph old) (Graph new) thread = new ≡ old
 HasLeft (Stride old) (Stride new) thread = strides.IsLeft old new thread

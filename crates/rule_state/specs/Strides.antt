@@ -10,7 +10,7 @@ use Rattle.stride_rule.specs.Choices.{IsFirstEligible, choice_among}
 use Rattle.stride_rule.specs.State.{StrideState, waiting_of, with_client, after_choice, after_segment_for, after_leaving}
 use Rattle.rule_state.specs.Nodes.{IsPut}
 
--- the stride rule, and the node of each thread, by the place of its record
+-- the stride rule, and the node of each thread, by the slot of its record
 pub record StridesState : Type 0 where
   pub rule : StrideState
   pub nodes : List ℕ
@@ -23,23 +23,23 @@ node_of strides thread = slice_index strides.nodes thread.slot
 abbrev pub HaveNodes : List ℕ → List Client → Type 0
 HaveNodes nodes clients = AllByRecursion (λ client. client.thread.slot < length nodes) clients
 
--- the choice of a thread by strides: it tells whether all that wait are eligible
+-- the choice of a thread by strides, which says whether all waiting threads are eligible
 abbrev pub stride_choice : StrideState → (ThreadId → Bool) → ThreadId → StrideChoice
 stride_choice rule eligible thread = choice_among (waiting_of rule) eligible thread
 
 -- ---- the choice
 
--- the thread is the lawful choice by strides, and the node is the one at which it waits
+-- the thread is the lawful choice by strides, and the node is that at which it waits
 pub record IsFirstAtNode (strides : StridesState) (eligible : ThreadId → Bool) (choice : Choice) : Type 0 where
   pub first : IsFirstEligible (waiting_of strides.rule) eligible (stride_choice strides.rule eligible choice.thread)
   pub node : choice.node ≡ node_of strides choice.thread
 
--- and there is none exactly where no thread that waits is eligible
+-- and there is none exactly if no waiting thread is eligible
 abbrev pub IsChoiceByStrides : StridesState → (ThreadId → Bool) → Option Choice → Type 0
 IsChoiceByStrides strides eligible None = AllByRecursion (λ client. eligible client.thread ≡ false) (waiting_of strides.rule)
 IsChoiceByStrides strides eligible (Some choice) = IsFirstAtNode strides eligible choice
 
--- ---- what the calls do
+-- ---- the effects of the calls
 
 -- a thread was started, at a node
 pub record IsStartedAt (old new : StridesState) (thread : ThreadId) (node : ℕ) : Type 0 where
@@ -53,11 +53,11 @@ IsStarted old new thread = IsStartedAt old new thread 0
 abbrev pub IsNotedByStrides : StridesState → StridesState → (ThreadId → Bool) → Choice → Type 0
 IsNotedByStrides old new eligible choice = new ≡ record { rule = after_choice old.rule (stride_choice old.rule eligible choice.thread); nodes = old.nodes }
 
--- the choice under way has ended, and its thread waits at a node, for this
+-- the segment in progress has ended, and its thread waits at a node, with this need
 pub record IsRejoined (old new : StridesState) (thread : ThreadId) (node : ℕ) (need : Need) : Type 0 where
   pub rule : new.rule ≡ after_segment_for old.rule thread.number need
   pub nodes : IsPut old.nodes new.nodes thread.slot node
 
--- the choice under way has ended, and its thread has left
+-- the segment in progress has ended, and its thread has left
 abbrev pub IsLeft : StridesState → StridesState → ThreadId → Type 0
 IsLeft old new thread = new ≡ record { rule = after_leaving old.rule thread.number; nodes = old.nodes }

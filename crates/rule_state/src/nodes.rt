@@ -6,7 +6,7 @@ use std::alloc::AllocError;
 /// The node of threads that haven't run.
 pub(crate) const START: u32 = 0;
 
-/// Makes a place for the node of a thread, which is 0 so far.
+/// Makes a place for the node of a thread, which is initially 0.
 pub(crate) fn make_place(nodes: &mut Vec<u32>, slot: u32) -> Result<(), AllocError>
     ensures same { (other : ℕ) → slice_index nodes.new.items other ≡ slice_index nodes.old.items other }
     ensures longer { vec_len nodes.old ≤ vec_len nodes.new }
@@ -21,7 +21,7 @@ pub(crate) fn make_place(nodes: &mut Vec<u32>, slot: u32) -> Result<(), AllocErr
     Ok(())
 }
 
-/// Puts a node at its place.
+/// Stores a node at its place.
 pub(crate) fn put(nodes: &mut Vec<u32>, slot: u32, node: u32)
     requires { slot < length nodes.old.items }
     ensures { IsPut nodes.old.items nodes.new.items slot node }

@@ -12,7 +12,7 @@ use resource_monitor::{Measure, Monitor};
 use scheduler::{Choice, Scheduler};
 use std::alloc::AllocError;
 
-/// What a rule keeps of the threads that it chooses from.
+/// The state of a rule: the threads among which it chooses.
 #[derive(Drop)]
 pub enum RuleState {
     /// By the blocking graph and the pressure on resources.
@@ -22,7 +22,7 @@ pub enum RuleState {
 }
 
 impl RuleState {
-    /// Adds a thread that has just started: it waits at node 0, for nothing.
+    /// Adds a new thread: it waits at node 0, without a need.
     pub fn start(&mut self, thread: ThreadId) -> Result<(), AllocError>
         requires { MayStart self.old thread }
         ensures ok { OnOk result (HasStarted self.old self.new thread) }
@@ -34,9 +34,9 @@ impl RuleState {
         }
     }
 
-    /// The thread to go on next, with the node at which it waits, or none where no thread that waits is eligible. A thread is
-    /// eligible where it is ready and, if it is at `accept`, the gate is open or no thread elsewhere than at `accept` is ready. The
-    /// choice is noted, and its segment is under way from here on. It takes no memory.
+    /// Chooses the thread that runs next, and returns it with the node at which it waits, or `None` if no waiting
+    /// thread is eligible. A thread is eligible if it is ready and, if it is at `accept`, the gate is open or no thread
+    /// that isn't at `accept` is ready. The choice is noted, and its segment begins. It doesn't allocate.
     pub fn take<C: Measure, W: Bounded>(
         &mut self,
         graph: &Graph,
@@ -57,7 +57,7 @@ impl RuleState {
         }
     }
 
-    /// Ends the segment under way: its thread waits at a node, with what it waits for.
+    /// Ends the segment in progress: its thread waits at a node, with its need.
     pub fn rejoin(&mut self, thread: ThreadId, node: u32, need: Need) -> Result<(), AllocError>
         requires { IsUnderWay self.old thread }
         ensures ok { OnOk result (HasRejoined self.old self.new thread node need) }
@@ -72,7 +72,7 @@ impl RuleState {
         }
     }
 
-    /// Ends the segment under way: its thread has ended. It takes no memory.
+    /// Ends the segment in progress: its thread has ended. It doesn't allocate.
     pub fn leave(&mut self, thread: ThreadId)
         requires { IsUnderWay self.old thread }
         ensures { HasLeft self.old self.new thread }

@@ -9,7 +9,7 @@ use std::alloc::{AllocError, Global};
 use std::marker::Model;
 use stride_rule::StrideRule;
 
-/// Threads that are chosen by strides, with the node at which each waits, by the place of its record.
+/// Threads that are chosen by strides, with the node at which each waits, by the slot of its record.
 #[derive(Drop)]
 pub struct StridesAtNodes {
     rule: StrideRule,
@@ -31,7 +31,7 @@ impl StridesAtNodes {
     ghost use Rattle.stride_rule.specs.State.{AreKnown};
     ghost use Rattle.rule_state.specs.Strides.{IsChoiceByStrides, IsLeft, IsNotedByStrides, IsRejoined, IsStarted};
 
-    /// A rule at which no thread was started. It takes no memory.
+    /// Returns a rule without threads. It doesn't allocate.
     pub fn new(alloc: Global, rule: StrideRule) -> StridesAtNodes
         requires { rule.clients ≡ [] }
         ensures { result ≡ record { rule = rule; nodes = [] } }
@@ -42,7 +42,7 @@ impl StridesAtNodes {
         }
     }
 
-    /// Adds a thread that waits at node 0, and the room that later calls need for it.
+    /// Adds a thread that waits at node 0, and allocates the room that later calls need for it.
     pub fn start(&mut self, thread: ThreadId) -> Result<(), AllocError>
         requires { IsAbsent thread.number self.old.rule.clients }
         ensures ok { OnOk result (IsStarted self.old self.new thread) }
@@ -62,9 +62,10 @@ impl StridesAtNodes {
         }
     }
 
-    /// The thread to go on next, with the node at which it waits, or none where no thread that waits is eligible. The choice is
-    /// noted, and under way from here on. Each thread that waits is asked until some choice finds one that isn't eligible. From then
-    /// on none is: the needs that were told say who may go on. It takes no memory.
+    /// Chooses the thread that runs next, and returns it with the node at which it waits, or `None` if no waiting
+    /// thread is eligible. The choice is noted, and its segment begins. It asks each waiting thread until some choice
+    /// finds one that isn't eligible. From then on it asks none: the needs determine which threads are eligible. It
+    /// doesn't allocate.
     pub fn take<W: Bounded>(&mut self, gate_open: bool, world: &W) -> Option<Choice>
         requires none_under_way { self.old.rule.running ≡ None }
         requires known { AreKnown (W.vouches world.now) self.old.rule }
@@ -81,7 +82,7 @@ impl StridesAtNodes {
         Some(Choice { thread, node })
     }
 
-    /// Ends the choice under way: its thread waits at a node, for this. It takes no memory.
+    /// Ends the segment in progress: its thread waits at a node, with this need. It doesn't allocate.
     pub fn rejoin(&mut self, thread: ThreadId, node: u32, need: Need)
         requires under_way { self.old.rule.running ≡ Some thread.number }
         requires place { thread.slot < length self.old.nodes }
@@ -91,7 +92,7 @@ impl StridesAtNodes {
         self.rule.rejoin_for(thread, need);
     }
 
-    /// Ends the choice under way: its thread has ended. It takes no memory.
+    /// Ends the segment in progress: its thread has ended. It doesn't allocate.
     pub fn leave(&mut self, thread: ThreadId)
         requires { self.old.rule.running ≡ Some thread.number }
         ensures { IsLeft self.old self.new thread }

@@ -3,14 +3,16 @@ use Rattle.std.proofs.Common.{◌≡◌, ◌≢◌, ℕ, suc, ◌+◌, Bool, tru
 use Rattle.blocking_graph.specs.Edges.{edges_of}
 use Rattle.blocking_graph.specs.declared.edges.EdgeLine.{EdgeLine}
 use Rattle.event_trace.specs.declared.events.Event.{Event}
+use Rattle.choice_rules.specs.Choice.{monitor_of, observed}
 use Rattle.choice_rules.specs.Policy.{all_caps}
+use Rattle.choice_rules.specs.Readiness.{any_ready, any_elsewhere}
+use Rattle.choice_rules.specs.Seen.{uses_of}
 use Rattle.choice_rules.specs.Trace.{IsNext}
 use Rattle.choice_rules.specs.Clock.{is_due}
-use Rattle.lawful_log.specs.Choice.{IsRun, monitor_of}
+use Rattle.lawful_log.specs.Choice.{IsRun}
 use Rattle.lawful_log.specs.Good.{checked_of}
-use Rattle.lawful_log.specs.Readiness.{any_ready, any_elsewhere}
 use Rattle.lawful_log.specs.Setup.{Setup, setting_of}
-use Rattle.lawful_log.specs.State.{Segment, State, uses_of}
+use Rattle.lawful_log.specs.State.{Segment, State, seen_of}
 use Rattle.lawful_log.specs.Beside.{IsChosenAs, IsChosen}
 use Rattle.lawful_log.specs.Within.{IsBetween, IsWithin}
 use Rattle.lawful_log.proofs.Between.{run_state, run_segment, run_allowed, within_run}
@@ -44,16 +46,12 @@ use Rattle.run_course.proofs.Ready.{ready_told, accept_told, any_ready_told, any
 use Rattle.run_course.proofs.Times.{timely_picked, timely_turn}
 use Rattle.run_course.proofs.Turned.{of_kept, told_live}
 
--- the monitor after it has taken the uses
-abbrev pub observed : MonitorState → List ℕ → MonitorState
-observed m uses = record m { uses = uses; is_open = gate_after m.high m.low m.is_open (pressures m.curves uses m.caps) }
-
 module _ (g : Setup) (state : State) (k : Kept) (held : Held) (left : Rest) (stands : StandsBetween g state k held left) (next : Option Event) (known_is : known k.next ≡ Some next)
-    (ready : any_ready_in held ≡ true) (uses : List ℕ) (uses_is : uses ≡ uses_of state) (within_caps : NoneAbove uses (all_caps g.policy)) where
+    (ready : any_ready_in held ≡ true) (uses : List ℕ) (uses_is : uses ≡ uses_of (seen_of state)) (within_caps : NoneAbove uses (all_caps g.policy)) where
   pub between : IsBetween g state (Some next) held.machine
   between = subst (λ (o : Option (Option Event)). IsBetween g state o held.machine) known_is stands.between
 
-  monitor_is : observed k.monitor uses ≡ monitor_of g state
+  monitor_is : observed k.monitor uses ≡ monitor_of g.policy (seen_of state)
   monitor_is =
       let m : MonitorState = k.monitor in
       let is = stands.past.monitor_is in
@@ -62,18 +60,18 @@ module _ (g : Setup) (state : State) (k : Kept) (held : Held) (left : Rest) (sta
       ∙ ap (λ (n : ℕ). let v : MonitorState = record { curves = g.policy.curves; caps = all_caps g.policy; high = n; low = m.low; uses = uses; is_open = gate_after n m.low m.is_open (pressures g.policy.curves uses (all_caps g.policy)) } in v) is.high
       ∙ ap (λ (n : ℕ). let v : MonitorState = record { curves = g.policy.curves; caps = all_caps g.policy; high = g.policy.high; low = n; uses = uses; is_open = gate_after g.policy.high n m.is_open (pressures g.policy.curves uses (all_caps g.policy)) } in v) is.low
       ∙ ap (λ (u : List ℕ). let v : MonitorState = record { curves = g.policy.curves; caps = all_caps g.policy; high = g.policy.high; low = g.policy.low; uses = u; is_open = gate_after g.policy.high g.policy.low m.is_open (pressures g.policy.curves u (all_caps g.policy)) } in v) uses_is
-      ∙ ap (λ (b : Bool). let v : MonitorState = record { curves = g.policy.curves; caps = all_caps g.policy; high = g.policy.high; low = g.policy.low; uses = uses_of state; is_open = b } in v) stands.gate
+      ∙ ap (λ (b : Bool). let v : MonitorState = record { curves = g.policy.curves; caps = all_caps g.policy; high = g.policy.high; low = g.policy.low; uses = uses_of (seen_of state); is_open = b } in v) stands.gate
 
-  pub some_ready : any_ready g state held.machine.clock ≡ true
+  pub some_ready : any_ready g.policy (seen_of state) held.machine.clock ≡ true
   some_ready = sym (any_ready_told g state held (Some next) between stands.of.setting) ∙ ready
 
   abbrev pub Lawful : Option Choice → Type 0
   Lawful o = IsLawfulOf k.rule (is_eligible (is_ready_in held) (is_at_accept_in held) (any_elsewhere_in held) (observed k.monitor uses).is_open) (score (observed k.monitor uses) k.graph.edges) o
 
-  lawful_now : (o : Option Choice) → Lawful o → IsLawfulOf k.rule (is_eligible (is_ready_in held) (is_at_accept_in held) (any_elsewhere g state held.machine.clock) (observed k.monitor uses).is_open)
+  lawful_now : (o : Option Choice) → Lawful o → IsLawfulOf k.rule (is_eligible (is_ready_in held) (is_at_accept_in held) (any_elsewhere g.policy (seen_of state) held.machine.clock) (observed k.monitor uses).is_open)
       (score (observed k.monitor uses) (edges_of state.past.records)) o
   lawful_now o lawful =
-      subst (λ (es : List EdgeLine). IsLawfulOf k.rule (is_eligible (is_ready_in held) (is_at_accept_in held) (any_elsewhere g state held.machine.clock) (observed k.monitor uses).is_open)
+      subst (λ (es : List EdgeLine). IsLawfulOf k.rule (is_eligible (is_ready_in held) (is_at_accept_in held) (any_elsewhere g.policy (seen_of state) held.machine.clock) (observed k.monitor uses).is_open)
       (score (observed k.monitor uses) es) o) stands.past.graph_is.edges
       (subst (λ (b : Bool). IsLawfulOf k.rule (is_eligible (is_ready_in held) (is_at_accept_in held) b (observed k.monitor uses).is_open)
       (score (observed k.monitor uses) k.graph.edges) o) (any_elsewhere_told g state held (Some next) between stands.of.setting) lawful)

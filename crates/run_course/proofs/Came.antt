@@ -8,6 +8,7 @@ use Rattle.event_trace.specs.declared.events.Event.{Event}
 use Rattle.event_trace.specs.declared.events.EventKind.{EventKind}
 use Rattle.event_trace.specs.Lines.{FitsKind, FitsEvent}
 use Rattle.choice_rules.specs.Policy.{all_caps}
+use Rattle.choice_rules.specs.Seen.{uses_of}
 use Rattle.choice_rules.specs.Trace.{IsNext, behind}
 use Rattle.choice_rules.specs.Deliveries.{delivery_of, item_of, received}
 use Rattle.lawful_log.specs.Deliveries.{IsComing}
@@ -15,7 +16,7 @@ use Rattle.lawful_log.specs.Good.{checked_of}
 use Rattle.machine_world.specs.Places.{Checked}
 use Rattle.machine_meaning.specs.UnderWay.{IsSettled}
 use Rattle.lawful_log.specs.Setup.{Setup}
-use Rattle.lawful_log.specs.State.{State, uses_of}
+use Rattle.lawful_log.specs.State.{State, seen_of}
 use Rattle.lawful_log.proofs.Between.{come_state, drops, came, coming, between_came}
 use Rattle.lawful_log.specs.Within.{IsBetween}
 use Rattle.machine_world.specs.Runs.{Deliver, delivered}
@@ -38,7 +39,7 @@ words_of (EventKind.Arrive value) fits = fits
 words_of (EventKind.Message channel value) fits = fits.1
 
 -- a delivery changes no use, no chunk and no count
-same_cost : (b : Bool) (w : World) (x : Exchange) → (if b then w else record w { exchange = x }).cost ≡ w.cost
+pub same_cost : (b : Bool) (w : World) (x : Exchange) → (if b then w else record w { exchange = x }).cost ≡ w.cost
 same_cost true w x = refl
 same_cost false w x = refl
 
@@ -46,7 +47,7 @@ same_held : (b : Bool) (w : World) (x : Exchange) → let v : World = if b then 
 same_held true w x = refl
 same_held false w x = refl
 
-same_count : (b : Bool) (w : World) (x : Exchange) → (if b then w else record w { exchange = x }).areas.pool.count ≡ w.areas.pool.count
+pub same_count : (b : Bool) (w : World) (x : Exchange) → (if b then w else record w { exchange = x }).areas.pool.count ≡ w.areas.pool.count
 same_count true w x = refl
 same_count false w x = refl
 
@@ -85,7 +86,7 @@ module _ (g : Setup) (state : State) (k : Kept) (held : Held) (left : Rest) (sta
   pub machine_is : (after_event held event.kind).machine ≡ came_world
   machine_is = ap (λ (s : Setting). delivered s held.machine (delivery_of event.kind)) stands.of.setting
 
-  uses_same : uses_of came_state ≡ uses_of state
+  uses_same : uses_of (seen_of came_state) ≡ uses_of (seen_of state)
   uses_same =
       let held_same = same_held (is_dropped g.policy.backlog held.machine.exchange (delivery_of event.kind)) held.machine (with_delivery held.machine.exchange (delivery_of event.kind)) in
       let before : held.machine.areas.pool.count - free_count held.machine.areas.pool ≡ state.machine.areas.pool.count - free_count state.machine.areas.pool = ap (λ (w : World). w.areas.pool.count - free_count w.areas.pool) between.machine_is in

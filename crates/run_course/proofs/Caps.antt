@@ -1,11 +1,11 @@
--- The caps and uses of a world, and the changes of the uses.
-use Rattle.std.proofs.Common.{◌≡◌, ℕ, zero, suc, ◌-◌, ◌<◌, ◌≤◌, ◌^◌, ℤ, pos, List, [], ◌∷◌, length, drop, nat_eq, refl, sym, ap, ◌∙◌, subst, arith}
-use Rattle.std.proofs.lemmas.Int.{ints}
-use Rattle.std.specs.Prelude.{slice_index, slice_index_or, ◌-ℤ◌, unsigned_abs, All}
+-- The caps and uses of a world.
+use Rattle.std.proofs.Common.{◌≡◌, ℕ, zero, suc, ◌-◌, ◌<◌, ◌≤◌, List, [], ◌∷◌, length, drop, nat_eq, refl, sym, ap, ◌∙◌, subst, arith}
+use Rattle.std.specs.Prelude.{slice_index}
 use Rattle.std.proofs.lemmas.Bool.{cond-false, ne_eqb}
 use Rattle.c_mean.specs.ModelledCalls.{cap_of, use_of}
 use Rattle.choice_rules.specs.Policy.{all_caps}
-use Rattle.choice_rules.specs.Seen.{changes, uses_in}
+use Rattle.choice_rules.specs.Seen.{uses_in}
+use Rattle.choice_rules.proofs.Changes.{at_drop, same_eight}
 use Rattle.lawful_log.specs.State.{held_chunks}
 use Rattle.lawful_log.specs.Setup.{Setup}
 use Rattle.machine_world.specs.Threads.{World, Setting}
@@ -17,19 +17,12 @@ use Rattle.chunk_pool.specs.Pool.{free_count}
 
 -- ---- caps
 
-at_drop : (xs : List ℕ) (r : ℕ) → slice_index (drop 1 xs) r ≡ slice_index xs (suc r)
-at_drop [] r = refl
-at_drop (x ∷ xs) r = refl
-
 cap_is : (g : Setup) (held : Held) → IsOf g held → (r : ℕ) → cap_in held r ≡ slice_index (all_caps g.policy) r
 cap_is g held of zero = of.chunks
 cap_is g held of (suc r) = cond-false (nat_eq (suc r) 0) held.machine.areas.pool.count (cap_of held.setting.caps (suc r)) (ne_eqb (suc r) 0 (λ e. omega (arith, e))) ∙ ap (λ (s : Setting). cap_of s.caps (suc r)) of.setting ∙ sym (at_drop g.policy.caps r)
 
 pub small_caps : (g : Setup) (held : Held) → IsOf g held → HasSmallCaps held
 small_caps g held of r below = subst (λ (n : ℕ). n ≤ 1000000) (sym (cap_is g held of r)) (of.small r below)
-
-pub small_before : (g : Setup) (held : Held) (before : List ℕ) → IsOf g held → NoneAbove before (all_caps g.policy) → (r : ℕ) → r < 8 → slice_index before r ≤ 1000000
-small_before g held before of within r below = let most = within r below in let small = of.small r below in omega (arith, most, small)
 
 -- uses within the caps of a world are within those of the policy
 pub within_policy : (g : Setup) (held : Held) (uses : List ℕ) → IsOf g held → ((r : ℕ) → r < 8 → slice_index uses r ≤ cap_in held r) → NoneAbove uses (all_caps g.policy)
@@ -44,20 +37,6 @@ used_is : (w : World) (r : ℕ) → used_in w r ≡ slice_index (uses_in (held_c
 used_is w zero = refl
 used_is w (suc r) = cond-false (nat_eq (suc r) 0) (w.areas.pool.count - free_count w.areas.pool) (use_of w.exchange (suc r)) (ne_eqb (suc r) 0 (λ e. omega (arith, e))) ∙ sym (at_drop w.exchange.uses r)
 
--- lists of eight with the same elements are the same
-same_lists : (n : ℕ) (xs ys : List ℕ) → length xs ≡ n → length ys ≡ n → ((r : ℕ) → r < n → slice_index xs r ≡ slice_index ys r) → xs ≡ ys
-same_lists n [] [] x y same = refl
-same_lists n [] (b ∷ ys) x y same = absurd (let no : 0 ≡ suc (length ys) = x ∙ sym y in omega (arith, no))
-same_lists n (a ∷ xs) [] x y same = absurd (let no : suc (length xs) ≡ 0 = x ∙ sym y in omega (arith, no))
-same_lists zero (a ∷ xs) (b ∷ ys) x y same = absurd (omega (arith, x))
-same_lists (suc n) (a ∷ xs) (b ∷ ys) x y same =
-    let head : a ≡ b = same 0 (omega arith) in
-    let tail : xs ≡ ys = same_lists n xs ys (omega (arith, x)) (omega (arith, y)) (λ r below. same (suc r) (omega (arith, below))) in
-    ap (λ (c : ℕ). c ∷ xs) head ∙ ap (λ (l : List ℕ). b ∷ l) tail
-
-pub same_eight : (xs ys : List ℕ) → length xs ≡ 8 → length ys ≡ 8 → ((r : ℕ) → r < 8 → slice_index xs r ≡ slice_index ys r) → xs ≡ ys
-same_eight xs ys x y same = same_lists 8 xs ys x y same
-
 length_uses : (w : World) → length w.exchange.uses ≡ 8 → length (uses_in (held_chunks w) w.exchange) ≡ 8
 length_uses w eight = by w.exchange.uses eight where
   by : (us : List ℕ) → length us ≡ 8 → suc (length (drop 1 us)) ≡ 8
@@ -66,38 +45,3 @@ length_uses w eight = by w.exchange.uses eight where
 
 pub uses_are : (w : World) (uses : List ℕ) → length uses ≡ 8 → length w.exchange.uses ≡ 8 → ((r : ℕ) → r < 8 → slice_index uses r ≡ used_in w r) → uses ≡ uses_in (held_chunks w) w.exchange
 uses_are w uses eight there same = same_eight uses (uses_in (held_chunks w) w.exchange) eight (length_uses w there) (λ r below. same r below ∙ used_is w r)
-
--- ---- changes
-
-abbrev Changed : ℕ → List ℕ → List ℕ → List ℤ → Type 0
-Changed n before after change = (r : ℕ) → r < n → slice_index_or change r (pos 0) ≡ pos (slice_index after r) -ℤ pos (slice_index before r)
-
-changes_by : (n : ℕ) (before after : List ℕ) (change : List ℤ) → length before ≡ n → length after ≡ n → length change ≡ n → Changed n before after change → change ≡ changes before after
-changes_by zero [] [] [] b a c same = refl
-changes_by (suc n) (x ∷ before) (y ∷ after) (z ∷ change) b a c same =
-    let head : z ≡ pos y -ℤ pos x = same 0 (omega arith) in
-    let tail : change ≡ changes before after = changes_by n before after change (omega (arith, b)) (omega (arith, a)) (omega (arith, c)) (λ r below. same (suc r) (omega (arith, below))) in
-    ap (λ (v : ℤ). v ∷ change) head ∙ ap (λ (l : List ℤ). (pos y -ℤ pos x) ∷ l) tail
-changes_by zero (x ∷ before) after change b a c same = absurd (omega (arith, b))
-changes_by zero [] (y ∷ after) change b a c same = absurd (omega (arith, a))
-changes_by zero [] [] (z ∷ change) b a c same = absurd (omega (arith, c))
-changes_by (suc n) [] after change b a c same = absurd (omega (arith, b))
-changes_by (suc n) (x ∷ before) [] change b a c same = absurd (omega (arith, a))
-changes_by (suc n) (x ∷ before) (y ∷ after) [] b a c same = absurd (omega (arith, c))
-
-pub changes_are : (before after : List ℕ) (change : List ℤ) → length before ≡ 8 → length after ≡ 8 → length change ≡ 8 → Changed 8 before after change → change ≡ changes before after
-changes_are before after change b a c same = changes_by 8 before after change b a c same
-
-small_change : (a b : ℕ) → a ≤ 1000000 → b ≤ 1000000 → unsigned_abs (pos a -ℤ pos b) ≤ 2 ^ 31
-small_change a b h k = grind (arith, ints, h, k)
-
-at_default : (change : List ℤ) (k : ℕ) (d : ℤ) → k < length change → slice_index_or change k d ≡ slice_index_or change k (pos 0)
-at_default [] k d h = absurd (omega (arith, h))
-at_default (z ∷ change) zero d h = refl
-at_default (z ∷ change) (suc k) d h = at_default change k d (omega (arith, h))
-
-pub small_changes : (before after : List ℕ) (change : List ℤ) → length change ≡ 8 → Changed 8 before after change → ((r : ℕ) → r < 8 → slice_index before r ≤ 1000000) → ((r : ℕ) → r < 8 → slice_index after r ≤ 1000000) →
-    All (λ z. unsigned_abs z ≤ 2 ^ 31) change
-small_changes before after change eight same b a k d below =
-    let in_eight : k < 8 = omega (arith, below, eight) in
-    subst (λ (z : ℤ). unsigned_abs z ≤ 2 ^ 31) (sym (at_default change k d below ∙ same k in_eight)) (small_change (slice_index after k) (slice_index before k) (a k in_eight) (b k in_eight))

@@ -4,12 +4,13 @@ use Rattle.std.specs.Prelude.{IsTrue, slice_index}
 use Rattle.c_mean.specs.ModelledCalls.{Exchange}
 use Rattle.event_trace.specs.Reader.{ReaderState}
 use Rattle.event_trace.specs.declared.events.Event.{Event}
+use Rattle.choice_rules.specs.Choice.{observed}
 use Rattle.choice_rules.specs.Policy.{all_caps}
 use Rattle.choice_rules.specs.Trace.{Trace, IsNext}
-use Rattle.choice_rules.specs.Seen.{uses_in}
+use Rattle.choice_rules.specs.Seen.{uses_in, uses_of}
 use Rattle.lawful_log.specs.Good.{checked_of}
 use Rattle.lawful_log.specs.Setup.{Setup, setting_of}
-use Rattle.lawful_log.specs.State.{State, uses_of, held_chunks}
+use Rattle.lawful_log.specs.State.{State, held_chunks, seen_of}
 use Rattle.lawful_log.proofs.Picked.{is_picked}
 use Rattle.machine_world.specs.Runs.{Pick, after_action}
 use Rattle.machine_world.specs.Threads.{World, Setting}
@@ -38,7 +39,7 @@ use Rattle.thread_core.specs.declared.turns.Turn.{Turn}
 use Rattle.machine_meaning.specs.Reached.{IsReached}
 use Rattle.run_course.proofs.Acting.{acts_on}
 use Rattle.run_course.proofs.AsSource.{source_picks, source_steps, formed_now}
-use Rattle.run_course.proofs.Began.{Lawful, chosen_as, chosen, began_state, began, run_is, there, tells_now, observed}
+use Rattle.run_course.proofs.Began.{Lawful, chosen_as, chosen, began_state, began, run_is, there, tells_now}
 use Rattle.run_course.proofs.Caps.{uses_are, within_policy}
 use Rattle.run_course.proofs.Costs.{goes_cost, told_cost, told_formed, falls}
 use Rattle.run_course.proofs.Rules.{chosen_passes}
@@ -98,17 +99,17 @@ module _ (g : Setup) (state : State) (k : Kept) (held : Held) (left : Rest) (nex
 
   -- ---- the uses
 
-  machine_same : uses_in (held_chunks held.machine) held.machine.exchange ≡ uses_of state
+  machine_same : uses_in (held_chunks held.machine) held.machine.exchange ≡ uses_of (seen_of state)
   machine_same = ap (λ (w : World). uses_in (held_chunks w) w.exchange) stands.between.machine_is
       ∙ ap (λ (x : Exchange). (state.machine.areas.pool.count - free_count state.machine.areas.pool) ∷ drop 1 x.uses) stands.between.stands.exchange
 
-  pub uses_now : (uses : List ℕ) → length uses ≡ 8 → ((r : ℕ) → r < 8 → slice_index uses r ≡ used_in held.machine r) → uses ≡ uses_of state
+  pub uses_now : (uses : List ℕ) → length uses ≡ 8 → ((r : ℕ) → r < 8 → slice_index uses r ≡ used_in held.machine r) → uses ≡ uses_of (seen_of state)
   uses_now uses eight same = uses_are held.machine uses eight formed.exchange.use_count same ∙ machine_same
 
   pub caps_now : (uses : List ℕ) → ((r : ℕ) → r < 8 → slice_index uses r ≤ cap_in held r) → NoneAbove uses (all_caps g.policy)
   caps_now uses within = within_policy g held uses stands.of within
 
-  module _ (uses : List ℕ) (uses_is : uses ≡ uses_of state) (within_caps : NoneAbove uses (all_caps g.policy)) where
+  module _ (uses : List ℕ) (uses_is : uses ≡ uses_of (seen_of state)) (within_caps : NoneAbove uses (all_caps g.policy)) where
     abbrev pub LawfulNow : Option Choice → Type 0
     LawfulNow o = Lawful g state k held left stands next at.point.known_is at.ready uses uses_is within_caps o
 

@@ -6,14 +6,14 @@ use Rattle.std.proofs.lemmas.Bool.{cond-false, eq-eqb, ne_eqb}
 use Rattle.std.proofs.lemmas.List.{take-append-drop, take_more_set, drop_all, map_more, map-append}
 use Rattle.std.proofs.lemmas.List.Concat.{flat_map-append}
 use Rattle.blocking_graph.specs.declared.edges.EdgeLine.{EdgeLine}
-use Rattle.choice_rules.specs.EdgeLines.{given, shown}
+use Rattle.choice_rules.specs.EdgeLines.{given, shown, edge_entry}
 use Rattle.schedule_log.specs.EntryText.{entry_text, log_text}
 use Rattle.schedule_log.specs.declared.entries.Entry.{Entry}
 use Rattle.schedule_log.specs.declared.entries.StopLine.{StopLine}
 use Rattle.thread_core.specs.Worlds.{Held, cap_in}
 use Rattle.run_course.specs.declared.ends.Failure.{Failure}
 use Rattle.run_course.specs.Counts.{CountsPart}
-use Rattle.run_course.specs.Lines.{edge_line, edge_lines, end_lines}
+use Rattle.run_course.specs.Lines.{edge_lines, end_lines}
 use Rattle.run_course.specs.Output.{Output, TakesPart, Grows}
 use Rattle.run_course.proofs.Joined.{part_more, part_on, grows_on, grows_none}
 use Rattle.run_course.proofs.FitTexts.{no_line}
@@ -67,15 +67,6 @@ shown_first : (caps : List ℕ) (change : List ℤ) → 0 < length change → ge
 shown_first caps [] h = absurd (omega (arith, h))
 shown_first caps (d ∷ ds) h = refl
 
-pub shown_start : (caps : List ℕ) (change places : List ℤ) → length change ≡ 8 → length places ≡ 8 → IsShown caps change (set places 0 (get_or change 0 (pos 0))) 1 1
-shown_start caps change places eight size = record {
-  some = omega arith;
-  within = omega arith;
-  size = length-set places 0 (get_or change 0 (pos 0)) ∙ size;
-  eight = eight;
-  parts = ap (λ (l : List ℤ). l ++ given (drop 1 caps) (drop 1 change)) (take_more_set places 0 (get_or change 0 (pos 0)) (omega (arith, size))) ∙ shown_first caps change (omega (arith, eight));
-}
-
 pub shown_skip : (caps : List ℕ) (change places : List ℤ) (used r : ℕ) → r < 8 → get_or caps r 0 ≡ 0 → IsShown caps change places used r → IsShown caps change places used (r + 1)
 shown_skip caps change places used r below e is = record {
   some = is.some;
@@ -113,21 +104,21 @@ cap_is held (suc r) h = cond-false (nat_eq (suc r) 0) held.machine.areas.pool.co
 -- ---- the lines of the edges
 
 pub lines_more : (caps : List ℕ) (edges : List EdgeLine) (i : ℕ) (d : EdgeLine) → i < length edges →
-    log_text (edge_lines caps (take (i + 1) edges)) ≡ log_text (edge_lines caps (take i edges)) ++ (entry_text (edge_line caps (get_or edges i d)) ++ 10 ∷ [])
+    log_text (edge_lines caps (take (i + 1) edges)) ≡ log_text (edge_lines caps (take i edges)) ++ (entry_text (edge_entry caps (get_or edges i d)) ++ 10 ∷ [])
 unfolding log_text
 lines_more caps edges i d h =
-    ap (λ (l : List Entry). flat_map (λ entry. entry_text entry ++ 10 ∷ []) l) (map_more (edge_line caps) edges i d h)
-    ∙ flat_map-append (λ entry. entry_text entry ++ 10 ∷ []) (map (edge_line caps) (take i edges)) (edge_line caps (get_or edges i d) ∷ [])
-    ∙ ap (λ (l : List ℕ). flat_map (λ entry. entry_text entry ++ 10 ∷ []) (map (edge_line caps) (take i edges)) ++ l) (append-nil (entry_text (edge_line caps (get_or edges i d)) ++ 10 ∷ []))
+    ap (λ (l : List Entry). flat_map (λ entry. entry_text entry ++ 10 ∷ []) l) (map_more (edge_entry caps) edges i d h)
+    ∙ flat_map-append (λ entry. entry_text entry ++ 10 ∷ []) (map (edge_entry caps) (take i edges)) (edge_entry caps (get_or edges i d) ∷ [])
+    ∙ ap (λ (l : List ℕ). flat_map (λ entry. entry_text entry ++ 10 ∷ []) (map (edge_entry caps) (take i edges)) ++ l) (append-nil (entry_text (edge_entry caps (get_or edges i d)) ++ 10 ∷ []))
 
 pub lines_split : (caps : List ℕ) (edges : List EdgeLine) (i : ℕ) → log_text (edge_lines caps edges) ≡ log_text (edge_lines caps (take i edges)) ++ log_text (edge_lines caps (drop i edges))
 unfolding log_text
 lines_split caps edges i =
-    ap (λ (l : List EdgeLine). flat_map (λ entry. entry_text entry ++ 10 ∷ []) (map (edge_line caps) l)) (sym (take-append-drop i edges))
-    ∙ ap (λ (l : List Entry). flat_map (λ entry. entry_text entry ++ 10 ∷ []) l) (map-append (edge_line caps) (take i edges) (drop i edges))
-    ∙ flat_map-append (λ entry. entry_text entry ++ 10 ∷ []) (map (edge_line caps) (take i edges)) (map (edge_line caps) (drop i edges))
+    ap (λ (l : List EdgeLine). flat_map (λ entry. entry_text entry ++ 10 ∷ []) (map (edge_entry caps) l)) (sym (take-append-drop i edges))
+    ∙ ap (λ (l : List Entry). flat_map (λ entry. entry_text entry ++ 10 ∷ []) l) (map-append (edge_entry caps) (take i edges) (drop i edges))
+    ∙ flat_map-append (λ entry. entry_text entry ++ 10 ∷ []) (map (edge_entry caps) (take i edges)) (map (edge_entry caps) (drop i edges))
 
-pub lines_parts : (caps : List ℕ) (edges : List EdgeLine) (i : ℕ) (d : EdgeLine) (entry : Entry) → entry ≡ edge_line caps (get_or edges i d) → i < length edges →
+pub lines_parts : (caps : List ℕ) (edges : List EdgeLine) (i : ℕ) (d : EdgeLine) (entry : Entry) → entry ≡ edge_entry caps (get_or edges i d) → i < length edges →
     log_text (edge_lines caps edges) ≡ log_text (edge_lines caps (take i edges)) ++ ((entry_text entry ++ 10 ∷ []) ++ log_text (edge_lines caps (drop (i + 1) edges)))
 lines_parts caps edges i d entry is h =
     lines_split caps edges (i + 1)
@@ -135,7 +126,7 @@ lines_parts caps edges i d entry is h =
     ∙ append_assoc (log_text (edge_lines caps (take i edges))) (entry_text entry ++ 10 ∷ []) (log_text (edge_lines caps (drop (i + 1) edges)))
 
 -- one line more
-pub line_put : (old mid new : Output) (caps : List ℕ) (edges : List EdgeLine) (i : ℕ) (d : EdgeLine) (entry : Entry) → entry ≡ edge_line caps (get_or edges i d) → i < length edges →
+pub line_put : (old mid new : Output) (caps : List ℕ) (edges : List EdgeLine) (i : ℕ) (d : EdgeLine) (entry : Entry) → entry ≡ edge_entry caps (get_or edges i d) → i < length edges →
     Grows old mid (log_text (edge_lines caps (take i edges))) → Grows mid new (entry_text entry ++ 10 ∷ []) → Grows old new (log_text (edge_lines caps (take (i + 1) edges)))
 line_put old mid new caps edges i d entry is h first then_ =
     subst (λ (l : List ℕ). Grows old new l)
@@ -160,8 +151,8 @@ puts_begun old new x y whole is part = subst (λ (l : List ℕ). TakesPart old n
 pub end_text : (caps : List ℕ) (edges : List EdgeLine) (stop : StopLine) → log_text (end_lines caps edges stop) ≡ log_text (edge_lines caps edges) ++ (entry_text (Entry.Stop stop) ++ 10 ∷ [])
 unfolding log_text
 end_text caps edges stop =
-    flat_map-append (λ entry. entry_text entry ++ 10 ∷ []) (map (edge_line caps) edges) (Entry.Stop stop ∷ [])
-    ∙ ap (λ (l : List ℕ). flat_map (λ entry. entry_text entry ++ 10 ∷ []) (map (edge_line caps) edges) ++ l) (append-nil (entry_text (Entry.Stop stop) ++ 10 ∷ []))
+    flat_map-append (λ entry. entry_text entry ++ 10 ∷ []) (map (edge_entry caps) edges) (Entry.Stop stop ∷ [])
+    ∙ ap (λ (l : List ℕ). flat_map (λ entry. entry_text entry ++ 10 ∷ []) (map (edge_entry caps) edges) ++ l) (append-nil (entry_text (Entry.Stop stop) ++ 10 ∷ []))
 
 pub end_text_of : (caps : List ℕ) (edges lines : List EdgeLine) (stop : StopLine) → lines ≡ edges → log_text (end_lines caps edges stop) ≡ log_text (edge_lines caps lines) ++ (entry_text (Entry.Stop stop) ++ 10 ∷ [])
 end_text_of caps edges lines stop e = end_text caps edges stop ∙ ap (λ (l : List EdgeLine). log_text (edge_lines caps l) ++ (entry_text (Entry.Stop stop) ++ 10 ∷ [])) (sym e)

@@ -8,11 +8,12 @@ use Rattle.blocking_graph.specs.declared.segments.SegmentRecord.{SegmentRecord}
 use Rattle.c_mean.specs.ModelledCalls.{Exchange}
 use Rattle.choice_rules.specs.Policy.{all_caps}
 use Rattle.choice_rules.specs.Seen.{changes, newcomers, end_node, Waiter, uses_in}
+use Rattle.choice_rules.specs.Waiting.{waits}
+use Rattle.choice_rules.proofs.Past.{edges_more, gate_more}
 use Rattle.lawful_log.specs.Good.{checked_of}
 use Rattle.lawful_log.specs.Segments.{HasRun, IsEnd}
 use Rattle.lawful_log.specs.Setup.{Setup, setting_of}
 use Rattle.lawful_log.specs.State.{State, held_chunks}
-use Rattle.lawful_log.specs.Waiting.{waits}
 use Rattle.lawful_log.specs.Within.{IsBetween}
 use Rattle.lawful_log.proofs.Between.{between_after}
 use Rattle.lawful_log.proofs.Own.{found_below}
@@ -37,7 +38,7 @@ use Rattle.rule_state.specs.declared.rules.RuleState.{RuleState}
 use Rattle.lawful_log.specs.Clients.{waiter_of}
 use Rattle.lawful_log.proofs.Finding.{none_waiting}
 use Rattle.run_course.proofs.Rules.{accounts_left, kept_left, noted_left, told_left, told_step}
-use Rattle.run_course.proofs.Over.{between_any, gate_more, edges_more}
+use Rattle.run_course.proofs.Over.{between_any}
 use Rattle.chunk_pool.specs.Pool.{free_count}
 
 some_get : {X : Type 0} (xs : List X) (k : ℕ) → k < length xs → IsSome (slice_get xs k)
@@ -152,6 +153,6 @@ module _ (g : Setup) (state : State) (k : Kept) (held : Held) (left : Rest) (und
         keys = let most = stands.past.keys in let below = begun_below in let same = keys_are in
             let size : length graph.keys ≡ length k.graph.keys = ap (λ (ks : List (List ℕ)). length ks) same in omega arith;
       };
-      gate = ap (λ (b : Bool). gate_after g.policy.high g.policy.low b (pressures g.policy.curves (uses_in (held_chunks told.after) reaches.0.exchange) (all_caps g.policy))) stands.gate ∙ sym (gate_more g state (uses_in (held_chunks told.after) reaches.0.exchange));
+      gate = ap (λ (b : Bool). gate_after g.policy.high g.policy.low b (pressures g.policy.curves (uses_in (held_chunks told.after) reaches.0.exchange) (all_caps g.policy))) stands.gate ∙ sym (gate_more g.policy state.past (uses_in (held_chunks told.after) reaches.0.exchange));
       read = stands.read;
     }

@@ -4,12 +4,13 @@ use Rattle.std.specs.Prelude.{IsSome}
 use Rattle.std.specs.List.{AllByRecursion}
 use Rattle.cap_word.specs.declared.threads.ThreadId.{ThreadId}
 use Rattle.choice_rules.specs.Seen.{Waiter}
+use Rattle.choice_rules.specs.Waiting.{IsPlaced, AreQueued, at_node}
+use Rattle.choice_rules.proofs.Queues.{queue_kept, all_at_node}
 use Rattle.lawful_log.specs.Good.{checked_of}
 use Rattle.lawful_log.specs.Setup.{Setup, setting_of}
 use Rattle.lawful_log.specs.State.{Segment, State}
-use Rattle.lawful_log.specs.Waiting.{IsWaiting, IsPlaced, AreQueued, at_node}
+use Rattle.lawful_log.specs.Waiting.{IsWaiting}
 use Rattle.lawful_log.specs.Within.{IsWithin}
-use Rattle.lawful_log.proofs.Queues.{queue_kept, all_at_node}
 use Rattle.lawful_log.proofs.Within.{within_goes}
 use Rattle.machine_world.specs.Threads.{Thread, World, thread_of}
 use Rattle.scheduler.specs.State.{SchedulerState, queue_of}

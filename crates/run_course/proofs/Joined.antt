@@ -8,7 +8,7 @@ use Rattle.schedule_log.specs.Writing.{TakesPrefix}
 use Rattle.buffered_writer.specs.declared.writer.PutError.{PutError}
 use Rattle.schedule_log.proofs.Written.{prefix_none, put_finished}
 use Rattle.run_course.specs.declared.ends.Failure.{Failure}
-use Rattle.run_course.specs.Output.{Output, joined, TakesPart, Grows, PutsText}
+use Rattle.run_course.specs.Output.{Output, joined, TakesPart, Grows}
 use Rattle.run_course.proofs.FitTexts.{fit_none, fit_on}
 
 -- ---- beginnings
@@ -60,10 +60,6 @@ pub grows_none : (now : Output) → Grows now now []
 grows_none now = record { whole = Appends-nil (joined now); part = part_none now []; fits = fit_none; buffered = λ few. few }
 
 -- ---- results
-
-pub puts_on : (old mid new : Output) (s t : List ℕ) (result : Result (Unit {0}) Failure) → Grows old mid s → PutsText mid new t result → PutsText old new (s ++ t) result
-puts_on old mid new s t (Ok v) first puts = grows_on old mid new s t first puts
-puts_on old mid new s t (Err failure) first puts = part_on old mid new.taken s t first puts
 
 -- all that is held is written
 pub finished : (old mid : Output) (last : Option (List ℕ)) (text : List ℕ) (result : Result (Unit {0}) Failure) → Grows old mid text → Puts mid.taken last mid.held result → Puts old.taken last (old.held ++ text) result

@@ -3,7 +3,6 @@ pub mod Turned
 pub mod Told
 pub mod Came
 pub mod Ready
-pub mod Left
 pub mod Began
 pub mod Over
 pub mod Finished
@@ -27,7 +26,6 @@ pub mod Passing
 pub mod Needs
 pub mod NeedsGoing
 pub mod StrideNeeds
-pub mod Queued
 pub mod Rules
 pub mod FitTexts
 pub mod Joined

@@ -4,7 +4,8 @@ use Rattle.std.specs.List.{AllByRecursion}
 use Rattle.std.proofs.lemmas.Bool.{cases_eq, eq-eqb}
 use Rattle.cap_word.specs.declared.threads.ThreadId.{ThreadId}
 use Rattle.choice_rules.specs.Seen.{Waiter}
-use Rattle.lawful_log.specs.Waiting.{IsPlaced, IsQueue, AreQueued, at_node}
+use Rattle.choice_rules.specs.Waiting.{IsPlaced, IsQueue, AreQueued, at_node}
+use Rattle.choice_rules.proofs.Waiters.{all_append}
 use Rattle.machine_world.specs.Threads.{Thread, World, thread_of}
 use Rattle.ready_tree.specs.declared.entries.Entry.{Entry}
 use Rattle.ready_tree.specs.declared.needs.Need.{Need}
@@ -23,10 +24,6 @@ use Rattle.run_course.specs.Needs.{IsNeeded, AreNeeded}
 pub all_map : (P Q : Entry → Type 0) (entries : List Entry) → ((entry : Entry) → P entry → Q entry) → AllByRecursion P entries → AllByRecursion Q entries
 all_map P Q [] goes all = tt
 all_map P Q (entry ∷ entries) goes all = (goes entry all.0, all_map P Q entries goes all.1)
-
-pub all_append : (P : Entry → Type 0) (entries more : List Entry) → AllByRecursion P entries → AllByRecursion P more → AllByRecursion P (entries ++ more)
-all_append P [] more all others = others
-all_append P (entry ∷ entries) more all others = (all.0, all_append P entries more all.1 others)
 
 without_on : (P : Entry → Type 0) (same : Bool) (first : Entry) (queue left : List Entry) → P first → AllByRecursion P queue → AllByRecursion P left →
     AllByRecursion P (if same then queue else first ∷ left)

@@ -1,14 +1,14 @@
 -- The needs of the threads that wait, while another goes on.
-use Rattle.std.proofs.Common.{◌≡◌, ◌≢◌, ℕ, zero, suc, ◌<◌, Bool, true, false, ◌||◌, nat_eq, List, [], ◌∷◌, Option, Some, refl, sym, ◌∙◌, subst, arith}
+use Rattle.std.proofs.Common.{◌≡◌, ◌≢◌, ℕ, zero, suc, ◌<◌, ◌||◌, List, [], ◌∷◌, Option, Some, sym, ◌∙◌, subst, arith}
 use Rattle.std.specs.List.{AllByRecursion}
-use Rattle.std.proofs.lemmas.Bool.{eq-eqb}
 use Rattle.choice_rules.specs.Seen.{Waiter}
+use Rattle.choice_rules.specs.Waiting.{IsQueue, AreQueued, at_node}
+use Rattle.choice_rules.proofs.Queues.{all_at_node}
+use Rattle.choice_rules.proofs.Waiters.{differ_all}
 use Rattle.lawful_log.specs.Setup.{Setup, setting_of}
 use Rattle.lawful_log.specs.State.{Segment, State}
-use Rattle.lawful_log.specs.Waiting.{IsQueue, AreQueued, at_node, waits}
 use Rattle.lawful_log.specs.Within.{IsWithin}
 use Rattle.lawful_log.proofs.Own.{found_below}
-use Rattle.lawful_log.proofs.Queues.{all_at_node}
 use Rattle.lawful_log.proofs.Within.{within_goes}
 use Rattle.machine_world.specs.Alone.{KeepsThread}
 use Rattle.machine_world.specs.Threads.{World, thread_of}
@@ -21,19 +21,6 @@ use Rattle.run_course.specs.Needs.{IsNeeded, AreNeeded}
 use Rattle.run_course.proofs.Needs.{needed_kept}
 
 -- ---- who waits isn't the one that runs
-
-none_on : (a b : Bool) → (a || b) ≡ false → (a ≡ false) × (b ≡ false)
-none_on true b e = absurd (cc)
-none_on false b e = (refl, e)
-
-differs : (a b : ℕ) → nat_eq a b ≡ false → a ≢ b
-differs a b e same = let t : nat_eq a b ≡ true = eq-eqb a b same in absurd (cc)
-
-none_is : (waiting : List Waiter) (number : ℕ) → waits waiting number ≡ false → AllByRecursion (λ w. w.thread ≢ number) waiting
-none_is [] number e = tt
-none_is (w ∷ waiting) number e =
-    let both = none_on (nat_eq w.thread number) (waits waiting number) e in
-    (differs w.thread number both.0, none_is waiting number both.1)
 
 apart_entries : (places : List (Option ℕ)) (entries : List Entry) (waiting : List Waiter) (number : ℕ) → IsQueue places (threads_of entries) waiting → AllByRecursion (λ w. w.thread ≢ number) waiting →
     AllByRecursion (λ entry. entry.thread.number ≢ number) entries
@@ -64,7 +51,7 @@ module _ (g : Setup) (state : State) (segment : Segment) (begun : ℕ) (here : W
       needed_kept here after scheduler
       (λ node. kept_each after keeps (entries_at scheduler node)
       (apart_entries places (entries_at scheduler node) (at_node waiting node) segment.thread (queued.queue node)
-      (all_at_node (λ w. w.thread ≢ segment.thread) waiting node (none_is waiting segment.thread (is.threads.running segment.thread is.running))))
+      (all_at_node (λ w. w.thread ≢ segment.thread) waiting node (differ_all waiting segment.thread (is.threads.running segment.thread is.running))))
       (needed.each node))
       needed
 
@@ -92,5 +79,5 @@ needed_picked g state segment begun picked waiting is places scheduler queued ol
     needed_kept old picked scheduler
     (λ node. others_kept segment.thread old picked others (entries_at scheduler node)
     (apart_entries places (entries_at scheduler node) (at_node waiting node) segment.thread (queued.queue node)
-    (all_at_node (λ w. w.thread ≢ segment.thread) waiting node (none_is waiting segment.thread (is.threads.running segment.thread is.running)))))
+    (all_at_node (λ w. w.thread ≢ segment.thread) waiting node (differ_all waiting segment.thread (is.threads.running segment.thread is.running)))))
     needed

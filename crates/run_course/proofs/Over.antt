@@ -1,7 +1,6 @@
 -- The end of a segment: at a blocking call, or with its thread.
 use Rattle.std.proofs.Common.{◌≡◌, ℕ, ◌+◌, ◌-◌, ◌≤◌, Bool, false, List, [], ◌∷◌, ◌++◌, length, Option, Some, None, refl, sym, ap, ◌∙◌, subst, arith}
 use Rattle.std.specs.Prelude.{IsSome, drop}
-use Rattle.std.proofs.lemmas.List.Sums.{fold-append}
 use Rattle.blocking_graph.specs.Edges.{edges_of, edges_with, count_of}
 use Rattle.blocking_graph.specs.Graph.{GraphState}
 use Rattle.blocking_graph.specs.Nodes.{keys_with, node_number}
@@ -15,12 +14,12 @@ use Rattle.c_lower.specs.ProgramCode.{lowered}
 use Rattle.event_trace.specs.declared.events.Event.{Event}
 use Rattle.choice_rules.specs.Policy.{all_caps}
 use Rattle.choice_rules.specs.Seen.{changes, Waiter, uses_in, newcomers}
-use Rattle.lawful_log.specs.Choice.{is_open}
+use Rattle.choice_rules.specs.Waiting.{waits}
+use Rattle.choice_rules.proofs.Past.{edges_more, gate_more}
 use Rattle.lawful_log.specs.Good.{checked_of}
 use Rattle.lawful_log.specs.Segments.{HasRun, IsBlock}
 use Rattle.lawful_log.specs.Setup.{Setup, setting_of}
 use Rattle.lawful_log.specs.State.{State, held_chunks}
-use Rattle.lawful_log.specs.Waiting.{waits}
 use Rattle.lawful_log.specs.Within.{IsBetween}
 use Rattle.lawful_log.proofs.Between.{between_after, between_read}
 use Rattle.lawful_log.proofs.Within.{cost_of, cost_is, over_block, rests_blocked, RestsBlocked, blocked_state, block_allowed, threads_blocked, formed_after_block}
@@ -87,14 +86,6 @@ checked_same g held of =
 pub between_any : (g : Setup) (state : State) (machine : World) (o : Option (Option Event)) → IsBetween g state None machine → IsBetween g state o machine
 between_any g state machine None is = is
 between_any g state machine (Some next) is = between_read g state machine next is
-
--- the gate after one segment more
-pub gate_more : (g : Setup) (state : State) (uses : List ℕ) → gate g.policy.high g.policy.low g.policy.curves (all_caps g.policy) (state.past.uses ++ uses ∷ []) ≡
-    gate_after g.policy.high g.policy.low (is_open g state.past) (pressures g.policy.curves uses (all_caps g.policy))
-gate_more g state uses = fold-append (λ was_open u. gate_after g.policy.high g.policy.low was_open (pressures g.policy.curves u (all_caps g.policy))) _ state.past.uses (uses ∷ [])
-
-pub edges_more : (records : List SegmentRecord) (r : SegmentRecord) → edges_of (records ++ r ∷ []) ≡ edges_with (edges_of records) r
-edges_more records r = fold-append edges_with [] records (r ∷ [])
 
 module _ (g : Setup) (state : State) (k : Kept) (held : Held) (left : Rest) (under : Under) (stands : StandsWithin g state k held left under) (law : StepsAsSource g state stands.segment.thread)
     (key : List ℕ) (cost : ℕ) (told : TellsBlock (step (setting_of g) stands.here) key cost stands.segment.thread held) where
@@ -207,6 +198,6 @@ module _ (g : Setup) (state : State) (k : Kept) (held : Held) (left : Rest) (und
         records = let most = stands.past.records in let below = begun_below in omega arith;
         keys = let most = stands.past.keys in let below = begun_below in omega arith;
       };
-      gate = ap (λ (b : Bool). gate_after g.policy.high g.policy.low b (pressures g.policy.curves (uses_in (held_chunks told.after) reaches.0.exchange) (all_caps g.policy))) stands.gate ∙ sym (gate_more g state (uses_in (held_chunks told.after) reaches.0.exchange));
+      gate = ap (λ (b : Bool). gate_after g.policy.high g.policy.low b (pressures g.policy.curves (uses_in (held_chunks told.after) reaches.0.exchange) (all_caps g.policy))) stands.gate ∙ sym (gate_more g.policy state.past (uses_in (held_chunks told.after) reaches.0.exchange));
       read = stands.read;
     }

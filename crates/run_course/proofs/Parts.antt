@@ -187,9 +187,6 @@ module _ (g : Setup) (state : State) (k : Kept) (held : Held) (left : Rest) wher
   pub to_between : k.under ≡ None → Stands g state k held left → StandsBetween g state k held left
   to_between e stands = subst (λ (o : Option Under). StandsBy g state k held left o) e stands
 
-  pub to_within : (under : Under) → k.under ≡ Some under → Stands g state k held left → StandsWithin g state k held left under
-  to_within under e stands = subst (λ (o : Option Under). StandsBy g state k held left o) e stands
-
 -- ---- what was written
 
 -- nothing was put

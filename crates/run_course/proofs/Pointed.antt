@@ -1,19 +1,20 @@
 -- A choice point that goes on: the event that is next, and its delivery.
-use Rattle.std.proofs.Common.{◌≡◌, ℕ, ◌+◌, ◌-◌, ◌*◌, ◌<◌, Bool, true, false, Option, Some, None, refl, ap, ◌∙◌, subst, arith, if◌then◌else◌}
-use Rattle.event_trace.specs.Lines.{FitsEvent, FitsKind}
+use Rattle.std.proofs.Common.{◌≡◌, ℕ, ◌+◌, ◌-◌, ◌*◌, ◌<◌, Bool, Option, Some, None, ap, ◌∙◌, arith, if◌then◌else◌}
+use Rattle.event_trace.specs.Lines.{FitsKind}
 use Rattle.choice_rules.specs.Deliveries.{delivery_of}
 use Rattle.event_trace.specs.declared.events.Event.{Event}
 use Rattle.event_trace.specs.declared.events.EventKind.{EventKind}
 use Rattle.lawful_log.specs.Setup.{Setup}
 use Rattle.lawful_log.specs.State.{State}
-use Rattle.c_mean.specs.ModelledCalls.{Exchange, is_dropped, with_delivery}
+use Rattle.c_mean.specs.ModelledCalls.{is_dropped, with_delivery}
 use Rattle.machine_world.specs.Threads.{World}
 use Rattle.run_course.specs.Starts.{KeepsRun}
 use Rattle.run_course.specs.declared.looking.Next.{Next}
 use Rattle.run_course.specs.Kept.{Kept, known}
 use Rattle.run_course.specs.Ranks.{long_rank, lines_rank, next_rank, under_rank}
-use Rattle.run_course.specs.Stands.{FitsNext, IsAtPoint}
+use Rattle.run_course.specs.Stands.{IsAtPoint}
 use Rattle.run_course.specs.Rest.{Rest}
+use Rattle.run_course.proofs.Came.{same_cost, same_count}
 use Rattle.thread_core.specs.Making.{IsEventInRange, after_event}
 use Rattle.thread_core.specs.Worlds.{Held}
 
@@ -33,31 +34,20 @@ module _ (g : Setup) (state : State) (k : Kept) (held : Held) (left : Rest) (nex
   pub next_event : (event : Event) → next ≡ Some event → k.next ≡ Next.Event event
   next_event event e = known_event k.next event (at.known_is ∙ ap Some e)
 
-  pub in_range : (event : Event) → next ≡ Some event → IsEventInRange event.kind
-  in_range event e = range_by event.kind (let fits : FitsEvent event = subst FitsNext (next_event event e) at.stands.read.fits in fits.kind)
-
 -- ---- a delivery
-
-cost_by : (b : Bool) (w : World) (x : Exchange) → (if b then w else record w { exchange = x }).cost ≡ w.cost
-cost_by true w x = refl
-cost_by false w x = refl
-
-count_by : (b : Bool) (w : World) (x : Exchange) → (if b then w else record w { exchange = x }).areas.pool.count ≡ w.areas.pool.count
-count_by true w x = refl
-count_by false w x = refl
 
 module _ (held new : Held) (kind : EventKind) (is : new ≡ after_event held kind) where
   abbrev drops : Bool
   drops = is_dropped held.setting.backlog held.machine.exchange (delivery_of kind)
 
   cost_same : new.machine.cost ≡ held.machine.cost
-  cost_same = ap (λ (h : Held). h.machine.cost) is ∙ cost_by drops held.machine (with_delivery held.machine.exchange (delivery_of kind))
+  cost_same = ap (λ (h : Held). h.machine.cost) is ∙ same_cost drops held.machine (with_delivery held.machine.exchange (delivery_of kind))
 
   pub keeps_event : KeepsRun held new
   keeps_event = record {
     accepted = ap (λ (h : Held). h.accepted) is;
     setting = ap (λ (h : Held). h.setting) is;
-    chunks = ap (λ (h : Held). h.machine.areas.pool.count) is ∙ count_by drops held.machine (with_delivery held.machine.exchange (delivery_of kind));
+    chunks = ap (λ (h : Held). h.machine.areas.pool.count) is ∙ same_count drops held.machine (with_delivery held.machine.exchange (delivery_of kind));
   }
 
   pub long_event : (k : Kept) → long_rank (record k { next = Next.Unread }) new ≡ long_rank k held

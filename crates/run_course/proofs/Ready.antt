@@ -6,13 +6,13 @@ use Rattle.std.proofs.lemmas.Bool.{cond-true, eq-eqb}
 use Rattle.cap_word.specs.declared.calls.Block.{Block}
 use Rattle.cap_word.specs.declared.threads.ThreadId.{ThreadId}
 use Rattle.choice_rules.specs.Seen.{Waiter}
-use Rattle.choice_rules.specs.Readiness.{is_accept}
-use Rattle.lawful_log.specs.Readiness.{any_ready, any_elsewhere}
+use Rattle.choice_rules.specs.Readiness.{is_accept, any_ready, any_elsewhere}
+use Rattle.choice_rules.specs.Waiting.{IsPlaced}
 use Rattle.lawful_log.specs.Setup.{Setup, setting_of}
-use Rattle.lawful_log.specs.State.{State}
+use Rattle.lawful_log.specs.State.{State, seen_of}
 use Rattle.event_trace.specs.declared.events.Event.{Event}
 use Rattle.lawful_log.specs.Tests.{is_blocked_at_accept}
-use Rattle.lawful_log.specs.Waiting.{IsWaiting, IsPlaced}
+use Rattle.lawful_log.specs.Waiting.{IsWaiting}
 use Rattle.lawful_log.specs.Within.{IsBetween}
 use Rattle.lawful_log.proofs.Told.{any_told, elsewhere_told}
 use Rattle.machine_world.specs.Runs.{advanced, may_run}
@@ -62,13 +62,13 @@ module _ (g : Setup) (state : State) (held : Held) (known : Option (Option Event
   pub accept_told : (t : ThreadId) (x : Waiter) → t.number ≡ x.thread → IsPlaced held.places t → (v : IsWaiting state.machine x) → is_at_accept_in held t ≡ is_blocked_at_accept v.thread.blocked
   accept_told t x same placed v = passing is_at_accept_thread held t v.thread placed (live_there t x same v) ∙ accepting_alike v.thread.blocked
 
-  pub any_ready_told : any_ready_in held ≡ any_ready g state held.machine.clock
+  pub any_ready_told : any_ready_in held ≡ any_ready g.policy (seen_of state) held.machine.clock
   any_ready_told =
       any_alike (is_ready_thread held.setting held.machine) (λ thread. may_run (setting_of g) (advanced state.machine held.machine.clock) thread.blocked) ready_thread held.machine.threads
       ∙ ap (λ (l : List Thread). list_any (λ thread. may_run (setting_of g) (advanced state.machine held.machine.clock) thread.blocked) l) threads_are
       ∙ any_told g state held.machine.clock is.stands is.formed.counted.numbered is.threads
 
-  pub any_elsewhere_told : any_elsewhere_in held ≡ any_elsewhere g state held.machine.clock
+  pub any_elsewhere_told : any_elsewhere_in held ≡ any_elsewhere g.policy (seen_of state) held.machine.clock
   any_elsewhere_told =
       any_alike (λ thread. is_ready_thread held.setting held.machine thread && not (is_at_accept_thread thread)) (λ thread. may_run (setting_of g) (advanced state.machine held.machine.clock) thread.blocked && not (is_blocked_at_accept thread.blocked))
       (λ thread. ap (λ (b : Bool). b && not (is_at_accept_thread thread)) (ready_thread thread) ∙ ap (λ (b : Bool). may_run (setting_of g) (advanced state.machine held.machine.clock) thread.blocked && not b) (accepting_alike thread.blocked)) held.machine.threads

@@ -5,17 +5,20 @@ use Rattle.std.specs.List.{AllByRecursion}
 use Rattle.std.proofs.lemmas.Bool.{cases_eq, cond-true, cond-false, eq-eqb, ne_eqb}
 use Rattle.blocking_graph.specs.Edges.{edges_of}
 use Rattle.cap_word.specs.declared.threads.ThreadId.{ThreadId}
+use Rattle.choice_rules.specs.Choice.{is_eligible as eligible_waiter, monitor_of, queue_at}
 use Rattle.choice_rules.specs.Policy.{Rule, by_graph, by_stride}
+use Rattle.choice_rules.specs.Readiness.{any_ready, any_elsewhere}
 use Rattle.choice_rules.specs.Seen.{Waiter, PastChoice, Past, last_choice, no_past, with_choice, others_waiting}
+use Rattle.choice_rules.specs.Waiting.{IsPlaced, AreQueued}
+use Rattle.choice_rules.proofs.Joining.{queued_more}
+use Rattle.choice_rules.proofs.Leaving.{queued_left}
 use Rattle.choice_rules.proofs.Rules.{graph_choice_of}
-use Rattle.lawful_log.specs.Choice.{is_eligible as eligible_waiter, monitor_of, queue_at}
 use Rattle.lawful_log.specs.Good.{checked_of}
-use Rattle.lawful_log.specs.Readiness.{any_ready, any_elsewhere}
 use Rattle.lawful_log.specs.Setup.{Setup, setting_of}
 use Rattle.lawful_log.specs.State.{Segment, State, seen_of}
 use Rattle.lawful_log.specs.Beside.{IsChosenAs, IsChosen}
 use Rattle.lawful_log.specs.Tests.{is_blocked_at_accept}
-use Rattle.lawful_log.specs.Waiting.{IsWaiting, IsPlaced, AreWaiting, AreQueued}
+use Rattle.lawful_log.specs.Waiting.{IsWaiting, AreWaiting}
 use Rattle.lawful_log.specs.Within.{IsWithin}
 use Rattle.lawful_log.proofs.Own.{found_below}
 use Rattle.lawful_log.proofs.Told.{choice_told}
@@ -47,10 +50,8 @@ use Rattle.run_course.specs.Needs.{IsNeeded, AreNeeded, AreNeededByStrides}
 use Rattle.run_course.proofs.StrideNeeds.{strides_same, strides_step, strides_along, strides_picked, strides_taken, strides_started, strides_rejoined, strides_left, strides_known}
 use Rattle.run_course.specs.Rules.{AreKept, AreKeptBeside, AreTold, HasAccounts, HasNothing, rule_of}
 use Rattle.run_course.proofs.Going.{live_kept, queues_kept}
-use Rattle.run_course.proofs.Left.{queued_left}
 use Rattle.run_course.proofs.Needs.{all_known, needed_same, needed_taken, needed_told}
 use Rattle.run_course.proofs.NeedsGoing.{needed_along, needed_picked, needed_step}
-use Rattle.run_course.proofs.Queued.{queued_more}
 
 -- ---- what a choice says of its thread
 
@@ -159,8 +160,8 @@ module _ (g : Setup) (state : State) (clock : ℕ) (places : List (Option ℕ)) 
   told_by : (r : Rule) → g.policy.rule ≡ r → (rule : RuleState) (ready accept : ThreadId → Bool) (monitor : MonitorState) → HasAccounts r rule state.past → AreKept places rule state.waiting →
       ((t : ThreadId) (x : Waiter) → t.number ≡ x.thread → IsPlaced places t → (v : IsWaiting state.machine x) → ready t ≡ may_run (setting_of g) (advanced state.machine clock) v.thread.blocked) →
       ((t : ThreadId) (x : Waiter) → t.number ≡ x.thread → IsPlaced places t → (v : IsWaiting state.machine x) → accept t ≡ is_blocked_at_accept v.thread.blocked) →
-      monitor ≡ monitor_of g state → any_ready g state clock ≡ true → (choice : Option Choice) →
-      IsLawfulOf rule (is_eligible ready accept (any_elsewhere g state clock) monitor.is_open) (score monitor (edges_of state.past.records)) choice → IsChosen g state clock places choice
+      monitor ≡ monitor_of g.policy (seen_of state) → any_ready g.policy (seen_of state) clock ≡ true → (choice : Option Choice) →
+      IsLawfulOf rule (is_eligible ready accept (any_elsewhere g.policy (seen_of state) clock) monitor.is_open) (score monitor (edges_of state.past.records)) choice → IsChosen g state clock places choice
   told_by by_graph e (Graph s) ready accept monitor accounts kept ready_is accept_is monitor_is some choice is =
       choice_told g state clock places s ready accept monitor e numbered stands are kept accounts ready_is accept_is monitor_is some choice is
   told_by by_graph e (Stride st) ready accept monitor accounts kept ready_is accept_is monitor_is some choice is = absurd accounts
@@ -172,8 +173,8 @@ module _ (g : Setup) (state : State) (clock : ℕ) (places : List (Option ℕ)) 
   pub rule_choice_told : (rule : RuleState) (ready accept : ThreadId → Bool) (monitor : MonitorState) → HasAccounts g.policy.rule rule state.past → AreKept places rule state.waiting →
       ((t : ThreadId) (x : Waiter) → t.number ≡ x.thread → IsPlaced places t → (v : IsWaiting state.machine x) → ready t ≡ may_run (setting_of g) (advanced state.machine clock) v.thread.blocked) →
       ((t : ThreadId) (x : Waiter) → t.number ≡ x.thread → IsPlaced places t → (v : IsWaiting state.machine x) → accept t ≡ is_blocked_at_accept v.thread.blocked) →
-      monitor ≡ monitor_of g state → any_ready g state clock ≡ true → (choice : Option Choice) →
-      IsLawfulOf rule (is_eligible ready accept (any_elsewhere g state clock) monitor.is_open) (score monitor (edges_of state.past.records)) choice → IsChosen g state clock places choice
+      monitor ≡ monitor_of g.policy (seen_of state) → any_ready g.policy (seen_of state) clock ≡ true → (choice : Option Choice) →
+      IsLawfulOf rule (is_eligible ready accept (any_elsewhere g.policy (seen_of state) clock) monitor.is_open) (score monitor (edges_of state.past.records)) choice → IsChosen g state clock places choice
   rule_choice_told rule ready accept monitor accounts kept ready_is accept_is monitor_is some choice is =
       told_by g.policy.rule refl rule ready accept monitor accounts kept ready_is accept_is monitor_is some choice is
 
@@ -183,8 +184,8 @@ module _ (g : Setup) (state : State) (clock : ℕ) (places : List (Option ℕ)) 
     kept_by : (r : Rule) → g.policy.rule ≡ r → (rule new : RuleState) → HasAccounts r rule state.past → AreKept places rule state.waiting → IsLawfulOf rule eligible score_of (Some choice) → HasTaken rule new eligible choice →
         IsUnderWay new choice.thread → AreKeptBeside places new (others_waiting state.waiting chosen.waiter) choice.thread
     kept_by by_graph e (Graph s) (Graph t) accounts kept lawful taken under =
-        queued_left places s t choice state.waiting eligible (eligible_waiter g state clock) chosen.waiter are.once kept taken.noted lawful.first
-        (subst (λ (n : ℕ). find (eligible_waiter g state clock) (queue_at state n) ≡ Some chosen.waiter) (sym chosen.node_is) (graph_choice_of g.policy (seen_of state) clock chosen.waiter e chosen.lawful).first) chosen.thread_is
+        queued_left places s t choice state.waiting eligible (eligible_waiter g.policy (seen_of state) clock) chosen.waiter are.once kept taken.noted lawful.first
+        (subst (λ (n : ℕ). find (eligible_waiter g.policy (seen_of state) clock) (queue_at (seen_of state) n) ≡ Some chosen.waiter) (sym chosen.node_is) (graph_choice_of g.policy (seen_of state) clock chosen.waiter e chosen.lawful).first) chosen.thread_is
     kept_by (by_stride tickets) e (Stride s) (Stride t) accounts kept lawful taken under =
         let now : StridesState = record { rule = after_choice s.rule (stride_choice s.rule eligible choice.thread); nodes = s.nodes } in
         subst (λ (st : StridesState). AreKeptBeside places (Stride st) (others_waiting state.waiting chosen.waiter) choice.thread) (sym taken) (

@@ -1,6 +1,6 @@
 -- The start of a run.
-use Rattle.std.proofs.Common.{◌≡◌, ℕ, zero, suc, ◌+◌, ◌*◌, ◌/◌, ◌%◌, ◌<◌, ◌≤◌, ◌||◌, Bool, true, false, List, [], ◌∷◌, drop, Option, Some, None, if◌then◌else◌, nat_eq, refl, sym, ap, ◌∙◌, subst, arith}
-use Rattle.std.specs.Prelude.{IsTrue, IsSome, slice_index}
+use Rattle.std.proofs.Common.{◌≡◌, ℕ, zero, suc, ◌+◌, ◌*◌, ◌/◌, ◌%◌, ◌<◌, ◌≤◌, ◌||◌, Bool, true, false, [], ◌∷◌, Option, Some, None, if◌then◌else◌, refl, sym, ap, ◌∙◌, subst, arith}
+use Rattle.std.specs.Prelude.{IsTrue, slice_index}
 use Rattle.blocking_graph.specs.Graph.{empty_graph}
 use Rattle.c_lower.specs.ProgramCode.{lowered}
 use Rattle.c_mean.specs.World as source
@@ -11,11 +11,14 @@ use Rattle.certificate_rules.specs.Validity.{IsValid}
 use Rattle.chunk_pool.specs.Pool.{Taken, IsPool, start_pool, taken_for}
 use Rattle.chunk_pool.proofs.PoolStart.{IsPool-start_bytes}
 use Rattle.choice_rules.specs.Policy.{Rule, all_caps}
+use Rattle.choice_rules.specs.Seen.{uses_of}
+use Rattle.choice_rules.proofs.Changes.{at_drop}
 use Rattle.lawful_log.specs.Good.{checked_of}
 use Rattle.lawful_log.specs.Setup.{Setup, setting_of, main_fact, start_machine, start_areas}
-use Rattle.lawful_log.specs.State.{State, start_of, uses_of}
+use Rattle.lawful_log.specs.State.{State, start_of, seen_of}
 use Rattle.lawful_log.specs.Waiting.{AreWaiting}
 use Rattle.lawful_log.proofs.Between.{between_after}
+use Rattle.lawful_log.proofs.Kept.{first_waits}
 use Rattle.machine_world.specs.Areas.{Areas, new_areas}
 use Rattle.machine_world.specs.Places.{Checked}
 use Rattle.machine_world.specs.Runs.{start_world, started_on, empty_world}
@@ -67,29 +70,13 @@ begun : (areas : Areas) (entry need : ℕ) (w : World) → start_world areas ent
 unfolding start_world
 begun areas entry need w e = begun_on areas entry need w (taken_for areas.pool need) refl e
 
-zero_only : (n : ℕ) (t : Bool) {X : Type 0} (x : X) → nat_eq 0 n ≡ t → IsSome (if t then Some x else None) → (t || false) ≡ true
-zero_only n true x e some = refl
-zero_only n false x e some = absurd (let no : false ≡ true = some in cc)
-
-first_waits : (areas : Areas) (taken : Taken) (entry : ℕ) → AreWaiting (with_thread (empty_world areas) taken entry 0) (record { thread = 0; node = 0; since = 0 } ∷ [])
-first_waits areas taken entry = record {
-  each = (record { thread = _; live = refl; since = tt }, tt);
-  once = (tt, tt);
-  running = λ n e. absurd (let no : None ≡ Some n = e in cc);
-  all = λ n apart some. zero_only n (nat_eq 0 n) _ refl some;
-}
-
--- and its need is nothing
+-- the need of the first thread is nothing
 first_needed : (areas : Areas) (taken : Taken) (entry : ℕ) → IsNeeded (with_thread (empty_world areas) taken entry 0) (record { thread = record { slot = 0; number = 0 }; need = Need.Nothing })
 first_needed areas taken entry = record { thread = _; live = refl; need = refl }
 
 is_true : (b : Bool) → IsTrue b → b ≡ true
 is_true true h = refl
 is_true false h = absurd (cc)
-
-at_drop : (xs : List ℕ) (r : ℕ) → slice_index (drop 1 xs) r ≡ slice_index xs (suc r)
-at_drop [] r = refl
-at_drop (x ∷ xs) r = refl
 
 module _ (g : Setup) (held : Held) {rule : Rule} (monitor : MonitorState) (at : IsAtStartBy rule g held monitor) (sound : IsSound held.accepted) where
   pub scoped : IsWellScoped g.program
@@ -205,7 +192,7 @@ module _ (g : Setup) (held : Held) {rule : Rule} (monitor : MonitorState) (at : 
       needed = told_first held.machine before after (record { slot = 0; number = 0 }) nothing starts
           (subst (λ (w : World). IsNeeded w (record { thread = record { slot = 0; number = 0 }; need = Need.Nothing })) (sym shape.is) (first_needed areas shape.taken (main_fact g).entry));
       past = record {
-        accounts = subst (λ (r : Rule). HasAccounts r after start_state.past) (sym (at.rule ∙ rule_is)) (accounts_first before after (record { slot = 0; number = 0 }) (uses_of start_state) nothing starts);
+        accounts = subst (λ (r : Rule). HasAccounts r after start_state.past) (sym (at.rule ∙ rule_is)) (accounts_first before after (record { slot = 0; number = 0 }) (uses_of (seen_of start_state)) nothing starts);
         graph_is = record { keys = refl; edges = refl };
         monitor_is = at.monitor_is;
         taken = noted_first before after (record { slot = 0; number = 0 }) nothing starts;
@@ -213,6 +200,6 @@ module _ (g : Setup) (held : Held) {rule : Rule} (monitor : MonitorState) (at : 
         records = omega arith;
         keys = omega arith;
       };
-      gate = ap (λ (b : Bool). gate_after g.policy.high g.policy.low b (pressures g.policy.curves (uses_of start_state) (all_caps g.policy))) (is_true monitor.is_open at.gate);
+      gate = ap (λ (b : Bool). gate_after g.policy.high g.policy.low b (pressures g.policy.curves (uses_of (seen_of start_state)) (all_caps g.policy))) (is_true monitor.is_open at.gate);
       read = record { trace_is = read_by left; unrefused = refl; fits = tt };
     }

@@ -5,10 +5,10 @@ use Rattle.std.specs.Prelude.{◌==◌}
 use Rattle.std.proofs.lemmas.Bool.Decides.{nat_tests}
 use Rattle.cap_word.specs.declared.threads.ThreadId.{ThreadId}
 use Rattle.choice_rules.specs.Seen.{Waiter}
+use Rattle.choice_rules.specs.Waiting.{IsPlaced, waits}
 use Rattle.lawful_log.specs.Setup.{Setup, setting_of}
 use Rattle.lawful_log.specs.State.{Segment, State}
 use Rattle.lawful_log.specs.Clients.{AreBoth, AreClients, waiter_of}
-use Rattle.lawful_log.specs.Waiting.{IsPlaced, waits}
 use Rattle.lawful_log.specs.Within.{IsWithin}
 use Rattle.lawful_log.proofs.Finding.{all_both, apart_at, none_waiting}
 use Rattle.lawful_log.proofs.ClientsGoing.{none_by}

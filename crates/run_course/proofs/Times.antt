@@ -10,6 +10,7 @@ use Rattle.cap_word.specs.declared.calls.Block.{Block}
 use Rattle.cap_word.specs.declared.stops.Stop.{Stop}
 use Rattle.cap_word.specs.declared.traps.TrapKind.{TrapKind}
 use Rattle.c_mean.specs.ModelledCalls.{Exchange, blocking_row, immediate_row, ticks_of, wakes_at, Delivery, is_dropped, with_delivery}
+use Rattle.choice_rules.specs.Clock.{latest}
 use Rattle.chunk_pool.specs.Pool.{Taken, taken_for}
 use Rattle.lawful_log.specs.Tests.{waking_time}
 use Rattle.machine_world.specs.Areas.{Areas}
@@ -21,7 +22,7 @@ use Rattle.thread_core.specs.Turns.{Tells, IsTurn}
 use Rattle.thread_core.specs.Worlds.{Held}
 use Rattle.thread_core.specs.declared.turns.Turn.{Turn}
 use Rattle.segment_laws.specs.Silent.{GoesOn}
-use Rattle.run_course.specs.Times.{latest, IsTimely}
+use Rattle.run_course.specs.Times.{IsTimely}
 
 -- ---- threads that wake in time
 

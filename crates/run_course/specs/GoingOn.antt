@@ -3,7 +3,7 @@ use Rattle.std.specs.Prelude.{Option, None, Result, Ok, Err}
 use Rattle.run_course.specs.declared.ends.Failure.{Failure}
 use Rattle.run_course.specs.declared.ends.Halt.{Halt}
 
--- it goes on where the part could
+-- it continues unless the part failed
 abbrev pub going_on : Result (Unit {0}) Failure → Result (Option Halt) Failure
 going_on (Ok _) = Ok None
 going_on (Err failure) = Err failure

@@ -1,4 +1,4 @@
--- What a run keeps beside its world.
+-- The data of a run in addition to its world.
 use Rattle.std.specs.Prelude.{ℕ, Option, None, Some, Result, Ok, Err}
 use Rattle.blocking_graph.specs.Graph.{GraphState}
 use Rattle.event_trace.specs.Reader.{ReaderState}
@@ -16,13 +16,13 @@ pub record Kept : Type 0 where
   pub next : Next
   pub under : Option Under
 
--- the next line, if it has been looked at
+-- the next line, if it has been examined
 abbrev pub known : Next → Option (Option Event)
 known Next.Unread = None
 known (Next.Event event) = Some (Some event)
 known Next.Over = Some None
 
--- how many lines an answer of a reader gives
+-- the number of lines that an answer of a reader used up
 abbrev pub given_by : {E : Type 0} → Result (Option Event) E → ℕ
 given_by (Ok None) = 0
 given_by (Ok (Some event)) = 1

@@ -1,4 +1,4 @@
--- The needs that were told of the threads that wait are theirs.
+-- The needs that are recorded for the waiting threads are correct.
 use Rattle.std.specs.Prelude.{ℕ, ◌≡◌, Some}
 use Rattle.std.specs.List.{AllByRecursion}
 use Rattle.machine_world.specs.Threads.{Thread, World, thread_of}
@@ -18,7 +18,7 @@ pub record IsNeeded (w : World) (entry : Entry) : Type 0 where
 pub record AreNeeded (w : World) (scheduler : SchedulerState) : Type 0 where
   pub each : (node : ℕ) → AllByRecursion (IsNeeded w) (entries_at scheduler node)
 
--- what was told of a thread that waits by strides is its need
+-- what is recorded for a waiting thread under the stride rule is its need
 abbrev pub IsNeededClient : World → StrideState → Client → Type 0
 IsNeededClient w rule client = IsNeeded w (record { thread = client.thread; need = need_of client.thread.number rule.needs })
 

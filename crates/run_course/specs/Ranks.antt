@@ -1,5 +1,5 @@
--- How much is still to do: a number that falls at each step of a run. Fuel bounds the segments, the lines of the trace what
--- comes, and between two of these the clock moves once.
+-- A number that decreases at each step of a run: fuel bounds the segments, the lines of the trace bound the deliveries,
+-- and between two of these the clock advances at most once.
 use Rattle.std.specs.Prelude.{ℕ, ◌+◌, ◌-◌, ◌*◌, ◌<◌, ◌||◌, Bool, false, Option, None, Some, Result, Ok, Err, if◌then◌else◌, nat_le}
 use Rattle.run_course.specs.Kept.{Kept}
 use Rattle.run_course.specs.declared.course.Under.{Under}
@@ -10,7 +10,7 @@ use Rattle.thread_core.specs.Ready.{any_ready_in}
 use Rattle.thread_core.specs.Worlds.{Held}
 use Rattle.thread_core.specs.declared.turns.Turn.{Turn}
 
--- ---- what fuel bounds
+-- ---- the bound by fuel
 
 abbrev pub turn_rank : Turn → ℕ
 turn_rank (Turn.Out value) = 2
@@ -27,7 +27,7 @@ under_rank (Some under) = turn_rank under.turn
 abbrev pub long_rank : Kept → Held → ℕ
 long_rank k held = 3 * (held.setting.fuel - held.machine.cost) + under_rank k.under
 
--- ---- what the trace bounds
+-- ---- the bound by the trace
 
 abbrev pub next_rank : Next → ℕ
 next_rank (Next.Event event) = 2
@@ -44,7 +44,7 @@ due_at (Next.Event event) clock = nat_le event.time clock
 due_at Next.Unread clock = false
 due_at Next.Over clock = false
 
--- whether nothing goes on at the clock
+-- 1 if nothing happens at the clock
 abbrev pub stuck_rank : Next → Held → ℕ
 stuck_rank next held = if due_at next held.machine.clock || any_ready_in held then 0 else 1
 
@@ -56,7 +56,7 @@ short_rank k held = 2 * lines_rank k + stuck_rank k.next held
 abbrev pub rank : Kept → Held → ℕ
 rank k held = 6000010 * long_rank k held + short_rank k held
 
--- where the run goes on
+-- the rank after a step that continues is lower
 abbrev pub FallsTo : ℕ → Result (Option Halt) Failure → ℕ → Type 0
 FallsTo old (Ok None) new = new < old
 FallsTo old (Ok (Some halt)) new = Unit {0}

@@ -11,7 +11,8 @@ use Rattle.thread_core.specs.Worlds.{Held, cap_in}
 abbrev pub HasSmallCaps : Held → Type 0
 HasSmallCaps held = (r : ℕ) → r < 8 → cap_in held r ≤ 1000000
 
--- the graph has one record more: from the node of the choice to this one, at that cost, with the changes of the uses since
+-- the graph has one more record: from the node of the choice to this one, at that cost, with the changes of the uses
+-- since the choice
 pub record IsRecorded (old new : Kept) (held : Held) (under : Under) (node cost : ℕ) : Type 0 where
   pub edges : new.graph.edges ≡ edges_with old.graph.edges (record { from = under.choice.node; to = node; cost = cost; change = changes under.before (uses_in (held_chunks held.machine) held.machine.exchange) })
   pub counted : count_of new.graph.edges ≡ count_of old.graph.edges + 1

@@ -1,4 +1,4 @@
--- A run beside the state of its log.
+-- A run, compared with the state of its log.
 use Rattle.std.specs.Prelude.{◌≡◌, ◌≢◌, ℕ, ◌+◌, ◌≤◌, true, false, List, [], ◌++◌, length, IsSome, Option, None, Some}
 use Rattle.blocking_graph.specs.Edges.{count_of}
 use Rattle.blocking_graph.specs.Graph.{GraphState}
@@ -9,16 +9,16 @@ use Rattle.c_tree.specs.WellScoped.{IsWellScoped}
 use Rattle.event_trace.specs.declared.events.Event.{Event}
 use Rattle.event_trace.specs.Lines.{FitsEvent}
 use Rattle.event_trace.specs.Reader.{ReaderState}
+use Rattle.choice_rules.specs.Choice.{is_open}
 use Rattle.choice_rules.specs.Policy.{all_caps}
 use Rattle.choice_rules.specs.Trace.{Trace, IsNext, behind}
-use Rattle.choice_rules.specs.Seen.{Waiter, Past}
+use Rattle.choice_rules.specs.Seen.{Waiter, Past, uses_of}
 use Rattle.choice_rules.specs.Clock.{is_due}
-use Rattle.lawful_log.specs.Choice.{is_open}
+use Rattle.choice_rules.specs.Waiting.{IsPlaced}
 use Rattle.lawful_log.specs.Good.{checked_of}
 use Rattle.lawful_log.specs.Setup.{Setup, setting_of}
-use Rattle.lawful_log.specs.State.{Segment, State, uses_of}
+use Rattle.lawful_log.specs.State.{Segment, State, seen_of}
 use Rattle.lawful_log.specs.Beside.{IsGraphOf, IsMonitorOf}
-use Rattle.lawful_log.specs.Waiting.{IsPlaced}
 use Rattle.lawful_log.specs.Within.{IsBetween, IsWithin}
 use Rattle.machine_world.specs.Threads.{World, thread_of, step}
 use Rattle.machine_world.specs.WellFormed.{IsWellFormed}
@@ -55,14 +55,15 @@ pub record IsOf (g : Setup) (held : Held) : Type 0 where
   pub valid : IsValid (lowered g.program) g.image g.certificate
   pub timely : IsTimely held.machine
 
--- what is left of the trace are these bytes, behind the lines that the reader gave; an event that was looked at comes before them
+-- these bytes are the rest of the trace after the lines that the reader returned, preceded by an event that was
+-- examined
 abbrev pub IsTraceIn : Trace → ReaderState → Next → List ℕ → Type 0
 IsTraceIn trace reader Next.Unread bytes = trace ≡ record { bytes = bytes; lines = reader.lines; last = reader.last }
 IsTraceIn trace reader (Next.Event event) bytes =
     IsNext trace (Some event) × (behind trace event ≡ record { bytes = bytes; lines = reader.lines; last = reader.last })
 IsTraceIn trace reader Next.Over bytes = IsNext trace None
 
--- where the source tells its bytes, they are what the reader holds and the source has left
+-- if the source exposes its bytes, they are what the reader holds, followed by what the source has left
 abbrev pub IsTraceOf : Trace → ReaderState → Next → Rest → Type 0
 IsTraceOf trace reader next Unasked = Unit {0}
 IsTraceOf trace reader next (Told left) = IsTraceIn trace reader next (reader.held ++ left)
@@ -78,7 +79,7 @@ pub record IsRead (trace : Trace) (reader : ReaderState) (next : Next) (left : R
   pub unrefused : reader.refused ≡ None
   pub fits : FitsNext next
 
--- what choices rest on; and there are no more choices, and no more records and keys, than so many
+-- the data on which choices depend; and there are at most this many choices, records and keys
 pub record HasPast (g : Setup) (past : Past) (rule : RuleState) (graph : GraphState) (monitor : MonitorState) (choices most : ℕ) : Type 0 where
   pub accounts : HasAccounts g.policy.rule rule past
   pub graph_is : IsGraphOf graph past
@@ -94,22 +95,23 @@ pub record StandsBetween (g : Setup) (state : State) (k : Kept) (held : Held) (l
   pub of : IsOf g held
   pub going : held.stopped ≡ None
   pub between : IsBetween g state (known k.next) held.machine
-  -- the clock moves only while a thread lives
+  -- the clock advances only while a thread lives
   pub ended : held.machine.threads ≡ [] → held.machine.clock ≡ state.machine.clock
   pub settled : IsSettled (checked_of g) held.machine
   pub kept : AreKept held.places k.rule state.waiting
   pub needed : AreTold held.machine k.rule
   pub past : HasPast g state.past k.rule k.graph k.monitor held.machine.cost held.machine.cost
-  pub gate : gate_after g.policy.high g.policy.low k.monitor.is_open (pressures g.policy.curves (uses_of state) (all_caps g.policy)) ≡ is_open g state.past
+  pub gate : gate_after g.policy.high g.policy.low k.monitor.is_open
+      (pressures g.policy.curves (uses_of (seen_of state)) (all_caps g.policy)) ≡ is_open g.policy state.past
   pub read : IsRead state.trace k.reader k.next left
 
--- ---- within a segment: what its thread did last is still to be told
+-- ---- within a segment: what its thread did last isn't written yet
 
 pub record StandsWithin (g : Setup) (state : State) (k : Kept) (held : Held) (left : Rest) (under : Under) : Type 0 where
   pub of : IsOf g held
   pub segment : Segment
   pub waiting : List Waiter
-  -- the machine at the step that the turn tells
+  -- the machine at the step of the turn
   pub here : World
   pub within : IsWithin g state segment held.begun here waiting
   pub tells : Tells (step (setting_of g) here) under.turn segment.thread here held
@@ -123,7 +125,7 @@ pub record StandsWithin (g : Setup) (state : State) (k : Kept) (held : Held) (le
   pub needed : AreTold here k.rule
   pub started : StartedBy state.past.taken (length state.source.threads)
   pub past : HasPast g state.past k.rule k.graph k.monitor (held.begun + 1) held.begun
-  pub gate : k.monitor.is_open ≡ is_open g state.past
+  pub gate : k.monitor.is_open ≡ is_open g.policy state.past
   pub read : IsRead state.trace k.reader k.next left
 
 abbrev pub StandsBy : Setup → State → Kept → Held → Rest → Option Under → Type 0
@@ -133,14 +135,14 @@ StandsBy g state k held left (Some under) = StandsWithin g state k held left und
 abbrev pub Stands : Setup → State → Kept → Held → Rest → Type 0
 Stands g state k held left = StandsBy g state k held left k.under
 
--- beside some log of some run
+-- for some log of some run
 abbrev pub StandsSomehow : Kept → Held → Type 0
 StandsSomehow k held = (g : Setup) × (state : State) × (left : Rest) × Stands g state k held left
 
 abbrev pub SegmentStands : Kept → Held → Under → Type 0
 SegmentStands k held under = (g : Setup) × (state : State) × (left : Rest) × StandsWithin g state k held left under
 
--- ---- where a segment goes on: what its thread did last has been told
+-- ---- where a segment continues: what its thread did last has been written
 
 pub record StandsInside (g : Setup) (state : State) (k : Kept) (held : Held) (left : Rest) (choice : Choice) (before : List ℕ) : Type 0 where
   pub of : IsOf g held
@@ -158,22 +160,22 @@ pub record StandsInside (g : Setup) (state : State) (k : Kept) (held : Held) (le
   pub needed : AreTold held.machine k.rule
   pub started : StartedBy state.past.taken (length state.source.threads)
   pub past : HasPast g state.past k.rule k.graph k.monitor (held.begun + 1) held.begun
-  pub gate : k.monitor.is_open ≡ is_open g state.past
+  pub gate : k.monitor.is_open ≡ is_open g.policy state.past
   pub read : IsRead state.trace k.reader k.next left
 
--- what the source's run and the machine's step say of each other
+-- how the source's run and the machine's step correspond
 abbrev pub StepsAsSource : Setup → State → ℕ → Type 0
 StepsAsSource g state number =
     (puts : List ℕ) (w : World) → IsWellFormed (checked_of g) (setting_of g) w → IsReached (checked_of g) g.program (setting_of g) state.source number puts w →
     StepReaches (checked_of g) g.program (setting_of g) state.source number puts (step (setting_of g) w)
 
--- ---- what a part of a step is given
+-- ---- the premises of a part of a step
 
--- a segment is under way, and its thread did this
+-- a segment is in progress, and its thread did this
 abbrev pub HasTurn : Kept → Held → Under → Turn → Type 0
 HasTurn k held under turn = (g : Setup) × (state : State) × (left : Rest) × StandsWithin g state k held left under × (under.turn ≡ turn)
 
--- a choice point goes on: some thread is live, and the next line of the trace is known
+-- a choice point continues: some thread is live, and the next line of the trace is known
 pub record IsAtPoint (g : Setup) (state : State) (k : Kept) (held : Held) (left : Rest) (next : Option Event) : Type 0 where
   pub stands : StandsBetween g state k held left
   pub between : k.under ≡ None
@@ -183,7 +185,7 @@ pub record IsAtPoint (g : Setup) (state : State) (k : Kept) (held : Held) (left 
 abbrev pub PointStands : Kept → Held → Option Event → Type 0
 PointStands k held next = (g : Setup) × (state : State) × (left : Rest) × IsAtPoint g state k held left next
 
--- a thread is to be chosen: no event is due, and some thread is ready
+-- a thread has to be chosen: no event is due, and some thread is ready
 pub record IsAtChoice (g : Setup) (state : State) (k : Kept) (held : Held) (left : Rest) (next : Option Event) : Type 0 where
   pub point : IsAtPoint g state k held left next
   pub not_due : is_due next held.machine.clock ≡ false

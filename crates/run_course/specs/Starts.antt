@@ -1,4 +1,4 @@
--- What a run is given, and what stays through it.
+-- What a run is given, and what stays the same during it.
 use Rattle.std.specs.Prelude.{◌≡◌, IsTrue}
 use Rattle.accepted_pairs.specs.Accepting.{accepted_tree}
 use Rattle.choice_rules.specs.Policy.{Rule, by_graph}
@@ -18,7 +18,7 @@ world_policy g = record {
   caps = g.policy.caps;
 }
 
--- the world was just made from the program, image and certificate under the policy, which chooses by this rule, and the
+-- the world is newly made from the program, image and certificate under the policy, which chooses by this rule, and the
 -- monitor is that of the policy, with its gate open
 pub record IsAtStartBy (choosing : Rule) (g : Setup) (held : Held) (monitor : MonitorState) : Type 0 where
   pub program : accepted_tree held.accepted ≡ g.program
@@ -30,11 +30,11 @@ pub record IsAtStartBy (choosing : Rule) (g : Setup) (held : Held) (monitor : Mo
   pub monitor_is : IsMonitorOf g monitor
   pub gate : IsTrue monitor.is_open
 
--- and the rule is by the graph
+-- and the rule is the priority rule
 abbrev pub IsAtStart : Setup → Held → MonitorState → Type 0
 IsAtStart g held monitor = IsAtStartBy by_graph g held monitor
 
--- the run goes on in the same program under the same policy
+-- the run continues in the same program under the same policy
 pub record KeepsRun (before after : Held) : Type 0 where
   pub accepted : after.accepted ≡ before.accepted
   pub setting : after.setting ≡ before.setting

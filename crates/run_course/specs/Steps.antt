@@ -1,4 +1,4 @@
--- What a step of a run comes to.
+-- The results of a run's step.
 use Rattle.std.specs.Prelude.{◌≡◌, ℕ, ◌≤◌, List, length, Option, None, Some, Result, Ok, Err}
 use Rattle.lawful_log.specs.Good.{checked_of}
 use Rattle.lawful_log.specs.Lawful.{Leads}
@@ -22,14 +22,14 @@ use Rattle.run_course.specs.Stands.{IsOf, Stands}
 use Rattle.run_course.specs.Rest.{Rest, HasBytes}
 use Rattle.chunk_pool.specs.Pool.{free_count}
 
--- the line of a stop, with so many chunks free
+-- the line of a stop, with this number of free chunks
 abbrev pub stop_line : Halt → ℕ → StopLine
 stop_line Halt.Done free = StopLine.Done
 stop_line Halt.Idle free = StopLine.Idle
 stop_line (Halt.BadTrace line) free = StopLine.Trace line
 stop_line (Halt.Cut thread stop cost) free = StopLine.Cut thread.number stop cost free
 
--- the record of a thread that cuts the run stands at its place
+-- the record of the thread that cuts the run off is at its place
 abbrev pub HasThread : Held → Halt → Type 0
 HasThread held Halt.Done = Unit {0}
 HasThread held Halt.Idle = Unit {0}
@@ -41,7 +41,7 @@ pub record ActsTo (s : Setting) (w after : World) : Type 0 where
   pub actions : List Action
   pub leads : after_actions s actions w ≡ Some after
 
--- entries were allowed and put, and the run stands beside the state after them
+-- allowed entries were written, and the run corresponds to the state after them
 pub record GoesTo (g : Setup) (state : State) (before : Rest) (k : Kept) (held : Held) (left : Rest) (taken written : Output) : Type 0 where
   pub new : State
   pub entries : List Entry
@@ -62,8 +62,8 @@ pub record HaltsAt (g : Setup) (state : State) (before : Rest) (k : Kept) (held 
   pub thread : HasThread held halt
   pub writes : written ≡ taken
 
--- the run can't go on: the sink took a beginning of what was held and of at most one entry, which is allowed, and the machine has
--- made some steps
+-- the run fails: the sink took a prefix of the buffer followed by at most one entry, which is allowed, and the machine
+-- has made some steps
 pub record FailsIn (g : Setup) (state : State) (before : Rest) (held : Held) (taken written : Output) : Type 0 where
   pub new : State
   pub entries : List Entry
@@ -81,7 +81,7 @@ StepEnds g state before k held left taken written (Ok None) = GoesTo g state bef
 StepEnds g state before k held left taken written (Ok (Some halt)) = HaltsAt g state before k held halt taken written
 StepEnds g state before k held left taken written (Err failure) = FailsIn g state before held taken written
 
--- the same of a part of a step, which stops nowhere
+-- the same for a part of a step, which never stops the run
 abbrev pub PartEnds : Setup → State → Rest → Kept → Held → Rest → Output → Output → Result (Unit {0}) Failure → Type 0
 PartEnds g state before k held left taken written (Ok _) = GoesTo g state before k held left taken written
 PartEnds g state before k held left taken written (Err failure) = FailsIn g state before held taken written

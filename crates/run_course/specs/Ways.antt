@@ -1,4 +1,4 @@
--- Where a machine world is in the run of a log.
+-- A machine world within the run of a log.
 use Rattle.std.specs.Prelude.{◌≡◌, ℕ, ◌+◌, ◌≤◌, List, ◌++◌, Some}
 use Rattle.lawful_log.specs.Lawful.{Leads}
 use Rattle.lawful_log.specs.Segments.{after_quiet}
@@ -8,18 +8,18 @@ use Rattle.machine_world.specs.Runs.{advanced, world_of}
 use Rattle.machine_world.specs.Threads.{World, Setting, step}
 use Rattle.schedule_log.specs.declared.entries.Entry.{Entry}
 
--- on the way from the machine world of a log's state towards the next entry: the clock has gone on, or steps of which the log
--- has no entry were made, and maybe one step more
+-- on the way from the machine world of a log's state to the next entry: the clock has advanced, or some steps without
+-- an entry were made, and possibly one more step
 pub data IsOnWay (s : Setting) (from after : World) : Type 0 where
   has_waited : after ≡ advanced from after.clock → from.clock ≤ after.clock → IsOnWay s from after
   has_run : (steps : ℕ) → after_quiet s steps from ≡ Some after → IsOnWay s from after
   has_told : (steps : ℕ) (here : World) → after_quiet s steps from ≡ Some here → world_of (step s here) ≡ Some after → IsOnWay s from after
 
--- from the one to the other the clock went on by a cycle for each instruction that retired, and by nothing else
+-- between the two worlds the clock advanced by one for each retired instruction, and by nothing else
 abbrev pub HasTicked : World → World → Type 0
 HasTicked from after = after.clock + from.cost ≡ from.clock + after.cost
 
--- the entries begin with some that lead to a state, and the machine world is on the way from there
+-- some first entries lead to a state, and the machine world is on the way from there
 pub record IsOnRun (g : Setup) (bytes : List ℕ) (start : World) (entries : List Entry) (after : World) : Type 0 where
   pub done : List Entry
   pub rest : List Entry

@@ -8,8 +8,8 @@ use event_trace::{Event, TraceError, TraceReader};
 use std::alloc::{AllocError, Global};
 use std::marker::Model;
 
-/// A reader of a trace that counts the lines that it gave: what a reader says of the number of a refused line it says of sources
-/// that tell their bytes alone. Contracts see the reader.
+/// A reader of a trace that also counts the lines that it returned: the reader's clauses give the number of a refused
+/// line only for sources that expose their bytes. Contracts see the reader.
 #[derive(Drop)]
 pub(crate) struct CountedReader {
     reader: TraceReader,
@@ -28,7 +28,7 @@ impl Model for CountedReader {
 }
 
 impl CountedReader {
-    /// A reader at the start of a trace.
+    /// Returns a reader at the start of a trace.
     pub(crate) fn new(alloc: Global) -> Result<CountedReader, AllocError>
         ensures { IfOk result (λ reader.
             reader ≡ record { held = []; lines = 0; last = 0; refused = None }) }
@@ -39,7 +39,7 @@ impl CountedReader {
         })
     }
 
-    /// The next event, as the reader gives it.
+    /// Returns the next event, as the reader does.
     pub(crate) fn next<S: Source>(&mut self, source: &mut S) -> Result<Option<Event>, TraceError>
         requires unrefused { self.old.refused ≡ None }
         ensures told { NextTold self.old self.new (S.left source.old) (S.left source.new) result }
@@ -55,7 +55,7 @@ impl CountedReader {
         answer
     }
 
-    /// The number of the line behind those that it gave.
+    /// Returns the number of the line after those that it returned.
     pub(crate) fn number(&self) -> u64
         ensures { result ≡ self.now.lines + 1 }
     {
@@ -63,7 +63,7 @@ impl CountedReader {
     }
 }
 
-/// How many lines an answer gives.
+/// Returns the number of lines that an answer of the reader used up.
 fn given(answer: &Result<Option<Event>, TraceError>) -> u32
     ensures { result ≡ given_by answer.now }
 {

@@ -20,15 +20,18 @@ use std::alloc::{AllocError, Global};
 use std::marker::Model;
 use thread_core::{Turn, World};
 
-/// A segment that is under way: the choice that took its thread, the uses then, and what the thread did last.
+/// A segment in progress: the choice that took its thread, the uses at that choice, and what the thread did last.
 #[derive(Clone, Copy)]
 pub struct Under {
+    /// The choice that took its thread.
     pub choice: Choice,
+    /// The uses of the eight resources at that choice.
     pub before: [u32; 8],
+    /// What the thread did last.
     pub turn: Turn,
 }
 
-/// What a run keeps beside its world.
+/// The data of a run in addition to its world.
 #[derive(Drop)]
 pub struct Course<C: Measure> {
     pub(crate) rule: RuleState,
@@ -58,7 +61,7 @@ impl<C: Measure + Drop> Course<C> {
     ghost use Rattle.run_course.specs.Steps.{PartEnds};
     ghost use Rattle.run_course.specs.Rest.{Rest, bytes_of};
 
-    /// The start of a run: thread 0 waits at node 0.
+    /// Returns the start of a run: thread 0 waits at node 0.
     pub fn new(
         alloc: Global,
         world: &World,
@@ -93,21 +96,21 @@ impl<C: Measure + Drop> Course<C> {
         })
     }
 
-    /// The segment that is under way, if there is one.
+    /// Returns the segment in progress, if there is one.
     pub fn under(&self) -> Option<Under>
         ensures { result ≡ self.now.under }
     {
         self.under
     }
 
-    /// The graph of the segments that have ended.
+    /// Returns the graph of the segments that have ended.
     pub fn graph(&self) -> &Graph
         ensures { result.now ≡ self.now.graph }
     {
         &self.graph
     }
 
-    /// The event that is due joins its queue, or is dropped.
+    /// Delivers the due event: it joins its queue, or is dropped.
     pub fn deliver<K: Sink>(
         &mut self,
         world: &mut World,
@@ -139,7 +142,7 @@ impl<C: Measure + Drop> Course<C> {
         )
     }
 
-    /// A thread is chosen, and its segment begins.
+    /// Chooses a thread, whose segment begins.
     pub fn choose<K: Sink>(
         &mut self,
         world: &mut World,

@@ -7,7 +7,7 @@ use event_trace::EventKind;
 use schedule_log::{Entry, Item};
 use thread_core::Delivered;
 
-/// The line of what came, at that clock.
+/// Returns the line of an event at that clock.
 pub(crate) fn coming_entry(clock: u64, kind: EventKind, delivered: Delivered) -> Entry
     ensures { result ≡ coming_line clock kind delivered }
 {
@@ -32,7 +32,7 @@ fn item_of(kind: EventKind) -> Item
     }
 }
 
-/// The word as a signed number.
+/// Returns the word as a signed number.
 pub(crate) fn signed_word(value: u32) -> i32
     ensures { result ≡ signed value }
 {

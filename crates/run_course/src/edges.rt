@@ -1,7 +1,7 @@
 ghost use Rattle.std.specs.Prelude.{◌<◌, ◌≡◌, None, OnOk, pos, slice_index_or};
 ghost use Rattle.choice_rules.specs.EdgeLines as rules;
 ghost use Rattle.run_course.specs.Counts.{CountsPart};
-ghost use Rattle.run_course.specs.Lines.{edge_line, edge_lines};
+ghost use Rattle.run_course.specs.Lines.{edge_lines};
 ghost use Rattle.run_course.specs.Output.{PutsText, output_of};
 ghost use Rattle.schedule_log.specs.EntryText.{log_text};
 
@@ -33,9 +33,9 @@ pub fn write_edges<K: Sink>(
     Ok(())
 }
 
-/// The line of an edge.
+/// Returns the line of an edge.
 fn edge_entry(world: &World, edge: &EdgeLine) -> Entry
-    ensures { result ≡ edge_line world.now.setting.caps edge.now }
+    ensures { result ≡ rules.edge_entry world.now.setting.caps edge.now }
 {
     Entry::Edge {
         from: edge.from,
@@ -46,7 +46,7 @@ fn edge_entry(world: &World, edge: &EdgeLine) -> Entry
     }
 }
 
-/// The averages that an edge's line shows: that of resource 0, and those of the resources that are given.
+/// Returns the averages on an edge's line: that of resource 0, and those of the resources with caps.
 fn shown(world: &World, change: &[i128; 8]) -> Averages
     ensures { result ≡ rules.shown world.now.setting.caps change.now }
 {
@@ -62,7 +62,7 @@ fn shown(world: &World, change: &[i128; 8]) -> Averages
     Averages::new(&places[..used])
 }
 
-/// The average of a resource.
+/// Returns the average of a resource.
 fn average_at(change: &[i128; 8], resource: u32) -> i128
     requires { resource < 8 }
     ensures { result ≡ slice_index_or change.now resource (pos 0) }

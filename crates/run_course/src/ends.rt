@@ -6,14 +6,14 @@ use cap_word::{Stop, ThreadId};
 use schedule_log::StopLine;
 use std::alloc::AllocError;
 
-/// Why a run can't go on, before it has come to a stop.
+/// Why a run fails before it reaches a stop.
 #[derive(Clone, Copy, PartialEq, Eq)]
 pub enum Failure {
-    /// The trace could not be read.
+    /// The trace couldn't be read.
     Read,
-    /// The log could not be written.
+    /// The log couldn't be written.
     Write,
-    /// There was no memory.
+    /// Out of memory.
     Memory,
 }
 
@@ -27,18 +27,18 @@ impl From<AllocError> for Failure {
     }
 }
 
-/// Where a run stops.
+/// The stop of a run.
 #[derive(Clone, Copy)]
 pub enum Halt {
     /// Every thread has ended.
     Done,
     /// The trace is over, and no thread will be ready again.
     Idle,
-    /// That line of the trace is refused, counted from 1.
+    /// The line of the trace of this number, counted from 1, is refused.
     BadTrace {
         line: u64,
     },
-    /// The thread's segment was cut, which has cost that much.
+    /// The thread's segment was cut off after this cost.
     Cut {
         thread: ThreadId,
         stop: Stop,
@@ -47,7 +47,7 @@ pub enum Halt {
 }
 
 impl Halt {
-    /// The stop's line, with so many chunks free.
+    /// Returns the stop's line, with this number of free chunks.
     pub fn line(self, free: u32) -> StopLine
         ensures { result ≡ stop_line self free }
     {
@@ -65,7 +65,7 @@ impl Halt {
     }
 }
 
-/// A step that ends with this part: it goes on where the part could.
+/// Returns the result of a step that ends with this part: it continues unless the part failed.
 pub fn goes_on(part: Result<(), Failure>) -> Result<Option<Halt>, Failure>
     ensures { result ≡ going_on part }
 {

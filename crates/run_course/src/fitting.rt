@@ -1,5 +1,5 @@
-// That entries fit their types: each number of one is in the range of its field, so its line is read back. Nothing here does
-// anything when it runs: what is told is the contract.
+// Entries fit their types: each number of an entry is in the range of its field, so its line is read back. These
+// functions have no effect at run time: the contract is the theorem.
 ghost use Rattle.std.specs.Prelude.{◌<◌, ◌^◌, ◌∷◌, [], ◌++◌, FitsSigned};
 ghost use Rattle.std.specs.Int.{w32, w128};
 ghost use Rattle.std.specs.List.{AllByRecursion};
@@ -10,7 +10,7 @@ ghost use Rattle.schedule_log.specs.EntryText.{entry_text};
 use cap_word::SiteKey;
 use schedule_log::{Averages, Entry, Item, StopLine};
 
-/// The line of an entry is the text of one that fits its types.
+/// Law: the line of an entry is the text of one that fits its types.
 pub(crate) fn line_fits(entry: &Entry)
     ensures { IsFitText (entry_text entry.now ++ 10 ∷ []) }
 {

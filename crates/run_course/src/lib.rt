@@ -1,11 +1,10 @@
-// The data that a run keeps beside its world of threads, and the parts of its steps.
+// The data of a run in addition to its world of threads, and the parts of its steps.
 //
-// In: a world, an event of a trace, a sink. Out: a `Course`, with the rule of choice, the graph,
-// the monitor, the reader of the trace and the current segment; and in the sink the lines of what
-// was done. A look reads the next line of the trace, a delivery takes an event, a choice begins a
-// segment, and a pass writes what its thread did last and continues it. `runner` builds steps and
-// whole runs from these. By the lawful log (`lawful_log`) the clauses say what each part may write,
-// but not how.
+// In: a world, an event of a trace, a sink. Out: a `Course`, with the rule of choice, the graph, the monitor, the
+// reader of the trace and the current segment; and in the sink the lines of the log. A look reads the next line of the
+// trace, a delivery takes an event, a choice begins a segment, and a pass writes what its thread did last and continues
+// it. `runner` builds steps and whole runs from these. The clauses say, in terms of the lawful log (`lawful_log`), what
+// each part may write, but not how.
 #![tactic(auto)]
 
 mod counted;

@@ -1,4 +1,4 @@
-// The lines of a log, through a writer with a buffer.
+// The lines of a log, through a buffered writer.
 ghost use Rattle.std.specs.Prelude.{◌≡◌, ◌∷◌, [], ◌++◌, None, OnOk};
 ghost use Rattle.run_course.specs.Counts.{CountsPart};
 ghost use Rattle.run_course.specs.Lines.{put_failure};
@@ -10,7 +10,7 @@ use crate::fitting::line_fits;
 use cap_io::Sink;
 use schedule_log::{Entry, LogWriter, PutError};
 
-/// Puts the line of an entry: it goes to the sink when the buffer is full.
+/// Writes the line of an entry to the buffer, which is flushed to the sink when it is full.
 pub fn write_line<K: Sink>(
     writer: &mut LogWriter,
     out: &mut K,
@@ -29,7 +29,7 @@ pub fn write_line<K: Sink>(
     }
 }
 
-/// Why a run can't go on whose log could not be written.
+/// Returns the failure of a run whose log couldn't be written.
 pub fn failure_of(refusal: PutError) -> Failure
     ensures { result ≡ put_failure refusal }
 {

@@ -13,28 +13,28 @@ use cap_io::Source;
 use event_trace::{Event, TraceError};
 use resource_monitor::Measure;
 
-/// The next line of the trace.
+/// The next line of the trace, if it has been examined.
 #[derive(Clone, Copy)]
 pub enum Next {
-    /// It hasn't been looked at.
+    /// It hasn't been examined.
     Unread,
-    /// It is that of an event.
+    /// It is an event.
     Event(Event),
     /// There is none.
     Over,
 }
 
-/// What the next line of the trace is.
+/// The result of examining the next line of the trace.
 #[derive(Clone, Copy)]
 pub enum Looked {
-    /// That of an event, or there is none.
+    /// An event, or no line.
     Comes { event: Option<Event> },
-    /// It is refused.
+    /// A refused line.
     Refused { line: u64 },
 }
 
 impl<C: Measure + Drop> Course<C> {
-    /// Looks at the next line of the trace, which stays until it is delivered.
+    /// Examines the next line of the trace and returns what it is. The line stays until it is delivered.
     pub fn look<S: Source>(&mut self, trace: &mut S) -> Result<Looked, Failure>
         requires unrefused { self.old.reader.refused ≡ None }
         ensures looks { BackTo (S.left trace.old) (S.left trace.new) (λ before left.

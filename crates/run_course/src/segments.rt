@@ -29,7 +29,7 @@ use thread_core::{Turn, World};
 const END: u32 = 1;
 
 impl<C: Measure + Drop> Course<C> {
-    /// What the thread of the segment under way did last is told, and the segment goes on.
+    /// Writes what the thread of the segment in progress did last, and continues the segment.
     pub fn pass<K: Sink>(
         &mut self,
         world: &mut World,
@@ -66,7 +66,7 @@ impl<C: Measure + Drop> Course<C> {
         }
     }
 
-    /// A value was put.
+    /// Writes a value that was put.
     fn put<K: Sink>(
         &mut self,
         world: &mut World,
@@ -95,7 +95,7 @@ impl<C: Measure + Drop> Course<C> {
         write_line(writer, out, &entry)
     }
 
-    /// A thread has started.
+    /// Takes up a thread that has started.
     fn spawn(&mut self, world: &mut World, under: Under, thread: ThreadId) -> Result<(), Failure>
         requires { HasTurn self.old world.old under (Turn.Spawned thread) }
         ensures ends { (g : Setup) (state : State) (left : Rest) (now : Output) →
@@ -111,7 +111,7 @@ impl<C: Measure + Drop> Course<C> {
         Ok(())
     }
 
-    /// The segment goes on.
+    /// Continues the segment.
     fn proceed(&mut self, world: &mut World, under: Under)
         requires { MayProceed world.old world.old.stopped }
         ensures goes_on { (g : Setup) (state : State) (left : Rest) →
@@ -139,7 +139,7 @@ impl<C: Measure + Drop> Course<C> {
         self.under = Some(now);
     }
 
-    /// The segment has ended at a blocking call.
+    /// Ends the segment at a blocking call.
     fn block<K: Sink>(
         &mut self,
         world: &World,
@@ -177,7 +177,7 @@ impl<C: Measure + Drop> Course<C> {
         write_line(writer, out, &entry)
     }
 
-    /// The segment has ended with its thread.
+    /// Ends the segment with its thread.
     fn end<K: Sink>(
         &mut self,
         world: &World,
@@ -209,7 +209,7 @@ impl<C: Measure + Drop> Course<C> {
         write_line(writer, out, &entry)
     }
 
-    /// The record of a segment that has ended at a node.
+    /// Records a segment that has ended at a node.
     fn record(&mut self, world: &World, under: Under, node: u32, cost: u64) -> Result<(), Failure>
         requires cost { cost < 2 ^ 40 }
         requires before { (r : ℕ) → r < 8 → slice_index under.before r ≤ 1000000 }

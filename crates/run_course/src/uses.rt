@@ -3,7 +3,7 @@ ghost use Rattle.thread_core.specs.Worlds.{cap_in, used_in};
 
 use thread_core::World;
 
-/// The uses of the eight resources of a world.
+/// Returns the uses of the eight resources of a world.
 pub(crate) fn uses_of(world: &World) -> [u32; 8]
     ensures uses { (r : ℕ) → r < 8 → slice_index result r ≡ used_in world.now.machine r }
     ensures within { (r : ℕ) → r < 8 → slice_index result r ≤ cap_in world.now r }
@@ -15,7 +15,7 @@ pub(crate) fn uses_of(world: &World) -> [u32; 8]
     uses
 }
 
-/// The change of each use.
+/// Returns the change of each use.
 pub(crate) fn changes(before: &[u32; 8], after: &[u32; 8]) -> [i64; 8]
     ensures { (r : ℕ) → r < 8 →
         slice_index_or result r (pos 0) ≡ pos (slice_index after.now r) -ℤ pos
@@ -28,7 +28,7 @@ pub(crate) fn changes(before: &[u32; 8], after: &[u32; 8]) -> [i64; 8]
     change
 }
 
-/// How much more the second is than the first.
+/// Returns the second use minus the first.
 fn difference(before: u32, after: u32) -> i64
     ensures { result ≡ pos after -ℤ pos before }
 {

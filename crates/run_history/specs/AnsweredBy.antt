@@ -1,4 +1,4 @@
--- The answers to a request in what a log tells, for each way to say which outputs are answers.
+-- The answers to a request in the happenings of a log, for each choice of which outputs are answers.
 use Rattle.std.specs.Prelude.{ℕ, List, [], Option, None}
 use Rattle.run_history.specs.declared.answering.Answering.{Answering}
 use Rattle.run_history.specs.declared.answering.Answering.TheVariants.{ByThread, ByPairing, BySpawn}

@@ -1,4 +1,4 @@
--- What is kept for the answers while a log is read, for each way to say which outputs are answers.
+-- The data for the answers while a log is read, for each choice of which outputs are answers.
 use Rattle.std.specs.Prelude.{◌≡◌, List, ⊤}
 use Rattle.std.specs.BTreeMap.{get}
 use Rattle.std.specs.Ordering.{nat_cmp}
@@ -12,7 +12,7 @@ use Rattle.run_history.specs.Followed.{named_by}
 use Rattle.run_history.specs.FollowedRuns.{IsFollowed}
 use Rattle.run_history.specs.PairedRuns.{ArePairsByOrder, ArePairsByValue}
 
--- this is what is kept once a log has told so much
+-- this is the data after these happenings
 abbrev pub Keeps : Answering → List Happening → Answerer → Type 0
 Keeps ByThread told OfThreads = ⊤
 Keeps (ByPairing First) told (OfPairs pairs) = (pairs.pairing ≡ First) × ArePairsByOrder told pairs
@@ -20,7 +20,7 @@ Keeps (ByPairing Value) told (OfPairs pairs) = (pairs.pairing ≡ Value) × AreP
 Keeps (BySpawn spawned) told (OfSpawned followed) = IsFollowed spawned.now told followed
 Keeps _ told _ = ⊥
 
--- what an entry tells, with the request that a segment's thread works for, where that is kept
+-- the happening of an entry, with the request for which a segment's thread works, if that is recorded
 abbrev pub named_for : Answerer → Happening → Happening
 named_for OfThreads told = told
 named_for (OfPairs pairs) told = told

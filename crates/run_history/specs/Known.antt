@@ -1,4 +1,4 @@
--- What is known of a run from the entries of its log so far, and what one entry more tells.
+-- What is known of a run from the entries of its log so far, and the happening of the next entry.
 use Rattle.std.specs.Prelude.{ℕ, ◌+◌, ◌^◌, ◌≤◌, Bool, false, List, [], ◌∷◌, Option, Some, None, slice_index, slice_index_or, if◌then◌else◌}
 use Rattle.std.specs.BTreeMap.{insert_entry, is_at}
 use Rattle.std.specs.Map.{lookup}
@@ -12,25 +12,25 @@ use Rattle.run_history.specs.declared.happenings.Segment.{Segment}
 use Rattle.run_history.specs.declared.happenings.Happening.{Happening}
 use Rattle.run_history.specs.declared.happenings.Happening.TheVariants.{Came, Lost, Started, Waited, Put, Ran, Nothing}
 
--- each thread that has run, in the order of their numbers; the clock of the latest choice, and how many words were put since;
--- how many requests were taken
+-- each thread that has run, in the order of their numbers; the clock of the latest choice, and the number of words put
+-- since; the number of requests taken
 pub record Known : Type 0 where
   pub threads : List (ℕ × Thread)
   pub began : ℕ
   pub puts : ℕ
   pub taken : ℕ
 
--- before the first entry
+-- the state before the first entry
 abbrev pub nothing_known : Known
 nothing_known = record { threads = []; began = 0; puts = 0; taken = 0 }
 
 -- ---- a thread
 
--- what is known of a thread: nothing where it hasn't run
+-- what is known of a thread; None if it hasn't run
 abbrev pub thread_in : Known → ℕ → Option Thread
 thread_in k thread = lookup (is_at (nat_cmp thread)) k.threads
 
--- a thread that stands so waits at `accept`: of the call of each site, `accepts` tells whether it is that
+-- a thread in this state waits at `accept`: `accepts` says of each site whether its call is `accept`
 abbrev pub stands_at_accept : List Bool → Standing → Bool
 stands_at_accept accepts Runs = false
 stands_at_accept accepts (Waits site node since) = slice_index_or accepts site false
@@ -45,21 +45,21 @@ abbrev pub request_of : Option Thread → Option ℕ
 request_of None = None
 request_of (Some thread) = thread.request
 
--- the request that it serves once it was chosen: requests are numbered as they are taken
+-- the request that it serves after it is chosen: requests are numbered in the order in which they are taken
 abbrev pub next_request : Bool → ℕ → Option Thread → Option ℕ
 next_request takes taken before = if takes then Some taken else request_of before
 
--- one thread is known anew
+-- with new knowledge of one thread
 abbrev pub known_thread : ℕ → Thread → Known → Known
 known_thread thread now k = record { threads = insert_entry nat_cmp k.threads thread now; began = k.began; puts = k.puts; taken = k.taken }
 
--- a thread stands so now, and serves the same request
+-- with a new state of a thread, which serves the same request
 abbrev pub with_standing : ℕ → Standing → Known → Known
 with_standing thread standing k = known_thread thread (record { standing = standing; request = request_of (thread_in k thread) }) k
 
--- ---- what an entry makes known
+-- ---- what is known after an entry
 
--- `run`: the thread runs from that clock on; it takes the next request where it waited at `accept`
+-- `run`: the thread runs from that clock on; it takes the next request if it waited at `accept`
 abbrev pub chosen_by : Bool → ℕ → ℕ → Known → Known
 chosen_by takes clock thread k = record {
   threads = insert_entry nat_cmp k.threads thread (record { standing = Runs; request = next_request takes k.taken (thread_in k thread) });
@@ -85,7 +85,7 @@ with_entry accepts (Entry.End thread cost free) k = with_standing thread Ended k
 with_entry accepts (Entry.Edge from to count cost changes) k = k
 with_entry accepts (Entry.Stop line) k = k
 
--- what is known after entries, one after another, and after those of a whole log
+-- what is known after some entries, and after those of a whole log
 abbrev pub known_from : List Bool → Known → List Entry → Known
 known_from accepts k [] = k
 known_from accepts k (entry ∷ entries) = known_from accepts (with_entry accepts entry k) entries
@@ -93,9 +93,9 @@ known_from accepts k (entry ∷ entries) = known_from accepts (with_entry accept
 abbrev pub known_after : List Bool → List Entry → Known
 known_after accepts entries = known_from accepts nothing_known entries
 
--- ---- what an entry tells
+-- ---- the happening of an entry
 
--- the wait that a choice at that clock ends: none where the thread hasn't run
+-- the wait that a choice at that clock ends; none if the thread hasn't run
 abbrev pub wait_over : Bool → ℕ → ℕ → ℕ → Option ℕ → Standing → Happening
 wait_over takes taken thread clock request Runs = Nothing
 wait_over takes taken thread clock request (Waits site node since) =
@@ -106,7 +106,7 @@ abbrev pub waited : Bool → ℕ → ℕ → ℕ → Option Thread → Happening
 waited takes taken thread clock None = Started thread clock
 waited takes taken thread clock (Some before) = wait_over takes taken thread clock before.request before.standing
 
--- the segment under way, which ends at that cost
+-- the segment in progress, which ends at that cost
 abbrev pub segment_of : ℕ → ℕ → Known → Segment
 segment_of thread cost k = record { thread = thread; began = k.began; ended = k.began + cost; puts = k.puts; request = request_of (thread_in k thread) }
 
@@ -126,7 +126,7 @@ happening accepts (Entry.End thread cost free) k = Ran (segment_of thread cost k
 happening accepts (Entry.Edge from to count cost changes) k = Nothing
 happening accepts (Entry.Stop line) k = stop_tells line k
 
--- ---- a clock or a count that has no number of 64 bits
+-- ---- clocks and counts that exceed 64 bits
 
 abbrev pub IsBeyondStop : StopLine → Known → Type 0
 IsBeyondStop StopLine.Done k = ⊥

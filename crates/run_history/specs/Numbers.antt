@@ -1,4 +1,4 @@
--- The numbers of what a log tells.
+-- The numbers of a log's happenings.
 use Rattle.std.specs.Prelude.{◌≡◌, ℕ, ◌+◌, ◌-◌, Bool, true, false, List, [], ◌∷◌, ◌++◌, Option, Some, None, count_by, fold, map, max}
 use Rattle.std.specs.BTreeMap.{get}
 use Rattle.std.specs.Ordering.{nat_cmp}
@@ -22,7 +22,7 @@ is_event (Came clock item) = true
 is_event (Lost clock item) = true
 is_event _ = false
 
--- the wait, where it took a request
+-- the wait, if it took a request
 abbrev pub take_of : Wait → Option ℕ → List Wait
 take_of wait None = []
 take_of wait (Some request) = wait ∷ []
@@ -33,21 +33,21 @@ takes [] = []
 takes (Waited wait ∷ told) = take_of wait wait.request ++ takes told
 takes (_ ∷ told) = takes told
 
--- the threads that took requests, and when
+-- the threads that took requests, and the clocks of the takes
 abbrev pub takers : List Happening → List ℕ
 takers told = map (λ (wait : Wait). wait.thread) (takes told)
 
 abbrev pub taken : List Happening → List ℕ
 taken told = map (λ (wait : Wait). wait.until) (takes told)
 
--- how long all waits were, with their sites, their threads and their ends
+-- the lengths of all waits, with their sites, their threads and their ends
 abbrev pub wait_lengths : List Happening → List WaitLength
 wait_lengths [] = []
 wait_lengths (Waited wait ∷ told) = record { site = wait.site; thread = wait.thread; ticks = wait.until - wait.since; until = wait.until } ∷ wait_lengths told
 wait_lengths (_ ∷ told) = wait_lengths told
 
--- these are the numbers of what a log tells of a run with so many chunks, where these outputs are the answers; with a window the waits
--- are those that ended in it
+-- these are the numbers of the happenings of a run with this number of chunks, with these outputs as the answers; with
+-- a window, the waits are those that ended in it
 pub record IsNumbersOf (answering : Answering) (window : Option Window) (chunks : ℕ) (told : List Happening) (n : Numbers) : Type 0 where
   pub events : n.events ≡ count_by is_event told
   pub arrivals : ticks_in n.arrivals ≡ arrivals_from 0 told
@@ -59,7 +59,7 @@ pub record IsNumbersOf (answering : Answering) (window : Option Window) (chunks 
   pub longest : (site : ℕ) → longest_kept (get nat_cmp n.waits.sites site) ≡ longest_at site (told_of window (wait_lengths told))
   pub held : n.most_held ≡ most_held chunks told
 
--- the numbers with what one entry more tells
+-- the numbers with the happening of one more entry
 pub record IsOneMore (window : Option Window) (chunks : ℕ) (told : Happening) (old new : Numbers) : Type 0 where
   pub events : new.events ≡ old.events + count_by is_event (told ∷ [])
   pub arrivals : ticks_in new.arrivals ≡ ticks_in old.arrivals ++ arrivals_from old.events (told ∷ [])
@@ -71,7 +71,7 @@ pub record IsOneMore (window : Option Window) (chunks : ℕ) (told : Happening) 
   pub longest : (site : ℕ) → longest_kept (get nat_cmp new.waits.sites site) ≡ fold (longer_at site) (longest_kept (get nat_cmp old.waits.sites site)) (told_of window (wait_lengths (told ∷ [])))
   pub held : new.most_held ≡ max old.most_held (most_held chunks (told ∷ []))
 
--- all but the answers is as it was
+-- everything except the answers stays the same
 pub record KeepsOthers (old new : Numbers) : Type 0 where
   pub events : new.events ≡ old.events
   pub arrivals : ticks_in new.arrivals ≡ ticks_in old.arrivals
@@ -81,7 +81,7 @@ pub record KeepsOthers (old new : Numbers) : Type 0 where
   pub waits : new.waits ≡ old.waits
   pub held : new.most_held ≡ old.most_held
 
--- all but who took requests, and when, is as it was
+-- everything except the takes of requests stays the same
 pub record KeepsAllButTakes (old new : Numbers) : Type 0 where
   pub events : new.events ≡ old.events
   pub arrivals : ticks_in new.arrivals ≡ ticks_in old.arrivals

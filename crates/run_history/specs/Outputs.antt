@@ -7,27 +7,28 @@ use Rattle.run_history.specs.declared.happenings.Happening.{Happening}
 use Rattle.run_history.specs.declared.happenings.Happening.TheVariants.{Came, Put, Ran}
 use Rattle.run_history.specs.PairedRuns.{came_after, first_answers, none_waits, value_answers}
 
--- the clock at which the segment under way ends, where a log tells it: what it puts is there then
+-- the clock at which the segment in progress ends, if a log has it: that of its outputs
 abbrev pub end_of : List Happening → Option ℕ
 end_of [] = None
 end_of (Ran segment free ∷ told) = Some segment.ended
 end_of (_ ∷ told) = end_of told
 
--- the clock at which the output of that number, from 0, is there
+-- the clock of the output of that number, from 0
 abbrev pub output_at : List Happening → ℕ → Option ℕ
 output_at [] number = None
 output_at (Put thread value ∷ told) zero = end_of told
 output_at (Put thread value ∷ told) (suc number) = output_at told number
 output_at (_ ∷ told) number = output_at told number
 
--- the same of the outputs of one value
+-- the same for the outputs of one value
 abbrev pub output_of : ℤ → List Happening → ℕ → Option ℕ
 output_of value [] number = None
 output_of value (Put thread put ∷ told) zero = if int_eq put value then end_of told else output_of value told zero
 output_of value (Put thread put ∷ told) (suc number) = if int_eq put value then output_of value told number else output_of value told (suc number)
 output_of value (_ ∷ told) number = output_of value told number
 
--- how many requests of a value wait, after so many: each that comes waits, and each output of the value is the answer to one, if any waits
+-- the number of waiting requests of a value: each that comes waits, and each output of the value answers one, if any
+-- waits
 abbrev pub count_waiting : ℤ → ℕ → List Happening → ℕ
 count_waiting value waiting [] = waiting
 count_waiting value waiting (Came clock (Arrive arrived) ∷ told) = count_waiting value (if int_eq arrived value then waiting + 1 else waiting) told
@@ -43,7 +44,8 @@ answered_once (Some at) = Some (record { first = at; last = at; count = 1 })
 abbrev pub AnswersInOrder : Type 0
 AnswersInOrder = (told : List Happening) (request : ℕ) → first_answers request 0 [] None told ≡ answered_once (output_at told request)
 
--- by value, a request that comes while so many others of its value wait has one answer: of the outputs of its value that follow, the one of that number
+-- by value, a request that comes while n others of its value wait has one answer: output n of the following outputs of
+-- its value
 abbrev pub AnswersInTurn : Type 0
 AnswersInTurn = (before after : List Happening) (clock : ℕ) (value : ℤ) →
     value_answers (came_after 0 before) 0 none_waits [] None (before ++ Came clock (Arrive value) ∷ after)

@@ -1,4 +1,4 @@
--- The parts of the time of one request, behind the `accept` that took it.
+-- The parts of the time of one request, after the `accept` that took it.
 use Rattle.std.specs.Prelude.{ℕ, List, [], ◌∷◌, Option, Some, None, nat_eq, if◌then◌else◌}
 use Rattle.run_history.specs.declared.happenings.Wait.{Wait}
 use Rattle.run_history.specs.declared.happenings.Segment.{Segment}
@@ -8,7 +8,7 @@ use Rattle.run_history.specs.declared.parts.Part.{Part}
 use Rattle.run_history.specs.declared.parts.Part.TheVariants.{Runs, Waits}
 use Rattle.run_history.specs.Happenings.{is_request}
 
--- ---- who serves the request: the thread that took it, until it takes another
+-- ---- the thread that serves the request: the one that took it, until it takes another
 
 abbrev pub server_by : ℕ → ℕ → Option ℕ → Option ℕ → Option ℕ
 server_by request thread None server = server
@@ -27,9 +27,9 @@ server_after request (Put thread value) server = server
 server_after request (Ran segment free) server = server
 server_after request Nothing server = server
 
--- ---- the parts: what the thread that serves it runs and waits for
+-- ---- the parts: the segments and waits of the thread that serves it
 
--- the wait at an `accept` is no part
+-- a wait at an `accept` is no part
 abbrev pub waited_by : Wait → Option ℕ → Option ℕ → Option Part
 waited_by wait None server = if is_request wait.thread server then Some (Waits wait.site wait.since wait.until) else None
 waited_by wait (Some taken) server = None
@@ -53,7 +53,7 @@ part_in request (Put thread value) server = None
 part_in request (Ran segment free) server = ran_part request segment
 part_in request Nothing server = None
 
--- a part that is there, as a list
+-- a part as a list, if there is one
 abbrev pub kept : Option Part → List Part
 kept None = []
 kept (Some part) = part ∷ []

@@ -1,4 +1,4 @@
--- What one who looks on while a log is read sees.
+-- What an observer sees while a log is read.
 use Rattle.std.specs.Prelude.{ℕ, Bool, List, [], ◌∷◌, ◌++◌}
 use Rattle.schedule_log.specs.declared.entries.Entry.{Entry}
 use Rattle.run_history.specs.declared.answering.Answering.{Answering}
@@ -9,20 +9,21 @@ use Rattle.run_history.specs.FollowedRuns.{none_started, started_after}
 use Rattle.run_history.specs.Happenings.{happenings}
 use Rattle.run_history.specs.Known.{happening, known_after}
 
--- an entry, what it tells, and the same with the request that its segment's thread works for as the one that it serves, where that is known
+-- an entry, its happening, and its happening with the request for which its segment's thread works as the one that it
+-- serves, if that is known
 pub record Sight : Type 0 where
   pub entry : Entry
   pub told : Happening
   pub named : Happening
 
--- what is told after so much, with the request that a segment's thread works for: only a list of the threads that segments started makes
--- it another than the one that the thread took
+-- the next happening, with the request for which a segment's thread works: it differs from the one that the thread took
+-- only with a list of the threads that segments started
 abbrev pub named_in : Answering → List Happening → Happening → Happening
 named_in ByThread before told = told
 named_in (ByPairing pairing) before told = told
 named_in (BySpawn spawned) before told = named_by (started_after 0 spawned.now none_started before) told
 
--- what is seen of an entry after so many
+-- the sight of an entry after earlier entries
 abbrev pub sight_of : Answering → List Bool → List Entry → Entry → Sight
 sight_of answering accepts before entry = record {
   entry = entry;
@@ -30,11 +31,11 @@ sight_of answering accepts before entry = record {
   named = named_in answering (happenings accepts before) (happening accepts entry (known_after accepts before));
 }
 
--- what is seen of entries, each after those before it
+-- the sights of entries, each after those before it
 abbrev pub sights_from : Answering → List Bool → List Entry → List Entry → List Sight
 sights_from answering accepts before [] = []
 sights_from answering accepts before (entry ∷ entries) = sight_of answering accepts before entry ∷ sights_from answering accepts (before ++ entry ∷ []) entries
 
--- what is seen of a whole log: each entry once, in order
+-- the sights of a whole log: each entry once, in order
 abbrev pub sights : Answering → List Bool → List Entry → List Sight
 sights answering accepts entries = sights_from answering accepts [] entries

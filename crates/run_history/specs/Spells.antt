@@ -15,15 +15,16 @@ always_open = record { since = None; times = 0; ticks = 0 }
 abbrev pub is_open : Spells → Bool
 is_open s = not (is_some s.since)
 
--- the pressure on chunks where so many are free
+-- the pressure on chunks if this number is free
 abbrev pub pressure_with : Marks → ℕ → ℕ
 pressure_with m free = pressure (Knee m.knee) (m.chunks - free) m.chunks
 
--- the gate after a segment that left so many free, from whether it was open before
+-- the gate after a segment that left this number free, given whether it was open before
 abbrev pub open_with : Marks → Bool → ℕ → Bool
 open_with m was_open free = gate_after m.high m.low was_open (pressure_with m free ∷ [])
 
--- the gate is open or closed from that clock on: first since when it was closed, if it was, then whether it is open now
+-- the gate is open or closed from that clock on: the arguments are since when it was closed, if it was, and whether it
+-- is open now
 abbrev pub turned : Option ℕ → Bool → ℕ → Spells → Spells
 turned None true clock s = s
 turned None false clock s = record { since = Some clock; times = s.times + 1; ticks = s.ticks }
@@ -34,7 +35,7 @@ turned (Some since) false clock s = s
 abbrev pub at_start : Marks → Spells
 at_start m = turned None (open_with m true (m.chunks - 1)) 0 always_open
 
--- one happening more: the gate moves where a segment ends
+-- one more happening: the gate changes only at the end of a segment
 abbrev pub with_happening : Marks → Happening → Spells → Spells
 with_happening m (Came clock item) s = s
 with_happening m (Lost clock item) s = s
@@ -44,7 +45,7 @@ with_happening m (Put thread value) s = s
 with_happening m (Ran segment free) s = turned s.since (open_with m (is_open s) free) segment.ended s
 with_happening m Nothing s = s
 
--- for how many ticks it was closed in all, where the run ended at that clock
+-- the number of ticks for which it was closed in all, if the run ended at that clock
 abbrev pub spell_until : ℕ → Option ℕ → ℕ
 spell_until ended None = 0
 spell_until ended (Some since) = ended - since

@@ -1,5 +1,5 @@
-// Which outputs are the answers to a request: those of the thread that took it, those that a user says, or also those of threads that
-// work for it.
+// Which outputs are the answers to a request: those of the thread that took it, those that the user chooses, or also
+// those of threads that work for it.
 
 use crate::answers::AnswerList;
 use crate::followed::{Followed, Spawned};
@@ -15,14 +15,14 @@ use std::mem;
 pub enum Answering<'a> {
     /// Those of the thread that took it, until it takes the next.
     ByThread,
-    /// As a user says, whichever thread puts them.
+    /// As the user chooses, whichever thread puts them.
     ByPairing(Pairing),
-    /// Those of the thread that took it, and of the threads that work for it. The list has the threads that segments started, in
-    /// the order of the segments.
+    /// Those of the thread that took it, and of the threads that work for it. The list has the threads that segments
+    /// started, in the order of the segments.
     BySpawn(&'a [Spawned]),
 }
 
-/// What is kept for the answers to requests, beside those of the threads that took them.
+/// The data for the answers to requests, in addition to those of the threads that took them.
 #[derive(Drop)]
 pub(crate) enum Answerer<'a> {
     OfThreads,
@@ -39,7 +39,7 @@ impl<'a> Answerer<'a> {
     ghost use Rattle.run_history.specs.Answering.{Keeps, named_for};
     ghost use Rattle.run_history.specs.Numbers.{IsNumbersOf};
 
-    /// Before the first entry. It takes no memory.
+    /// Returns the state before the first entry. It doesn't allocate.
     pub(crate) fn new(alloc: Global, answering: Answering<'a>) -> Answerer<'a>
         ensures { Keeps answering.entry [] result }
     {
@@ -50,7 +50,7 @@ impl<'a> Answerer<'a> {
         }
     }
 
-    /// What one entry more tells. After a refusal nothing is said.
+    /// Adds the happening of the next entry. After an error the contents are unspecified.
     pub(crate) fn add(&mut self, told: Happening) -> Result<(), HistoryError>
         ensures { (answering : Answering) → (before : List Happening) → Keeps answering before self.old → OnOk result (Keeps answering (before ++ told ∷ []) self.new) }
     {
@@ -61,7 +61,8 @@ impl<'a> Answerer<'a> {
         }
     }
 
-    /// What is told, with the request that a segment's thread works for as the one that it serves, where that is known.
+    /// Returns the happening with the request for which a segment's thread works as the one that it serves, if that is
+    /// known.
     pub(crate) fn named(&self, told: Happening) -> Happening
         ensures { result ≡ named_for self.now told }
     {
@@ -72,7 +73,7 @@ impl<'a> Answerer<'a> {
         }
     }
 
-    /// The numbers of a run take these answers in place of those of the threads that took the requests.
+    /// Puts these answers into the numbers of a run, in place of those of the threads that took the requests.
     pub(crate) fn hand_over(&mut self, alloc: Global, numbers: &mut Numbers)
         ensures { (answering : Answering) → (window : Option Window) → (chunks : ℕ) → (told : List Happening) → Keeps answering told self.old → IsNumbersOf ByThread window chunks told numbers.old → IsNumbersOf answering window chunks told numbers.new }
     {

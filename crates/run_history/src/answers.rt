@@ -6,24 +6,27 @@ use crate::history::HistoryError;
 use report_figures::TickList;
 use std::alloc::{AllocError, Global};
 
-/// When the answers to a request were there. The log tells no clock of an `out`, so it is the end of the segment that put it.
+/// The times of the answers to a request. The log has no clock of an `out`, so an answer's time is the end of the
+/// segment that put it.
 #[derive(Clone, Copy)]
 pub struct Answers {
-    /// The first segment that put one.
+    /// The end of the first segment that put one.
     pub first: u64,
-    /// The last.
+    /// The end of the last segment that put one.
     pub last: u64,
-    /// How many segments put some.
+    /// The number of segments that put some.
     pub count: u64,
 }
 
-/// When requests were answered, at the places of their numbers from 0. Behind the last that was answered there are no places.
+/// The times of the answers to requests, at the places of the requests' numbers from 0. There are no places after the
+/// last request that was answered.
 #[derive(Drop)]
 pub struct AnswerList {
-    /// The clocks of the first answers and of the last.
+    /// The clocks of the first answers.
     pub firsts: TickList,
+    /// The clocks of the last answers.
     pub lasts: TickList,
-    /// How many segments put some: 0 if the request isn't answered.
+    /// The number of segments that put some: 0 if the request isn't answered.
     pub counts: Vec<u32>,
 }
 
@@ -33,7 +36,7 @@ impl AnswerList {
     ghost use Rattle.run_history.specs.Pairs.{clocks_for};
     ghost use Rattle.report_figures.specs.Ticks.{ticks_in};
 
-    /// No answers. It takes no memory.
+    /// Returns an empty list. It doesn't allocate.
     pub fn new(alloc: Global) -> AnswerList
         ensures { (request : ℕ) → answers_at result request ≡ None }
     {
@@ -44,14 +47,14 @@ impl AnswerList {
         }
     }
 
-    /// How many places there are.
+    /// Returns the number of places.
     pub fn len(&self) -> usize
         ensures { result ≡ length self.now.counts.items }
     {
         self.counts.len()
     }
 
-    /// The answers to the request of that number.
+    /// Returns the answers to the request of that number.
     pub fn get(&self, request: usize) -> Option<Answers>
         ensures { result ≡ answers_at self.now request }
     {
@@ -62,7 +65,11 @@ impl AnswerList {
         )
     }
 
-    /// A request is answered once more, at that clock. `Count` comes only where it would be answered 2^32 times.
+    /// Adds an answer to a request at that clock.
+    ///
+    /// # Errors
+    ///
+    /// `Count` only if the request would be answered 2^32 times.
     pub(crate) fn add(&mut self, request: usize, at: u64) -> Result<(), HistoryError>
         ensures { (other : ℕ) → OnOk result (answers_at self.new other ≡ answers_from (answers_at self.old other) (clocks_for other at request)) }
     {
@@ -83,7 +90,7 @@ impl AnswerList {
         Ok(())
     }
 
-    /// Makes places for the answers to all requests up to this one.
+    /// Adds places for the answers to all requests up to this one.
     fn reach(&mut self, request: usize) -> Result<(), AllocError>
         ensures same { (other : ℕ) → OnOk result (answers_at self.new other ≡ answers_at self.old other) }
         ensures firsts { OnOk result (request < length (ticks_in self.new.firsts)) }
@@ -97,7 +104,7 @@ impl AnswerList {
     }
 }
 
-/// So many answers from a first to a last one.
+/// Returns the answers from a first to a last one, if there are any.
 fn answers_of(first: u64, last: u64, count: u64) -> Option<Answers>
     ensures { result ≡ answers_of first last count }
 {
@@ -107,14 +114,14 @@ fn answers_of(first: u64, last: u64, count: u64) -> Option<Answers>
     Some(Answers { first, last, count })
 }
 
-/// The count at a place, and 0 behind the last.
+/// Returns the count at a place, or 0 after the last one.
 fn count_at(counts: &[u32], place: usize) -> u32
     ensures { result ≡ get_or counts.now place 0 }
 {
     counts.get(place).copied().unwrap_or(0)
 }
 
-/// Notes the clock of a request's first answer, after so many.
+/// Records the clock of a request's first answer; `count` is the number of answers before.
 fn note_first(firsts: &mut TickList, request: usize, at: u64, count: u32) -> Result<(), AllocError>
     requires { request < length (ticks_in firsts.old) }
     ensures { OnOk result (ticks_in firsts.new ≡ if nat_eq count 0 then set (ticks_in firsts.old) request at else ticks_in firsts.old) }
@@ -125,7 +132,7 @@ fn note_first(firsts: &mut TickList, request: usize, at: u64, count: u32) -> Res
     Ok(())
 }
 
-/// Makes places for the counts of all requests up to this one.
+/// Adds places for the counts of all requests up to this one.
 fn reach(counts: &mut Vec<u32>, request: usize) -> Result<(), AllocError>
     ensures same { (other : ℕ) → OnOk result (get_or counts.new.items other 0 ≡ get_or counts.old.items other 0) }
     ensures there { OnOk result (request < length counts.new.items) }

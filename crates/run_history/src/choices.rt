@@ -1,4 +1,4 @@
-// What the choice of a thread tells, from what is known of the thread.
+// What the choice of a thread means, from what is known of the thread.
 ghost use Rattle.std.specs.Prelude.{◌≡◌, ◌+◌, ◌^◌, ◌≤◌, Some, IfOk, OnErr, IsTrue, MatchBool, if◌then◌else◌};
 ghost use Rattle.run_history.specs.Known.{at_accept, request_of, next_request, waited};
 
@@ -6,7 +6,8 @@ use crate::happenings::{Happening, Wait};
 use crate::history::HistoryError;
 use crate::threads::{Standing, Thread};
 
-/// Whether a thread of which this is known waits at `accept`: whether the call of a site is `accept` stands at the site's number.
+/// Checks whether a thread with this record waits at `accept`; `accepts` has at each site's number whether its call is
+/// `accept`.
 pub(crate) fn is_at_accept(known: Option<Thread>, accepts: &[bool]) -> bool
     ensures { result ≡ at_accept accepts.now known }
 {
@@ -20,7 +21,7 @@ pub(crate) fn is_at_accept(known: Option<Thread>, accepts: &[bool]) -> bool
     }
 }
 
-/// The request that a thread of which this is known serves.
+/// Returns the request that a thread with this record serves.
 pub(crate) fn request_served(known: Option<Thread>) -> Option<u64>
     ensures { result ≡ request_of known }
 {
@@ -30,7 +31,7 @@ pub(crate) fn request_served(known: Option<Thread>) -> Option<u64>
     }
 }
 
-/// The request that it serves once it was chosen, when so many requests were taken before.
+/// Returns the request that it serves once it is chosen, given the number of requests taken before.
 pub(crate) fn request_after(known: Option<Thread>, takes: bool, taken: u64) -> Option<u64>
     ensures { result ≡ next_request takes taken known }
 {
@@ -41,7 +42,7 @@ pub(crate) fn request_after(known: Option<Thread>, takes: bool, taken: u64) -> O
     }
 }
 
-/// How many requests are taken then.
+/// Returns the number of requests taken then.
 pub(crate) fn count_taken(taken: u64, takes: bool) -> Result<u64, HistoryError>
     ensures ok { IfOk result (λ more. more ≡ (if takes then taken + 1 else taken)) }
     ensures err { OnErr result (2 ^ 64 ≤ taken + 1) }
@@ -55,7 +56,7 @@ pub(crate) fn count_taken(taken: u64, takes: bool) -> Result<u64, HistoryError>
     }
 }
 
-/// What the choice at that clock tells.
+/// Returns the happening of the choice at that clock.
 pub(crate) fn waiting_over(
     known: Option<Thread>,
     thread: u32,

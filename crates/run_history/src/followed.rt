@@ -1,5 +1,5 @@
-// A request followed through `spawn`: a thread that was started works for the request that its starter worked for, until it takes
-// one.
+// Requests followed through `spawn`: a thread works for the request of the thread that started it, until it takes one
+// itself.
 
 use crate::answers::AnswerList;
 use crate::happenings::{Happening, Segment};
@@ -16,16 +16,16 @@ pub struct Spawned {
     pub thread: u32,
 }
 
-/// The answers to requests so far, with those of the threads that work for them.
+/// The answers to requests so far, including those of the threads that work for them.
 #[derive(Drop)]
 pub struct Followed<'a> {
-    /// The threads that are still to be started, in order.
+    /// The threads that are yet to start, in order.
     pub left: &'a [Spawned],
-    /// How many segments are over.
+    /// The number of finished segments.
     pub segments: u64,
-    /// The request that a thread works for which has taken none.
+    /// The request for which a thread works that has taken none.
     pub started: BTreeMap<u32, u64>,
-    /// When requests were answered.
+    /// The answers to requests.
     pub answers: AnswerList,
 }
 
@@ -39,7 +39,7 @@ impl<'a> Followed<'a> {
     ghost use Rattle.run_history.specs.Answers.{answers_at, answers_from};
     ghost use Rattle.run_history.specs.Followed.{clocks_by, followed_with, inherits, left_after, left_with, named_by, segments_with, started_with, works_for};
 
-    /// Before the first entry. It takes no memory.
+    /// Returns the state before the first entry. It doesn't allocate.
     pub fn new(alloc: Global, spawned: &'a [Spawned]) -> Followed<'a>
         ensures left { result.left.now ≡ spawned.now }
         ensures segments { result.segments ≡ 0 }
@@ -54,7 +54,7 @@ impl<'a> Followed<'a> {
         }
     }
 
-    /// What one entry more tells. After a refusal nothing is said.
+    /// Adds the happening of the next entry. After an error the contents are unspecified.
     pub fn add(&mut self, told: Happening) -> Result<(), HistoryError>
         ensures segments { OnOk result (self.new.segments ≡ segments_with told self.old.segments) }
         ensures left { OnOk result (self.new.left.now ≡ left_with told self.old.segments self.old.left.now) }
@@ -68,7 +68,7 @@ impl<'a> Followed<'a> {
         }
     }
 
-    /// Takes what an entry tells, as `add` does.
+    /// Adds the happening, as `add` does.
     fn take(&mut self, told: Happening) -> Result<(), HistoryError>
         ensures segments { OnOk result (self.new.segments ≡ segments_with told self.old.segments) }
         ensures left { OnOk result (self.new.left.now ≡ left_with told self.old.segments self.old.left.now) }
@@ -86,7 +86,7 @@ impl<'a> Followed<'a> {
         }
     }
 
-    /// The same with the request that a segment's thread works for as the one that it serves.
+    /// Returns the happening with the request for which a segment's thread works as the one that it serves.
     pub fn named(&self, told: Happening) -> Happening
         ensures { result ≡ named_by (λ one. get nat_cmp self.now.started one) told }
     {
@@ -102,7 +102,7 @@ impl<'a> Followed<'a> {
         }
     }
 
-    /// The request that a segment serves, or for which its thread works.
+    /// Returns the request that a segment serves, or for which its thread works.
     fn request_of(&self, segment: Segment) -> Option<u64>
         ensures { result ≡ works_for segment.request (get nat_cmp self.now.started segment.thread) }
     {
@@ -112,7 +112,8 @@ impl<'a> Followed<'a> {
         }
     }
 
-    /// A segment is over: its outputs answer the request of its thread, for which the threads work that it started.
+    /// Takes up a finished segment: its outputs answer the request of its thread, for which the threads work that it
+    /// started.
     fn run(&mut self, segment: Segment) -> Result<(), HistoryError>
         ensures segments { OnOk result (self.new.segments ≡ self.old.segments + 1) }
         ensures left { OnOk result (self.new.left.now ≡ left_after self.old.segments self.old.left.now) }
@@ -131,7 +132,7 @@ impl<'a> Followed<'a> {
         }
     }
 
-    /// The threads that the segment under way started work for that request.
+    /// Records that the threads which the segment in progress started work for that request.
     fn start_all(&mut self, request: Option<u64>) -> Result<(), HistoryError>
         ensures started { (thread : ℕ) → OnOk result (get nat_cmp self.new.started thread ≡ inherits self.old.segments request thread self.old.left.now (get nat_cmp self.old.started thread)) }
         ensures left { OnOk result (self.new.left.now ≡ left_after self.old.segments self.old.left.now) }

@@ -9,17 +9,17 @@ use std::alloc::Global;
 use std::collections::BTreeMap;
 use std::marker::Model;
 
-/// Why what is told of a run is taken in no further.
+/// Why a history can't continue.
 #[derive(Clone, Copy)]
 pub enum HistoryError {
-    /// A clock, a count or what a thread holds would be outside 64 bits, a request would be answered 2^32 times, or a wait would
-    /// end before it began, as in no run.
+    /// A clock, a count or what a thread holds would exceed 64 bits, a request would be answered 2^32 times, or a wait
+    /// would end before it began. This happens in no run.
     Count,
-    /// There is no memory.
+    /// Out of memory.
     Memory,
 }
 
-/// What is known of a run from the entries of its log so far. After a refusal nothing is said of it.
+/// What is known of a run from the entries of its log so far. After an error the contents are unspecified.
 #[derive(Drop)]
 pub struct History {
     threads: BTreeMap<u32, Thread>,
@@ -31,7 +31,8 @@ pub struct History {
 impl Model for History {
     ghost use Rattle.run_history.specs.Known.{Known};
 
-    // Each thread that has run, by its number; the clock of the latest choice, and the words put since; the requests taken.
+    // Each thread that has run, by number; the clock of the latest choice, and the words put since; the number of
+    // requests taken.
     ghost Value = { Known };
 
     ghost view = { λ history. record { threads = history.threads.entries; began = history.began; puts = history.puts; taken = history.taken } };
@@ -43,7 +44,7 @@ impl History {
     ghost use Rattle.run_history.specs.declared.happenings.Happening.TheVariants.{Put, Ran};
     ghost use Rattle.run_history.specs.declared.history.HistoryError.TheVariants.{Count};
 
-    /// The history before the first entry. It takes no memory.
+    /// Returns the history before the first entry. It doesn't allocate.
     pub fn new(alloc: Global) -> History
         ensures { result ≡ nothing_known }
     {
@@ -56,9 +57,12 @@ impl History {
         }
     }
 
-    /// One entry more; the answer is what it tells. At the number of each site stands in `accepts` whether its call is `accept`.
+    /// Adds the next entry and returns its happening. `accepts` has at each site's number whether its call is `accept`.
     ///
-    /// `Count` comes only where a clock or a count would be 2^64 or more, as in no run's log, and else `Memory`.
+    /// # Errors
+    ///
+    /// `Count` only if a clock or a count would be 2^64 or more, which happens in no run's log; `Memory` if an
+    /// allocation fails.
     #[inline(always)]
     pub fn tell(&mut self, entry: &Entry, accepts: &[bool]) -> Result<Happening, HistoryError>
         ensures known { OnOk result (self.new ≡ with_entry accepts.now entry.now self.old) }
@@ -89,14 +93,14 @@ impl History {
         }
     }
 
-    /// What is known of a thread: nothing where it hasn't run.
+    /// Returns what is known of a thread, or `None` if it hasn't run.
     pub fn thread(&self, thread: u32) -> Option<Thread>
         ensures { result ≡ thread_in self.now thread }
     {
         self.threads.get(&thread).copied()
     }
 
-    /// A thread was chosen.
+    /// Takes up the choice of a thread.
     fn choose(
         &mut self,
         clock: u64,
@@ -125,7 +129,7 @@ impl History {
         Ok(told)
     }
 
-    /// A word was put.
+    /// Takes up a word that was put.
     fn put(&mut self, thread: u32, value: i32) -> Result<Happening, HistoryError>
         ensures known { OnOk result (self.new ≡ record { threads = self.old.threads; began = self.old.began; puts = self.old.puts + 1; taken = self.old.taken }) }
         ensures told { IfOk result (λ told. told ≡ Put thread value) }
@@ -140,7 +144,7 @@ impl History {
         }
     }
 
-    /// A thread has blocked.
+    /// Takes up the block of a thread.
     #[inline(always)]
     fn block(
         &mut self,
@@ -170,7 +174,7 @@ impl History {
         Ok(Happening::Ran { segment, free })
     }
 
-    /// A thread has ended.
+    /// Takes up the end of a thread.
     fn end(&mut self, thread: u32, cost: u64, free: u32) -> Result<Happening, HistoryError>
         ensures known { OnOk result (self.new ≡ with_standing thread Standing.Ended self.old) }
         ensures told { IfOk result (λ told. told ≡ Ran (segment_of thread cost self.old) free) }
@@ -187,7 +191,7 @@ impl History {
         Ok(Happening::Ran { segment, free })
     }
 
-    /// The run has stopped.
+    /// Takes up the stop of the run.
     fn stop(&mut self, stop: &StopLine) -> Result<Happening, HistoryError>
         ensures known { OnOk result (self.new ≡ self.old) }
         ensures told { IfOk result (λ told. told ≡ stop_tells stop.now self.old) }
@@ -212,7 +216,7 @@ impl History {
         }
     }
 
-    /// The segment under way, of that thread, which ends at that cost.
+    /// Returns the segment in progress, of that thread, which ends at that cost.
     fn segment(&self, thread: u32, cost: u64) -> Result<Segment, HistoryError>
         ensures ok { IfOk result (λ segment. segment ≡ segment_of thread cost self.now) }
         ensures count { result ≡ Err Count → 2 ^ 64 ≤ self.now.began + cost }
@@ -229,7 +233,7 @@ impl History {
         }
     }
 
-    /// Keeps what is now known of a thread. It is refused only where memory is wanting.
+    /// Records what is known of a thread now. It fails only if an allocation does.
     fn keep(&mut self, thread: u32, known: Thread) -> Result<(), HistoryError>
         ensures known { OnOk result (self.new ≡ known_thread thread known self.old) }
         ensures memory { result ≡ Err Count → 2 ^ 64 ≤ 0 }
@@ -241,7 +245,7 @@ impl History {
     }
 }
 
-/// The innermost site of a key.
+/// Returns the innermost site of a key.
 fn innermost(key: &SiteKey) -> u32
     ensures { result ≡ slice_index key.now 0 }
 {

@@ -1,27 +1,30 @@
 // A run, read from the entries of its log.
 //
-// In: the entries of a log, one after another. Out: for each entry what happened there (`Happening`): what came or was dropped,
-// the wait that a choice ends, the segment that a line ends, with the request that its thread serves. A `History` keeps what is
-// known of each thread and of the segment under way, so its memory grows with the number of threads and not with the log. Its
-// clauses are over `with_entry` and `happening` (specs/Known.antt), and over whole logs `happenings` and the lists and counts of
-// specs/Happenings.antt.
+// In: the entries of a log, one after another. Out: what happened at each entry (`Happening`): what came or was
+// dropped, the wait that a choice ends, the segment that a line ends, with the request that its thread serves. A
+// `History` keeps what is known of each thread and of the segment in progress, so its memory grows with the number of
+// threads and not with the log. Its clauses are over `with_entry` and `happening` (specs/Known.antt), and for whole
+// logs over `happenings` and the lists and counts of specs/Happenings.antt.
 //
-// The numbers of a run (`Numbers`), gathered from what its entries tell, one after another: which requests came, were dropped and
-// were taken, when each was answered, how long each wait was at which site, and how many chunks were held at most. They keep what
-// the spreads of latencies and waits need: a few numbers for each request and each wait. Their clauses are over `IsNumbersOf` and
-// `IsOneMore` (specs/Numbers.antt). `numbers_of` reads a whole log once for them, and a `Watch` looks on, as with the wait at `take`
-// that each thread went past last (`Takes`, over specs/Takes.antt), and with what threads put that took no request (`Unasked`, over
-// specs/Unasked.antt). How long a request was queued is read off the numbers (`queued_of`, over specs/Queues.antt). The waits stand
-// by their sites (`WaitLists`, over specs/Waits.antt), each site with its longest (specs/Longest.antt). The parts of one request's
-// time (`Parts`) are over specs/Parts.antt.
+// The numbers of a run (`Numbers`) are collected from its happenings: which requests came, were dropped and were taken,
+// when each was answered, the length and site of each wait, and the maximum number of held chunks. They keep what the
+// spreads of latencies and waits need: a few numbers for each request and each wait. Their clauses are over
+// `IsNumbersOf` and `IsOneMore` (specs/Numbers.antt). `numbers_of` reads a whole log once for them, and a `Watch` sees
+// each entry, such as the last wait at `take` of each thread (`Takes`, over specs/Takes.antt), and the outputs of
+// threads that took no request (`Unasked`, over specs/Unasked.antt). The time in the queue of a request follows from
+// the numbers (`queued_of`, over specs/Queues.antt). The waits are grouped by site (`WaitLists`, over
+// specs/Waits.antt), each site with its longest (specs/Longest.antt). The parts of one request's time (`Parts`) are
+// over specs/Parts.antt.
 //
-// Which outputs are the answers to a request (`Answering`) is over `answers_by` (specs/AnsweredBy.antt): those of the thread that
-// took it, those that a user says (specs/PairedRuns.antt), or also those of the threads that work for it (specs/FollowedRuns.antt).
-// Two laws (specs/Outputs.antt) say what a user's two ways mean by the numbers of requests and outputs.
+// Which outputs are the answers to a request (`Answering`) is over `answers_by` (specs/AnsweredBy.antt): those of the
+// thread that took it, those that the user chooses (specs/PairedRuns.antt), or also those of the threads that work for
+// it (specs/FollowedRuns.antt). Two laws (specs/Outputs.antt) say what the user's two choices mean by the numbers of
+// requests and outputs.
 //
-// How often the gate was closed, and for how long (`Spells`), is told by what each entry of a log tells and the marks of the gate. A
-// log tells the use of chunks alone, so this is of a run that has no other resource. `Spells::start` and `Spells::with` are over
-// `at_start` and `with_happening` (specs/Spells.antt), whose gate and pressure are those of `resource_monitor`.
+// How often and for how long the gate was closed (`Spells`) follows from the happenings of a log and the thresholds of
+// the gate. A log has only the use of chunks, so this applies to a run without other resources. `Spells::start` and
+// `Spells::with` are over `at_start` and `with_happening` (specs/Spells.antt), whose gate and pressure are those of
+// `resource_monitor`.
 #![tactic(auto)]
 
 mod answering;

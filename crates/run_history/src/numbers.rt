@@ -9,21 +9,22 @@ use std::alloc::Global;
 /// The numbers of a run so far.
 #[derive(Drop)]
 pub struct Numbers {
-    /// How many events of the trace came or were dropped.
+    /// The number of events of the trace that came or were dropped.
     pub events: u64,
-    /// The places in the trace, from 0, of the requests that came, in order. The request of number i in the order of takes is
-    /// the one at place i here: requests are taken the oldest first.
+    /// The places in the trace, from 0, of the requests that came, in order. Request i in the order of takes is the one
+    /// at place i here, since the oldest request is taken first.
     pub arrivals: TickList,
-    /// How many requests were dropped.
+    /// The number of dropped requests.
     pub dropped: u64,
-    /// The threads that took requests, and the clocks at which they did, in order.
+    /// The threads that took requests, in order.
     pub takers: Vec<u32>,
+    /// The clocks at which requests were taken, in order.
     pub taken: TickList,
-    /// When requests were answered.
+    /// The answers to requests.
     pub answers: AnswerList,
-    /// The waits, by their sites: those that ended in the window, if there is one.
+    /// The waits by site: those that ended in the window, if there is one.
     pub waits: WaitLists,
-    /// The most chunks that were held after a segment.
+    /// The maximum number of chunks held after a segment.
     pub most_held: u32,
 }
 
@@ -38,7 +39,7 @@ impl Numbers {
     ghost use Rattle.run_history.specs.Numbers.{IsNumbersOf, IsOneMore, KeepsAllButTakes, KeepsOthers};
     ghost use Rattle.report_figures.specs.Ticks.{ticks_in};
 
-    /// The numbers before the first entry. It takes no memory.
+    /// Returns the numbers before the first entry. It doesn't allocate.
     pub fn new(alloc: Global) -> Numbers
         ensures { (window : Option Window) → (chunks : ℕ) → IsNumbersOf ByThread window chunks [] result }
     {
@@ -54,8 +55,8 @@ impl Numbers {
         }
     }
 
-    /// What one entry more tells, of a run with so many chunks; a wait counts if it ended in the window. After a refusal nothing
-    /// is said of the numbers.
+    /// Adds the happening of the next entry, of a run with this number of chunks; a wait counts if it ended in the
+    /// window. After an error the contents are unspecified.
     pub fn add(
         &mut self,
         told: Happening,
@@ -75,7 +76,7 @@ impl Numbers {
         }
     }
 
-    /// An event came.
+    /// Counts an event that came.
     fn come(&mut self, item: Item) -> Result<(), HistoryError>
         ensures { (window : Option Window) → (chunks clock : ℕ) → OnOk result (IsOneMore window chunks (Came clock item) self.old self.new) }
     {
@@ -93,7 +94,7 @@ impl Numbers {
         }
     }
 
-    /// An event was dropped.
+    /// Counts an event that was dropped.
     fn lose(&mut self, item: Item) -> Result<(), HistoryError>
         ensures { (window : Option Window) → (chunks clock : ℕ) → OnOk result (IsOneMore window chunks (Lost clock item) self.old self.new) }
     {
@@ -113,7 +114,7 @@ impl Numbers {
         }
     }
 
-    /// A wait is over.
+    /// Adds a finished wait.
     fn wait(&mut self, wait: Wait, window: Option<Window>) -> Result<(), HistoryError>
         ensures { (chunks : ℕ) → OnOk result (IsOneMore window chunks (Waited wait) self.old self.new) }
     {
@@ -135,7 +136,7 @@ impl Numbers {
         }
     }
 
-    /// A wait that took a request is over.
+    /// Adds a finished wait that took a request.
     fn take(&mut self, wait: Wait) -> Result<(), HistoryError>
         ensures takers { OnOk result (self.new.takers.items ≡ self.old.takers.items ++ wait.thread ∷ []) }
         ensures taken { OnOk result (ticks_in self.new.taken ≡ ticks_in self.old.taken ++ wait.until ∷ []) }
@@ -150,7 +151,7 @@ impl Numbers {
         }
     }
 
-    /// A segment is over, with so many chunks free.
+    /// Adds a finished segment, after which `free` chunks are free.
     fn rest(&mut self, segment: Segment, chunks: u32, free: u32) -> Result<(), HistoryError>
         ensures { (window : Option Window) → OnOk result (IsOneMore window chunks (Ran segment free) self.old self.new) }
     {
@@ -163,7 +164,7 @@ impl Numbers {
         }
     }
 
-    /// The answers of a segment.
+    /// Adds the answers of a segment.
     fn answer(&mut self, segment: Segment) -> Result<(), HistoryError>
         ensures answers { (request : ℕ) → OnOk result (answers_at self.new.answers request ≡ answers_from (answers_at self.old.answers request) (clocks_in request segment)) }
         ensures others { OnOk result (KeepsOthers self.old self.new) }

@@ -1,4 +1,4 @@
-// Which request an output answers, where a user says how: the N-th output the N-th request, or the first request of its value.
+// Which request an output answers, if the user chooses: output N answers request N, or the first request of its value.
 ghost use Rattle.std.specs.Prelude.{◌≡◌, ℕ, ℤ, ◌++◌, ◌∷◌, [], OnOk, take, drop, option_to_list, if◌then◌else◌};
 ghost use Rattle.std.specs.Ordering.{int_eq};
 ghost use Rattle.run_history.specs.Answers.{answers_at, answers_from};
@@ -11,15 +11,15 @@ use schedule_log::Item;
 use std::alloc::Global;
 use std::collections::{BTreeMap, VecDeque};
 
-/// The numbers of the requests of each value that have no answer, the oldest first.
+/// The numbers of the requests of each value without an answer, the oldest first.
 type Unanswered = BTreeMap<i32, VecDeque<u64>>;
 
-/// How outputs answer requests.
+/// How outputs are paired with requests.
 #[derive(Clone, Copy)]
 pub enum Pairing {
-    /// The N-th output answers the N-th request that came.
+    /// Output N answers the N-th request that came.
     First,
-    /// An output answers the first request of its value that came and isn't answered.
+    /// An output answers the first request of its value that came and has no answer.
     Value,
 }
 
@@ -27,15 +27,17 @@ pub enum Pairing {
 #[derive(Drop)]
 pub struct Pairs {
     alloc: Global,
+    /// How outputs are paired with requests.
     pub pairing: Pairing,
-    /// How many requests came, and how many outputs were put.
+    /// The number of requests that came.
     pub came: u64,
+    /// The number of outputs.
     pub put: u64,
-    /// The requests of each value that aren't answered, in order.
+    /// The requests of each value without an answer, in order.
     pub unanswered: Unanswered,
-    /// The requests that the segment under way answers.
+    /// The requests that the segment in progress answers.
     pub under_way: Vec<u64>,
-    /// When requests were answered.
+    /// The answers to requests.
     pub answers: AnswerList,
 }
 
@@ -48,7 +50,7 @@ impl Pairs {
     ghost use Rattle.run_history.specs.declared.happenings.Happening.{Happening};
     ghost use Rattle.run_history.specs.declared.pairs.Pairing.TheVariants.{First, Value};
 
-    /// Before the first entry. It takes no memory.
+    /// Returns the state before the first entry. It doesn't allocate.
     pub fn new(alloc: Global, pairing: Pairing) -> Pairs
         ensures pairing { result.pairing ≡ pairing }
         ensures put { result.put ≡ 0 }
@@ -70,7 +72,7 @@ impl Pairs {
         }
     }
 
-    /// What one entry more tells. After a refusal nothing is said.
+    /// Adds the happening of the next entry. After an error the contents are unspecified.
     pub fn add(&mut self, told: Happening) -> Result<(), HistoryError>
         ensures pairing { self.new.pairing ≡ self.old.pairing }
         ensures put { OnOk result (self.new.put ≡ puts_with told self.old.put) }
@@ -88,7 +90,7 @@ impl Pairs {
         }
     }
 
-    /// Takes what an entry tells, as `add` does.
+    /// Adds the happening, as `add` does.
     fn take(&mut self, told: Happening) -> Result<(), HistoryError>
         ensures pairing { self.new.pairing ≡ self.old.pairing }
         ensures put { OnOk result (self.new.put ≡ puts_with told self.old.put) }
@@ -109,7 +111,7 @@ impl Pairs {
         }
     }
 
-    /// A request or a message came.
+    /// Takes up a request or a message that came.
     fn come(&mut self, item: Item) -> Result<(), HistoryError>
         ensures pairing { self.new.pairing ≡ self.old.pairing }
         ensures put { self.new.put ≡ self.old.put }
@@ -124,7 +126,7 @@ impl Pairs {
         }
     }
 
-    /// A request came with that value.
+    /// Takes up a request with that value.
     fn come_with(&mut self, value: i32) -> Result<(), HistoryError>
         ensures pairing { self.new.pairing ≡ self.old.pairing }
         ensures put { self.new.put ≡ self.old.put }
@@ -144,7 +146,7 @@ impl Pairs {
         }
     }
 
-    /// A word was put.
+    /// Takes up a word that was put.
     fn note(&mut self, value: i32) -> Result<(), HistoryError>
         ensures pairing { self.new.pairing ≡ self.old.pairing }
         ensures put { OnOk result (self.new.put ≡ self.old.put + 1) }
@@ -172,7 +174,7 @@ impl Pairs {
         }
     }
 
-    /// The segment under way is over: its outputs are there at that clock.
+    /// Takes up the end of the segment in progress: its outputs have this clock.
     fn answer_all(&mut self, at: u64) -> Result<(), HistoryError>
         ensures pairing { self.new.pairing ≡ self.old.pairing }
         ensures put { self.new.put ≡ self.old.put }
@@ -187,7 +189,7 @@ impl Pairs {
     }
 }
 
-/// A request of that value joins those without an answer.
+/// Adds a request of that value to those without an answer.
 fn join(
     unanswered: &mut Unanswered,
     alloc: Global,
@@ -212,7 +214,7 @@ fn join(
     }
 }
 
-/// The oldest request of that value without an answer. It is answered now.
+/// Removes and returns the oldest request of that value without an answer, which is answered now.
 fn take_oldest(unanswered: &mut Unanswered, value: i32) -> Option<u64>
     ensures oldest { option_to_list result ≡ take 1 (waiting_in unanswered.old value) }
     ensures others { (other : ℤ) → waiting_in unanswered.new other ≡ if int_eq value other then drop 1 (waiting_in unanswered.old other) else waiting_in unanswered.old other }
@@ -223,7 +225,7 @@ fn take_oldest(unanswered: &mut Unanswered, value: i32) -> Option<u64>
     }
 }
 
-/// Each of these requests is answered once more, at that clock.
+/// Adds one answer to each of these requests, at that clock.
 #[tactic(auto, using(crate::proofs::Paired::answers_more))]
 fn add_all(answers: &mut AnswerList, requests: &[u64], at: u64) -> Result<(), HistoryError>
     ensures { (request : ℕ) → OnOk result (answers_at answers.new request ≡ answers_from (answers_at answers.old request) (clocks_of request at requests.now)) }

@@ -5,7 +5,7 @@ ghost use Rattle.run_history.specs.Parts.{ran_part, server_of, waited_part};
 use crate::happenings::{Happening, Segment, Wait};
 use std::alloc::{AllocError, Global};
 
-/// A part of the time of a request, behind the `accept` that took it.
+/// A part of the time of a request, after the `accept` that took it.
 #[derive(Clone, Copy)]
 pub enum Part {
     /// A segment of the thread that serves it.
@@ -17,10 +17,11 @@ pub enum Part {
 /// The parts of the time of one request, in order.
 #[derive(Drop)]
 pub struct Parts {
-    /// The number of the request, from 0 in the order in which requests are taken.
+    /// The number of the request, from 0, in the order in which requests are taken.
     request: u64,
     /// The thread that serves it: the one that took it, until it takes another.
     pub server: Option<u32>,
+    /// The parts so far.
     pub parts: Vec<Part>,
 }
 
@@ -28,7 +29,7 @@ impl Parts {
     ghost use Rattle.std.specs.Prelude.{◌≡◌, ◌++◌, None, [], OnOk};
     ghost use Rattle.run_history.specs.Parts.{kept, part_in, server_after, server_of, waited_part};
 
-    /// Before the first entry nobody serves the request. It takes no memory.
+    /// Returns the state before the first entry: no thread serves the request. It doesn't allocate.
     pub fn new(alloc: Global, request: u64) -> Parts
         ensures request { result.request ≡ request }
         ensures server { result.server ≡ None }
@@ -41,7 +42,7 @@ impl Parts {
         }
     }
 
-    /// What one entry more tells. After a refusal nothing is said.
+    /// Adds the happening of the next entry. After an error the contents are unspecified.
     pub fn add(&mut self, told: Happening) -> Result<(), AllocError>
         ensures request { self.new.request ≡ self.old.request }
         ensures server { OnOk result (self.new.server ≡ server_after self.old.request told self.old.server) }
@@ -58,7 +59,7 @@ impl Parts {
         }
     }
 
-    /// A wait is over.
+    /// Adds a finished wait.
     fn wait(&mut self, wait: Wait) -> Result<(), AllocError>
         ensures request { self.new.request ≡ self.old.request }
         ensures server { OnOk result (self.new.server ≡ server_of self.old.request wait self.old.server) }
@@ -69,7 +70,7 @@ impl Parts {
         self.keep(part)
     }
 
-    /// Keeps a part, where there is one.
+    /// Adds a part, if there is one.
     fn keep(&mut self, part: Option<Part>) -> Result<(), AllocError>
         ensures request { self.new.request ≡ self.old.request }
         ensures server { self.new.server ≡ self.old.server }
@@ -85,7 +86,7 @@ impl Parts {
     }
 }
 
-/// Who serves a request, once a wait is over.
+/// Returns the thread that serves a request, after a wait is over.
 fn server_of(request: u64, wait: Wait, server: Option<u32>) -> Option<u32>
     ensures { result ≡ server_of request wait server }
 {
@@ -103,7 +104,7 @@ fn server_of(request: u64, wait: Wait, server: Option<u32>) -> Option<u32>
     }
 }
 
-/// The part of a request that a wait is, where that thread serves it.
+/// Returns the part of a request for a wait, if that thread serves it.
 fn waited_part(wait: Wait, server: Option<u32>) -> Option<Part>
     ensures { result ≡ waited_part wait server }
 {
@@ -123,7 +124,7 @@ fn waited_part(wait: Wait, server: Option<u32>) -> Option<Part>
     }
 }
 
-/// The part of a request that a segment is, where it serves it.
+/// Returns the part of a request for a segment, if the segment serves it.
 fn ran_part(request: u64, segment: Segment) -> Option<Part>
     ensures { result ≡ ran_part request segment }
 {
@@ -142,7 +143,7 @@ fn ran_part(request: u64, segment: Segment) -> Option<Part>
     }
 }
 
-/// Whether it is this thread that serves a request.
+/// Checks whether this thread serves a request.
 fn is_thread(thread: u32, server: Option<u32>) -> bool
     ensures { result ≡ is_request thread server }
 {

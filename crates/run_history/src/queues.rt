@@ -5,10 +5,10 @@ ghost use Rattle.report_figures.specs.Ticks.{ticks_in};
 use crate::numbers::Numbers;
 use report_figures::TickList;
 
-/// How a request was queued before it was taken.
+/// The time of a request in the queue.
 #[derive(Clone, Copy)]
 pub struct Queued {
-    /// The time at which it arrived, of the trace.
+    /// The time at which it arrived, by the trace.
     pub arrived: u64,
     /// The clock at which it was taken.
     pub taken: u64,
@@ -16,7 +16,8 @@ pub struct Queued {
     pub thread: u32,
 }
 
-/// How the request of that number was queued, where it was taken. `times` are the times of the trace's events, in order.
+/// Returns the time in the queue of the request of that number, if it was taken. `times` has the times of the trace's
+/// events, in order.
 pub fn queued_of(numbers: &Numbers, times: &TickList, request: usize) -> Option<Queued>
     ensures { result ≡ queued_in (ticks_in times.now) (ticks_in numbers.now.arrivals) numbers.now.takers.items (ticks_in numbers.now.taken) request }
 {
@@ -28,7 +29,7 @@ pub fn queued_of(numbers: &Numbers, times: &TickList, request: usize) -> Option<
     }
 }
 
-/// How a request was queued that arrived then, and that this thread took at that clock.
+/// Returns the time in the queue of a request that arrived then, and that this thread took at that clock.
 fn queued_by(arrived: Option<u64>, thread: Option<u32>, clock: Option<u64>) -> Option<Queued>
     ensures { result ≡ queued_by arrived thread clock }
 {

@@ -22,37 +22,39 @@ use std::alloc::Global;
 /// Why a log has no numbers.
 #[derive(Clone, Copy)]
 pub enum ReadError {
-    /// A line is no entry's.
+    /// A line isn't that of an entry.
     Line,
-    /// A clock or a count would be 2^64 or more, a request would be answered 2^32 times, or a wait would end before it began, as
-    /// in no run.
+    /// A clock or a count would be 2^64 or more, a request would be answered 2^32 times, or a wait would end before it
+    /// began. This happens in no run.
     Count,
-    /// There is no memory.
+    /// Out of memory.
     Memory,
 }
 
-/// What looks on while a log is read.
+/// An observer of a log while it is read.
 pub trait Watch {
     ghost use Rattle.std.specs.Prelude.{List, [], ◌∷◌, ◌++◌, OnOk};
     ghost use Rattle.run_history.specs.Sights.{Sight};
 
-    // What holds of it once it has seen these, one after another.
+    // What holds of it after it has seen these, one after another.
     ghost has_seen: { List Sight → Self → Type 0 };
 
-    /// One entry more, and what it tells: once by itself, and once with the request that a segment's thread works for as the one that
-    /// it serves, where that is known. A refusal ends the reading.
+    /// Sees the next entry and its happening: once as it is, and once with the request for which a segment's thread
+    /// works as the one that it serves, if that is known. An error ends the reading.
     fn see(&mut self, entry: &Entry, told: Happening, named: Happening) -> Result<(), HistoryError>
         ensures { (before : List Sight) → has_seen before self.old → OnOk result (has_seen (before ++ record { entry = entry.now; told = told; named = named } ∷ []) self.new) };
 }
 
-/// What a log tells: its numbers, and what is known at its end.
+/// The result of reading a log: its numbers, and what is known at its end.
 #[derive(Drop)]
 pub struct Reading {
+    /// The numbers of the run.
     pub numbers: Numbers,
+    /// What is known at the end of the log.
     pub history: History,
 }
 
-/// What is read off a log so far.
+/// The state of reading a log.
 #[derive(Drop)]
 struct Course<'a> {
     history: History,
@@ -60,10 +62,14 @@ struct Course<'a> {
     answerer: Answerer<'a>,
 }
 
-/// The numbers of the run that has this log, with so many chunks, where these outputs are the answers. At the number of each site
-/// stands in `accepts` whether its call is `accept`. With a window the waits are those that ended in it. It keeps no entry: the log is read once, line by line, and `watch` sees each entry.
+/// Returns the numbers of the run that has this log, with this number of chunks and these outputs as the answers.
+/// `accepts` has at each site's number whether its call is `accept`. With a window, the waits are those that ended in
+/// it. The log is read once, line by line, without keeping entries, and `watch` sees each entry.
 ///
-/// `Line` comes only where a line is no entry's and each line before it is an entry's. When `Count` or `Memory` comes isn't proved.
+/// # Errors
+///
+/// `Line` only if a line isn't that of an entry and each line before it is. When `Count` or `Memory` is returned isn't
+/// proved.
 pub fn numbers_of<W: Watch>(
     alloc: Global,
     log: &[u8],
@@ -115,7 +121,7 @@ impl<'a> Course<'a> {
     ghost use Rattle.run_history.specs.Numbers.{IsOneMore};
     ghost use Rattle.run_history.specs.Sights.{Sight};
 
-    /// One entry more.
+    /// Adds the next entry.
     #[inline(always)]
     fn take<W: Watch>(
         &mut self,
@@ -137,7 +143,7 @@ impl<'a> Course<'a> {
         }
     }
 
-    /// What that entry tells.
+    /// Adds the happening of that entry.
     #[inline(always)]
     fn take_told<W: Watch>(
         &mut self,
@@ -167,7 +173,7 @@ impl<'a> Course<'a> {
     }
 }
 
-/// Why there are no numbers, where what an entry tells is taken in no further.
+/// Returns why there are no numbers, if the history can't continue.
 fn of_history(error: HistoryError) -> ReadError
     ensures line { result ≡ ReadError.Line → ⊥ }
     ensures count { error ≡ HistoryError.Count → result ≡ ReadError.Count }

@@ -3,7 +3,7 @@ ghost use Rattle.run_history.specs.Spells.{open_with, pressure_with};
 
 use crate::happenings::Happening;
 
-/// When the gate closes and opens.
+/// The thresholds at which the gate closes and opens.
 #[derive(Clone, Copy)]
 pub struct Marks {
     /// The number of all chunks.
@@ -12,18 +12,18 @@ pub struct Marks {
     pub high: u32,
     /// The pressure at which it opens again.
     pub low: u32,
-    /// The thousandths of the chunks from which on their use is a pressure, at most 999.
+    /// The knee of the pressure curve, in thousandths of the chunks, at most 999.
     pub knee: u32,
 }
 
-/// How often the gate was closed so far, and for how long.
+/// How often the gate has been closed so far, and for how long.
 #[derive(Clone, Copy)]
 pub struct Spells {
-    /// Since which clock it is closed, if it is.
+    /// The clock since which it has been closed, if it is.
     pub since: Option<u64>,
-    /// How often it was closed, this time too.
+    /// How often it was closed, including now.
     pub times: u64,
-    /// For how many ticks in all, without this time.
+    /// The number of ticks for which it was closed in all, without the current time.
     pub ticks: u64,
 }
 
@@ -31,7 +31,7 @@ impl Spells {
     ghost use Rattle.std.specs.Prelude.{◌≡◌, ◌≤◌, IfSome, Some, None, true, false};
     ghost use Rattle.run_history.specs.Spells.{always_open, at_start, closed_until, is_open, turned, with_happening};
 
-    /// A gate that was never closed.
+    /// Returns a gate that was never closed.
     pub fn new() -> Spells
         ensures { result ≡ always_open }
     {
@@ -42,7 +42,7 @@ impl Spells {
         }
     }
 
-    /// At the start of a run, where the first thread holds a chunk.
+    /// Returns the state at the start of a run, at which the first thread holds a chunk.
     pub fn start(marks: Marks) -> Spells
         requires { marks.knee ≤ 999 }
         ensures { result ≡ at_start marks }
@@ -58,7 +58,8 @@ impl Spells {
         }
     }
 
-    /// For how many ticks the gate was closed in all, in a run that ended at that clock. None only where they are 2^64 or more.
+    /// Returns the number of ticks for which the gate was closed in all, in a run that ended at that clock. Returns
+    /// `None` only if it is 2^64 or more.
     pub fn closed_until(self, ended: u64) -> Option<u64>
         ensures { IfSome result (λ ticks. ticks ≡ closed_until ended self) }
     {
@@ -68,8 +69,8 @@ impl Spells {
         }
     }
 
-    /// What one entry more tells. None only where a clock lies before the one since which the gate is closed, or a count would be
-    /// 2^64 or more, as in no run.
+    /// Adds the happening of the next entry. Returns `None` only if a clock is before the one since which the gate has
+    /// been closed, or a count would be 2^64 or more, which happens in no run.
     pub fn with(self, marks: Marks, told: Happening) -> Option<Spells>
         requires { marks.knee ≤ 999 }
         ensures { IfSome result (λ spells. spells ≡ with_happening marks told self) }
@@ -88,15 +89,15 @@ impl Spells {
         }
     }
 
-    /// Whether the gate is open.
+    /// Checks whether the gate is open.
     pub fn is_open(self) -> bool
         ensures { result ≡ is_open self }
     {
         self.since.is_none()
     }
 
-    /// The gate is open or closed from that clock on. None only where that clock lies before the one since which it is closed, or a
-    /// count would be 2^64 or more.
+    /// Opens or closes the gate at that clock. Returns `None` only if that clock is before the one since which it has
+    /// been closed, or a count would be 2^64 or more.
     pub fn turn(self, is_open: bool, clock: u64) -> Option<Spells>
         ensures { IfSome result (λ spells. spells ≡ turned self.since is_open clock self) }
     {
@@ -128,7 +129,7 @@ impl Spells {
     }
 }
 
-/// Whether the gate is open after a segment that left so many chunks free.
+/// Checks whether the gate is open after a segment that left this number of chunks free.
 fn is_open_with(marks: Marks, was_open: bool, free: u32) -> bool
     requires { marks.knee ≤ 999 }
     ensures { result ≡ open_with marks was_open free }
@@ -143,7 +144,7 @@ fn is_open_with(marks: Marks, was_open: bool, free: u32) -> bool
     }
 }
 
-/// The pressure on chunks, in thousandths, where so many are free.
+/// Returns the pressure on chunks, in thousandths, if this number is free.
 fn pressure_of(marks: Marks, free: u32) -> u64
     requires { marks.knee ≤ 999 }
     ensures { result ≡ pressure_with marks free }

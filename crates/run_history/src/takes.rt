@@ -2,9 +2,10 @@ use crate::happenings::{Happening, Wait};
 use std::alloc::{AllocError, Global};
 use std::collections::BTreeMap;
 
-/// The wait at some places that each thread went past last, since it last took a request.
+/// The last wait of each thread at some places, since it last took a request.
 #[derive(Drop)]
 pub struct Takes {
+    /// The last such wait of each thread that has one.
     pub lasts: BTreeMap<u32, Wait>,
 }
 
@@ -14,7 +15,7 @@ impl Takes {
     ghost use Rattle.std.specs.Ordering.{nat_cmp};
     ghost use Rattle.run_history.specs.Takes.{after_wait_of, with_told};
 
-    /// Before the first entry. It takes no memory.
+    /// Returns the state before the first entry. It doesn't allocate.
     pub fn new(alloc: Global) -> Takes
         ensures { (thread : ℕ) → get nat_cmp result.lasts thread ≡ None }
     {
@@ -23,8 +24,8 @@ impl Takes {
         }
     }
 
-    /// What one entry more tells. At the number of each site stands in `places` whether it is one of the places. After a refusal
-    /// nothing is said.
+    /// Adds the happening of the next entry. `places` has at each site's number whether it is one of the places. After
+    /// an error the contents are unspecified.
     pub fn add(&mut self, told: Happening, places: &[bool]) -> Result<(), AllocError>
         ensures { (thread : ℕ) → OnOk result (get nat_cmp self.new.lasts thread ≡ with_told places.now thread told (get nat_cmp self.old.lasts thread)) }
     {
@@ -39,7 +40,7 @@ impl Takes {
         }
     }
 
-    /// A wait is over.
+    /// Adds a finished wait.
     fn wait(&mut self, wait: Wait, places: &[bool]) -> Result<(), AllocError>
         ensures { (thread : ℕ) → OnOk result (get nat_cmp self.new.lasts thread ≡ after_wait_of places.now thread wait (get nat_cmp self.old.lasts thread)) }
     {

@@ -6,9 +6,10 @@ use crate::history::HistoryError;
 use std::alloc::Global;
 use std::collections::BTreeMap;
 
-/// How many words each thread put while it served no request: before it took one, or without ever taking one.
+/// The number of words that each thread put while it served no request: before it took one, or without ever taking one.
 #[derive(Drop)]
 pub struct Unasked {
+    /// The number of words of each thread that put some.
     pub puts: BTreeMap<u32, u64>,
 }
 
@@ -18,7 +19,7 @@ impl Unasked {
     ghost use Rattle.std.specs.Ordering.{nat_cmp};
     ghost use Rattle.run_history.specs.Unasked.{puts_in, with_puts, with_segment};
 
-    /// Before the first entry. It takes no memory.
+    /// Returns the state before the first entry. It doesn't allocate.
     pub fn new(alloc: Global) -> Unasked
         ensures { (thread : ℕ) → get nat_cmp result.puts thread ≡ None }
     {
@@ -27,7 +28,7 @@ impl Unasked {
         }
     }
 
-    /// What one entry more tells. After a refusal nothing is said.
+    /// Adds the happening of the next entry. After an error the contents are unspecified.
     pub fn add(&mut self, told: Happening) -> Result<(), HistoryError>
         ensures { (thread : ℕ) → OnOk result (puts_in (get nat_cmp self.new.puts thread) ≡ with_puts thread told (puts_in (get nat_cmp self.old.puts thread))) }
     {
@@ -42,7 +43,7 @@ impl Unasked {
         }
     }
 
-    /// A segment is over.
+    /// Adds a finished segment.
     fn run(&mut self, segment: Segment) -> Result<(), HistoryError>
         ensures { (thread : ℕ) → OnOk result (puts_in (get nat_cmp self.new.puts thread) ≡ with_segment thread segment (puts_in (get nat_cmp self.old.puts thread))) }
     {
@@ -61,7 +62,7 @@ impl Unasked {
     }
 }
 
-/// How many words a segment put, where it served no request.
+/// Returns the number of words that a segment put, if it served no request.
 fn unasked_puts(segment: Segment) -> u64
     ensures { result ≡ unasked_puts segment }
 {

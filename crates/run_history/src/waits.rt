@@ -8,13 +8,14 @@ use report_figures::{TickList, Window};
 use std::alloc::Global;
 use std::collections::BTreeMap;
 
-/// How long a wait at a site was.
+/// The length of a wait at a site.
 #[derive(Clone, Copy)]
 pub struct WaitLength {
+    /// The site of the blocking call.
     pub site: u32,
     /// The thread that waited.
     pub thread: u32,
-    /// In ticks.
+    /// The length in ticks.
     pub ticks: u64,
     /// The clock at which it ended.
     pub until: u64,
@@ -23,16 +24,17 @@ pub struct WaitLength {
 /// The waits at a site.
 #[derive(Drop)]
 pub struct SiteWaits {
-    /// For how many ticks each was, in order.
+    /// The length of each in ticks, in order.
     pub ticks: TickList,
-    /// The longest, the earliest of such.
+    /// The longest wait, the earliest of equally long ones.
     pub longest: WaitLength,
 }
 
-/// Waits, by their sites: at a site with none stands nothing.
+/// Waits by site; a site without waits has no entry.
 #[derive(Drop)]
 pub struct WaitLists {
     alloc: Global,
+    /// The waits at each site that has some.
     pub sites: BTreeMap<u32, SiteWaits>,
 }
 
@@ -41,7 +43,7 @@ impl SiteWaits {
     ghost use Rattle.run_history.specs.Longest.{longer_of};
     ghost use Rattle.report_figures.specs.Ticks.{ticks_in};
 
-    /// The first wait at a site.
+    /// Returns the waits at a site after the first one.
     fn first(alloc: Global, wait: WaitLength) -> Result<SiteWaits, HistoryError>
         ensures ticks { IfOk result (λ waits. ticks_in waits.ticks ≡ wait.ticks ∷ []) }
         ensures longest { IfOk result (λ waits. waits.longest ≡ wait) }
@@ -56,7 +58,7 @@ impl SiteWaits {
         })
     }
 
-    /// One wait more.
+    /// Adds a wait.
     fn add(&mut self, wait: WaitLength) -> Result<(), HistoryError>
         ensures ticks { OnOk result (ticks_in self.new.ticks ≡ ticks_in self.old.ticks ++ wait.ticks ∷ []) }
         ensures longest { OnOk result (self.new.longest ≡ longer_of (Some self.old.longest) wait) }
@@ -76,7 +78,7 @@ impl WaitLists {
     ghost use Rattle.run_history.specs.Longest.{longer_at};
     ghost use Rattle.run_history.specs.Waits.{ticks_kept, longest_kept, with_ticks};
 
-    /// No waits. It takes no memory.
+    /// Returns no waits. It doesn't allocate.
     pub fn new(alloc: Global) -> WaitLists
         ensures { (site : ℕ) → get nat_cmp result.sites site ≡ None }
     {
@@ -86,7 +88,7 @@ impl WaitLists {
         }
     }
 
-    /// One wait more. After a refusal nothing is said.
+    /// Adds a wait. After an error the contents are unspecified.
     pub fn add(&mut self, wait: WaitLength) -> Result<(), HistoryError>
         ensures ticks { (site : ℕ) → OnOk result (ticks_kept (get nat_cmp self.new.sites site) ≡ with_ticks site (ticks_kept (get nat_cmp self.old.sites site)) wait) }
         ensures longest { (site : ℕ) → OnOk result (longest_kept (get nat_cmp self.new.sites site) ≡ longer_at site (longest_kept (get nat_cmp self.old.sites site)) wait) }
@@ -104,7 +106,7 @@ impl WaitLists {
     }
 }
 
-/// The longer of two waits, the first where they are as long.
+/// Returns the longer of two waits, the first if they are equally long.
 fn longer_of(before: WaitLength, wait: WaitLength) -> WaitLength
     ensures { result ≡ longer_of (Some before) wait }
 {
@@ -115,7 +117,7 @@ fn longer_of(before: WaitLength, wait: WaitLength) -> WaitLength
     }
 }
 
-/// Whether a clock is in the window, if there is one.
+/// Checks whether a clock is in the window, if there is one.
 pub(crate) fn is_told(window: Option<Window>, clock: u64) -> bool
     ensures { result ≡ is_told window clock }
 {

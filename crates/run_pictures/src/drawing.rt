@@ -4,13 +4,13 @@ use report_text::Text;
 use std::alloc::{AllocError, Global};
 use std::collections::BTreeSet;
 
-/// The height from one node to the next.
+/// The vertical distance from one node to the next.
 const STEP: u64 = 70;
 
 /// The height of a node's box.
 const BOX: u64 = 30;
 
-/// Room for labels on either side, and then for arrows.
+/// The width of the margin for labels on either side, and of the space for arrows.
 const LABELS: u64 = 300;
 
 const ARROWS: u64 = 290;
@@ -18,12 +18,12 @@ const ARROWS: u64 = 290;
 /// The left side of the boxes.
 const LEFT: u64 = LABELS + ARROWS;
 
-/// The least width of the boxes, and how wide a letter of a name is at most.
+/// The minimum width of the boxes, and the maximum width of a letter of a name.
 const NARROWEST: u64 = 260;
 
 const LETTER: u64 = 7;
 
-/// How far an arrow bows out for each node between its ends, and at most.
+/// How far an arrow bows out for each node between its ends, and its maximum.
 const BOW: u64 = 45;
 
 const FARTHEST: u64 = 360;
@@ -31,8 +31,9 @@ const FARTHEST: u64 = 360;
 /// The height of a line of labels.
 const LINE: u64 = 13;
 
-/// The extent of a drawing: the right side of its boxes, and its width and height. The boxes are as wide as the longest name, the
-/// arrows stay beside them, and the labels stand beyond all arrows, each in a line of its own: so that none meets another or an arrow.
+/// The extent of a drawing: the right side of its boxes, its width and its height. The boxes are as wide as the longest
+/// name, the arrows are beside them, and the labels are outside all arrows, each in a separate line, so that none meets
+/// another or an arrow.
 #[derive(Clone, Copy)]
 struct Extent {
     right: u64,
@@ -40,8 +41,9 @@ struct Extent {
     height: u64,
 }
 
-/// Appends the blocking graph as SVG: the nodes one below another with their names, and an arrow for each edge, with its label in the
-/// margin and a thin line to it. Arrows down stand right of the boxes, and arrows up and back to the same node left.
+/// Appends the blocking graph as SVG: the nodes one below another with their names, and an arrow for each edge, with
+/// its label in the margin and a thin line to it. Arrows down are to the right of the boxes, arrows up and loops to the
+/// left.
 pub fn put_drawing(alloc: Global, text: &mut Text, names: &[String], edges: &[GraphEdge]) {
     let mut lines = Vec::new(alloc);
     match add_lines(alloc, &mut lines, edges) {
@@ -57,7 +59,7 @@ pub fn put_drawing(alloc: Global, text: &mut Text, names: &[String], edges: &[Gr
     }
 }
 
-/// What the labels mean, and the end of the picture.
+/// The meaning of the labels, and the end of the picture.
 const MEANING: &str =
     "<text x=\"$\" y=\"$\">from - to: n x c: n segments went from one node to the other, with c instructions on average; then the average change of what they hold, if any</text>\n</svg>\n";
 
@@ -72,7 +74,7 @@ fn put_head(text: &mut Text, extent: Extent) {
     text.words(TIP)
 }
 
-/// The extent of a drawing of nodes of these names, whose last line of labels is that one.
+/// Returns the extent of a drawing of nodes with these names, whose last line of labels is that one.
 fn extent_of(names: &[String], last: u64) -> Extent {
     let mut wide = NARROWEST;
     for name in names {
@@ -120,12 +122,12 @@ fn put_boxes(text: &mut Text, names: &[String], extent: Extent) {
     }
 }
 
-/// The upper side of a node's box.
+/// Returns the upper side of a node's box.
 fn top_of(node: u64) -> u64 {
     node.saturating_mul(STEP).saturating_add(10)
 }
 
-/// Where an arrow begins, ends and turns, and on which side.
+/// The begin, the end and the turn of an arrow, and its side.
 #[derive(Clone, Copy)]
 struct Arrow {
     start: u64,
@@ -135,18 +137,18 @@ struct Arrow {
 }
 
 impl Arrow {
-    /// How far it is from the boxes where it turns: three fourths of the way to the points that bend it.
+    /// Returns its distance from the boxes at its turn: three quarters of that of the control points.
     fn reach(self) -> u64 {
         self.bow / 4 * 3
     }
 
-    /// The height at which it turns.
+    /// Returns the height of its turn.
     fn middle(self) -> u64 {
         (self.start / 2).saturating_add(self.end / 2)
     }
 }
 
-/// The arrow of an edge.
+/// Returns the arrow of an edge.
 fn arrow_of(edge: &GraphEdge) -> Arrow {
     let between = edge.from.abs_diff(edge.to) as u64;
     Arrow {
@@ -157,12 +159,12 @@ fn arrow_of(edge: &GraphEdge) -> Arrow {
     }
 }
 
-/// An arrow from a side, which bows out and comes back to it with its tip.
+/// An arrow from a side, which bows out and returns to it with its tip.
 const ARROW: &str =
     "<path d=\"M$,$ C$,$ $,$ $,$\" fill=\"none\" stroke=\"#555555\" marker-end=\"url(#tip)\"/>\n";
 
-/// Adds the line in which the label of each edge stands, at the middle of its arrow or below it: on either side no two are in one line.
-/// The answer is the last one.
+/// Adds the line of each edge's label, at the middle of its arrow or below it; no two labels of a side share a line.
+/// Returns the last line.
 fn add_lines(alloc: Global, lines: &mut Vec<u64>, edges: &[GraphEdge]) -> Result<u64, AllocError> {
     let mut left = BTreeSet::new(alloc);
     let mut right = BTreeSet::new(alloc);
@@ -181,14 +183,14 @@ fn add_lines(alloc: Global, lines: &mut Vec<u64>, edges: &[GraphEdge]) -> Result
     Ok(last)
 }
 
-/// Takes the first line that is free, from that one on.
+/// Takes the first free line from that one on.
 fn take_line(taken: &mut BTreeSet<u64>, from: u64) -> Result<u64, AllocError> {
     let free = first_free(taken, from);
     taken.insert(free)?;
     Ok(free)
 }
 
-/// The first line that isn't taken, from that one on.
+/// Returns the first free line from that one on.
 fn first_free(taken: &BTreeSet<u64>, from: u64) -> u64 {
     let mut line = from;
     for _ in 0..taken.len() {
@@ -200,7 +202,7 @@ fn first_free(taken: &BTreeSet<u64>, from: u64) -> u64 {
     line
 }
 
-/// Appends the labels of the edges, which stand in these lines.
+/// Appends the labels of the edges in these lines.
 fn put_labels(text: &mut Text, edges: &[GraphEdge], lines: &[u64], extent: Extent) {
     let mut place: usize = 0;
     for edge in edges {
@@ -215,14 +217,14 @@ fn put_labels(text: &mut Text, edges: &[GraphEdge], lines: &[u64], extent: Exten
     }
 }
 
-/// A thin line from an arrow to its label, and the label that begins there, and one that ends there.
+/// A thin line from an arrow to its label, with the label that begins there, or the one that ends there.
 const BEGINS: &str =
     "<path d=\"M$,$ L$,$\" stroke=\"#bbbbbb\" stroke-dasharray=\"2 3\"/>\n<text x=\"$\" y=\"$\">";
 
 const ENDS: &str =
     "<path d=\"M$,$ L$,$\" stroke=\"#bbbbbb\" stroke-dasharray=\"2 3\"/>\n<text x=\"$\" y=\"$\" text-anchor=\"end\">";
 
-/// Appends the label of an edge at that height, with the nodes that it leads from and to.
+/// Appends the label of an edge at that height, with the nodes from and to which it leads.
 fn put_at(text: &mut Text, edge: &GraphEdge, y: u64, extent: Extent) {
     let arrow = arrow_of(edge);
     let middle = y.saturating_sub(4);

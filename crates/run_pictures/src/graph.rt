@@ -1,22 +1,23 @@
 use report_text::Text;
 use schedule_log::Averages;
 
-/// An edge of the blocking graph, as the log has it.
+/// An edge of the blocking graph, as in the log.
 #[derive(Clone, Copy)]
 pub struct GraphEdge {
-    /// The nodes that it leads from and to.
+    /// The node from which it leads.
     pub from: u32,
+    /// The node to which it leads.
     pub to: u32,
-    /// How many segments went from the one node to the other.
+    /// The number of segments from the one node to the other.
     pub count: u64,
     /// The average of their costs, in 256ths.
     pub cost: i128,
-    /// The averages of the changes in the use of each resource, in 256ths, that of the chunks first.
+    /// The averages of the changes in the use of each resource, in 256ths, the chunks first.
     pub changes: Averages,
 }
 
-/// Appends the blocking graph as DOT: a box for each node with its name, an arrow for each edge with its label. `names` are the names
-/// of the nodes by their numbers; a node beyond them is shown by its number.
+/// Appends the blocking graph as DOT: a box for each node with its name, an arrow for each edge with its label. `names`
+/// has the names of the nodes by number; a node without a name is shown by its number.
 pub fn put_graph(text: &mut Text, names: &[String], edges: &[GraphEdge]) {
     text.words("digraph blocking {\n  node [shape=box];\n");
     put_nodes(text, names);
@@ -42,7 +43,8 @@ fn put_nodes(text: &mut Text, names: &[String]) {
     }
 }
 
-/// Appends the label of an edge: its count, the whole part of its average cost, and the average changes that aren't 0.
+/// Appends the label of an edge: its count, the integer part of its average cost, and the average changes that aren't
+/// 0.
 pub(crate) fn put_label(text: &mut Text, edge: &GraphEdge) {
     let cost = edge.cost / 256;
     text.line(&edge.count);
@@ -57,7 +59,7 @@ pub(crate) fn put_label(text: &mut Text, edge: &GraphEdge) {
     }
 }
 
-/// Appends an average change in units, of the chunks or of another resource, with its sign and two digits behind the point.
+/// Appends an average change in units, of the chunks or of another resource, with its sign and two decimal places.
 fn put_change(text: &mut Text, resource: u64, average: i128) {
     if resource == 0 {
         text.words(", chunks ");

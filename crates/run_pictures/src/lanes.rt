@@ -1,12 +1,12 @@
-// The marks of a thread's row: a mark that fills its places is as high as the row, and of one that has several shares the running
-// stands below, the waiting above that, and the rest is white.
+// The marks of a thread's row: a mark that fills its places is as high as the row. In a mark with several shares,
+// running is at the bottom, waiting above it, and the rest is white.
 use crate::colors::{COLORS, color_of, name_of};
 use crate::rows::Mark;
 use report_figures::Window;
 use report_text::Text;
 
-/// A row: its marks, over places of so many columns of a window, the sites at which threads wait, rising, and the height of the row
-/// in pixels.
+/// A row: its marks, over places of several columns of a window, the sites at which threads wait, increasing, and the
+/// height of the row in pixels.
 #[derive(Clone, Copy)]
 pub(crate) struct Lane<'a> {
     pub(crate) window: Window,
@@ -16,7 +16,7 @@ pub(crate) struct Lane<'a> {
     pub(crate) tall: u64,
 }
 
-/// How many pixels high what a thread does at a mark is drawn.
+/// The heights in pixels of what a thread does at a mark.
 #[derive(Clone, Copy)]
 struct Shares {
     ran: u64,
@@ -24,7 +24,8 @@ struct Shares {
 }
 
 impl<'a> Lane<'a> {
-    /// The shares of a mark: of all ticks of its places, but a thread that runs there has one pixel at least.
+    /// Returns the shares of a mark, in proportion to all ticks of its places; a thread that runs there has at least
+    /// one pixel.
     fn shares_of(&self, mark: Mark) -> Shares {
         let begins = self.window.clock(mark.from.saturating_mul(self.wide));
         let ends = self
@@ -42,7 +43,7 @@ impl<'a> Lane<'a> {
         Shares { ran, waited }
     }
 
-    /// The number of the colour of the waits at a mark.
+    /// Returns the number of the colour of the waits at a mark.
     fn color_in(&self, mark: Mark) -> usize {
         let site = mark.site.unwrap_or(0);
         match self.sites.binary_search(&site) {
@@ -51,7 +52,7 @@ impl<'a> Lane<'a> {
         }
     }
 
-    /// What of a mark has a colour: its height, and what lies below it.
+    /// Returns the piece of a mark that has a colour: its height, and the height below it.
     fn piece_of(&self, mark: Mark, color: usize) -> Option<(u64, u64)> {
         let shares = self.shares_of(mark);
         if color == 0 && shares.ran > 0 {
@@ -64,13 +65,13 @@ impl<'a> Lane<'a> {
     }
 }
 
-/// So many pixels of a height have a part of a whole.
+/// Returns the number of pixels of a height for a part of a whole.
 fn part_of(part: u64, whole: u64, tall: u64) -> u64 {
     let pixels = u128::from(part) * u128::from(tall) / u128::from(whole.max(1));
     u64::try_from(pixels).unwrap_or(tall)
 }
 
-/// Appends the marks of a row, for each colour a path of its pieces, and the row's end.
+/// Appends the marks of a row, one path of pieces for each colour, and the row's end.
 pub(crate) fn put_lane(text: &mut Text, lane: Lane) {
     for color in 0..COLORS {
         put_path(text, lane, color);
@@ -78,10 +79,10 @@ pub(crate) fn put_lane(text: &mut Text, lane: Lane) {
     text.words("</g>\n")
 }
 
-/// A piece of a path: where it begins, how wide it is and how high, and its width back.
+/// A piece of a path: its start, its width, its height, and its width back.
 const PIECE: &str = "M$ $h$v$h-$z";
 
-/// Appends the path of the marks of a row that have that colour; nothing where there are none.
+/// Appends the path of the marks of a row that have that colour, or nothing if there are none.
 fn put_path(text: &mut Text, lane: Lane, color: usize) {
     let mut is_begun = false;
     for mark in lane.marks {

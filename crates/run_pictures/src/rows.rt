@@ -6,41 +6,44 @@ use std::collections::{BTreeMap, BTreeSet};
 /// What a thread does.
 #[derive(Clone, Copy, PartialEq, Eq)]
 pub enum Doing {
+    /// It runs.
     Runs,
     /// It waits at the call of that site.
     Waits { site: u32 },
 }
 
-/// A part of a row: from one place to another, both within it.
+/// A part of a row: from one place to another, both included.
 #[derive(Clone, Copy)]
 pub struct Mark {
+    /// The first place.
     pub from: u32,
+    /// The last place.
     pub to: u32,
     /// The site at which the thread waits there, the first of several.
     pub site: Option<u32>,
-    /// For how many ticks the thread runs there.
+    /// The number of ticks for which the thread runs there.
     pub ran: u64,
-    /// For how many it waits.
+    /// The number of ticks for which it waits.
     pub waited: u64,
 }
 
-/// The rows of a timeline, by the numbers of the threads.
+/// The rows of a timeline, by thread number.
 #[derive(Drop)]
 pub struct Rows {
     alloc: Global,
-    /// The clocks between which the picture is.
+    /// The window of clocks that the picture shows.
     pub window: Window,
-    /// How many columns a place has, one at least.
+    /// The number of columns of a place, at least one.
     pub wide: u32,
-    /// The threads that have a row, in the order of their numbers, with their marks in the order of time.
+    /// The threads that have a row, in the order of their numbers, with their marks in order of time.
     pub rows: BTreeMap<u32, Vec<Mark>>,
     /// The sites at which threads waited or still wait.
     pub sites: BTreeSet<u32>,
 }
 
 impl Rows {
-    /// The rows of a run between these clocks, before its first entry, with places of so many columns, one at least. It takes no
-    /// memory.
+    /// Returns the rows of a run between these clocks, before its first entry, with places of this number of columns,
+    /// at least one. It doesn't allocate.
     pub fn new(alloc: Global, window: Window, wide: u32) -> Rows {
         Rows {
             alloc,
@@ -51,7 +54,7 @@ impl Rows {
         }
     }
 
-    /// What one entry more tells.
+    /// Adds the happening of the next entry.
     pub fn add(&mut self, told: Happening) -> Result<(), AllocError> {
         match told {
             Happening::Waited(wait) => {
@@ -66,18 +69,18 @@ impl Rows {
         }
     }
 
-    /// The place of a clock.
+    /// Returns the place of a clock.
     fn place_of(&self, clock: u64) -> u32 {
         self.window.column(clock) / self.wide.max(1)
     }
 
-    /// The first clock of a place.
+    /// Returns the first clock of a place.
     fn clock_of(&self, place: u32) -> u64 {
         self.window.clock(place.saturating_mul(self.wide))
     }
 
-    /// Marks what a thread does from one clock to another, as far as it lies in the window: its first place, the places between, and
-    /// its last place, which the marks before and behind may share.
+    /// Marks what a thread does from one clock to another, as far as that is in the window: its first place, the places
+    /// in between, and its last place. The marks before and after may share the first and the last place.
     fn mark(&mut self, thread: u32, from: u64, to: u64, doing: Doing) -> Result<(), AllocError> {
         if to < self.window.from || self.window.to < from {
             return Ok(());
@@ -98,8 +101,8 @@ impl Rows {
         self.share(thread, last, last, ends.saturating_sub(end), doing)
     }
 
-    /// Adds ticks of what a thread does to the places from one to another, if there are any; to its last mark, if that has the same
-    /// place.
+    /// Adds ticks of what a thread does to the places from one to another, if there are any, or to its last mark, if
+    /// that has the same place.
     fn share(
         &mut self,
         thread: u32,
@@ -123,7 +126,7 @@ impl Rows {
     }
 }
 
-/// How many ticks are shown of so many: of a segment one at least, and of a wait that takes no time none.
+/// Returns the number of ticks that are shown: at least one for a segment, and 0 for a wait that takes no time.
 fn shown_ticks(ticks: u64, doing: Doing) -> u64 {
     match doing {
         Doing::Runs => ticks.max(1),
@@ -131,7 +134,7 @@ fn shown_ticks(ticks: u64, doing: Doing) -> u64 {
     }
 }
 
-/// The mark of what a thread does at these places alone.
+/// Returns the mark of what a thread does at these places alone.
 fn mark_of(from: u32, to: u32, ticks: u64, doing: Doing) -> Mark {
     match doing {
         Doing::Runs => Mark {
@@ -151,7 +154,7 @@ fn mark_of(from: u32, to: u32, ticks: u64, doing: Doing) -> Mark {
     }
 }
 
-/// Adds ticks to the last mark of a row, if they are of its place: true then.
+/// Adds ticks to the last mark of a row, if they belong to its place. Returns whether they do.
 fn takes_in(mark: &mut Mark, from: u32, to: u32, ticks: u64, doing: Doing) -> bool {
     let is_its_place = mark.from == mark.to && mark.from == from && from == to;
     if is_its_place {

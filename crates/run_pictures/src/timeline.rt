@@ -5,24 +5,24 @@ use crate::rows::Rows;
 use report_figures::{COLUMNS, Window};
 use report_text::Text;
 
-/// Room left of the rows, for the threads' numbers.
+/// The width to the left of the rows, for the threads' numbers.
 const LEFT: u64 = 80;
 
 /// The width of the picture.
 const WIDTH: u64 = LEFT + COLUMNS as u64 + 40;
 
-/// The height of a row, up to 100 rows and above.
+/// The height of a row, with up to 100 rows and with more.
 const HIGH: u64 = 16;
 
 const LOW: u64 = 3;
 
-/// The most parts that the time is divided into by lines.
+/// The maximum number of parts into which lines divide the time.
 const PARTS: u64 = 8;
 
-/// Appends the timeline as SVG: a row for each thread, its runs black and its waits in the colour of their place, a legend of the
-/// places above, and lines of time with their clocks. `sites` are the sites at which threads wait, rising, and `names` their
-/// places, one for each. With more than 100 threads rows are lower, and only every fiftieth has its number; each row tells its
-/// thread where a pointer rests on it.
+/// Appends the timeline as SVG: a row for each thread, its runs in black and its waits in the colour of their place, a
+/// legend of the places above, and lines of time with their clocks. `sites` are the sites at which threads wait,
+/// increasing, and `names` their places, one for each. With more than 100 threads rows are lower, and only every
+/// fiftieth has its number; each row shows its thread as a tooltip.
 pub fn put_timeline(text: &mut Text, rows: &Rows, sites: &[u32], names: &[String]) {
     let count = rows.rows.len() as u64;
     let high = if count > 100 { LOW } else { HIGH };
@@ -60,14 +60,15 @@ fn put_legend(text: &mut Text, names: &[String]) {
     }
 }
 
-/// What the numbers above the lines of time are.
+/// The caption of the numbers above the lines of time.
 const CLOCK: &str = "<text x=\"4\" y=\"$\">clock</text>\n";
 
 /// A line of time from one height to another, with its clock above.
 const LINE: &str =
     "<path d=\"M$ $V$\" stroke=\"#cccccc\"/><text x=\"$\" y=\"$\" text-anchor=\"middle\">$</text>\n";
 
-/// Appends lines of time over rows between these heights, each with its clock above: the multiples of a round number of ticks.
+/// Appends lines of time over the rows between these heights, each with its clock above, at the multiples of a round
+/// number of ticks.
 fn put_clocks(text: &mut Text, window: Window, top: u64, bottom: u64) {
     let above = top.saturating_sub(4);
     let below = bottom.saturating_add(6);
@@ -83,7 +84,8 @@ fn put_clocks(text: &mut Text, window: Window, top: u64, bottom: u64) {
     }
 }
 
-/// A round number of ticks, 1, 2 or 5 times a power of ten, of which at most so many parts have these ticks.
+/// Returns a round number of ticks, 1, 2 or 5 times a power of ten, that divides these ticks into at most `PARTS`
+/// parts.
 fn round_step(ticks: u64) -> u64 {
     let power = power_within(ticks / PARTS);
     if ticks <= power.saturating_mul(PARTS) {
@@ -97,7 +99,7 @@ fn round_step(ticks: u64) -> u64 {
     }
 }
 
-/// The greatest power of ten that is at most a number; 1 where there is none.
+/// Returns the greatest power of ten that is at most a number, or 1 if there is none.
 fn power_within(number: u64) -> u64 {
     let mut power: u64 = 1;
     for _ in 0..19 {
@@ -112,13 +114,14 @@ fn power_within(number: u64) -> u64 {
 /// The head of the rows.
 const ROWS: &str = "<g stroke=\"none\">\n";
 
-/// The head of a thread's row, whose places have so many columns, and the same with the thread's number left of it.
+/// The head of a thread's row, whose places have this number of columns, and the same with the thread's number to its
+/// left.
 const ROW: &str = "<g transform=\"translate($ $) scale($ 1)\"><title>thread $</title>";
 
 const NUMBERED_ROW: &str =
     "<text x=\"4\" y=\"$\" fill=\"#000000\">$</text>\n<g transform=\"translate($ $) scale($ 1)\"><title>thread $</title>";
 
-/// Appends the rows, of that height, from that place on down, and the picture's end.
+/// Appends the rows of that height, from that height on downwards, and the picture's end.
 fn put_rows(text: &mut Text, rows: &Rows, sites: &[u32], top: u64, high: u64) {
     let tall = high.saturating_sub(1);
     text.words(ROWS);
@@ -139,7 +142,7 @@ fn put_rows(text: &mut Text, rows: &Rows, sites: &[u32], top: u64, high: u64) {
     text.words("</g>\n</svg>\n")
 }
 
-/// Appends the head of the row of that number, and left of it the number of its thread where that is shown.
+/// Appends the head of the row of that number, with the number of its thread to its left if that is shown.
 fn put_row_head(text: &mut Text, thread: u64, row: u64, y: u64, high: u64, wide: u64) {
     if high == HIGH || row % 50 == 0 {
         let base = y.saturating_add(if high == HIGH { 11 } else { 6 });

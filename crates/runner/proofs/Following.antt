@@ -1,12 +1,12 @@
 -- A run so far beside its log, and how it ends.
-use Rattle.std.proofs.Common.{◌≡◌, ℕ, zero, suc, ◌+◌, ◌-◌, ◌<◌, ◌≤◌, inl, inr, List, [], ◌∷◌, ◌++◌, length, take, map, Option, Some, None, refl, sym, ap, ◌∙◌, subst, arith, length-append, ⊎_elim}
+use Rattle.std.proofs.Common.{◌≡◌, ℕ, zero, suc, ◌+◌, ◌-◌, ◌<◌, ◌≤◌, inl, inr, List, [], ◌∷◌, ◌++◌, length, take, Option, Some, None, refl, sym, ap, ◌∙◌, subst, arith, length-append, ⊎_elim}
 use Rattle.std.specs.Prelude.{IfSome}
 use Rattle.std.specs.Io.KnownBytes.{Appends}
 use Rattle.std.proofs.lemmas.Bool.{cases_lt}
 use Rattle.blocking_graph.specs.declared.edges.EdgeLine.{EdgeLine}
 use Rattle.log_laws.proofs.Good.{good}
 use Rattle.choice_rules.specs.Policy.{Rule}
-use Rattle.choice_rules.specs.EdgeLines.{edge_entry}
+use Rattle.blocking_graph.specs.Edges.{edges_of}
 use Rattle.lawful_log.specs.Good.{IsGoodLog, checked_of}
 use Rattle.lawful_log.specs.Lawful.{Leads, nowhere, by_entry, ending, IsLawfulLog}
 use Rattle.lawful_log.specs.Setup.{Setup, setting_of}
@@ -26,7 +26,7 @@ use Rattle.cap_word.specs.declared.stops.Stop.{Stop}
 use Rattle.cap_word.specs.declared.threads.ThreadId.{ThreadId}
 use Rattle.run_course.specs.Kept.{Kept}
 use Rattle.runner.specs.Ends.{halt_end}
-use Rattle.run_course.specs.Lines.{end_lines, edge_line}
+use Rattle.run_course.specs.Lines.{end_lines}
 use Rattle.run_course.specs.Output.{Output, unheld, Grows, IsFitText}
 use Rattle.run_course.specs.Sound.{IsSound}
 use Rattle.run_course.specs.Ways.{IsOnWay, HasTicked, IsOnRun}
@@ -58,15 +58,11 @@ take_in (b ∷ x) y (suc n) h = ap (λ (l : List ℕ). b ∷ l) (take_in x y n (
 
 -- ---- the end of a log
 
-lines_same : (g : Setup) (caps : List ℕ) (edges : List EdgeLine) → caps ≡ g.policy.caps → map (edge_line caps) edges ≡ map (edge_entry g.policy.caps) edges
-lines_same g caps [] e = refl
-lines_same g caps (edge ∷ edges) e = ap (λ (c : List ℕ). edge_line c edge ∷ map (edge_line caps) edges) e ∙ ap (λ (l : List Entry). edge_entry g.policy.caps edge ∷ l) (lines_same g caps edges e)
-
 pub end_same : (g : Setup) (state : State) (k : Kept) (held : Held) (halt : Halt) (taken written : Output) (before : Rest) → HaltsAt g state before k held halt taken written → (stop : StopLine) →
     end_lines held.setting.caps k.graph.edges stop ≡ ending g state stop
 end_same g state k held halt taken written before is stop =
     ap (λ (es : List EdgeLine). end_lines held.setting.caps es stop) is.graph.edges
-    ∙ ap (λ (l : List Entry). l ++ Entry.Stop stop ∷ []) (lines_same g held.setting.caps _ (ap (λ (s : Setting). s.caps) is.of.setting))
+    ∙ ap (λ (caps : List ℕ). end_lines caps (edges_of state.past.records) stop) (ap (λ (s : Setting). s.caps) is.of.setting)
 
 end_at_cut : (thread : ThreadId) (stop : Stop) (cost free : ℕ) → IsEndAt (stop_line (Halt.Cut thread stop cost) free) (halt_end (Halt.Cut thread stop cost))
 end_at_cut thread (Stop.Trap kind) cost free = (thread, refl, refl)

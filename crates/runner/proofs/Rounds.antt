@@ -3,6 +3,7 @@ use Rattle.std.proofs.Common.{◌≡◌, ℕ, List, [], ◌++◌, Option, Some, 
 use Rattle.std.specs.Prelude.{IfSome}
 use Rattle.std.specs.Io.KnownBytes.{Appends}
 use Rattle.std.proofs.KnownBytes.{Appends-nil}
+use Rattle.cap_io.specs.Faults.{IsRisen}
 use Rattle.cap_io.specs.Writes.{Puts}
 use Rattle.cap_word.specs.declared.stops.Stop.{Stop}
 use Rattle.cap_word.specs.declared.threads.ThreadId.{ThreadId}
@@ -13,7 +14,7 @@ use Rattle.lawful_log.specs.State.{State, start_of}
 use Rattle.resource_monitor.specs.Monitor.{MonitorState}
 use Rattle.run_course.specs.Starts.{IsAtStartBy, KeepsRun}
 use Rattle.runner.specs.Answers.{CameTo, FellShort, IsRunEnd}
-use Rattle.run_course.specs.Counts.{HasRisen, CountsPart, CountsStep}
+use Rattle.run_course.specs.Counts.{CountsPart, CountsStep}
 use Rattle.run_course.specs.declared.ends.Failure.{Failure}
 use Rattle.run_course.specs.declared.ends.Halt.{Halt}
 use Rattle.run_course.specs.Kept.{Kept}
@@ -100,8 +101,8 @@ module _ (first : Held) (rule : Rule) (monitor : MonitorState) (left_first taken
     -- a step fails
     end_by : (failure : Failure) (g : Setup) → FellShort g after left_first taken_first then_.taken → CountsStep {V = Option Halt} (Err failure) reads reads_after writes writes_after →
         IsRunEnd g after left_first taken_first then_.taken reads_first reads_after writes_first writes_after (failure_end failure)
-    end_by Failure.Read g short counts = (short, subst (λ (n : ℕ). HasRisen n reads_after) runs.same_reads counts.0, counts.1 ∙ runs.same_writes)
-    end_by Failure.Write g short counts = (short, counts.0 ∙ runs.same_reads, subst (λ (n : ℕ). HasRisen n writes_after) runs.same_writes counts.1)
+    end_by Failure.Read g short counts = (short, subst (λ (n : ℕ). IsRisen n reads_after) runs.same_reads counts.0, counts.1 ∙ runs.same_writes)
+    end_by Failure.Write g short counts = (short, counts.0 ∙ runs.same_reads, subst (λ (n : ℕ). IsRisen n writes_after) runs.same_writes counts.1)
     end_by Failure.Memory g short counts = (short, counts.0 ∙ runs.same_reads, counts.1 ∙ runs.same_writes)
 
     pub run_fails : (failure : Failure) → Ends k held told now new after told_after then_ (Err failure) → CountsStep {V = Option Halt} (Err failure) reads reads_after writes writes_after → (g : Setup) → IsAtStartBy rule g first monitor →
@@ -147,7 +148,7 @@ module _ (first : Held) (rule : Rule) (monitor : MonitorState) (left_first taken
       short_by : (failure : Failure) (g : Setup) → FellShort g after left_first taken_first last → CountsPart {V = Unit {0}} (Err failure) writes_after writes_last →
           IsRunEnd g after left_first taken_first last reads_first reads_after writes_first writes_last (failure_end failure)
       short_by Failure.Read g short c = absurd c
-      short_by Failure.Write g short c = (short, counts.0 ∙ runs.same_reads, subst (λ (n : ℕ). HasRisen n writes_last) (counts.1 ∙ runs.same_writes) c)
+      short_by Failure.Write g short c = (short, counts.0 ∙ runs.same_reads, subst (λ (n : ℕ). IsRisen n writes_last) (counts.1 ∙ runs.same_writes) c)
       short_by Failure.Memory g short c = (short, counts.0 ∙ runs.same_reads, c ∙ counts.1 ∙ runs.same_writes)
 
       pub run_unwritten : (failure : Failure) → Puts {E = Failure} then_.taken last (then_.held ++ log_text (end_lines after.setting.caps new.graph.edges (stop_line halt (free_count after.machine.areas.pool)))) (Err failure) → CountsPart {V = Unit {0}} (Err failure) writes_after writes_last →

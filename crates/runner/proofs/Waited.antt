@@ -4,10 +4,10 @@ use Rattle.std.specs.Prelude.{IfSome, is_some, if◌then◌else◌}
 use Rattle.std.proofs.lemmas.List.{nil_from_length}
 use Rattle.event_trace.specs.declared.events.Event.{Event}
 use Rattle.event_trace.specs.Lines.{FitsEvent}
+use Rattle.choice_rules.specs.Readiness.{any_ready, waking_times}
 use Rattle.choice_rules.specs.Trace.{IsNext}
-use Rattle.choice_rules.specs.Clock.{is_due, event_times, IsLeastOf}
+use Rattle.choice_rules.specs.Clock.{is_due, event_times, IsLeastOf, latest}
 use Rattle.choice_rules.specs.Stops.{IsIdle}
-use Rattle.lawful_log.specs.Readiness.{any_ready, waking_times}
 use Rattle.lawful_log.specs.Setup.{Setup, setting_of}
 use Rattle.lawful_log.specs.State.{Segment, State, seen_of}
 use Rattle.lawful_log.specs.Stops.{IsStop}
@@ -30,7 +30,6 @@ use Rattle.run_course.specs.Stands.{IsTraceIn, IsTraceOf, FitsNext, StandsBetwee
 use Rattle.run_course.proofs.Clocks.{clock_same}
 use Rattle.run_course.proofs.Rules.{told_same}
 use Rattle.run_course.specs.Starts.{KeepsRun}
-use Rattle.run_course.specs.Times.{latest}
 use Rattle.runner.specs.Waits.{earlier, time_of, MovesOn, StaysIdle}
 use Rattle.run_course.specs.Rest.{Rest, HasBytes, Unasked, Told, Made}
 use Rattle.run_course.proofs.Ready.{any_ready_told}
@@ -38,7 +37,7 @@ use Rattle.run_course.proofs.Times.{possible, timely_advanced}
 use Rattle.runner.proofs.Waking.{AreWakes, time_within, time_least, none_earlier}
 
 module _ (g : Setup) (state : State) (held : Held) (next : Option Event) (is : IsBetween g state (Some next) held.machine) (setting_is : held.setting ≡ setting_of g) where
-  unready : any_ready_in held ≡ false → any_ready g state held.machine.clock ≡ false
+  unready : any_ready_in held ≡ false → any_ready g.policy (seen_of state) held.machine.clock ≡ false
   unready e = sym (any_ready_told g state held (Some next) is setting_is) ∙ e
 
   both_false : (a b : Bool) → a ≡ false → b ≡ false → (a || b) ≡ false
@@ -46,7 +45,7 @@ module _ (g : Setup) (state : State) (held : Held) (next : Option Event) (is : I
   both_false false b p q = q
 
   stuck : any_ready_in held ≡ false → is_due next held.machine.clock ≡ false → goes_on g state next held.machine.clock ≡ false
-  stuck e due = both_false (is_due next held.machine.clock) (any_ready g state held.machine.clock) due (unready e)
+  stuck e due = both_false (is_due next held.machine.clock) (any_ready g.policy (seen_of state) held.machine.clock) due (unready e)
 
   still : any_ready_in held ≡ false → is_due next held.machine.clock ≡ false → held.machine.clock ≡ state.machine.clock
   still e due = not_moved g state next held.machine.clock is.clock_is (stuck e due)
@@ -65,7 +64,7 @@ module _ (g : Setup) (state : State) (held : Held) (next : Option Event) (is : I
         between = ap (λ (o : Option Segment). is_some o) is.between;
         live = λ f. live (threads ∙ nil_from_length state.machine.threads f);
         over = over;
-        none_ready = subst (λ (n : ℕ). any_ready g state n ≡ false) (still e due) (unready e);
+        none_ready = subst (λ (n : ℕ). any_ready g.policy (seen_of state) n ≡ false) (still e due) (unready e);
         none_sleeps = none_wakes g state held.machine.clock is.formed.counted.numbered is.stands is.threads (unready e) (wake_here None wake);
       } in
       (idle, same)
@@ -85,25 +84,25 @@ module _ (g : Setup) (state : State) (k : Kept) (held : Held) (left : Rest) (sta
   is_between : IsBetween g state (Some next) held.machine
   is_between = subst (λ (o : Option (Option Event)). IsBetween g state o held.machine) known_is stands.between
 
-  nobody_ready : any_ready g state held.machine.clock ≡ false
+  nobody_ready : any_ready g.policy (seen_of state) held.machine.clock ≡ false
   nobody_ready = unready g state held next is_between stands.of.setting none_ready
 
   machine_same : held.machine ≡ state.machine
   machine_same = clock_same state held.machine is_between.machine_is (still g state held next is_between stands.of.setting none_ready due)
 
-  wakes_by : (wake : Option ℕ) → IsWake (setting_of g) (advanced state.machine held.machine.clock) wake → AreWakes (waking_times state) wake
+  wakes_by : (wake : Option ℕ) → IsWake (setting_of g) (advanced state.machine held.machine.clock) wake → AreWakes (waking_times (seen_of state)) wake
   wakes_by None is =
       none_wakes g state held.machine.clock is_between.formed.counted.numbered is_between.stands is_between.threads nobody_ready is
   wakes_by (Some time) is =
       least_wakes g state held.machine.clock is_between.formed.counted.numbered is_between.stands is_between.threads nobody_ready time is.0 is.1
 
-  wakes_are : (wake : Option ℕ) → IsWake held.setting held.machine wake → AreWakes (waking_times state) wake
+  wakes_are : (wake : Option ℕ) → IsWake held.setting held.machine wake → AreWakes (waking_times (seen_of state)) wake
   wakes_are wake is = wakes_by wake (wake_here g state held next is_between stands.of.setting wake is)
 
   module _ (wake : Option ℕ) (wake_is : IsWake held.setting held.machine wake) where
     module _ (time : ℕ) (within : (held.machine.clock < time) × (time ≤ latest held.machine.cost)) (e : earlier (time_of next) wake ≡ Some time) where
-      least : IsLeastOf (event_times next ++ waking_times state) time
-      least = time_least next wake time (waking_times state) (wakes_are wake wake_is) e
+      least : IsLeastOf (event_times next ++ waking_times (seen_of state)) time
+      least = time_least next wake time (waking_times (seen_of state)) (wakes_are wake wake_is) e
 
       between_later : IsBetween g state (Some next) (advanced held.machine time)
       between_later = between_moved g state held.machine next time is_between (let h = within.0 in omega (arith, h)) (stuck g state held next is_between stands.of.setting none_ready due) least

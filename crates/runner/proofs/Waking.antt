@@ -6,13 +6,13 @@ use Rattle.std.proofs.lemmas.Bool.Decides.{nat_tests}
 use Rattle.c_mean.specs.ModelledCalls.{is_ready, wakes_at}
 use Rattle.event_trace.specs.declared.events.Event.{Event}
 use Rattle.event_trace.specs.Lines.{FitsEvent}
-use Rattle.choice_rules.specs.Clock.{is_due, event_times, IsLeastOf}
+use Rattle.choice_rules.specs.Clock.{is_due, event_times, IsLeastOf, latest}
 use Rattle.lawful_log.specs.Tests.{waking_time}
 use Rattle.lawful_log.proofs.Clocks.{contains_tail, contains_later, contains_head, contains_none, later_block}
 use Rattle.machine_world.specs.Runs.{asleep_until}
 use Rattle.machine_world.specs.Threads.{Blocked, Setting, Thread, World}
 use Rattle.thread_core.specs.Ready.{IsWake}
-use Rattle.run_course.specs.Times.{latest, IsTimely}
+use Rattle.run_course.specs.Times.{IsTimely}
 use Rattle.runner.specs.Waits.{earlier, time_of}
 
 abbrev wake_in : Setting → World → Thread → Option ℕ

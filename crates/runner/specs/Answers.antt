@@ -1,6 +1,7 @@
--- What a run answers.
+-- The answers of a run.
 use Rattle.std.specs.Prelude.{ℕ, ◌≡◌, ◌≤◌, ◌⊎◌, List, [], length, take, Option, IfSome, Some}
 use Rattle.std.specs.Io.KnownBytes.{Appends}
+use Rattle.cap_io.specs.Faults.{IsRisen}
 use Rattle.cap_word.specs.declared.stops.Stop.TheVariants as cut
 use Rattle.cap_word.specs.declared.threads.ThreadId.{ThreadId}
 use Rattle.lawful_log.specs.Good.{IsGoodLog, checked_of}
@@ -13,14 +14,13 @@ use Rattle.schedule_log.specs.EntryText.{log_text}
 use Rattle.schedule_log.specs.declared.entries.Entry.{Entry}
 use Rattle.schedule_log.specs.declared.entries.StopLine.{StopLine}
 use Rattle.thread_core.specs.Worlds.{Held, IsThread}
-use Rattle.run_course.specs.Counts.{HasRisen}
 use Rattle.run_course.specs.Output.{IsFitText}
 use Rattle.run_course.specs.Ways.{IsOnRun}
 use Rattle.runner.specs.HeldBack.{HeldBack}
 use Rattle.runner.specs.declared.ends.RunEnd.{RunEnd}
 use Rattle.runner.specs.declared.ends.RunEnd.TheVariants as end
 
--- how a run ended that came to this stop
+-- the end of a run that reached this stop
 abbrev pub IsEndAt : StopLine → RunEnd → Type 0
 IsEndAt StopLine.Done answer = answer ≡ end.Done
 IsEndAt StopLine.Idle answer = answer ≡ end.Idle
@@ -30,7 +30,7 @@ IsEndAt (StopLine.Cut number cut.NoChunk cost free) answer = (thread : ThreadId)
 IsEndAt (StopLine.Cut number cut.Fuel cost free) answer = (thread : ThreadId) × (thread.number ≡ number) × (answer ≡ end.Fuel thread)
 IsEndAt (StopLine.Cut number cut.Threads cost free) answer = (thread : ThreadId) × (thread.number ≡ number) × (answer ≡ end.Threads thread)
 
--- the record of a thread that an answer names stands at its place
+-- the record of a thread that an answer names is at its place
 abbrev pub IsOfThread : Held → RunEnd → Type 0
 IsOfThread after (end.Trap thread kind) = IsThread after thread
 IsOfThread after (end.NoChunk thread) = IsThread after thread
@@ -38,9 +38,9 @@ IsOfThread after (end.Fuel thread) = IsThread after thread
 IsOfThread after (end.Threads thread) = IsThread after thread
 IsOfThread after answer = Unit {0}
 
--- The log of a run that stops in the world `end`, beside a world of the run. The log is lawful and good. Some actions lead from
--- the run's start to the world, in which every live thread is in place and the chunks are partitioned. The trace has these bytes
--- where it tells its bytes; where it doesn't, it could have had them.
+-- the log of a run that stops in the world `end`, and a world of that run. The log is lawful and good. Some actions
+-- lead from the run's start to the world, in which every live thread is in place and the chunks are partitioned. The
+-- trace has these bytes if it exposes its bytes, and otherwise could have had them.
 pub record HasLog (g : Setup) (left : Option (List ℕ)) (end world : World) : Type 0 where
   pub bytes : List ℕ
   pub told : IfSome left (λ its. its ≡ bytes)
@@ -54,8 +54,8 @@ pub record HasLog (g : Setup) (left : Option (List ℕ)) (end world : World) : T
   pub machine : after_actions (setting_of g) actions start ≡ Some world
   pub sound : IsSound (checked_of g) world
 
--- A run that came to its stop: the whole of its log was written, and the world is as it was at the stop. Each line of what was
--- written is read back as an entry: it is the text of entries that fit their types.
+-- a run that reached its stop: the whole of its log was written, and the world is as at the stop. Each line that was
+-- written is read back as an entry: the log is the text of entries that fit their types.
 pub record CameTo (g : Setup) (after : Held) (left taken taken' : Option (List ℕ)) (answer : RunEnd) : Type 0 where
   pub log : HasLog g left after.machine after.machine
   pub end_is : IsEndAt log.stop answer
@@ -63,8 +63,8 @@ pub record CameTo (g : Setup) (after : Held) (left taken taken' : Option (List �
   pub writes : Appends taken taken' (log_text log.entries)
   pub fits : IsFitText (log_text log.entries)
 
--- A run that could not go on: a prefix of its log was written, and the world is on that log's run. What was put is the text of
--- the entries done; only where the run has come to its stop, lines of the log's end may have been put too.
+-- a run that failed: a prefix of its log was written, and the world is on that log's run. What was put is the text of
+-- the entries that were done; only if the run has reached its stop may lines of the log's end have been put too.
 pub record FellShort (g : Setup) (after : Held) (left taken taken' : Option (List ℕ)) : Type 0 where
   pub end : World
   pub log : HasLog g left end after.machine
@@ -76,7 +76,7 @@ pub record FellShort (g : Setup) (after : Held) (left taken taken' : Option (Lis
   pub at_end : (back.more ≡ []) ⊎ ((end ≡ after.machine) × (on_run.rest ≡ ending g on_run.state log.stop))
 
 abbrev pub IsRunEnd : Setup → (after : Held) → (left taken taken' : Option (List ℕ)) → (reads reads' writes writes' : ℕ) → RunEnd → Type 0
-IsRunEnd g after left taken taken' reads reads' writes writes' end.ReadFault = FellShort g after left taken taken' × HasRisen reads reads' × (writes' ≡ writes)
-IsRunEnd g after left taken taken' reads reads' writes writes' end.WriteFault = FellShort g after left taken taken' × (reads' ≡ reads) × HasRisen writes writes'
+IsRunEnd g after left taken taken' reads reads' writes writes' end.ReadFault = FellShort g after left taken taken' × IsRisen reads reads' × (writes' ≡ writes)
+IsRunEnd g after left taken taken' reads reads' writes writes' end.WriteFault = FellShort g after left taken taken' × (reads' ≡ reads) × IsRisen writes writes'
 IsRunEnd g after left taken taken' reads reads' writes writes' end.Memory = FellShort g after left taken taken' × (reads' ≡ reads) × (writes' ≡ writes)
 IsRunEnd g after left taken taken' reads reads' writes writes' answer = CameTo g after left taken taken' answer × (reads' ≡ reads) × (writes' ≡ writes)

@@ -1,4 +1,4 @@
--- How a run ends.
+-- The end of a run.
 use Rattle.std.specs.Prelude.{Result, Ok, Err}
 use Rattle.cap_word.specs.declared.stops.Stop.{Stop}
 use Rattle.cap_word.specs.declared.threads.ThreadId.{ThreadId}
@@ -6,7 +6,7 @@ use Rattle.run_course.specs.declared.ends.Failure.{Failure}
 use Rattle.run_course.specs.declared.ends.Halt.{Halt}
 use Rattle.runner.specs.declared.ends.RunEnd.{RunEnd}
 
--- how a run ends at a cut, and where it stops
+-- the end of a run that is cut off, and the end at each stop
 abbrev pub cut_end : ThreadId → Stop → RunEnd
 cut_end thread (Stop.Trap kind) = RunEnd.Trap thread kind
 cut_end thread Stop.NoChunk = RunEnd.NoChunk thread
@@ -24,7 +24,7 @@ failure_end Failure.Read = RunEnd.ReadFault
 failure_end Failure.Write = RunEnd.WriteFault
 failure_end Failure.Memory = RunEnd.Memory
 
--- how a run ends by what came of it
+-- the end of a run, from its result
 abbrev pub run_end : Result RunEnd Failure → RunEnd
 run_end (Ok end) = end
 run_end (Err failure) = failure_end failure

@@ -1,4 +1,4 @@
--- What a run that could not go on has put of its log, and what of it was not written.
+-- What a failed run has put of its log, and what wasn't written.
 use Rattle.std.specs.Prelude.{ℕ, ◌≡◌, ◌+◌, ◌≤◌, List, [], ◌∷◌, ◌++◌, length}
 use Rattle.schedule_log.specs.EntryText.{entry_text, log_text}
 use Rattle.schedule_log.specs.declared.entries.Entry.{Entry}
@@ -9,8 +9,8 @@ last_line [] = 0
 last_line (entry ∷ []) = length (entry_text entry) + 1
 last_line (_ ∷ entry ∷ entries) = last_line (entry ∷ entries)
 
--- Beside a log of these entries done and the rest: what was written and what was held back is the text of the entries done and of
--- some more, and what was held back is at most the 4,096 bytes of the buffer and a line.
+-- given a log of the entries that were done and the others: what was written and what was held back is together the
+-- text of the entries done and some more, and what was held back is at most the 4,096 bytes of the buffer and one line
 pub record HeldBack (done rest : List Entry) (written : List ℕ) : Type 0 where
   pub more : List Entry
   pub later : List Entry

@@ -1,4 +1,4 @@
--- What waiting comes to, where no thread is ready and nothing is due.
+-- The results of waiting, if no thread is ready and no event is due.
 use Rattle.std.specs.Prelude.{◌≡◌, ℕ, ◌<◌, Option, None, Some, if◌then◌else◌, nat_le}
 use Rattle.event_trace.specs.declared.events.Event.{Event}
 use Rattle.lawful_log.specs.Setup.{Setup}
@@ -12,7 +12,7 @@ use Rattle.run_course.specs.Ranks.{rank}
 use Rattle.run_course.specs.Stands.{StandsBetween}
 use Rattle.run_course.specs.Rest.{Rest, HasBytes}
 
--- the earlier of two times, where there are such
+-- the earlier of two times, if there is one
 abbrev pub earlier : Option ℕ → Option ℕ → Option ℕ
 earlier None other = other
 earlier (Some one) None = Some one
@@ -23,7 +23,7 @@ abbrev pub time_of : Option Event → Option ℕ
 time_of None = None
 time_of (Some event) = Some event.time
 
--- the clock has moved, and something goes on at it
+-- the clock has advanced, and something happens at it
 pub record MovesOn (g : Setup) (state : State) (k : Kept) (held new : Held) (left : Rest) : Type 0 where
   pub stands : StandsBetween g state k new left
   pub falls : rank k new < rank k held

@@ -14,7 +14,7 @@ use run_course::{Failure, Halt, failure_of, write_edges, write_line};
 use schedule_log::{Entry, LogWriter};
 use thread_core::World;
 
-/// Writes the end of a log: what is held, the edges of the graph, and the stop.
+/// Writes the end of a log: the buffer, the edges of the graph, and the stop.
 pub(crate) fn write_end<K: Sink>(
     world: &World,
     graph: &Graph,
@@ -40,7 +40,7 @@ pub(crate) fn write_end<K: Sink>(
     finish(writer, out)
 }
 
-/// Writes what is held, at the end of a log.
+/// Flushes the buffer at the end of a log.
 fn finish<K: Sink>(writer: LogWriter, out: &mut K) -> Result<(), Failure>
     requires { writer.refused ≡ None }
     ensures bytes { Puts (K.taken out.old) (K.taken out.new) writer.held result }

@@ -5,35 +5,35 @@ ghost use Rattle.runner.specs.Ends.{failure_end, halt_end};
 use cap_word::{Stop, ThreadId, TrapKind};
 use run_course::{Failure, Halt};
 
-/// How a run ended.
+/// The end of a run.
 #[derive(Clone, Copy, PartialEq, Eq)]
 pub enum RunEnd {
     /// Every thread has ended.
     Done,
     /// The trace is over, and no thread will be ready again.
     Idle,
-    /// The thread did what it may not do.
+    /// The thread trapped.
     Trap { thread: ThreadId, kind: TrapKind },
     /// The thread needed a chunk, and no free chunk fits its need.
     NoChunk { thread: ThreadId },
-    /// The run has retired as many instructions as it may, in a segment of the thread.
+    /// The fuel is spent, in a segment of the thread.
     Fuel { thread: ThreadId },
-    /// The thread was to start one, and as many live as may.
+    /// The thread asked to start another while 65,535 threads were live.
     Threads { thread: ThreadId },
-    /// That line of the trace is refused, counted from 1.
+    /// The line of the trace of this number, counted from 1, is refused.
     BadTrace { line: u64 },
-    /// The trace could not be read.
+    /// The trace couldn't be read.
     ReadFault,
-    /// The log could not be written.
+    /// The log couldn't be written.
     WriteFault,
-    /// There was no memory.
+    /// Out of memory.
     Memory,
 }
 
-/// How a run by strides ended: as one by the graph.
+/// The end of a run under the stride rule, with the same variants.
 pub type StrideEnd = RunEnd;
 
-/// The end of a run that stops here.
+/// Returns the end of a run that stops here.
 pub(crate) fn end_of(halt: Halt) -> RunEnd
     ensures { result ≡ halt_end halt }
 {
@@ -56,7 +56,7 @@ fn cut_end(thread: ThreadId, stop: Stop) -> RunEnd
     }
 }
 
-/// The end of a run that can't go on.
+/// Returns the end of a run that fails.
 pub(crate) fn failed_end(failure: Failure) -> RunEnd
     ensures { result ≡ failure_end failure }
 {

@@ -21,23 +21,24 @@ use std::alloc::Global;
 use stride_rule::StrideRule;
 use thread_core::World;
 
-/// Runs a world that was just made over a trace, and writes its log. A run ends with
+/// Runs a newly made world over a trace, choosing threads by the priority rule, and writes its log. A run ends with
 ///
-/// - `Done` at a choice of a thread, where every thread has ended, whatever is left of the trace;
-/// - `BadTrace` at a choice, where the next line of the trace spells no event, has a time below that of the line before, or is
-///   line 1,000,001;
-/// - `Idle` at a choice, where the trace is over, no thread is ready and none sleeps;
-/// - `Trap` where the thread indexes past an array or a table, or names a resource, an amount or a channel that it may not;
-/// - `NoChunk` where the thread needs a chunk, for a call or for a thread that it starts, and no free chunk fits its need;
-/// - `Fuel` where the thread is to go on, and as many instructions are retired as may be; this is tested first;
-/// - `Threads` where the thread is to start one, and 65,535 live; this is tested before the want of a chunk;
-/// - `ReadFault` where a read of the trace failed: the trace's count of faults rose, or stands at its end;
-/// - `WriteFault` where a write of the log failed: the sink's count of faults rose, or stands at its end;
-/// - `Memory` where there was no memory for what is kept, or in the sink.
+/// - `Done` at a choice point, if every thread has ended, whatever is left of the trace;
+/// - `BadTrace` at a choice point, if the next line of the trace isn't an event, has a time below that of the line
+///   before, or is line 1,000,001;
+/// - `Idle` at a choice point, if the trace is over, no thread is ready and none sleeps;
+/// - `Trap` if the thread indexes past an array or a table, or names a resource, an amount or a channel out of range;
+/// - `NoChunk` if the thread needs a chunk, for a call or for a thread that it starts, and no free chunk fits the need;
+/// - `Fuel` if the total of retired instructions has reached the fuel before the thread's next instruction; this is
+///   tested first;
+/// - `Threads` if the thread starts another while 65,535 are live; this is tested before the free chunks;
+/// - `ReadFault` if a read of the trace failed: the trace's count of faults rose, or is at its maximum;
+/// - `WriteFault` if a write of the log failed: the sink's count of faults rose, or is at its maximum;
+/// - `Memory` if memory ran out in the run or in the sink.
 ///
-/// At the first seven the log is written whole, and the world is as it was at the stop. At the last three a beginning of the
-/// log is written: of the lines of what was done all but at most the buffer's 4,096 bytes and a line. The world is one of those
-/// that the log's run comes through.
+/// With the first seven the whole log is written, and the world is as at the stop. With the last three a prefix of the
+/// log is written, which lacks at most the buffer's 4,096 bytes and one line of what was done. The world is one of
+/// those of the log's run.
 pub fn run<S: Source, K: Sink, C: Measure + Drop>(
     alloc: Global,
     world: &mut World,
@@ -56,8 +57,8 @@ pub fn run<S: Source, K: Sink, C: Measure + Drop>(
     run_by(alloc, world, by_graph, monitor, trace, out)
 }
 
-/// Runs a world that was just made over a trace, and writes its log, as `run` does; threads are chosen by strides. The rule is
-/// new: no thread was started. A run ends as one by the graph, with the same answers.
+/// Runs a newly made world over a trace as `run` does, choosing threads by the stride rule. The rule is new: no thread
+/// has been started. A run ends with the same answers.
 pub fn run_stride<S: Source, K: Sink, C: Measure + Drop>(
     alloc: Global,
     world: &mut World,
@@ -78,7 +79,7 @@ pub fn run_stride<S: Source, K: Sink, C: Measure + Drop>(
     run_by(alloc, world, by_strides, monitor, trace, out)
 }
 
-/// Runs a world by a rule at which no thread was started.
+/// Runs a world under a rule in which no thread has been started.
 fn run_by<S: Source, K: Sink, C: Measure + Drop>(
     alloc: Global,
     world: &mut World,
@@ -116,7 +117,7 @@ fn go<S: Source, K: Sink, C: Measure + Drop>(
         (run_end result) }
     ensures keeps { KeepsRun world.old world.new }
 {
-    // What these calls tell: the pair is valid, and its chunks have a size that a pool's may have.
+    // By the clauses of these calls, the pair is valid, and its chunks have a possible size.
     let accepted = world.accepted();
     sizes_law(accepted);
     accepted.is_valid();

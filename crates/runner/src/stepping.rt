@@ -18,7 +18,7 @@ use run_course::{Course, Failure, Halt, Looked, goes_on};
 use schedule_log::LogWriter;
 use thread_core::World;
 
-/// One step of a run: the next thing in a segment, or at a choice point.
+/// Makes one step of a run: within a segment, or at a choice point.
 pub(crate) fn step<S: Source, K: Sink, C: Measure + Drop>(
     course: &mut Course<C>,
     world: &mut World,
@@ -44,7 +44,7 @@ pub(crate) fn step<S: Source, K: Sink, C: Measure + Drop>(
     }
 }
 
-/// One step of a choice point: the run stops, an event is delivered, the clock moves, or a segment begins.
+/// Makes one step of a choice point: the run stops, an event is delivered, the clock advances, or a segment begins.
 fn point<S: Source, K: Sink, C: Measure + Drop>(
     course: &mut Course<C>,
     world: &mut World,
@@ -74,7 +74,7 @@ fn point<S: Source, K: Sink, C: Measure + Drop>(
     }
 }
 
-/// The step goes on where the next line is good: the event of it, or None where the trace is over.
+/// Continues the step if the next line isn't refused: it is an event, or `None` if the trace is over.
 fn go_on<K: Sink, C: Measure + Drop>(
     course: &mut Course<C>,
     world: &mut World,

@@ -13,8 +13,8 @@ use event_trace::Event;
 use run_course::Halt;
 use thread_core::World;
 
-/// The clock goes on to the next time at which something may go on, where no thread is ready and the next event isn't due; or
-/// there is no such time.
+/// Advances the clock to the next time at which something may happen, if no thread is ready and the next event isn't
+/// due. Returns the stop if there is no such time.
 pub(crate) fn wait(world: &mut World, next: Option<Event>) -> Option<Halt>
     requires point { (g : Setup) × (state : State) × (k : Kept) × (left : Rest)
         × IsAtPoint g state k world.old left next }
@@ -35,7 +35,7 @@ pub(crate) fn wait(world: &mut World, next: Option<Event>) -> Option<Halt>
     }
 }
 
-/// The time of the next event, if there is one.
+/// Returns the time of the next event, if there is one.
 fn time_of_event(next: Option<Event>) -> Option<u64>
     ensures { result ≡ time_of next }
 {
@@ -45,7 +45,7 @@ fn time_of_event(next: Option<Event>) -> Option<u64>
     }
 }
 
-/// The earlier of two times.
+/// Returns the earlier of two times.
 fn earliest(one: Option<u64>, other: Option<u64>) -> Option<u64>
     ensures { result ≡ earlier one other }
 {

@@ -1,4 +1,4 @@
--- Decoding: which row of the table a word fits, by its opcode, and then by funct3 and funct7 where the format
+-- Decoding: the row of the table that a word fits, by its opcode, and then by funct3 and funct7 if the format
 -- has them.
 use Rattle.std.specs.Prelude.{◌≡◌, ℕ, ◌==◌, ◌&&◌, if◌then◌else◌, Option, Some, None}
 use Rattle.rv_code.specs.Operands.{IsInRange}
@@ -115,7 +115,7 @@ system word =
     if word == 0x00100073 then Some Ebreak else
     None
 
--- the instruction of a word, or none where no row fits
+-- the instruction of a word, or none if no row fits
 unfoldable pub decoding : ℕ → Option Instr
 decoding word =
     if opcode_of word == 0b0110111 then Some (Lui (rd_of word) (u_immediate word)) else
@@ -131,7 +131,7 @@ decoding word =
     if opcode_of word == 0b1110011 then system word else
     None
 
--- what a word decodes to, if anything, has operands in their ranges and that very word
+-- the result of decoding a word: if there is one, its operands are in their ranges, and it has that word
 abbrev pub FitsRow : ℕ → Option Instr → Type 0
 FitsRow word None = Unit {0}
 FitsRow word (Some instr) = IsInRange instr × (encoding instr ≡ word)

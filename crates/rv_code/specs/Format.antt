@@ -14,7 +14,7 @@ abbrev pub i_type : (imm : ℤ) (rs1 funct3 rd opcode : ℕ) → ℕ
 i_type imm rs1 funct3 rd opcode =
     low_bits 12 imm * 2 ^ 20 + rs1 * 2 ^ 15 + funct3 * 2 ^ 12 + rd * 2 ^ 7 + opcode
 
--- funct7 | imm[4:0] | rs1 | funct3 | rd | opcode, of the shifts by a count
+-- funct7 | imm[4:0] | rs1 | funct3 | rd | opcode, for the shifts by a count
 abbrev pub shift_type : (funct7 : ℕ) (imm : ℤ) (rs1 funct3 rd opcode : ℕ) → ℕ
 shift_type funct7 imm rs1 funct3 rd opcode = r_type funct7 (low_bits 5 imm) rs1 funct3 rd opcode
 
@@ -30,7 +30,7 @@ b_type imm rs2 rs1 funct3 opcode =
     let bits = low_bits 13 imm in
     field bits 12 1 * 2 ^ 31 + field bits 5 6 * 2 ^ 25 + rs2 * 2 ^ 20 + rs1 * 2 ^ 15 + funct3 * 2 ^ 12 + field bits 1 4 * 2 ^ 8 + field bits 11 1 * 2 ^ 7 + opcode
 
--- imm[31:12] | rd | opcode, where the immediate is that field of 20 bits
+-- imm[31:12] | rd | opcode; the immediate is this field of 20 bits
 abbrev pub u_type : (imm : ℤ) (rd opcode : ℕ) → ℕ
 u_type imm rd opcode = low_bits 20 imm * 2 ^ 12 + rd * 2 ^ 7 + opcode
 
@@ -60,7 +60,7 @@ rs2_of word = field word 20 5
 abbrev pub funct7_of : ℕ → ℕ
 funct7_of word = field word 25 7
 
--- ---- the immediate that a word of each format holds
+-- ---- the immediate in a word of each format
 
 abbrev pub i_immediate : ℕ → ℤ
 i_immediate word = signed 12 (field word 20 12)

@@ -10,8 +10,8 @@ use crate::fields::{
 };
 use crate::instructions::Instr;
 
-/// The instruction whose word that is, or None exactly where no row of the table fits (RISC-V unprivileged
-/// manual, chapters "RV32I" and "M").
+/// Returns the instruction of a word, or `None` exactly if the word fits no row of the table (RISC-V
+/// unprivileged manual, chapters "RV32I" and "M").
 pub fn decode(word: u32) -> Option<Instr>
     ensures row { result ≡ row.decoding word }
     ensures back { IfSome result (λ instr. IsInRange instr × (encoding instr ≡ word)) }

@@ -6,8 +6,8 @@ ghost use Rattle.rv_code.specs.Table.{encoding};
 use crate::formats::{b_type, i_type, j_type, r_type, s_type, shift_type, u_type};
 use crate::instructions::Instr;
 
-/// The word of an instruction: its fields, laid out by its format (RISC-V unprivileged manual, chapters
-/// "RV32I", section "Base Instruction Formats", and "M").
+/// Returns the word of an instruction: its fields, laid out by its format (RISC-V unprivileged manual,
+/// chapters "RV32I", section "Base Instruction Formats", and "M").
 pub fn encode(instr: Instr) -> u32
     ensures word { result ≡ encoding instr }
     ensures ranges { IsInRange instr }

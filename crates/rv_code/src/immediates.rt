@@ -25,7 +25,7 @@ impl Model for Immediate {
 }
 
 impl Immediate {
-    /// The immediate of that value, from -2048 to 2047.
+    /// Returns the immediate with this value, from -2048 to 2047.
     pub const fn new(value: i32) -> Immediate
         requires { IsImmediate value }
         ensures { result ≡ value }
@@ -33,7 +33,7 @@ impl Immediate {
         Immediate { value }
     }
 
-    /// The value, from -2048 to 2047.
+    /// Returns the value, from -2048 to 2047.
     pub const fn value(self) -> i32
         ensures value { result ≡ self }
         ensures range { IsImmediate result }
@@ -41,7 +41,7 @@ impl Immediate {
         self.value
     }
 
-    /// The value's 12 bits, in two's complement.
+    /// Returns the value's 12 bits, in two's complement.
     pub(crate) fn bits(self) -> u32
         ensures value { result ≡ low_bits 12 self }
         ensures width { result < 2 ^ 12 }
@@ -49,7 +49,7 @@ impl Immediate {
         self.value.cast_unsigned() & 0xfff
     }
 
-    /// The immediate of these 12 bits, in two's complement.
+    /// Returns the immediate with these 12 bits, in two's complement.
     pub(crate) fn of_bits(bits: u32) -> Immediate
         requires { bits < 2 ^ 12 }
         ensures { result ≡ signed 12 bits }
@@ -82,7 +82,7 @@ impl Model for UpperImmediate {
 }
 
 impl UpperImmediate {
-    /// The immediate of that value, from 0 to 1048575.
+    /// Returns the immediate with this value, from 0 to 1048575.
     pub const fn new(value: i32) -> UpperImmediate
         requires { IsUpperImmediate value }
         ensures { result ≡ value }
@@ -90,7 +90,7 @@ impl UpperImmediate {
         UpperImmediate { value }
     }
 
-    /// The value, from 0 to 1048575.
+    /// Returns the value, from 0 to 1048575.
     pub const fn value(self) -> i32
         ensures value { result ≡ self }
         ensures range { IsUpperImmediate result }
@@ -98,7 +98,7 @@ impl UpperImmediate {
         self.value
     }
 
-    /// The value's 20 bits.
+    /// Returns the value's 20 bits.
     pub(crate) fn bits(self) -> u32
         ensures value { result ≡ low_bits 20 self }
         ensures width { result < 2 ^ 20 }
@@ -106,7 +106,7 @@ impl UpperImmediate {
         self.value as u32
     }
 
-    /// The immediate of these 20 bits.
+    /// Returns the immediate with these 20 bits.
     pub(crate) fn of_bits(bits: u32) -> UpperImmediate
         requires { bits < 2 ^ 20 }
         ensures { result ≡ pos bits }
@@ -136,7 +136,7 @@ impl Model for ShiftCount {
 }
 
 impl ShiftCount {
-    /// The count of that value, from 0 to 31.
+    /// Returns the count with this value, from 0 to 31.
     pub const fn new(value: i32) -> ShiftCount
         requires { IsShiftCount value }
         ensures { result ≡ value }
@@ -144,7 +144,7 @@ impl ShiftCount {
         ShiftCount { value }
     }
 
-    /// The value, from 0 to 31.
+    /// Returns the value, from 0 to 31.
     pub const fn value(self) -> i32
         ensures value { result ≡ self }
         ensures range { IsShiftCount result }
@@ -152,7 +152,7 @@ impl ShiftCount {
         self.value
     }
 
-    /// The value's 5 bits.
+    /// Returns the value's 5 bits.
     pub(crate) fn bits(self) -> u32
         ensures value { result ≡ low_bits 5 self }
         ensures width { result < 2 ^ 5 }
@@ -160,7 +160,7 @@ impl ShiftCount {
         self.value as u32
     }
 
-    /// The count of these 5 bits.
+    /// Returns the count with these 5 bits.
     pub(crate) fn of_bits(bits: u32) -> ShiftCount
         requires { bits < 2 ^ 5 }
         ensures { result ≡ pos bits }

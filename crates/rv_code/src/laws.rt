@@ -4,8 +4,8 @@ ghost use Rattle.rv_code.specs.Operands.{IsInRange};
 ghost use Rattle.rv_code.specs.Table.{encoding};
 ghost use Rattle.rv_code.specs.declared.instructions.Instr.{Instr};
 
-/// The laws of the table of instructions: the word of an instruction decodes to it, what a word decodes to
-/// has that word, a word has 32 bits, and distinct instructions have distinct words. It does nothing.
+/// Law: the word of an instruction decodes to it, an instruction that a word decodes to has that word, a
+/// word has 32 bits, and different instructions have different words. It has no effect at run time.
 pub fn table_laws()
     ensures decodes { (instr : Instr) → IsInRange instr → decoding (encoding instr) ≡ Some instr }
     ensures encodes { (word : ℕ) → word < 2 ^ 32 → FitsRow word (decoding word) }

@@ -1,9 +1,9 @@
 // The instructions of RV32IM and their words.
 //
-// In: an instruction (`Instr`, with operands that keep their own ranges) or a word. Out: the word of the
-// instruction (`encode`), or the instruction whose word that is (`decode`). The definitions are in specs/:
-// `Field` and `Format` lay out words, `Table` has a row an instruction, `Decoding` finds the row of a word,
-// `Operands` has the ranges. The crates above cite `encoding`, `decoding` and the laws that make them
+// In: an instruction (`Instr`, with operands whose types enforce their ranges) or a word. Out: the word of
+// the instruction (`encode`), or the instruction of the word (`decode`). The definitions are in specs/:
+// `Field` and `Format` lay out words, `Table` has a row for each instruction, `Decoding` finds the row of a
+// word, `Operands` has the ranges. The crates above cite `encoding`, `decoding` and the law that they are
 // inverse. Source: RISC-V unprivileged manual, chapters "RV32I", version 2.1, and "M", version 2.0.
 #![tactic(auto)]
 

@@ -25,7 +25,7 @@ impl Model for BranchOffset {
 }
 
 impl BranchOffset {
-    /// The offset of that value, even, from -4096 to 4094.
+    /// Returns the offset with this value, even, from -4096 to 4094.
     pub const fn new(value: i32) -> BranchOffset
         requires { IsBranchOffset value }
         ensures { result ≡ value }
@@ -33,7 +33,7 @@ impl BranchOffset {
         BranchOffset { value }
     }
 
-    /// The value, even, from -4096 to 4094.
+    /// Returns the value, even, from -4096 to 4094.
     pub const fn value(self) -> i32
         ensures value { result ≡ self }
         ensures range { IsBranchOffset result }
@@ -41,7 +41,7 @@ impl BranchOffset {
         self.value
     }
 
-    /// The value's 13 bits, in two's complement.
+    /// Returns the value's 13 bits, in two's complement.
     pub(crate) fn bits(self) -> u32
         ensures value { result ≡ low_bits 13 self }
         ensures width { result < 2 ^ 13 }
@@ -50,7 +50,7 @@ impl BranchOffset {
         self.value.cast_unsigned() & 0x1fff
     }
 
-    /// The offset of these 13 bits, in two's complement, of which the lowest is 0.
+    /// Returns the offset with these 13 bits, in two's complement; the lowest is 0.
     pub(crate) fn of_bits(bits: u32) -> BranchOffset
         requires width { bits < 2 ^ 13 }
         requires even { bits % 2 ≡ 0 }
@@ -84,7 +84,7 @@ impl Model for JumpOffset {
 }
 
 impl JumpOffset {
-    /// The offset of that value, even, from -1048576 to 1048574.
+    /// Returns the offset with this value, even, from -1048576 to 1048574.
     pub const fn new(value: i32) -> JumpOffset
         requires { IsJumpOffset value }
         ensures { result ≡ value }
@@ -92,7 +92,7 @@ impl JumpOffset {
         JumpOffset { value }
     }
 
-    /// The value, even, from -1048576 to 1048574.
+    /// Returns the value, even, from -1048576 to 1048574.
     pub const fn value(self) -> i32
         ensures value { result ≡ self }
         ensures range { IsJumpOffset result }
@@ -100,7 +100,7 @@ impl JumpOffset {
         self.value
     }
 
-    /// The value's 21 bits, in two's complement.
+    /// Returns the value's 21 bits, in two's complement.
     pub(crate) fn bits(self) -> u32
         ensures value { result ≡ low_bits 21 self }
         ensures width { result < 2 ^ 21 }
@@ -109,7 +109,7 @@ impl JumpOffset {
         self.value.cast_unsigned() & 0x1f_ffff
     }
 
-    /// The offset of these 21 bits, in two's complement, of which the lowest is 0.
+    /// Returns the offset with these 21 bits, in two's complement; the lowest is 0.
     pub(crate) fn of_bits(bits: u32) -> JumpOffset
         requires width { bits < 2 ^ 21 }
         requires even { bits % 2 ≡ 0 }

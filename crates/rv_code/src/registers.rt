@@ -22,7 +22,7 @@ impl Model for Register {
 }
 
 impl Register {
-    /// Register 0: reads as 0.
+    /// Register 0, which reads as 0.
     pub const ZERO: Register = Register { number: 0 };
 
     /// Register 1: the return address.
@@ -55,7 +55,7 @@ impl Register {
     /// Register 17: the number of a call of the run time.
     pub const A7: Register = Register { number: 17 };
 
-    /// The register of that number, which is below 32.
+    /// Returns the register with this number, which is below 32.
     pub const fn new(number: u32) -> Register
         requires { number < 32 }
         ensures { result ≡ number }
@@ -63,7 +63,7 @@ impl Register {
         Register { number }
     }
 
-    /// The register's number, below 32.
+    /// Returns the register's number, below 32.
     pub const fn number(self) -> u32
         ensures value { result ≡ self }
         ensures range { result < 32 }

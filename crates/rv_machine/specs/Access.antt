@@ -1,5 +1,5 @@
 -- The bytes that an instruction loads or stores: an address and a width. An access that isn't aligned, readable or
--- writable is a fault; it is told here all the same.
+-- writable is a fault, but is defined here all the same.
 use Rattle.std.specs.Prelude.{◌≡◌, ℕ, ◌+◌, ◌%◌, ◌<◌, ◌≤◌, Bool, true, List, Option, Some, None, Result, Ok, Err}
 use Rattle.cap_word.specs.declared.faults.FaultKind.{FaultKind}
 use Rattle.rv_code.specs.declared.instructions.Instr.{Instr}
@@ -8,7 +8,7 @@ use Rattle.rv_machine.specs.Bytes.{half_is_writable, word_is_writable, Nothing, 
 use Rattle.rv_machine.specs.Rows.{Machine, Outcome, Goes, Asks, Fails, address}
 use Rattle.rv_machine.specs.Step.{instruction_at}
 
--- so many bytes from an address on
+-- a number of bytes from an address on
 pub record Access : Type 0 where
   pub address : ℕ
   pub width : ℕ
@@ -71,7 +71,7 @@ abbrev pub access_of : Result Instr FaultKind → Machine → Option Access
 access_of (Ok instr) m = accessed instr m
 access_of (Err kind) m = None
 
--- the access of the machine's next step over that code; none where there is no instruction at pc
+-- the access of the machine's next step over that code; none if there is no instruction at pc
 unfoldable pub next_access : List ℕ → Machine → Option Access
 next_access code m = access_of (instruction_at code m.pc) m
 
@@ -80,11 +80,11 @@ abbrev pub IsAccessed : Option Access → ℕ → Type 0
 IsAccessed None at = ⊥
 IsAccessed (Some a) at = (a.address ≤ at) × (at < a.address + a.width)
 
--- two machines hold the same, and may write the same, in the bytes of the access
+-- two machines have the same bytes, and the same writable ones, in the access
 abbrev pub AgreeIn : Option Access → Machine → Machine → Type 0
 AgreeIn access m other = (at : ℕ) → IsAccessed access at → (m.bytes at ≡ other.bytes at) × (m.writable at ≡ other.writable at)
 
--- where a step stores, its access is what it stores, aligned, and all of it is writable
+-- if a step stores, it stores its whole access, which is aligned and writable
 abbrev pub Fills : Option Access → (ℕ → Bool) → Outcome → Type 0
 Fills accessed writable (Goes pc x Nothing) = Unit {0}
 Fills accessed writable (Goes pc x (Byte at value)) = (accessed ≡ access at 1) × (writable at ≡ true)

@@ -1,9 +1,9 @@
--- Memory as a function from an address to a byte, or none where the address isn't readable. Halves and words
--- are two and four bytes, the lowest first: RISC-V unprivileged manual, chapter "RV32I", section "Load and
--- Store Instructions", in a little-endian system.
+-- Memory as a function from an address to a byte, or none if the address isn't readable. Halves and words
+-- are two and four bytes, least significant byte first: RISC-V unprivileged manual, chapter "RV32I", section
+-- "Load and Store Instructions", in a little-endian system.
 use Rattle.std.specs.Prelude.{ℕ, ◌+◌, ◌*◌, ◌/◌, ◌%◌, ◌^◌, ◌==◌, Bool, ◌&&◌, if◌then◌else◌, Option, Some, None}
 
--- two parts, the lower one of `size` values, as one
+-- two parts as one, of which the lower one has `size` values
 abbrev pub joined : ℕ → Option ℕ → Option ℕ → Option ℕ
 joined size (Some low) (Some high) = Some (low + size * high)
 joined size (Some low) None = None
@@ -21,27 +21,28 @@ abbrev pub replaced : Option ℕ → ℕ → Option ℕ
 replaced None byte = None
 replaced (Some old) byte = Some byte
 
--- memory after a byte is written: if the address is readable it holds the byte, and every other byte stays
+-- memory after a byte is stored: the address has the byte if it is readable, and every other byte stays the
+-- same
 unfoldable pub put_byte : (ℕ → Option ℕ) → ℕ → ℕ → ℕ → Option ℕ
 put_byte bytes address byte at = if at == address then replaced (bytes at) byte else bytes at
 
--- ---- memory of any kind, where `put` says what it is after a byte is written
+-- ---- memory of any kind; `put` is its value after a byte is stored
 
--- after a half and after a word is written, the lowest byte first
+-- after a half and after a word is stored, the lowest byte first
 unfoldable pub with_half : {S : Type 0} → (S → ℕ → ℕ → S) → S → ℕ → ℕ → S
 with_half put memory address half = put (put memory address (half % 2 ^ 8)) (address + 1) (half / 2 ^ 8)
 
 unfoldable pub with_word : {S : Type 0} → (S → ℕ → ℕ → S) → S → ℕ → ℕ → S
 with_word put memory address word = with_half put (with_half put memory address (word % 2 ^ 16)) (address + 2) (word / 2 ^ 16)
 
--- what is stored: nothing, or a byte, a half or a word at an address
+-- a store: none, or of a byte, a half or a word at an address
 pub data Stored : Type 0 where
   Nothing : Stored
   Byte : (address value : ℕ) → Stored
   Half : (address value : ℕ) → Stored
   Word : (address value : ℕ) → Stored
 
--- memory after that is stored
+-- memory after that store
 abbrev pub with_stored : {S : Type 0} → (S → ℕ → ℕ → S) → Stored → S → S
 with_stored put Nothing memory = memory
 with_stored put (Byte address value) memory = put memory address value

@@ -1,5 +1,5 @@
--- The table of instructions: what each does, in the order of the tables of the RISC-V unprivileged manual
--- (chapters "RV32I", version 2.1, and "M", version 2.0).
+-- The table of instructions: the effect of each, in the order of the tables of the RISC-V unprivileged
+-- manual (chapters "RV32I", version 2.1, and "M", version 2.0).
 use Rattle.std.specs.Prelude.{ℕ, ℤ, ◌==◌, ◌-◌, ◌*◌, ◌%◌, ◌^◌, not, int_lt, nat_lt, bit_and, bit_or, bit_xor}
 use Rattle.cap_word.specs.Word as word
 use Rattle.cap_word.specs.Word.{word_of, signed}
@@ -13,7 +13,7 @@ use Rattle.rv_machine.specs.Rows.{Machine, Outcome, Asks, Fails, address, relati
 abbrev pub upper : ℤ → ℕ
 upper imm = word_of imm * 2 ^ 12 % 2 ^ 32
 
--- what an instruction does to the machine
+-- the effect of an instruction on the machine
 unfoldable pub effect : Instr → Machine → Outcome
 effect (Lui rd imm) m = sets m rd (upper imm)
 effect (Auipc rd imm) m = sets m rd (word.add m.pc (upper imm))

@@ -1,4 +1,4 @@
--- What a row of the table does to the machine, by its form.
+-- The effect of a row of the table on the machine, by its form.
 use Rattle.std.specs.Prelude.{true}
 use Rattle.rv_machine.specs.declared.rows.Row.{Row}
 use Rattle.rv_machine.specs.declared.rows.Row.TheVariants as row

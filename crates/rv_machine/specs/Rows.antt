@@ -1,4 +1,4 @@
--- What an instruction does to the machine, in the few forms that the rows of the table have.
+-- The effect of an instruction on the machine, in the few forms of the table's rows.
 use Rattle.std.specs.Prelude.{ℕ, ◌%◌, ◌^◌, ◌==◌, Bool, if◌then◌else◌, List, ℤ, Option, Some, None, Result, Ok, Err}
 use Rattle.cap_word.specs.Word as word
 use Rattle.cap_word.specs.declared.faults.FaultKind.{FaultKind}
@@ -7,21 +7,21 @@ use Rattle.rv_code.specs.Field.{signed}
 use Rattle.rv_machine.specs.Bytes.{half_at, word_at, half_is_writable, word_is_writable, Stored, Nothing, Byte, Half, Word}
 use Rattle.rv_machine.specs.Registers.{read, write}
 
--- the machine: the place of the instruction, the registers, the readable bytes and the writable addresses
+-- the machine: pc, the registers, the readable bytes and the writable addresses
 pub record Machine : Type 0 where
   pub pc : ℕ
   pub x : List ℕ
   pub bytes : ℕ → Option ℕ
   pub writable : ℕ → Bool
 
--- what a step comes to: it goes on with that pc and those registers and has stored this, it asks for the call of
--- that number, or it is a fault
+-- the outcome of a step: it continues with this pc, these registers and this store; it asks for the call with
+-- this number; or it is a fault
 pub data Outcome : Type 0 where
   Goes : (pc : ℕ) (x : List ℕ) (stored : Stored) → Outcome
   Asks : (number : ℕ) → Outcome
   Fails : (kind : FaultKind) → Outcome
 
--- the place of the next instruction
+-- the address of the next instruction
 abbrev pub next : Machine → ℕ
 next m = word.add m.pc 4
 
@@ -29,30 +29,30 @@ next m = word.add m.pc 4
 abbrev pub address : Machine → ℕ → ℤ → ℕ
 address m rs1 imm = word.add (read m.x rs1) (word.word_of imm)
 
--- the place an offset away from the instruction
+-- the address at an offset from the instruction
 abbrev pub relative : Machine → ℤ → ℕ
 relative m imm = word.add m.pc (word.word_of imm)
 
--- nothing but pc changes
+-- only pc changes
 unfoldable pub passes : Machine → Outcome
 passes m = Goes (next m) m.x Nothing
 
--- a register gets a value
+-- a register is set
 unfoldable pub sets : Machine → ℕ → ℕ → Outcome
 sets m rd value = Goes (next m) (write m.x rd value) Nothing
 
--- a jump, which leaves the next place in a register
+-- a jump, which sets a register to the next instruction's address
 unfoldable pub jumps : Machine → ℕ → ℕ → Outcome
 jumps m rd target = if target % 4 == 0 then Goes target (write m.x rd (next m)) Nothing else Fails Misaligned
 
--- a branch, taken where the test holds
+-- a branch, taken if the test holds
 unfoldable pub branches : Machine → ℤ → Bool → Outcome
 branches m imm taken =
     if taken then (if relative m imm % 4 == 0 then Goes (relative m imm) m.x Nothing else Fails Misaligned) else passes m
 
 -- ---- loads
 
--- what was found at an address
+-- the value found at an address, or the fault
 abbrev pub found : Option ℕ → Result ℕ FaultKind
 found (Some value) = Ok value
 found None = Err Load
@@ -71,14 +71,14 @@ unfoldable pub extended : ℕ → Result ℕ FaultKind → Result ℕ FaultKind
 extended width (Ok value) = Ok (word.word_of (signed width value))
 extended width (Err kind) = Err kind
 
--- a register gets what was loaded
+-- a register is set to the loaded value
 unfoldable pub loads : Machine → ℕ → Result ℕ FaultKind → Outcome
 loads m rd (Ok value) = sets m rd value
 loads m rd (Err kind) = Fails kind
 
 -- ---- stores
 
--- this is stored, where all of it is writable
+-- this is stored, if all of it is writable
 abbrev pub stores : Machine → Bool → Stored → Outcome
 stores m writable stored = if writable then Goes (next m) m.x stored else Fails Store
 

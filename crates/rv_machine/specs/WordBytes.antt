@@ -1,16 +1,16 @@
--- The four bytes of a word, numbered from 0, the lowest first: how memory that is kept by words is read and written
--- by bytes.
+-- The four bytes of a word, numbered from 0, least significant byte first: how memory that consists of words is
+-- read and written by bytes.
 use Rattle.std.specs.Prelude.{◌≡◌, ℕ, ◌+◌, ◌-◌, ◌*◌, ◌/◌, ◌%◌, ◌^◌, ◌<◌, List, Option, Some, slice_index, slice_set}
 
 -- one byte of a word
 abbrev pub byte_of : ℕ → ℕ → ℕ
 byte_of word k = word / 2 ^ (8 * k) % 2 ^ 8
 
--- the word with that byte in the place of the one that it had
+-- the word with that byte replaced
 abbrev pub word_with : ℕ → ℕ → ℕ → ℕ
 word_with word k byte = word - byte_of word k * 2 ^ (8 * k) + byte * 2 ^ (8 * k)
 
--- the byte so far behind the first byte of a row of words, and the row with another byte there
+-- the byte at a distance from the first byte of a row of words, and the row with that byte replaced
 abbrev pub byte_in : List ℕ → ℕ → ℕ
 byte_in words offset = byte_of (slice_index words (offset / 4)) (offset % 4)
 

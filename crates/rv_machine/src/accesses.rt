@@ -7,7 +7,7 @@ use crate::registers::Regs;
 use crate::results::StepResult;
 use cap_word::{FaultKind, sub};
 
-// What is loaded from an address, or the fault.
+// The byte loaded from an address, or the fault.
 
 #[tactic(auto, unfolding(crate::specs::Rows::byte_loaded))]
 pub(crate) fn load_byte<M: Memory>(memory: &M, address: u32) -> Result<u32, FaultKind>
@@ -68,7 +68,7 @@ pub(crate) fn extend_half(loaded: Result<u32, FaultKind>) -> Result<u32, FaultKi
     })
 }
 
-// A store, and on to the next instruction.
+// Stores a byte, and continues with the next instruction.
 
 #[tactic(auto, unfolding(crate::specs::Rows::byte_stored))]
 pub(crate) fn store_byte<M: Memory>(

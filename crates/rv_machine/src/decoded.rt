@@ -7,12 +7,12 @@ use crate::memory::Memory;
 use crate::registers::Regs;
 use crate::results::StepResult;
 use crate::rows::row_of;
-use crate::stepping::CODE_START;
 use cap_word::FaultKind;
 use rv_code::Instr;
+use stack_image::CODE_START;
 
-/// One step, as `step` does it, over code whose words were decoded before: whatever words the list is the decoding of,
-/// the step is that over those words, by the same table and with the same answers.
+/// Executes one step, like `step`, over decoded words: if the list is the decoding of some words, the step is that over
+/// these words, by the same table and with the same result.
 #[tactic(auto, unfolding(crate::specs::Step::outcome, crate::specs::Step::started))]
 pub fn step_decoded<M: Memory>(
     code: &[Option<Instr>],
@@ -35,8 +35,8 @@ pub fn step_decoded<M: Memory>(
     }
 }
 
-/// One step, as `step` does it, of an instruction that the caller has fetched: over whatever words this instruction stands
-/// at pc, the step is that over those words, by the same table and with the same answers. Nothing is fetched or tested again.
+/// Executes one step, like `step`, of an instruction that the caller has fetched: for all code with this instruction at
+/// pc, the step is that over this code, by the same table and with the same result. Nothing is fetched or tested again.
 #[tactic(auto, unfolding(crate::specs::Step::outcome, crate::specs::Step::started))]
 pub fn step_of<M: Memory>(instr: Instr, memory: &mut M, regs: &mut Regs) -> StepResult
     ensures answer { (words : List ℕ) → instruction_at words regs.old.pc ≡ Ok instr →

@@ -8,7 +8,7 @@ use crate::registers::Regs;
 use crate::results::StepResult;
 use crate::rows::Row;
 
-// Does what a row says.
+// Executes a row.
 #[tactic(auto, unfolding(crate::specs::RowEffect::row_effect, crate::specs::Rows::sets, crate::specs::Rows::passes))]
 pub(crate) fn execute<M: Memory>(row: Row, memory: &mut M, regs: &mut Regs) -> StepResult
     ensures answer { result ≡ answer (row_effect row (machine regs.old (M.byte_at memory.old) (M.is_writable memory.old))) regs.old }

@@ -6,8 +6,8 @@ ghost use Rattle.rv_machine.specs.Step.{outcome, bytes_after, machine_after};
 ghost use Rattle.rv_machine.specs.WordBytes.{byte_of, word_with, byte_in, words_with, HoldsWord};
 ghost use Rattle.rv_machine.specs.Words.{IsWords, TellsWords};
 
-/// The laws of the access of a step, for any code and machine: a step changes no byte outside its access,
-/// depends on no other byte, and what it stores is the whole access, all of it writable. It does nothing.
+/// Law: for any code and machine, a step changes no byte outside its access and depends on no other byte, and
+/// what it stores is the whole access, all of it writable.
 pub fn access_laws()
     ensures stays { (code : List ℕ) (m : Machine) (at : ℕ) → ¬ IsAccessed (next_access code m) at →
         bytes_after (outcome code m) m.bytes at ≡ m.bytes at }
@@ -16,16 +16,16 @@ pub fn access_laws()
     ensures fills { (code : List ℕ) (m : Machine) → Fills (next_access code m) m.writable (outcome code m) }
 {}
 
-/// The laws of words, for any code: a step of a machine of words leaves one, and what it stores or asks for are
-/// words. It does nothing.
+/// Law: for any code, a step of a machine of words leads to a machine of words, and it stores and asks only for
+/// words.
 pub fn word_laws()
     ensures stay { (code : List ℕ) (m : Machine) → IsWords m → IsWords (machine_after (outcome code m) m) }
     ensures told { (code : List ℕ) (m : Machine) → IsWords m → TellsWords (outcome code m) }
 {}
 
-/// The laws of words and their bytes: a byte that is put into a word is there, the others stay, and it is a word;
-/// four bytes of a word are that word; the same of a row of words, where a word is written by an index. It does
-/// nothing.
+/// Law: a byte that is written into a word is then in it, the other bytes stay the same, and the result is a
+/// word; the four bytes of a word spell that word; the same holds for a row of words, of which one is written by
+/// its index.
 pub fn byte_laws()
     ensures same { (word k byte : ℕ) → k < 4 → byte < 2 ^ 8 → byte_of (word_with word k byte) k ≡ byte }
     ensures others { (word k j byte : ℕ) → k < 4 → j < 4 → j ≢ k → byte < 2 ^ 8 → byte_of (word_with word k byte) j ≡ byte_of word j }

@@ -1,10 +1,10 @@
 ghost use Rattle.std.specs.Prelude.{◌≡◌, ℕ, ◌%◌, ◌<◌, ◌^◌, Bool, Option, if◌then◌else◌};
 ghost use Rattle.rv_machine.specs.Bytes.{half_at, word_at, put_byte, with_half, with_word, half_is_writable, word_is_writable};
 
-/// Memory by bytes. It means a function from an address to a byte, or to none where the address isn't
-/// readable, the test of what is writable, and what the whole value is after a byte was written, so that a
-/// store is told to leave all that isn't memory. Halves and words are little-endian (RISC-V unprivileged
-/// manual, chapter "RV32I", section "Load and Store Instructions").
+/// Memory by bytes. Contracts see it as three functions: from an address to its byte, or to none if it
+/// isn't readable; from an address to whether it is writable; and from a store to the whole value after it,
+/// so a store leaves everything unchanged that isn't memory. Halves and words are little-endian (RISC-V
+/// unprivileged manual, chapter "RV32I", section "Load and Store Instructions").
 pub trait Memory {
     ghost byte_at: { Self → ℕ → Option ℕ };
 
@@ -12,24 +12,25 @@ pub trait Memory {
 
     ghost with_byte: { Self → ℕ → ℕ → Self };
 
-    /// The byte at the address, or None exactly where it isn't readable.
+    /// Returns the byte at the address, or `None` exactly if it isn't readable.
     fn load(&self, address: u32) -> Option<u8>
         ensures { result ≡ byte_at self.now address };
 
-    /// Tells whether the byte at the address is writable.
+    /// Returns whether the byte at the address is writable.
     fn can_store(&self, address: u32) -> bool
         ensures { result ≡ is_writable self.now address };
 
-    /// Writes the byte at the address, and answers whether it is writable. Where it isn't, nothing changes.
-    /// Where it is, the address, if it is readable, holds the byte, and every other byte stays. What is
-    /// readable and what is writable never changes.
+    /// Stores a byte at the address, and returns whether the address is writable. If it isn't, nothing
+    /// changes. If it is, the address has the byte, provided that it is readable, and every other byte
+    /// stays the same. Which bytes are readable and which are writable never changes.
     fn store(&mut self, address: u32, byte: u8) -> bool
         ensures answer { result ≡ is_writable self.old address }
         ensures bytes { (at : ℕ) → byte_at self.new at ≡ (if result then put_byte (byte_at self.old) address byte at else byte_at self.old at) }
         ensures writable { (at : ℕ) → is_writable self.new at ≡ is_writable self.old at }
         ensures whole { self.new ≡ (if result then with_byte self.old address byte else self.old) };
 
-    /// The half of two bytes at the address, a multiple of 2, or None where one isn't readable.
+    /// Returns the half of two bytes at the address, a multiple of 2, or `None` if one of them isn't
+    /// readable.
     #[inline(always)]
     #[tactic(auto, unfolding(crate::specs::Bytes::half_at))]
     fn load_half(&self, address: u32) -> Option<u16>
@@ -41,7 +42,8 @@ pub trait Memory {
         Some(u16::from(low) + (u16::from(high) << 8))
     }
 
-    /// The word of four bytes at the address, a multiple of 4, or None where one isn't readable.
+    /// Returns the word of four bytes at the address, a multiple of 4, or `None` if one of them isn't
+    /// readable.
     #[tactic(auto, unfolding(crate::specs::Bytes::word_at))]
     fn load_word(&self, address: u32) -> Option<u32>
         requires { address % 4 ≡ 0 }
@@ -52,8 +54,8 @@ pub trait Memory {
         Some(u32::from(low) + (u32::from(high) << 16))
     }
 
-    /// Writes the half at the address, a multiple of 2, and answers whether both bytes are writable. Where
-    /// one isn't, nothing changes.
+    /// Stores a half at the address, a multiple of 2, and returns whether both bytes are writable. If one
+    /// isn't, nothing changes.
     #[tactic(auto, unfolding(crate::specs::Bytes::half_is_writable, crate::specs::Bytes::with_half))]
     fn store_half(&mut self, address: u32, half: u16) -> bool
         requires { address % 2 ≡ 0 }
@@ -68,8 +70,8 @@ pub trait Memory {
         self.store(address, (half & 0xff) as u8) && self.store(address + 1, (half >> 8) as u8)
     }
 
-    /// Writes the word at the address, a multiple of 4, and answers whether its four bytes are writable.
-    /// Where one isn't, nothing changes.
+    /// Stores a word at the address, a multiple of 4, and returns whether its four bytes are writable. If
+    /// one isn't, nothing changes.
     #[tactic(auto, unfolding(crate::specs::Bytes::word_is_writable, crate::specs::Bytes::half_is_writable, crate::specs::Bytes::with_word))]
     fn store_word(&mut self, address: u32, word: u32) -> bool
         requires { address % 4 ≡ 0 }

@@ -11,9 +11,10 @@ use crate::words::word;
 use cap_word::{FaultKind, add};
 use rv_code::{BranchOffset, Immediate, Register};
 
-// The moves that the rows of the table have in common. Those on registers hold for any memory, which stays.
+// The effects that the rows of the table share. Those on registers hold for any memory, which they leave
+// unchanged.
 impl Regs {
-    /// The value of a register; register 0 reads as 0.
+    /// Returns the value of a register; register 0 reads as 0.
     pub fn read(&self, register: Register) -> u32
         ensures { result ≡ file.read self.now.x register }
     {
@@ -23,7 +24,7 @@ impl Regs {
         }
     }
 
-    /// Gives a register a value; register 0 stays.
+    /// Sets a register; a write to register 0 has no effect.
     pub fn write(&mut self, register: Register, value: u32)
         ensures { self.new ≡ record self.old { x = file.write self.old.x register value } }
     {
@@ -40,7 +41,7 @@ impl Regs {
         add(self.read(rs1), word(imm.value()))
     }
 
-    // The place at an offset from the instruction.
+    // The address at an offset from the instruction.
     pub(crate) fn relative(&self, offset: i32) -> u32
         ensures { result ≡ word.add self.now.pc (word.word_of offset) }
     {
@@ -53,7 +54,7 @@ impl Regs {
         StepResult::Fault { pc: self.pc, kind }
     }
 
-    // On to the next instruction.
+    // Continues with the next instruction.
     pub(crate) fn advance(&mut self) -> StepResult
         ensures answer { result ≡ Went }
         ensures registers { self.new ≡ record self.old { pc = word.add self.old.pc 4 } }
@@ -62,7 +63,7 @@ impl Regs {
         StepResult::Went
     }
 
-    // A register gets a value.
+    // Sets a register.
     pub(crate) fn set(&mut self, rd: Register, value: u32) -> StepResult
         ensures answer { result ≡ Went }
         ensures registers { self.new ≡ record { pc = word.add self.old.pc 4; x = file.write self.old.x rd value } }
@@ -71,7 +72,7 @@ impl Regs {
         self.advance()
     }
 
-    // A jump, which leaves the next place in a register.
+    // A jump, which sets a register to the next instruction's address.
     #[tactic(auto, unfolding(crate::specs::Rows::jumps))]
     pub(crate) fn jump(&mut self, rd: Register, target: u32) -> StepResult
         ensures answer { (bytes : ℕ → Option ℕ) (writable : ℕ → Bool) → result ≡ answer (jumps (machine self.old bytes writable) rd target) self.old }

@@ -2,8 +2,8 @@
 /// for Base Integer ISA").
 #[derive(Clone, Copy, PartialEq, Eq)]
 pub struct Regs {
-    /// The place of the instruction.
+    /// The address of the instruction.
     pub pc: u32,
-    /// The values of the registers, by number. What stands at 0 is never read.
+    /// The values of the registers, by number. The value at 0 is never read.
     pub x: [u32; 32],
 }

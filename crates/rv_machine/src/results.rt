@@ -1,12 +1,12 @@
 use cap_word::FaultKind;
 
-/// What a step of the machine came to.
+/// The outcome of a step of the machine.
 #[derive(Clone, Copy, Debug, PartialEq, Eq)]
 pub enum StepResult {
-    /// The instruction is done.
+    /// The instruction was executed.
     Went,
-    /// An ECALL asks for the call of that number, which is in register 17. Nothing has changed.
+    /// An ECALL asks for the call with this number, which is in register 17. Nothing has changed.
     Call { number: u32 },
-    /// The instruction at that place can't be done, for that reason. Nothing has changed.
+    /// The instruction at `pc` can't be executed, for this reason. Nothing has changed.
     Fault { pc: u32, kind: FaultKind },
 }

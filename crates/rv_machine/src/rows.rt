@@ -13,31 +13,31 @@ use cap_word::{
 };
 use rv_code::{BranchOffset, Instr, Register};
 
-// What an instruction does, in the few forms that the rows of the table have, with the values that it reads. Each field but a
-// fault's kind has 32 bits, so that a value stays whole in a register of the processor on which this runs.
+// The effect of an instruction, in the few forms of the table's rows, with the values that it reads. Each field except
+// a fault's kind has 32 bits, so a value fits in one register of the host processor.
 #[derive(Drop)]
 pub(crate) enum Row {
-    // On to the next instruction.
+    // Continues with the next instruction.
     Passes,
-    // A register gets a value.
+    // A register is set.
     Sets(Register, u32),
-    // A jump to a place, which leaves the next place in a register.
+    // A jump to an address, which sets a register to the next instruction's address.
     Jumps(Register, u32),
     // A branch that is taken.
     Branches(BranchOffset),
-    // To an address, the low byte of a value is stored.
+    // The low byte of a value is stored at an address.
     StoresByte(u32, u32),
-    // To an address, the low half of a value is stored.
+    // The low half of a value is stored at an address.
     StoresHalf(u32, u32),
-    // To an address, a value is stored.
+    // A value is stored at an address.
     StoresWord(u32, u32),
-    // The call of that number is asked for.
+    // Asks for the call with this number.
     Asks(u32),
-    // It can't be done.
+    // The instruction can't be executed.
     Fails(FaultKind),
 }
 
-// The row of a branch, which is taken where the test holds.
+// The row of a branch, which is taken if the test holds.
 #[tactic(auto, unfolding(crate::specs::RowEffect::row_effect, crate::specs::Rows::branches, crate::specs::Rows::passes))]
 fn branch_row<M: Memory>(memory: &M, regs: &Regs, imm: BranchOffset, taken: bool) -> Row
     ensures { row_effect result (machine regs.now (M.byte_at memory.now) (M.is_writable memory.now)) ≡ branches (machine regs.now (M.byte_at memory.now) (M.is_writable memory.now)) imm taken }
@@ -49,7 +49,7 @@ fn branch_row<M: Memory>(memory: &M, regs: &Regs, imm: BranchOffset, taken: bool
     }
 }
 
-// The row of a load: a register gets what was loaded.
+// The row of a load: a register is set to the loaded value.
 #[tactic(auto, unfolding(crate::specs::RowEffect::row_effect, crate::specs::Rows::loads, crate::specs::Rows::sets))]
 fn load_row<M: Memory>(memory: &M, regs: &Regs, rd: Register, loaded: Result<u32, FaultKind>) -> Row
     ensures { row_effect result (machine regs.now (M.byte_at memory.now) (M.is_writable memory.now)) ≡ loads (machine regs.now (M.byte_at memory.now) (M.is_writable memory.now)) rd loaded }

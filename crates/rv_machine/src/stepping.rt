@@ -8,19 +8,17 @@ use crate::results::StepResult;
 use crate::rows::row_of;
 use cap_word::FaultKind;
 use rv_code::{Instr, decode};
-use stack_image::Image;
+use stack_image::{CODE_START, Image};
 
-// The first byte of the code.
-pub(crate) const CODE_START: u32 = 4096;
-
-/// One step: the instruction at pc, by the table of the RISC-V unprivileged manual, chapters "RV32I" and
-/// "M". The code stands from 0x1000, one word after another. Any image is taken, and no memory.
+/// Executes one step: the instruction at pc, by the table of the RISC-V unprivileged manual, chapters "RV32I"
+/// and "M". The code begins at 0x1000, one word after another. Any image is accepted; the call doesn't
+/// allocate.
 ///
-/// The answer is Went, where the instruction is done; Call, at an ECALL, which leaves pc there; or Fault
-/// with pc and the first kind that holds: Misaligned where pc is no multiple of 4, Fetch where it isn't in
-/// the code, Illegal where the word is no instruction, Break at an EBREAK, Misaligned where the address of
-/// a load or store is no multiple of its size or the target of a taken jump or branch no multiple of 4,
-/// Load or Store where a byte isn't readable or writable. After a call or a fault all is as before.
+/// The result is Went if the instruction was executed; Call at an ECALL, which leaves pc there; or Fault
+/// with pc and the first kind that applies: Misaligned if pc isn't a multiple of 4, Fetch if it isn't in
+/// the code, Illegal if the word isn't an instruction, Break at an EBREAK, Misaligned if the address of a
+/// load or store isn't a multiple of its size or the target of a taken jump or branch isn't a multiple of
+/// 4, Load or Store if a byte isn't readable or writable. A call or a fault changes nothing.
 #[tactic(auto, unfolding(crate::specs::Step::outcome, crate::specs::Step::started))]
 pub fn step<M: Memory>(image: &Image, memory: &mut M, regs: &mut Regs) -> StepResult
     ensures answer { result ≡ answer (outcome image.now.code (machine regs.old (M.byte_at memory.old) (M.is_writable memory.old))) regs.old }

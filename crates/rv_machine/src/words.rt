@@ -28,7 +28,7 @@ pub(crate) fn even(number: u32) -> u32
     number - (number & 1)
 }
 
-// Tells whether `a` is below `b`, both read as signed.
+// Returns whether `a` is below `b`, both signed.
 #[tactic(auto, unfolding(cap_word::specs::Word::slt, cap_word::specs::Word::flag))]
 pub(crate) fn is_below(a: u32, b: u32) -> bool
     ensures { result ≡ int_lt (signed a) (signed b) }

@@ -1,4 +1,4 @@
--- What is said of the bytes of a line, and of a log before it is the answer.
+-- What is said of the bytes of a line, and of a log up to its verdict.
 use Rattle.std.specs.Prelude.{◌≡◌, ℕ, suc, List, ◌++◌, length, Option, IfSome, Result, Ok, Err}
 use Rattle.lawful_reading.specs.Given.{Given}
 use Rattle.lawful_reading.specs.Reading.{IsBeyond, Leads}
@@ -22,7 +22,7 @@ pub record IsLine (line : List ℕ) (entry : Entry) : Type 0 where
   pub fits : FitsEntry entry
   pub text : entry_text entry ≡ line
 
--- the ruling is that of the entry whose line this is; or of no entry it is
+-- the ruling is that of the entry whose line this is, or the line is that of no entry
 abbrev pub RulesLine : Given → State → Kept → List ℕ → Option (List ℕ) → Kept → Option (List ℕ) → Result Ruling Failure → Type 0
 RulesLine g state old line told new told' (Ok ruling.Allowed) = (entry : Entry) × IsLine line entry × Allows g state old entry told new told'
 RulesLine g state old line told new told' (Ok ruling.Refused) = IsTold state old told → (entry : Entry) → IsLine line entry → Refuses g state entry
@@ -31,13 +31,13 @@ RulesLine g state old line told new told' (Err failure) = Unit {0}
 
 -- ---- a log
 
--- the verdict is what is said of the log, where the trace is told
+-- this is the verdict on the log, if the trace is exposed
 abbrev pub IsJudged : Given → Option (List ℕ) → List ℕ → Result Verdict Failure → Type 0
 IsJudged g left log (Ok verdict) = IsVerdictOf g left log verdict
 IsJudged g left log (Err failure) = Unit {0}
 
--- a log has been read up to this rest, and its next line has this number: the lines so far are allowed where the trace is told, of
--- which this is left now
+-- a log has been read up to this rest, and its next line has this number: if the trace is exposed, the lines so far are
+-- allowed, and this is the rest of the trace
 pub record IsReadTo (g : Given) (left : Option (List ℕ)) (log rest : List ℕ) (line : ℕ) (k : Kept) (now : Option (List ℕ)) : Type 0 where
   pub entries : List Entry
   pub state : State

@@ -20,18 +20,21 @@ use schedule_log::{Entry, LogError, read_entry};
 use schedule_reading::{AuditPolicy, End, Failure, Reading, Ruling, Shown, Under};
 use std::alloc::Global;
 
-/// Judges a log: whether each of its lines is allowed after those before it, and the last is a stop. The lines of choice points
-/// are those of the priority rule over the printed costs, outputs and blocking points those of the source's own run, edges those
-/// of all segments. The answer is
+/// Judges a log: whether each of its lines is allowed after those before it, and the last is a stop. The lines of
+/// choice points are those of the priority rule over the printed costs; outputs and blocking points are those of the
+/// source's own run; edges are those of all segments. Returns
 ///
-/// - `Lawful` exactly where every line is allowed and the last is a stop;
-/// - `Unlawful` at the first line that isn't, or at one more than there are where none is a stop;
-/// - `Steps` at the first line that needs, with those before it, more steps of the source than may be taken.
+/// - `Lawful` exactly if every line is allowed and the last is a stop;
+/// - `Unlawful` with the first line that isn't allowed, or the number of lines plus 1 if none is a stop;
+/// - `Steps` with the first line that needs, together with those before it, more steps of the source than the limit.
 ///
-/// It fails by `Failure::Read` where a read of the trace failed: its count of faults rose, or stands at its end. It fails by
-/// `Failure::Memory` where there was no memory.
+/// The limits are in their ranges, and the monitor is new, with the policy's caps and the number of chunks as the cap
+/// of resource 0.
 ///
-/// The limits are in their ranges, and the monitor is new, with the policy's caps and the number of chunks as that of resource 0.
+/// # Errors
+///
+/// - `Failure::Read` if a read of the trace failed: its count of faults rose, or is at its maximum.
+/// - `Failure::Memory` if an allocation fails.
 pub fn audit<S: Source, C: Measure + Drop>(
     alloc: Global,
     program: &Program,
@@ -54,14 +57,14 @@ pub fn audit<S: Source, C: Measure + Drop>(
     }
 }
 
-// The place of the first line feed.
+// Returns the index of the first line feed.
 fn line_end(bytes: &[u8]) -> Option<usize>
     ensures { result ≡ position (λ byte. byte == 10) bytes.now }
 {
     bytes.iter().position(|byte| *byte == b'\n')
 }
 
-/// Takes the lines of a log, one after another.
+/// Judges the lines of a log, one after another.
 fn lines<S: Source, C: Measure + Drop>(
     reading: &mut Reading<'_, C>,
     trace: &mut S,
@@ -89,7 +92,7 @@ fn lines<S: Source, C: Measure + Drop>(
     }
 }
 
-/// Takes one line, without its line feed.
+/// Judges one line, without its line feed.
 fn take_line<S: Source, C: Measure + Drop>(
     reading: &mut Reading<'_, C>,
     trace: &mut S,
@@ -108,7 +111,7 @@ fn take_line<S: Source, C: Measure + Drop>(
     }
 }
 
-/// Takes one entry, before the stop.
+/// Judges one entry before the stop.
 fn take_entry<S: Source, C: Measure + Drop>(
     reading: &mut Reading<'_, C>,
     trace: &mut S,
@@ -144,7 +147,7 @@ fn take_entry<S: Source, C: Measure + Drop>(
     }
 }
 
-/// A line of a choice point.
+/// Judges a line of a choice point.
 fn take_at_point<S: Source, C: Measure + Drop>(
     reading: &mut Reading<'_, C>,
     trace: &mut S,
@@ -172,7 +175,7 @@ fn take_at_point<S: Source, C: Measure + Drop>(
     }
 }
 
-/// A line of a segment.
+/// Judges a line of a segment.
 fn take_in_segment<'a, C: Measure + Drop>(
     reading: &mut Reading<'a, C>,
     mut under: Under<'a>,

@@ -17,7 +17,7 @@ use resource_monitor::Measure;
 use schedule_log::StopLine;
 use schedule_reading::{Between, End, Failure, Happening, Reading, Ruling, Under, ruling_of};
 
-/// A line `stop`.
+/// Judges a line `stop`.
 pub(crate) fn stop<S: Source, C: Measure + Drop>(
     reading: &mut Reading<'_, C>,
     trace: &mut S,
@@ -42,7 +42,7 @@ pub(crate) fn stop<S: Source, C: Measure + Drop>(
     }
 }
 
-/// Whether a stop has the cause that its line tells.
+/// Returns the ruling on a stop, by the cause that its line names.
 fn stop_cause<S: Source, C: Measure + Drop>(
     reading: &mut Reading<'_, C>,
     trace: &mut S,
@@ -67,7 +67,7 @@ fn stop_cause<S: Source, C: Measure + Drop>(
     }
 }
 
-/// A stop that cuts the segment under way.
+/// Judges a stop that cuts the segment in progress off.
 fn cut<C: Measure + Drop>(
     reading: &mut Reading<'_, C>,
     thread: u32,
@@ -95,8 +95,7 @@ fn cut<C: Measure + Drop>(
     }
 }
 
-/// Whether a stop's line tells of the thread under way, and of a cost and free chunks that
-/// may be.
+/// Checks whether a stop's line names the running thread, with a possible cost and number of free chunks.
 fn tells<'a, C: Measure + Drop>(
     reading: &Reading<'a, C>,
     under: &Under<'a>,
@@ -110,7 +109,7 @@ fn tells<'a, C: Measure + Drop>(
     thread == under.choice.thread.number && is_within(reading, cost, free)
 }
 
-/// Whether the segment under way has this cause to be cut, after a cost.
+/// Returns the ruling on a cut of the segment in progress by this cause, after a cost.
 fn cut_cause<'a, C: Measure + Drop>(
     reading: &mut Reading<'a, C>,
     under: &mut Under<'a>,
@@ -129,7 +128,7 @@ fn cut_cause<'a, C: Measure + Drop>(
     }
 }
 
-/// Whether the thread next traps so.
+/// Returns the ruling on a trap of this kind: it is allowed if the thread traps next in this way.
 fn trap<'a, C: Measure + Drop>(
     reading: &mut Reading<'a, C>,
     under: &mut Under<'a>,

@@ -14,7 +14,7 @@ use schedule_reading::{Failure, Happening, Reading, Ruling, Under, is_key_of, ru
 /// The node of threads that have ended.
 const END: u32 = 1;
 
-/// What the thread under way comes to next, by the steps that are left.
+/// Runs the thread in progress to what it does next, within the remaining steps.
 pub(crate) fn proceed<'a, C: Measure + Drop>(
     reading: &mut Reading<'a, C>,
     under: &mut Under<'a>,
@@ -30,7 +30,7 @@ pub(crate) fn proceed<'a, C: Measure + Drop>(
     happened
 }
 
-/// A line `out`.
+/// Judges a line `out`.
 pub(crate) fn out<'a, C: Measure + Drop>(
     reading: &mut Reading<'a, C>,
     mut under: Under<'a>,
@@ -50,7 +50,7 @@ pub(crate) fn out<'a, C: Measure + Drop>(
     }
 }
 
-/// A line `block`.
+/// Judges a line `block`.
 pub(crate) fn block<'a, C: Measure + Drop>(
     reading: &mut Reading<'a, C>,
     mut under: Under<'a>,
@@ -84,7 +84,7 @@ pub(crate) fn block<'a, C: Measure + Drop>(
     }
 }
 
-/// A line `end`.
+/// Judges a line `end`.
 pub(crate) fn end_line<'a, C: Measure + Drop>(
     reading: &mut Reading<'a, C>,
     under: &mut Under<'a>,
@@ -110,7 +110,7 @@ pub(crate) fn end_line<'a, C: Measure + Drop>(
     }
 }
 
-/// Whether a line of a thread, a cost and a number of free chunks may end a segment here, of the thread of this number.
+/// Checks whether a line with this thread, cost and number of free chunks may end the segment of the thread `number`.
 fn ends_segment<C: Measure + Drop>(
     reading: &Reading<'_, C>,
     number: u32,
@@ -124,7 +124,7 @@ fn ends_segment<C: Measure + Drop>(
     reading.is_before_end() && thread == number && is_closing(reading, cost, free)
 }
 
-/// Whether a cost and a number of free chunks may stand on the line of a segment's end.
+/// Checks whether a cost and a number of free chunks are possible at a segment's end.
 fn is_closing<C: Measure + Drop>(reading: &Reading<'_, C>, cost: u64, free: u32) -> bool
     requires { reading.now.core.cost ≤ reading.now.core.policy.fuel }
     ensures { IsTrue result ↔ IsClosing reading.now.core cost free }
@@ -132,7 +132,8 @@ fn is_closing<C: Measure + Drop>(reading: &Reading<'_, C>, cost: u64, free: u32)
     cost >= 1 && is_within(reading, cost, free)
 }
 
-/// Whether they may stand on a line: the total is at most the fuel, and no more chunks are free than there are.
+/// Checks whether a cost and a number of free chunks are possible: the total cost is at most the fuel, and at most all
+/// chunks are free.
 pub(crate) fn is_within<C: Measure + Drop>(reading: &Reading<'_, C>, cost: u64, free: u32) -> bool
     requires { reading.now.core.cost ≤ reading.now.core.policy.fuel }
     ensures { IsTrue result ↔ IsWithin reading.now.core cost free }

@@ -1,4 +1,4 @@
--- The entries whose numbers fit the types of their fields, as those of every entry in a program do.
+-- The entries whose numbers fit the types of their fields, as in every entry of the code.
 use Rattle.std.specs.Prelude.{◌≡◌, ℕ, ℤ, List, length, ◌^◌, ◌<◌, ◌≤◌, FitsSigned}
 use Rattle.std.specs.Int.{w32, w128}
 use Rattle.std.specs.List.{AllByRecursion}

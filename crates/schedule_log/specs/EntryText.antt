@@ -13,11 +13,11 @@ use Rattle.schedule_log.specs.declared.entries.StopLine.TheVariants.{Done, Idle,
 use Rattle.schedule_log.specs.declared.entries.Entry.{Entry}
 use Rattle.schedule_log.specs.declared.entries.Entry.TheVariants.{Event, Dropped, Run, Out, Block, End, Edge, Stop}
 
--- site numbers, each after `<`
+-- site numbers, each preceded by `<`
 abbrev pub more_sites : List ℕ → List ℕ
 more_sites sites = flat_map (λ next. 60 ∷ canonical_decimal next) sites
 
--- a key's field: its site numbers with `<` between, the innermost first
+-- a key's field: its site numbers separated by `<`, the innermost first
 abbrev pub key_field : List ℕ → List ℕ
 key_field [] = []
 key_field (site ∷ sites) = canonical_decimal site ++ flat_map (λ next. 60 ∷ canonical_decimal next) sites
@@ -32,7 +32,7 @@ abbrev pub item_fields : Item → List (List ℕ)
 item_fields (Arrive value) = codes "arrive" ∷ canonical_integer value ∷ []
 item_fields (Data channel value) = codes "data" ∷ canonical_decimal channel ∷ canonical_integer value ∷ []
 
--- why a segment was cut, its thread, and the kind of a trap
+-- why a segment was cut off, its thread, and the kind of a trap
 abbrev pub cause_fields : ℕ → Cause → List (List ℕ)
 cause_fields thread (Trap kind) = codes "trap" ∷ canonical_decimal thread ∷ trap_field kind ∷ []
 cause_fields thread NoChunk = codes "nochunk" ∷ canonical_decimal thread ∷ []
@@ -45,7 +45,7 @@ stop_fields Idle = codes "idle" ∷ []
 stop_fields (Trace line) = codes "trace" ∷ canonical_decimal line ∷ []
 stop_fields (Cut thread stop cost free) = cause_fields thread stop ++ (canonical_decimal cost ∷ canonical_decimal free ∷ [])
 
--- the word that a line begins with
+-- the first word of a line
 abbrev pub entry_word : Entry → List ℕ
 entry_word (Event _ _) = codes "event"
 entry_word (Dropped _ _) = codes "drop"
@@ -67,7 +67,7 @@ entry_fields (End thread cost free) = canonical_decimal thread ∷ canonical_dec
 entry_fields (Edge from to count cost changes) = canonical_decimal from ∷ canonical_decimal to ∷ canonical_decimal count ∷ canonical_integer cost ∷ map canonical_integer changes
 entry_fields (Stop line) = stop_fields line
 
--- fields, each after a blank
+-- fields, each preceded by a space
 abbrev pub after_blanks : List (List ℕ) → List ℕ
 after_blanks fields = flat_map (λ field. 32 ∷ field) fields
 
@@ -75,6 +75,6 @@ after_blanks fields = flat_map (λ field. 32 ∷ field) fields
 unfoldable pub entry_text : Entry → List ℕ
 entry_text entry = entry_word entry ++ after_blanks (entry_fields entry)
 
--- a log: the line of each entry, and a line feed after each
+-- a log: the line of each entry, each followed by a line feed
 unfoldable pub log_text : List Entry → List ℕ
 log_text entries = flat_map (λ entry. entry_text entry ++ 10 ∷ []) entries

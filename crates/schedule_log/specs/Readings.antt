@@ -1,4 +1,4 @@
--- What the readers of a line's fields answer.
+-- The results of the readers of a line's fields.
 use Rattle.std.specs.Prelude.{◌≡◌, ℕ, List, [], ◌∷◌, ◌++◌, ◌^◌, ◌<◌}
 use Rattle.cap_text.specs.Decimals.{canonical_decimal}
 use Rattle.cap_word.specs.declared.stops.Stop.{Stop}
@@ -15,7 +15,7 @@ SpellsItem fields item = FitsItem item × (fields ≡ item_fields item)
 abbrev pub SpellsNoItem : List (List ℕ) → Type 0
 SpellsNoItem fields = (item : Item) → FitsItem item → fields ≡ item_fields item → ⊥
 
--- the same of why a run stopped
+-- the same for why a run stopped
 abbrev pub SpellsStop : List (List ℕ) → StopLine → Type 0
 SpellsStop fields stop = FitsStop stop × (fields ≡ stop_fields stop)
 
@@ -27,7 +27,7 @@ abbrev pub SpellsNoCut : List (List ℕ) → Type 0
 SpellsNoCut fields = (thread cost free : ℕ) (stop : Stop) → thread < 2 ^ 32 → cost < 2 ^ 64 → free < 2 ^ 32
     → fields ≡ cause_fields thread stop ++ (canonical_decimal cost ∷ canonical_decimal free ∷ []) → ⊥
 
--- the same of an entry whose line begins with that word
+-- the same for an entry whose line begins with that word
 abbrev pub SpellsEntry : List ℕ → List (List ℕ) → Entry → Type 0
 SpellsEntry word fields entry = FitsEntry entry × (word ≡ entry_word entry) × (fields ≡ entry_fields entry)
 

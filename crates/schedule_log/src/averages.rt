@@ -2,8 +2,8 @@ ghost use Rattle.std.specs.Prelude.{◌≡◌, ◌≤◌, length};
 
 use std::marker::Model;
 
-/// The averages of an edge of the blocking graph: how the use of each resource changed over it, in 256ths. They are a
-/// list of one to eight numbers, that of resource 0 first.
+/// The averages of an edge of the blocking graph: the average change in the use of each resource, scaled by 256. They
+/// are a list of one to eight numbers, that of resource 0 first.
 #[derive(Clone, Copy)]
 pub struct Averages {
     used: u32,
@@ -26,10 +26,10 @@ impl Model for Averages {
 }
 
 impl Averages {
-    /// The most averages that an edge has.
+    /// The maximum number of averages of an edge.
     pub const MOST: usize = 8;
 
-    /// These averages, that of resource 0 first.
+    /// Returns these averages, that of resource 0 first.
     pub fn new(values: &[i128]) -> Averages
         requires some { 1 ≤ length values.now }
         requires fits { length values.now ≤ 8 }
@@ -43,7 +43,7 @@ impl Averages {
         }
     }
 
-    /// The averages, that of resource 0 first.
+    /// Returns the averages, that of resource 0 first.
     pub fn values(&self) -> &[i128]
         ensures all { result.now ≡ self.now }
         ensures some { 1 ≤ length result.now }

@@ -1,7 +1,7 @@
 use crate::Averages;
 use cap_word::{SiteKey, Stop};
 
-/// What came from outside.
+/// What arrived from outside.
 #[derive(Clone, Copy)]
 pub enum Item {
     /// An arrival, with its word as a signed number.
@@ -15,13 +15,13 @@ pub enum Item {
 pub enum StopLine {
     /// Every thread ended.
     Done,
-    /// The trace is over, and no thread will be ready again.
+    /// The trace has ended, and no thread will become ready.
     Idle,
-    /// That line of the trace was refused, counted from 1.
+    /// This line of the trace, counted from 1, was refused.
     Trace {
         line: u64,
     },
-    /// The thread's segment was cut after that cost, with so many chunks free.
+    /// The thread's segment was cut off after this cost, with this number of chunks free.
     Cut {
         thread: u32,
         stop: Stop,
@@ -30,8 +30,8 @@ pub enum StopLine {
     },
 }
 
-/// A line of the log. Threads, nodes and channels are numbers, a clock and a cost count instructions, and `free` counts
-/// the chunks that were free after it.
+/// A line of the log. Threads, nodes and channels are numbers, clocks and costs count instructions, and `free` is the
+/// number of free chunks afterwards.
 #[derive(Clone, Copy)]
 pub enum Entry {
     /// `event`: the item was delivered at that clock.
@@ -50,12 +50,12 @@ pub enum Entry {
         thread: u32,
         node: u32,
     },
-    /// `out`: the thread put out that word, as a signed number.
+    /// `out`: the thread output that word, as a signed number.
     Out {
         thread: u32,
         value: i32,
     },
-    /// `block`: the thread blocked at the node, whose key this is, after a segment of that cost.
+    /// `block`: the thread blocked at the node with this key, after a segment of that cost.
     Block {
         thread: u32,
         node: u32,
@@ -63,14 +63,14 @@ pub enum Entry {
         cost: u64,
         free: u32,
     },
-    /// `end`: the thread ended after a segment of that cost; its last chunk is free too.
+    /// `end`: the thread ended after a segment of that cost; its last chunk is free again.
     End {
         thread: u32,
         cost: u64,
         free: u32,
     },
-    /// `edge`: an edge of the blocking graph, with the number of its records and their averages in 256ths: of the cost,
-    /// and of the change in the use of each resource.
+    /// `edge`: an edge of the blocking graph, with the number of its records and their averages scaled by 256: of the
+    /// cost, and of the change in the use of each resource.
     Edge {
         from: u32,
         to: u32,

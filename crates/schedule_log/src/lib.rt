@@ -3,10 +3,10 @@
 // An `Entry` is one line of the log: an event that was delivered or dropped, a thread that was
 // chosen, a value that it output, where it blocked or ended, an edge of the blocking graph, or why
 // the run stopped. A `LogWriter` writes the lines of entries to a sink through a buffer,
-// `put_entry` writes one directly, and `read_entry` reads a line back. All cite one definition of
-// the text of an entry; `log_text` is the text of a list of entries, which the law of a whole run
-// cites. A line is a word and fields separated by one space, with numbers as canonical decimals,
-// and ends with LF.
+// `put_entry` writes one directly, and `read_entry` parses a line. All cite one definition of the
+// text of an entry; `log_text` is the text of a list of entries, which the law of a whole run
+// cites. A line is a word and fields separated by single spaces, with numbers as canonical
+// decimals, and ends with LF. A law has no effect at run time: its contract is a theorem.
 #![tactic(auto)]
 
 mod averages;

@@ -1,4 +1,4 @@
-// Reading the lists in a line: a key's sites and an edge's averages.
+// Reading the lists on a line: a key's sites and an edge's averages.
 ghost use Rattle.std.specs.Prelude.{◌≡◌, ℕ, ℤ, List, IfSome, IfNone, map};
 ghost use Rattle.cap_text.specs.Decimals.{canonical_decimal, canonical_integer};
 ghost use Rattle.schedule_log.specs.EntryRanges.{FitsAverages, FitsKey};
@@ -8,7 +8,7 @@ use crate::Averages;
 use cap_text::Fields;
 use cap_word::SiteKey;
 
-// A key: one to eight sites with `<` between.
+// A key: one to eight sites separated by `<`.
 pub fn read_key(field: &[u8]) -> Option<SiteKey>
     ensures found { IfSome result (λ key. FitsKey key × (field.now ≡ key_field key)) }
     ensures none { IfNone result ((key : List ℕ) → FitsKey key → field.now ≡ key_field key → ⊥) }
@@ -17,7 +17,7 @@ pub fn read_key(field: &[u8]) -> Option<SiteKey>
     read_sites(&mut sites)
 }
 
-// One to eight sites, which are all that is left.
+// One to eight sites, in all remaining fields.
 fn read_sites(fields: &mut Fields) -> Option<SiteKey>
     ensures found { IfSome result (λ key. FitsKey key × (fields.old ≡ map canonical_decimal key)) }
     ensures none { IfNone result ((key : List ℕ) → FitsKey key → fields.old ≡ map canonical_decimal key → ⊥) }
@@ -37,7 +37,7 @@ fn read_sites(fields: &mut Fields) -> Option<SiteKey>
     Some(SiteKey::new(&sites[..count]))
 }
 
-// One to eight averages, which end the line.
+// One to eight averages, at the end of the line.
 pub fn read_averages(fields: &mut Fields) -> Option<Averages>
     ensures found { IfSome result (λ values. FitsAverages values × (fields.old ≡ map canonical_integer values)) }
     ensures none { IfNone result

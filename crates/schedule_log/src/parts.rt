@@ -14,7 +14,7 @@ use crate::{Item, StopLine};
 use cap_text::Fields;
 use cap_word::{Stop, TrapKind};
 
-// Whether two texts are the same.
+// Whether two texts are equal.
 #[inline(always)]
 pub fn is_same(text: &[u8], other: &[u8]) -> bool
     ensures { MatchBool result (text.now ≡ other.now) (text.now ≡ other.now → ⊥) }
@@ -22,7 +22,7 @@ pub fn is_same(text: &[u8], other: &[u8]) -> bool
     text == other
 }
 
-// A signed number that ends the line.
+// A signed number at the end of the line.
 #[inline(always)]
 pub fn last_signed(fields: &mut Fields) -> Option<i32>
     ensures found { IfSome result (λ z. (fields.old ≡ canonical_integer z ∷ []) × FitsSigned w32 z) }
@@ -33,7 +33,7 @@ pub fn last_signed(fields: &mut Fields) -> Option<i32>
     Some(value)
 }
 
-// A number of 64 bits that ends the line.
+// A number of 64 bits at the end of the line.
 pub fn last_count(fields: &mut Fields) -> Option<u64>
     ensures found { IfSome result (λ n. (fields.old ≡ canonical_decimal n ∷ []) × (n < 2 ^ 64)) }
     ensures none { IfNone result ((n : ℕ) → n < 2 ^ 64 → fields.old ≡ canonical_decimal n ∷ [] → ⊥) }
@@ -43,7 +43,7 @@ pub fn last_count(fields: &mut Fields) -> Option<u64>
     Some(count)
 }
 
-// A number of 32 bits that ends the line.
+// A number of 32 bits at the end of the line.
 #[inline(always)]
 pub fn last_word(fields: &mut Fields) -> Option<u32>
     ensures found { IfSome result (λ n. (fields.old ≡ canonical_decimal n ∷ []) × (n < 2 ^ 32)) }
@@ -54,7 +54,7 @@ pub fn last_word(fields: &mut Fields) -> Option<u32>
     Some(word)
 }
 
-// A number of 32 bits and a signed one that ends the line.
+// A number of 32 bits, and a signed one at the end of the line.
 #[inline(always)]
 pub fn word_and_signed(fields: &mut Fields) -> Option<(u32, i32)>
     ensures found { IfSome result (λ pair. (fields.old ≡ canonical_decimal pair.0 ∷ canonical_integer pair.1 ∷ [])
@@ -67,7 +67,7 @@ pub fn word_and_signed(fields: &mut Fields) -> Option<(u32, i32)>
     Some((word, value))
 }
 
-// The cost of a segment and the free chunks after it, which end the line.
+// The cost of a segment and the free chunks after it, at the end of the line.
 #[inline(always)]
 pub fn read_segment(fields: &mut Fields) -> Option<(u64, u32)>
     ensures found { IfSome result (λ pair. (fields.old ≡ canonical_decimal pair.0 ∷ canonical_decimal pair.1 ∷ [])
@@ -80,7 +80,7 @@ pub fn read_segment(fields: &mut Fields) -> Option<(u64, u32)>
     Some((cost, free))
 }
 
-// An item, which ends the line.
+// An item, at the end of the line.
 #[inline(always)]
 pub fn read_item(fields: &mut Fields) -> Option<Item>
     ensures found { IfSome result (SpellsItem fields.old) }
@@ -98,7 +98,7 @@ pub fn read_item(fields: &mut Fields) -> Option<Item>
     }
 }
 
-// A clock and an item, which end the line.
+// A clock and an item, at the end of the line.
 #[inline(always)]
 pub fn clock_and_item(fields: &mut Fields) -> Option<(u64, Item)>
     ensures found { IfSome result (λ pair. (pair.0 < 2 ^ 64) × FitsItem pair.1
@@ -130,7 +130,7 @@ pub fn read_trap(fields: &mut Fields) -> Option<TrapKind>
     }
 }
 
-// The cut of a thread's segment that the word names, which ends the line.
+// The cut of a thread's segment that the word names, at the end of the line.
 pub fn read_cut(word: &[u8], fields: &mut Fields) -> Option<StopLine>
     ensures found { IfSome result (SpellsStop (word.now ∷ fields.old)) }
     ensures none { IfNone result (SpellsNoCut (word.now ∷ fields.old)) }
@@ -146,7 +146,7 @@ pub fn read_cut(word: &[u8], fields: &mut Fields) -> Option<StopLine>
     })
 }
 
-// Why a segment was cut, where the word and the fields behind the thread say so.
+// Why a segment was cut off, by the word and the fields after the thread.
 pub fn read_cause(word: &[u8], fields: &mut Fields) -> Option<Stop>
     ensures found { IfSome result (λ stop. (thread : ℕ)
         → word.now ∷ canonical_decimal thread ∷ fields.old ≡ cause_fields thread stop ++ fields.new) }
@@ -167,7 +167,7 @@ pub fn read_cause(word: &[u8], fields: &mut Fields) -> Option<Stop>
     }
 }
 
-// Why the run stopped, which ends the line.
+// Why the run stopped, at the end of the line.
 #[inline(never)]
 pub fn read_stop(fields: &mut Fields) -> Option<StopLine>
     ensures found { IfSome result (SpellsStop fields.old) }

@@ -10,16 +10,18 @@ use crate::lists::{read_averages, read_key};
 use crate::parts::{clock_and_item, is_same, last_word, read_segment, read_stop, word_and_signed};
 use cap_text::Fields;
 
-/// Why bytes are refused as a line of the log.
+/// Why bytes aren't a line of the log.
 #[derive(Clone, Copy, PartialEq, Eq)]
 pub enum LogError {
-    /// They are the text of no entry.
+    /// They aren't the text of an entry.
     Line,
 }
 
-/// The entry whose text `line` is, without its line feed.
+/// Returns the entry with the text `line`, which has no line feed. It doesn't allocate.
 ///
-/// Takes no memory. `Line` comes exactly where no entry has this text.
+/// # Errors
+///
+/// `Line` exactly if no entry has this text.
 #[inline(always)]
 pub fn read_entry(line: &[u8]) -> Result<Entry, LogError>
     ensures read { IfOk result (λ entry. FitsEntry entry × (entry_text entry ≡ line.now)) }
@@ -58,7 +60,7 @@ fn read_line(word: &[u8], fields: &mut Fields) -> Option<Entry>
     }
 }
 
-// A line that is none of `run`, `out`, `block` and `end`.
+// A line other than `run`, `out`, `block` and `end`.
 #[inline(always)]
 fn read_rare(word: &[u8], fields: &mut Fields) -> Option<Entry>
     requires run { word.now ≡ codes "run" → ⊥ }

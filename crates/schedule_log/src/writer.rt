@@ -13,8 +13,8 @@ use cap_io::Sink;
 use std::alloc::{AllocError, Global};
 use std::marker::Model;
 
-/// Writes entries to a sink through a buffer of 4,096 bytes, which goes to the sink when it is full and at the end.
-/// Contracts see the bytes that it holds, which its sink did not take yet, and the refusal that it gave, if it gave one.
+/// Writes entries to a sink through a buffer of 4,096 bytes, which is flushed when it is full and at the end. Contracts
+/// see the bytes in the buffer, which the sink hasn't taken yet, and the first refusal, if there was one.
 #[derive(Drop)]
 pub struct LogWriter {
     bytes: BufferedWriter,
@@ -29,7 +29,7 @@ impl Model for LogWriter {
 }
 
 impl LogWriter {
-    /// A writer that holds nothing. It takes its buffer.
+    /// Returns a writer with an empty buffer, which it allocates.
     pub fn new(alloc: Global) -> Result<LogWriter, AllocError>
         ensures { IfOk result (λ writer. writer ≡ record { held = []; refused = None }) }
     {
@@ -38,13 +38,15 @@ impl LogWriter {
         })
     }
 
-    /// Writes the line of `entry` and its line feed: the bytes that `out` took, followed by those that the writer holds,
-    /// grow by just these.
+    /// Writes the line of `entry` and its line feed: the bytes that `out` took, followed by those in the buffer, grow
+    /// by exactly these.
     ///
-    /// `WriteFault` comes only where the count of faults of `out` rose in this call, or stands at its end, or again;
-    /// `Memory` only where `out` had no memory, or again: the writer takes none. After either `out` took a prefix of the
-    /// bytes that were held and the line, and the writer gives the same answer to each later call, without a write. It
-    /// holds at most 4,096 bytes.
+    /// # Errors
+    ///
+    /// `WriteFault` only if the count of faults of `out` rose in this call, or is at its maximum, or if it was the
+    /// refusal before; `Memory` only if `out` was out of memory, or if it was the refusal before: the writer itself
+    /// doesn't allocate. After either, `out` took a prefix of the buffer followed by the line, and each later call
+    /// returns the same refusal, without a write. The buffer has at most 4,096 bytes.
     pub fn put<K: Sink>(&mut self, out: &mut K, entry: &Entry) -> Result<(), PutError>
         ensures again { IfSome self.old.refused (λ refusal. result ≡ Err refusal × self.new ≡ self.old × out.new ≡ out.old) }
         ensures grows { OnOk result (Appends (append_known (K.taken out.old) self.old.held)
@@ -65,11 +67,14 @@ impl LogWriter {
         }
     }
 
-    /// Writes what is held, which is the end of the log.
+    /// Flushes the buffer at the end of the log.
     ///
-    /// `WriteFault` comes only where the count of faults of `out` rose in this call, or stands at its end, or again;
-    /// `Memory` only where `out` had no memory, or again: the writer takes none. After either `out` took a prefix of
-    /// what was held, and nothing of it where `put` gave this answer before.
+    /// # Errors
+    ///
+    /// `WriteFault` only if the count of faults of `out` rose in this call, or is at its maximum, or if it was the
+    /// refusal before; `Memory` only if `out` was out of memory, or if it was the refusal before: the writer itself
+    /// doesn't allocate. After either, `out` took a prefix of the buffer, and nothing of it if `put` returned this
+    /// refusal before.
     pub fn finish<K: Sink>(self, out: &mut K) -> Result<(), PutError>
         ensures again { IfSome self.refused (λ refusal. result ≡ Err refusal × out.new ≡ out.old) }
         ensures bytes { Puts (K.taken out.old) (K.taken out.new) self.held result }

@@ -15,8 +15,10 @@ use std::alloc::Global;
 
 /// Writes the line of `entry` to `out`, and its line feed.
 ///
-/// `WriteFault` comes only where the sink's count of faults rose, or stands at its end, and `Memory` where there was no
-/// memory, here or in the sink. After either a prefix of the line was taken.
+/// # Errors
+///
+/// `WriteFault` only if the sink's count of faults rose, or is at its maximum; `Memory` if an allocation fails, here or
+/// in the sink. After either, a prefix of the line was taken.
 pub fn put_entry<K: Sink>(alloc: Global, out: &mut K, entry: &Entry) -> Result<(), PutError>
     ensures bytes { Puts (K.taken out.old) (K.taken out.new) (entry_text entry.now ++ 10 ∷ []) result }
     ensures counts { CountsPut result (K.faults out.old) (K.faults out.new) }
@@ -28,7 +30,7 @@ pub fn put_entry<K: Sink>(alloc: Global, out: &mut K, entry: &Entry) -> Result<(
     }
 }
 
-// The same through a new writer.
+// `put_entry` through a new writer.
 fn put_alone<K: Sink>(mut writer: LogWriter, out: &mut K, entry: &Entry) -> Result<(), PutError>
     requires { writer ≡ record { held = []; refused = None } }
     ensures bytes { Puts (K.taken out.old) (K.taken out.new) (entry_text entry.now ++ 10 ∷ []) result }
@@ -44,7 +46,8 @@ fn put_alone<K: Sink>(mut writer: LogWriter, out: &mut K, entry: &Entry) -> Resu
     }
 }
 
-// Writes an entry's line and its line feed, unless the writer gave a refusal. So do those below of parts of a line.
+// Writes an entry's line and its line feed, unless there was a refusal. The functions below write parts of a line in
+// the same way.
 pub(crate) fn write_line<K: Sink>(writer: &mut BufferedWriter, out: &mut K, entry: &Entry)
     ensures { Writes (log_state writer.old (K.taken out.old) (K.faults out.old))
         (log_state writer.new (K.taken out.new) (K.faults out.new)) (entry_text entry.now ++ 10 ∷ []) }
@@ -187,7 +190,7 @@ fn write_last<K: Sink>(writer: &mut BufferedWriter, out: &mut K, stop: &StopLine
     write_stop(writer, out, stop);
 }
 
-// A blank and a field of a number from 0 up.
+// A space and a field with a natural number.
 fn write_number<K: Sink>(writer: &mut BufferedWriter, out: &mut K, number: u64)
     ensures { Writes (log_state writer.old (K.taken out.old) (K.faults out.old))
         (log_state writer.new (K.taken out.new) (K.faults out.new)) (32 ∷ canonical_decimal number) }
@@ -195,7 +198,7 @@ fn write_number<K: Sink>(writer: &mut BufferedWriter, out: &mut K, number: u64)
     write_after(writer, out, b' ', number);
 }
 
-// The same of a number of 32 bits.
+// A space and a field with a number of 32 bits.
 fn write_word<K: Sink>(writer: &mut BufferedWriter, out: &mut K, number: u32)
     ensures { Writes (log_state writer.old (K.taken out.old) (K.faults out.old))
         (log_state writer.new (K.taken out.new) (K.faults out.new)) (32 ∷ canonical_decimal number) }
@@ -211,7 +214,7 @@ fn write_site<K: Sink>(writer: &mut BufferedWriter, out: &mut K, site: u32)
     write_after(writer, out, b'<', u64::from(site));
 }
 
-// That byte and a number from 0 up.
+// That byte and a natural number.
 fn write_after<K: Sink>(writer: &mut BufferedWriter, out: &mut K, separator: u8, number: u64)
     ensures { Writes (log_state writer.old (K.taken out.old) (K.faults out.old))
         (log_state writer.new (K.taken out.new) (K.faults out.new)) (separator ∷ canonical_decimal number) }
@@ -220,7 +223,7 @@ fn write_after<K: Sink>(writer: &mut BufferedWriter, out: &mut K, separator: u8,
     write_digits(writer, out, i128::from(number));
 }
 
-// A blank and a field of a whole number.
+// A space and a field with an integer.
 fn write_integer<K: Sink>(writer: &mut BufferedWriter, out: &mut K, number: i128)
     ensures { Writes (log_state writer.old (K.taken out.old) (K.faults out.old))
         (log_state writer.new (K.taken out.new) (K.faults out.new)) (32 ∷ canonical_integer number) }
@@ -229,7 +232,7 @@ fn write_integer<K: Sink>(writer: &mut BufferedWriter, out: &mut K, number: i128
     write_digits(writer, out, number);
 }
 
-// A whole number.
+// An integer.
 fn write_digits<K: Sink>(writer: &mut BufferedWriter, out: &mut K, number: i128)
     ensures { Writes (log_state writer.old (K.taken out.old) (K.faults out.old))
         (log_state writer.new (K.taken out.new) (K.faults out.new)) (canonical_integer number) }
@@ -238,7 +241,7 @@ fn write_digits<K: Sink>(writer: &mut BufferedWriter, out: &mut K, number: i128)
     writer.write(out, buffer.format(number).as_bytes());
 }
 
-// A blank and a field of a word as a signed number.
+// A space and a field with a word as a signed number.
 fn write_signed<K: Sink>(writer: &mut BufferedWriter, out: &mut K, value: i32)
     ensures { Writes (log_state writer.old (K.taken out.old) (K.faults out.old))
         (log_state writer.new (K.taken out.new) (K.faults out.new)) (32 ∷ canonical_integer value) }
@@ -246,7 +249,7 @@ fn write_signed<K: Sink>(writer: &mut BufferedWriter, out: &mut K, value: i32)
     write_integer(writer, out, i128::from(value));
 }
 
-// A blank and a key: its sites with `<` between.
+// A space and a key: its sites separated by `<`.
 fn write_key<K: Sink>(writer: &mut BufferedWriter, out: &mut K, key: &SiteKey)
     ensures { Writes (log_state writer.old (K.taken out.old) (K.faults out.old))
         (log_state writer.new (K.taken out.new) (K.faults out.new)) (32 ∷ key_field key.now) }
@@ -256,7 +259,7 @@ fn write_key<K: Sink>(writer: &mut BufferedWriter, out: &mut K, key: &SiteKey)
     write_sites(writer, out, &sites[1..]);
 }
 
-// The sites after the first, each after a `<`.
+// The sites after the first, each preceded by `<`.
 fn write_sites<K: Sink>(writer: &mut BufferedWriter, out: &mut K, sites: &[u32])
     ensures { Writes (log_state writer.old (K.taken out.old) (K.faults out.old))
         (log_state writer.new (K.taken out.new) (K.faults out.new)) (more_sites sites.now) }
@@ -266,7 +269,7 @@ fn write_sites<K: Sink>(writer: &mut BufferedWriter, out: &mut K, sites: &[u32])
     }
 }
 
-// The averages, each after a blank.
+// The averages, each preceded by a space.
 fn write_averages<K: Sink>(writer: &mut BufferedWriter, out: &mut K, averages: &Averages)
     ensures { Writes (log_state writer.old (K.taken out.old) (K.faults out.old))
         (log_state writer.new (K.taken out.new) (K.faults out.new)) (after_blanks (map canonical_integer averages.now)) }
@@ -353,7 +356,7 @@ fn write_cut<K: Sink>(
     write_segment(writer, out, cost, free);
 }
 
-// Why a segment was cut, and its thread.
+// Why a segment was cut off, and its thread.
 fn write_cause<K: Sink>(writer: &mut BufferedWriter, out: &mut K, thread: u32, stop: &Stop)
     ensures { Writes (log_state writer.old (K.taken out.old) (K.faults out.old))
         (log_state writer.new (K.taken out.new) (K.faults out.new)) (after_blanks (cause_fields thread stop.now)) }

@@ -1,9 +1,7 @@
 -- A thread that starts stands at a place that was vacant, and waits at node 0.
 use Rattle.std.proofs.Common.{◌≡◌, ◌≢◌, ℕ, ◌+◌, ◌-◌, ◌<◌, ◌≤◌, ◌⊎◌, inl, inr, Bool, List, [], ◌∷◌, ◌++◌, length, map, Option, Some, None, IsSome, option_map, refl, sym, ap, ◌∙◌, subst, arith, append_assoc}
 use Rattle.std.specs.Prelude.{slice_get, if◌then◌else◌}
-use Rattle.std.specs.List.{range_with_len}
 use Rattle.std.proofs.lemmas.Bool.{eq-eqb}
-use Rattle.std.proofs.lemmas.List.FromFn.{map-range_with_len_more}
 use Rattle.std.proofs.lemmas.Option.{slice_get_within}
 use Rattle.cap_word.specs.declared.threads.ThreadId.{ThreadId}
 use Rattle.c_mean.specs.ModelledCalls.{Exchange}
@@ -11,6 +9,7 @@ use Rattle.c_mean.specs.World as source
 use Rattle.c_tree.specs.Trees.{ProgramTree}
 use Rattle.c_tree.specs.WellScoped.{signature_at, signature_of}
 use Rattle.choice_rules.specs.Seen.{Waiter, newcomers}
+use Rattle.choice_rules.proofs.Waiters.{newcomers_more}
 use Rattle.lawful_reading.specs.Given.{Given}
 use Rattle.lawful_reading.specs.State.{State}
 use Rattle.ready_tree.specs.declared.needs.Need.{Need}
@@ -28,13 +27,6 @@ use Rattle.schedule_reading.proofs.Joins.{joins}
 use Rattle.schedule_reading.proofs.Places.{not_vacant, placed_by, scheduled_kept, vouched_there}
 use Rattle.schedule_reading.proofs.Standing.{are_joined, count_more, more_last, more_long, more_other}
 use Rattle.schedule_reading.proofs.Waits.{here_or_not}
-
-newcomers_more : (old : source.World) (next : ℕ) → length old.threads ≤ next → newcomers old (next + 1) ≡ newcomers old next ++ record { thread = next; node = 0; since = 0 } ∷ []
-newcomers_more old next h =
-    let f : ℕ → Waiter = λ thread. record { thread = thread; node = 0; since = 0 } in
-    let count : next + 1 - length old.threads ≡ next - length old.threads + 1 = omega arith in
-    let last : length old.threads + (next - length old.threads) ≡ next = omega arith in
-    ap (λ (n : ℕ). map f (range_with_len (length old.threads) n)) count ∙ map-range_with_len_more f (length old.threads) (next - length old.threads) next last
 
 abbrev pub newcomer : ℕ → Waiter
 newcomer number = record { thread = number; node = 0; since = 0 }

@@ -8,10 +8,11 @@ use Rattle.c_tree.specs.Trees.{ProgramTree}
 use Rattle.c_mean.specs.Frames.{Running}
 use Rattle.c_mean.specs.Steps.{SourceMove, source_machine, source_step}
 use Rattle.c_mean.specs.World as source
-use Rattle.c_mean.specs.World.{Segment, SegmentMove, segment_move, segment_step}
+use Rattle.c_mean.specs.World.{Segment, segment_move, segment_step}
 use Rattle.lawful_reading.specs.Given.{Given}
 use Rattle.lawful_reading.specs.Happenings.{IsSilent}
 use Rattle.lawful_reading.specs.State.{State}
+use Rattle.lawful_reading.proofs.Moves.{not_both, same_next}
 use Rattle.source_runs.specs.Steps.{LeadsTo, asks}
 use Rattle.source_runs.specs.declared.frames.Thread.{Thread}
 use Rattle.schedule_reading.specs.declared.events.Happening.{Happening}
@@ -37,12 +38,6 @@ part_by program m n start end (Stops finish) e h = absurd (cc)
 
 part : (program : ProgramTree) (m n : ℕ) (start end : Running) → moves (source_machine program) (m + n) start ≡ Goes end → Part program m n start end
 part program m n start end e = part_by program m n start end (moves (source_machine program) m start) refl (sym (moves_add (source_machine program) m n start) ∙ e)
-
-same_next : (a b : Segment) → ◌≡◌ {A = SegmentMove} (Goes a) (Goes b) → a ≡ b
-same_next a b e = cc
-
-not_both : (a : source.Rested) (b : Segment) → ◌≡◌ {A = SegmentMove} (Stops a) (Goes b) → ⊥
-not_both a b e = absurd (cc)
 
 goes_first : (program : ProgramTree) (n : ℕ) (start end : Running) (move : SourceMove) → source_step program start ≡ move → and_then move (moves (source_machine program) n) ≡ Goes end → (next : Running) × (source_step program start ≡ Goes next)
 goes_first program n start end (Goes next) e h = (next, e)

@@ -6,11 +6,11 @@ use Rattle.cap_word.specs.declared.traps.TrapKind.{TrapKind}
 use Rattle.c_mean.specs.ModelledCalls.{Exchange, ImmediateRow, immediate_row}
 use Rattle.c_mean.specs.Steps.{source_resume}
 use Rattle.c_mean.specs.World as source
-use Rattle.c_mean.specs.World.{Segment, SegmentMove, with_printed, with_started}
-use Rattle.cap_word.specs.Runs.{Goes}
+use Rattle.c_mean.specs.World.{Segment, with_printed, with_started}
 use Rattle.c_tree.specs.Trees.{ProgramTree}
 use Rattle.lawful_reading.specs.Given.{Given}
 use Rattle.lawful_reading.specs.State.{State}
+use Rattle.lawful_reading.proofs.Moves.{same_next}
 use Rattle.scheduler.specs.State.{SchedulerState}
 use Rattle.source_runs.specs.Threads.{IsThread, globals_of, running_of, waiting_of}
 use Rattle.source_runs.specs.declared.frames.Thread.{Thread}
@@ -36,9 +36,6 @@ beside_exchange g state rests exchange other number threads scheduler running y 
   number_is = b.number_is;
   scheduled = b.scheduled;
 }
-
-same_next : (a b : Segment) → ◌≡◌ {A = SegmentMove} (Goes a) (Goes b) → a ≡ b
-same_next a b e = cc
 
 -- a thread goes on with a result
 pub record Resumes (tree : ProgramTree) (old : Thread) (old_words : List ℕ) (word : ℕ) (new : Thread) (words : List ℕ) : Type 0 where

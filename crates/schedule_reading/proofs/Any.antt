@@ -1,8 +1,8 @@
 -- What some thread does that waits: by the places, and by those that wait.
-use Rattle.std.proofs.Common.{◌≡◌, ℕ, zero, suc, ◌||◌, ◌&&◌, not, Bool, true, false, List, [], ◌∷◌, Option, Some, None, IsSome, refl, sym, ap, ◌∙◌, subst, arith, nat_eq}
+use Rattle.std.proofs.Common.{◌≡◌, ℕ, zero, suc, ◌||◌, ◌&&◌, not, Bool, true, false, List, [], ◌∷◌, Option, Some, None, IsSome, refl, sym, ap, ◌∙◌, subst, nat_eq}
 use Rattle.std.specs.Prelude.{slice_get, slice_index_or}
 use Rattle.std.specs.List.{AllByRecursion, list_any}
-use Rattle.std.proofs.lemmas.Bool.Decides.{nat_tests}
+use Rattle.std.proofs.lemmas.Bool.{eqb-true}
 use Rattle.cap_word.specs.declared.calls.Block.{Block}
 use Rattle.c_mean.specs.ModelledCalls.{Exchange}
 use Rattle.c_mean.specs.World as source
@@ -10,6 +10,8 @@ use Rattle.c_mean.specs.World.{Fresh, Blocked}
 use Rattle.c_tree.specs.Trees.{ProgramTree}
 use Rattle.choice_rules.specs.Readiness as rules
 use Rattle.choice_rules.specs.Seen.{Waiter}
+use Rattle.choice_rules.specs.Waiting.{waits}
+use Rattle.choice_rules.proofs.Tests.{left_true, right_true}
 use Rattle.slab.specs.Slab.{Slab, get}
 use Rattle.thread_waits.specs.Waiting as waits_of
 use Rattle.thread_waits.specs.declared.waits.Wait.{Wait}
@@ -18,17 +20,8 @@ use Rattle.schedule_reading.specs.declared.threads.Rest.TheVariants as rest
 use Rattle.schedule_reading.specs.declared.threads.Slot.{Slot}
 use Rattle.schedule_reading.specs.Stands.{AreThreads, IsSince, IsWaiter, RestsAs}
 use Rattle.schedule_reading.specs.Told.{WaitsAs, at_place}
-use Rattle.schedule_reading.specs.Waiting.{waits}
 
 -- ---- lists
-
-left_true : (a b : Bool) → a ≡ true → (a || b) ≡ true
-left_true true b e = refl
-left_true false b e = absurd (cc)
-
-right_true : (a b : Bool) → b ≡ true → (a || b) ≡ true
-right_true true b e = refl
-right_true false b e = e
 
 -- an element of a list that passes
 record Found {X : Type 0} (P : X → Type 0) (test : X → Bool) : Type 0 where
@@ -68,9 +61,6 @@ same_by true b there back = sym (there refl)
 same_by false true there back = back refl
 same_by false false there back = refl
 
-pub number_is : (a b : ℕ) → nat_eq a b ≡ true → a ≡ b
-number_is a b h = grind (arith, nat_tests)
-
 -- ---- threads
 
 module _ (tree : ProgramTree) (slots : Slab Slot) (places : List (Option Wait)) (rests : List source.Rest) (waiting : List Waiter) (are : AreThreads tree slots places rests waiting) where
@@ -102,7 +92,7 @@ module _ (tree : ProgramTree) (slots : Slab Slot) (places : List (Option Wait)) 
     any_with place slot there passes (w ∷ xs) all e = by (nat_eq w.thread slot.number) refl (any_with place slot there passes xs all.1) where
       by : (b : Bool) → nat_eq w.thread slot.number ≡ b → (waits xs slot.number ≡ true → list_any h xs ≡ true) → list_any h (w ∷ xs) ≡ true
       by true same more =
-          let here : all.0.has.place ≡ place = are.one all.0.has.place place all.0.has.slot slot all.0.has.there there (all.0.has.number_is ∙ number_is w.thread slot.number same) in
+          let here : all.0.has.place ≡ place = are.one all.0.has.place place all.0.has.slot slot all.0.has.there there (all.0.has.number_is ∙ eqb-true w.thread slot.number same) in
           left_true (h w) (list_any h xs) (agree w all.0 ∙ ap (λ (k : ℕ). f (at_place places k)) here ∙ passes)
       by false other more =
           let rest : waits xs slot.number ≡ true = subst (λ (b : Bool). (b || waits xs slot.number) ≡ true) other e in

@@ -8,6 +8,7 @@ use Rattle.c_mean.specs.ModelledCalls.{Exchange, ImmediateRow, immediate_row, re
 use Rattle.c_mean.specs.Steps.{source_resume}
 use Rattle.c_mean.specs.World as source
 use Rattle.c_mean.specs.World.{Segment, with_printed, with_started}
+use Rattle.choice_rules.specs.Clock.{latest}
 use Rattle.lawful_reading.specs.Given.{Given}
 use Rattle.lawful_reading.specs.Happenings.{most_live}
 use Rattle.lawful_reading.specs.State.{State}
@@ -23,7 +24,7 @@ use Rattle.schedule_reading.specs.declared.reading.Under.{Under}
 use Rattle.schedule_reading.specs.Changes.{HasAdded, KeepsAll}
 use Rattle.schedule_reading.specs.Coming.{Answers, GoesTo, KeepsBut, MayAnswer}
 use Rattle.schedule_reading.specs.Kept.{Core}
-use Rattle.schedule_reading.specs.Stands.{AreBeside, IsTimely, latest}
+use Rattle.schedule_reading.specs.Stands.{AreBeside, IsTimely}
 use Rattle.schedule_reading.specs.Told.{ThreadsState, at_place}
 use Rattle.schedule_reading.proofs.Adding.{beside_more}
 use Rattle.schedule_reading.proofs.Answered.{Resumes, beside_exchange, resumes_in, row, starts_none, trapped, went_on}

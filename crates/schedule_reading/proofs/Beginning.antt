@@ -2,11 +2,15 @@
 use Rattle.std.proofs.Common.{◌≡◌, ◌≢◌, ℕ, ◌-◌, Bool, true, false, nat_eq, List, [], ◌∷◌, length, map, Option, Some, None, IsSome, option_map, find, refl, sym, ap, ◌∙◌, subst, arith, ⊎_elim, if◌then◌else◌}
 use Rattle.std.specs.Prelude.{IsTrue}
 use Rattle.std.specs.List.{AllByRecursion, range_with_len}
-use Rattle.std.proofs.lemmas.Bool.Decides.{nat_tests}
+use Rattle.std.proofs.lemmas.Bool.{eqb-true}
 use Rattle.cap_word.specs.declared.threads.ThreadId.{ThreadId}
 use Rattle.c_mean.specs.World as source
 use Rattle.c_tree.specs.Trees.{ProgramTree}
 use Rattle.choice_rules.specs.Seen.{Waiter, newcomers}
+use Rattle.choice_rules.specs.Waiting.{AreQueued, IsQueue, at_node, waits}
+use Rattle.choice_rules.proofs.Leaving.{queued_left}
+use Rattle.choice_rules.proofs.Queues.{all_at_node, queue_kept}
+use Rattle.choice_rules.proofs.Waiters.{all_but, but, differ_all, once_but, waits_but_other, waits_but_self}
 use Rattle.lawful_reading.specs.Happenings.{lives}
 use Rattle.ready_tree.specs.declared.entries.Entry.{Entry}
 use Rattle.ready_tree.specs.declared.needs.Need.{Need}
@@ -21,20 +25,13 @@ use Rattle.schedule_reading.specs.declared.threads.Slot.{Slot}
 use Rattle.schedule_reading.specs.Changes.{KeepsOthers}
 use Rattle.schedule_reading.specs.Stands.{AreThreads, HasSlot, IsScheduled, IsSlot, IsWaiter, RestsAs, numbers_of}
 use Rattle.schedule_reading.specs.Told.{ThreadsState, VouchesIn, at_place, wait_of}
-use Rattle.schedule_reading.specs.Waiting.{AreQueued, IsQueue, at_node, waits}
-use Rattle.schedule_reading.proofs.Leaving.{queued_left}
-use Rattle.schedule_reading.proofs.Lists.{all_but, but, differ_all, once_but, waits_but_other, waits_but_self}
 use Rattle.schedule_reading.proofs.Places.{At, not_vacant, placed_at, placed_by, same_slot, slot_kept, vouched_kept, waiter_kept}
-use Rattle.schedule_reading.proofs.Queues.{all_at_node, queue_kept}
 use Rattle.schedule_reading.proofs.Waits.{here_or_not}
 
 pub none_new : (old : source.World) → newcomers old (length old.threads) ≡ []
 none_new old =
     let none : length old.threads - length old.threads ≡ 0 = omega arith in
     ap (λ (n : ℕ). map (λ (thread : ℕ). let w : Waiter = record { thread = thread; node = 0; since = 0 } in w) (range_with_len (length old.threads) n)) none
-
-numbers_same : (a b : ℕ) → nat_eq a b ≡ true → a ≡ b
-numbers_same a b h = grind (arith, nat_tests)
 
 -- a thread that rests lives
 pub rest_lives : (tree : ProgramTree) (r : Rest) (there : source.Rest) → RestsAs tree r there → IsTrue (lives there)
@@ -169,7 +166,7 @@ module _ (tree : ProgramTree) (old new : ThreadsState) (rests : List source.Rest
   apart_vouched thread need v differ here =
       let there : get old.slots thread.slot ≡ Some slot = ap (get old.slots) here ∙ was in
       let same : nat_eq slot.number thread.number ≡ true = vouched_number thread need slot (nat_eq slot.number thread.number) refl there v in
-      differ (sym (numbers_same slot.number thread.number same) ∙ number_is)
+      differ (sym (eqb-true slot.number thread.number same) ∙ number_is)
 
   entries_left : (entries : List Entry) (ws : List Waiter) → IsQueue (numbers_of new.slots) (threads_of entries) ws → AllByRecursion (λ w. w.thread ≢ chosen.number) ws → AllByRecursion (λ entry. VouchesIn old.slots old.waits.places entry.thread entry.need) entries →
       AllByRecursion (λ entry. VouchesIn new.slots new.waits.places entry.thread entry.need) entries

@@ -2,7 +2,7 @@
 use Rattle.std.proofs.Common.{◌≡◌, ℕ, Bool, true, false, not, List, Option, None, Result, Ok, Err, refl, sym, ap, ◌∙◌, subst}
 use mathlib.Core.Bool.{beq}
 use Rattle.c_mean.specs.ModelledCalls.{is_dropped}
-use Rattle.choice_rules.specs.Deliveries.{delivery_of, item_of}
+use Rattle.choice_rules.specs.Deliveries.{delivery_of, item_of, coming_entry}
 use Rattle.event_trace.specs.declared.events.Event.{Event}
 use Rattle.lawful_reading.specs.Given.{Given}
 use Rattle.lawful_reading.specs.State as reading
@@ -19,7 +19,7 @@ use Rattle.schedule_reading.specs.declared.rulings.Ruling.TheVariants as ruling
 use Rattle.schedule_reading.specs.Closing.{RulesWithin}
 use Rattle.schedule_reading.specs.Kept.{Kept}
 use Rattle.schedule_reading.specs.Ruled.{ruled}
-use Rattle.schedule_reading.specs.Rulings.{Comes, ComesToChoice, CountsReads, IsPoint, Refuses, Rules, RulesChoice, Chooses, coming_entry}
+use Rattle.schedule_reading.specs.Rulings.{Comes, ComesToChoice, CountsReads, IsPoint, Refuses, Rules, RulesChoice, Chooses}
 use Rattle.schedule_reading.specs.Stands.{IsTold}
 use Rattle.schedule_reading.specs.Told.{ThreadsState}
 use Rattle.schedule_reading.proofs.PointLines.{chooses, run_elsewhen, run_ruled}

@@ -5,7 +5,7 @@ use Rattle.c_mean.specs.ModelledCalls.{Delivery, Arrival, Message, Exchange, is_
 use Rattle.choice_rules.specs.Choice.{is_open}
 use Rattle.choice_rules.specs.Clock.{IsChoicePoint, is_due}
 use Rattle.choice_rules.specs.Deliveries as rules
-use Rattle.choice_rules.specs.Deliveries.{delivery_of, item_of}
+use Rattle.choice_rules.specs.Deliveries.{delivery_of, item_of, coming_entry}
 use Rattle.choice_rules.specs.Policy.{all_caps}
 use Rattle.choice_rules.specs.Trace.{Trace, behind}
 use Rattle.choice_rules.proofs.Points.{one_clock}
@@ -25,7 +25,7 @@ use Rattle.schedule_reading.specs.declared.reading.End.TheVariants as end
 use Rattle.schedule_reading.specs.declared.reading.Next.{Next}
 use Rattle.schedule_reading.specs.declared.reading.Next.TheVariants as next
 use Rattle.schedule_reading.specs.Kept.{Core, Kept}
-use Rattle.schedule_reading.specs.Rulings.{Allows, Comes, Knows, Refuses, coming_entry}
+use Rattle.schedule_reading.specs.Rulings.{Allows, Comes, Knows, Refuses}
 use Rattle.schedule_reading.specs.Stands.{IsEnd, IsLooked, IsTold, IsTraceOf, StandsAt, StandsBy, StandsUnless}
 use Rattle.schedule_reading.proofs.Keeping.{of_with, past_with, same_monitor}
 
@@ -192,13 +192,6 @@ other_drops g state old k told told' event comes clock item drops never is =
     other_refused g state clock item drops s.between (λ after coming.
     never (its_drops g state event k.core.threads.waits.clock (comes.goes.point is) clock item drops after coming
     ∙ sym (ap (λ (n : ℕ). is_dropped n k.core.threads.exchange.exchange (delivery_of event.kind)) s.of.backlog ∙ ap (λ (e : Exchange). is_dropped g.policy.backlog e (delivery_of event.kind)) s.threads.exchange_is)))
-
--- nor one at another clock, or with another item
-pub other_line : (g : Given) (state : State) (old k : Kept) (told told' : Option (List ℕ)) (event : Event) (comes : Comes g state old told event k told') (clock : ℕ) (item : Item) (drops : Bool) →
-    (clock ≡ k.core.threads.waits.clock → item ≡ item_of event.kind → ⊥) → IsTold state old told → Refuses g state (coming_entry drops clock item)
-other_line g state old k told told' event comes clock item drops never is =
-    other_refused g state clock item drops comes.goes.stands.between (λ after coming.
-    never (its_clock g state event k.core.threads.waits.clock (comes.goes.point is) clock item drops after coming) (its_item g state event k.core.threads.waits.clock (comes.goes.point is) clock item drops after coming))
 
 -- ---- something else has to come
 

@@ -8,6 +8,7 @@ use Rattle.c_mean.specs.World.{Segment, SegmentMove, segment_machine, segment_st
 use Rattle.c_tree.specs.Trees.{ProgramTree}
 use Rattle.lawful_reading.specs.Given.{Given}
 use Rattle.lawful_reading.specs.Happenings.{IsSilent, IsCrowdedNext, PutsNext, RestsNext}
+use Rattle.lawful_reading.proofs.Moves.{same_next}
 use Rattle.schedule_reading.specs.Coming.{CrowdsAt, NoneCrowded}
 
 module _ (program : ProgramTree) (caps : List ℕ) where
@@ -58,9 +59,6 @@ module _ (program : ProgramTree) (caps : List ℕ) where
   }
 
 -- ---- none is crowded
-
-same_next : (a b : Segment) → ◌≡◌ {A = SegmentMove} (Goes a) (Goes b) → a ≡ b
-same_next a b e = cc
 
 module _ (g : Given) where
   abbrev Silent : Segment → ℕ → Segment → Type 0

@@ -3,6 +3,9 @@ use Rattle.std.proofs.Common.{◌≡◌, ℕ, List, [], ◌∷◌, ◌++◌, Opt
 use Rattle.std.specs.List.{AllByRecursion}
 use Rattle.cap_word.specs.declared.threads.ThreadId.{ThreadId}
 use Rattle.choice_rules.specs.Seen.{Waiter}
+use Rattle.choice_rules.specs.Waiting.{IsPlaced}
+use Rattle.choice_rules.proofs.Joining.{queued_more}
+use Rattle.choice_rules.proofs.Waiters.{all_append}
 use Rattle.ready_tree.specs.declared.entries.Entry.{Entry}
 use Rattle.ready_tree.specs.declared.needs.Need.{Need}
 use Rattle.scheduler.specs.State.{SchedulerState, IsJoined, IsTold, entries_at}
@@ -11,13 +14,7 @@ use Rattle.thread_waits.specs.declared.waits.Wait.{Wait}
 use Rattle.schedule_reading.specs.declared.threads.Slot.{Slot}
 use Rattle.schedule_reading.specs.Stands.{IsScheduled, numbers_of}
 use Rattle.schedule_reading.specs.Told.{VouchesIn}
-use Rattle.schedule_reading.specs.Waiting.{IsPlaced}
-use Rattle.schedule_reading.proofs.Queued.{queued_more}
 use Rattle.schedule_reading.proofs.Waits.{here_or_not}
-
-pub entries_more : (P : Entry → Type 0) (entries more : List Entry) → AllByRecursion P entries → AllByRecursion P more → AllByRecursion P (entries ++ more)
-entries_more P [] more all others = others
-entries_more P (entry ∷ entries) more all others = (all.0, entries_more P entries more all.1 others)
 
 pub joins : (slots : Slab Slot) (places : List (Option Wait)) (old new : SchedulerState) (node : ℕ) (thread : ThreadId) (need : Need) (waiting : List Waiter) (since : ℕ) →
     IsJoined old new node thread → IsTold old new node (record { thread = thread; need = need }) → IsPlaced (numbers_of slots) thread → VouchesIn slots places thread need →
@@ -28,7 +25,7 @@ joins slots places old new node thread need waiting since joined told placed vou
       (λ (same : other ≡ node).
       subst (λ (n : ℕ). AllByRecursion (λ entry. VouchesIn slots places entry.thread entry.need) (entries_at new n)) (sym same)
       (subst (AllByRecursion (λ entry. VouchesIn slots places entry.thread entry.need)) (sym told.queue)
-      (entries_more (λ entry. VouchesIn slots places entry.thread entry.need) (entries_at old node) (record { thread = thread; need = need } ∷ []) (is.known node) (vouched, tt))))
+      (all_append (λ (entry : Entry). VouchesIn slots places entry.thread entry.need) (entries_at old node) (record { thread = thread; need = need } ∷ []) (is.known node) (vouched, tt))))
       (λ apart. subst (AllByRecursion (λ entry. VouchesIn slots places entry.thread entry.need)) (sym (told.others other apart)) (is.known other))
       (here_or_not other node);
 }

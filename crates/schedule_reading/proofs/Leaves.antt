@@ -6,6 +6,7 @@ use Rattle.cap_word.specs.declared.threads.ThreadId.{ThreadId}
 use Rattle.c_mean.specs.ModelledCalls.{Exchange}
 use Rattle.c_mean.specs.World as source
 use Rattle.c_tree.specs.Trees.{ProgramTree}
+use Rattle.choice_rules.specs.Clock.{latest}
 use Rattle.choice_rules.specs.Seen.{Waiter, newcomers}
 use Rattle.lawful_reading.specs.Given.{Given}
 use Rattle.lawful_reading.specs.State.{State}
@@ -21,7 +22,7 @@ use Rattle.thread_waits.specs.declared.waits.Wait.{Wait}
 use Rattle.schedule_reading.specs.declared.threads.Rest.TheVariants as rest
 use Rattle.schedule_reading.specs.declared.threads.Slot.{Slot}
 use Rattle.schedule_reading.specs.Changes.{HasBlocked, HasEnded, IsAway, KeepsOthers}
-use Rattle.schedule_reading.specs.Stands.{AreBeside, AreLive, AreThreads, IsScheduled, IsSince, IsSlot, IsTimely, IsWaiter, latest, waiting_with}
+use Rattle.schedule_reading.specs.Stands.{AreBeside, AreLive, AreThreads, IsScheduled, IsSince, IsSlot, IsTimely, IsWaiter, waiting_with}
 use Rattle.schedule_reading.specs.Told.{ThreadsState, Vouches, at_place}
 use Rattle.schedule_reading.proofs.Beginning.{rest_lives}
 use Rattle.schedule_reading.proofs.Joins.{joins}
@@ -157,9 +158,6 @@ module _ (g : Given) (state : State) (rests : List source.Rest) (exchange : Exch
   module _ (new : ThreadsState) (ended : HasEnded moved running new) where
     abbrev pub ended_rests : List source.Rest
     ended_rests = slice_set rests number source.Ended
-
-    same_waits : new.waits ≡ moved.waits
-    same_waits = ap (λ (t : ThreadsState). t.waits) ended.rest
 
     others : KeepsOthers moved new place
     others = record {

@@ -1,9 +1,5 @@
 pub mod Waits
 pub mod Telling
-pub mod Lists
-pub mod Queues
-pub mod Queued
-pub mod Leaving
 pub mod Places
 pub mod Joins
 pub mod Standing
@@ -36,7 +32,6 @@ pub mod Rested
 pub mod Recording
 pub mod Ready
 pub mod PointLines
-pub mod LawfulChoices
 pub mod Taking
 pub mod Alone
 pub mod Setting

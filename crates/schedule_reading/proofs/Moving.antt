@@ -4,6 +4,7 @@ use Rattle.std.specs.Prelude.{nat_le}
 use Rattle.std.proofs.lemmas.Bool.Decides.{nat_tests}
 use Rattle.choice_rules.specs.Clock.{IsLeastOf, event_times, is_due}
 use Rattle.choice_rules.specs.Readiness.{waking_times}
+use Rattle.choice_rules.proofs.Clocks.{past_not}
 use Rattle.event_trace.specs.Lines.{FitsEvent}
 use Rattle.event_trace.specs.Reader.{ReaderState}
 use Rattle.event_trace.specs.declared.events.Event.{Event}
@@ -58,9 +59,6 @@ goes_looked g state k new known same stands looked knows live = ((stands_still g
 due_not : (time clock : ℕ) → clock < time → nat_le time clock ≡ false
 due_not time clock h = grind (arith, nat_tests, h)
 
-not_due_later : (time clock : ℕ) → nat_le time clock ≡ false → clock < time
-not_due_later time clock e = grind (arith, nat_tests, e)
-
 pub none_due : (known : Option Event) (clock : ℕ) → known ≡ None → is_due known clock ≡ false
 none_due known clock none = ap (λ (o : Option Event). is_due o clock) none
 
@@ -92,7 +90,7 @@ module _ (g : Given) (state : State) (k : Kept) (known : Option Event) (from : G
 
     pub event_later : k.core.threads.waits.clock ≤ event.time
     event_later =
-        let after = not_due_later event.time k.core.threads.waits.clock (ap (λ (o : Option Event). is_due o k.core.threads.waits.clock) (sym is) ∙ not_due) in
+        let after = past_not event.time k.core.threads.waits.clock (ap (λ (o : Option Event). is_due o k.core.threads.waits.clock) (sym is) ∙ not_due) in
         omega (arith, after)
 
     event_early : event.time ≤ 10 ^ 15

@@ -2,6 +2,7 @@
 use Rattle.std.proofs.Common.{◌≡◌, ℕ, ◌^◌, ◌<◌, ◌≤◌, List, length, Option, Some, None, Ok, sym, subst, arith}
 use Rattle.std.specs.Prelude.{IfSome, slice_index}
 use Rattle.c_tree.specs.Trees.{ProgramTree}
+use Rattle.choice_rules.specs.Choice.{observed}
 use Rattle.lawful_reading.specs.Given.{Given}
 use Rattle.lawful_reading.specs.State.{State}
 use Rattle.resource_monitor.specs.Monitor.{MonitorState, NoneAbove}
@@ -13,7 +14,6 @@ use Rattle.source_runs.specs.Layouts.{IsReady, tree_of}
 use Rattle.source_runs.specs.declared.frames.Thread.{Thread}
 use Rattle.schedule_reading.specs.declared.reading.Under.{Under}
 use Rattle.schedule_reading.specs.Changes.{HasBegun, MayBegin}
-use Rattle.schedule_reading.specs.Closing.{observed}
 use Rattle.schedule_reading.specs.Kept.{Core, Kept}
 use Rattle.schedule_reading.specs.declared.rulings.Ruling.TheVariants as ruling
 use Rattle.schedule_reading.specs.Rulings.{Chooses, Chosen, ChosenOther, RulesChoice}

@@ -6,6 +6,8 @@ use Rattle.cap_word.specs.declared.threads.ThreadId.{ThreadId}
 use Rattle.c_mean.specs.World as source
 use Rattle.c_tree.specs.Trees.{ProgramTree}
 use Rattle.choice_rules.specs.Seen.{Waiter}
+use Rattle.choice_rules.specs.Waiting.{IsPlaced, at_node}
+use Rattle.choice_rules.proofs.Queues.{all_at_node, queue_kept}
 use Rattle.ready_tree.specs.declared.entries.Entry.{Entry}
 use Rattle.ready_tree.specs.declared.needs.Need.{Need}
 use Rattle.scheduler.specs.State.{SchedulerState, entries_at, queue_of}
@@ -16,8 +18,6 @@ use Rattle.schedule_reading.specs.declared.threads.Slot.{Slot}
 use Rattle.schedule_reading.specs.Changes.{KeepsOthers}
 use Rattle.schedule_reading.specs.Stands.{IsScheduled, IsSince, IsSlot, IsWaiter, numbers_of}
 use Rattle.schedule_reading.specs.Told.{ThreadsState, VouchesIn, WaitsAs, at_place, wait_of, waits_in}
-use Rattle.schedule_reading.specs.Waiting.{IsPlaced, at_node}
-use Rattle.schedule_reading.proofs.Queues.{all_at_node, queue_kept}
 
 -- ---- what stands at a place, and its number
 

@@ -3,6 +3,7 @@ use Rattle.std.proofs.Common.{◌≡◌, ℕ, Bool, true, false, List, Option, S
 use Rattle.std.specs.Prelude.{nat_le}
 use Rattle.std.proofs.lemmas.Bool.Decides.{nat_tests}
 use Rattle.choice_rules.specs.Clock.{is_due}
+use Rattle.choice_rules.specs.Deliveries.{coming_entry}
 use Rattle.choice_rules.proofs.Points.{not_bad, not_done, not_idle, one_clock}
 use Rattle.event_trace.specs.declared.events.Event.{Event}
 use Rattle.lawful_reading.specs.Choice.{IsRun, chosen_from}
@@ -20,7 +21,7 @@ use Rattle.schedule_reading.specs.declared.rulings.Failure.{Failure}
 use Rattle.schedule_reading.specs.declared.rulings.Ruling.{Ruling}
 use Rattle.schedule_reading.specs.declared.rulings.Ruling.TheVariants as ruling
 use Rattle.schedule_reading.specs.Kept.{Core, Kept}
-use Rattle.schedule_reading.specs.Rulings.{Allows, Chosen, ChosenOther, Chooses, ComesToChoice, IsPoint, Refuses, Rules, RulesChoice, coming_entry}
+use Rattle.schedule_reading.specs.Rulings.{Allows, Chosen, ChosenOther, Chooses, ComesToChoice, IsPoint, Refuses, Rules, RulesChoice}
 use Rattle.schedule_reading.specs.Stands.{IsEnd, IsTold, StandsAt}
 use Rattle.schedule_reading.proofs.Delivering.{none_comes, not_beyond}
 use Rattle.schedule_reading.proofs.Unstopped.{stands_as}

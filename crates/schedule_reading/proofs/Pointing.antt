@@ -3,10 +3,11 @@ use Rattle.std.proofs.Common.{◌≡◌, ◌≢◌, ℕ, ◌<◌, ◌||◌, Bool
 use Rattle.std.specs.Prelude.{is_some}
 use Rattle.std.specs.List.{list_any}
 use Rattle.c_mean.specs.ModelledCalls.{Exchange}
-use Rattle.choice_rules.specs.Clock.{IsChoicePoint, IsClockBy, is_due}
+use Rattle.choice_rules.specs.Clock.{IsChoicePoint, is_due}
 use Rattle.choice_rules.specs.Readiness.{any_ready}
-use Rattle.choice_rules.specs.Seen.{Seen}
 use Rattle.choice_rules.specs.Trace.{Trace, IsNext}
+use Rattle.choice_rules.proofs.Clocks.{clock_stays}
+use Rattle.choice_rules.proofs.Tests.{right_true}
 use Rattle.event_trace.specs.Reader.{ReaderState}
 use Rattle.event_trace.specs.declared.events.Event.{Event}
 use Rattle.lawful_reading.specs.Given.{Given}
@@ -35,18 +36,6 @@ next_of trace reader n known None e is = absurd is
 next_of trace reader n known (Some left) e is = next_in trace reader n known (reader.held ++ left) e is
 
 -- ---- the clock
-
-clock_stays : (b : Bool) (seen : Seen) (known : Option Event) (clock : ℕ) → b ≡ true → clock ≡ seen.clock → IsClockBy b seen known clock
-clock_stays true seen known clock e same = same
-clock_stays false seen known clock e same = absurd (cc)
-
-left_true : (a b : Bool) → a ≡ true → (a || b) ≡ true
-left_true true b e = refl
-left_true false b e = absurd (cc)
-
-right_true : (a b : Bool) → b ≡ true → (a || b) ≡ true
-right_true true b e = refl
-right_true false b e = e
 
 -- ---- between segments
 

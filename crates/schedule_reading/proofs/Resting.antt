@@ -2,7 +2,6 @@
 use Rattle.std.proofs.Common.{◌≡◌, ℕ, ◌+◌, ◌-◌, ◌^◌, ◌≤◌, Bool, true, false, List, [], ◌∷◌, ◌++◌, length, Option, Some, None, IsSome, refl, sym, ap, ◌∙◌, arith, if◌then◌else◌}
 use Rattle.std.specs.Prelude.{IfSome, slice_set, nat_le}
 use Rattle.std.specs.List.{list_all, list_any}
-use Rattle.std.proofs.lemmas.List.Sums.{fold-append}
 use Rattle.blocking_graph.specs.Edges.{count_of, edges_of, edges_with}
 use Rattle.blocking_graph.specs.Graph.{GraphState}
 use Rattle.blocking_graph.specs.declared.edges.EdgeLine.{EdgeLine}
@@ -10,9 +9,11 @@ use Rattle.blocking_graph.specs.declared.segments.SegmentRecord.{SegmentRecord}
 use Rattle.cap_word.specs.declared.calls.Block.{Block}
 use Rattle.c_mean.specs.ModelledCalls.{Exchange, wakes_at}
 use Rattle.c_mean.specs.World as source
-use Rattle.choice_rules.specs.Choice.{is_open}
-use Rattle.choice_rules.specs.Policy.{Policy, all_caps}
-use Rattle.choice_rules.specs.Seen.{Past, Waiter, changes, uses_in, uses_of}
+use Rattle.choice_rules.specs.Choice.{is_open, observed}
+use Rattle.choice_rules.specs.Clock.{latest}
+use Rattle.choice_rules.specs.Policy.{all_caps}
+use Rattle.choice_rules.specs.Seen.{Waiter, changes, uses_in, uses_of}
+use Rattle.choice_rules.proofs.Past.{edges_more, gate_more}
 use Rattle.lawful_reading.specs.Given.{Given, chunks_of}
 use Rattle.lawful_reading.specs.Segments.{rested}
 use Rattle.lawful_reading.specs.State.{Segment, State, seen_of}
@@ -27,10 +28,10 @@ use Rattle.thread_waits.specs.Counted.{wake_of}
 use Rattle.thread_waits.proofs.TimeLaws.{few_ticks}
 use Rattle.schedule_reading.specs.declared.reading.Under.{Under}
 use Rattle.schedule_reading.specs.declared.threads.Slot.{Slot}
-use Rattle.schedule_reading.specs.Closing.{IsClosing, observed, uses_after}
+use Rattle.schedule_reading.specs.Closing.{IsClosing, uses_after}
 use Rattle.schedule_reading.specs.Coming.{KeepsBut}
 use Rattle.schedule_reading.specs.Kept.{Core}
-use Rattle.schedule_reading.specs.Stands.{AreBeside, AreLive, IsOf, IsScheduled, StandsAt, StandsWithin, latest}
+use Rattle.schedule_reading.specs.Stands.{AreBeside, AreLive, IsOf, IsScheduled, StandsAt, StandsWithin}
 use Rattle.schedule_reading.specs.Told.{ThreadsState, at_place}
 use Rattle.schedule_reading.proofs.Keeping.{of_with}
 use Rattle.schedule_reading.proofs.Proceeding.{of_keeps, past_keeps}
@@ -45,12 +46,6 @@ again_by false false b = refl
 -- seen twice, the same uses move the gate once
 again : (high low : ℕ) (b : Bool) (seen : List ℕ) → gate_after high low (gate_after high low b seen) seen ≡ gate_after high low b seen
 again high low b seen = again_by (list_any (λ p. nat_le high p) seen) (list_all (λ p. nat_le p low) seen) b
-
-gate_more : (policy : Policy) (past : Past) (uses : List ℕ) → gate policy.high policy.low policy.curves (all_caps policy) (past.uses ++ uses ∷ []) ≡ gate_after policy.high policy.low (is_open policy past) (pressures policy.curves uses (all_caps policy))
-gate_more policy past uses = fold-append (λ was_open u. gate_after policy.high policy.low was_open (pressures policy.curves u (all_caps policy))) _ past.uses (uses ∷ [])
-
-pub edges_more : (records : List SegmentRecord) (r : SegmentRecord) → edges_of (records ++ r ∷ []) ≡ edges_with (edges_of records) r
-edges_more records r = fold-append edges_with [] records (r ∷ [])
 
 -- ---- sleepers
 

@@ -49,9 +49,6 @@ module _ (tree : ProgramTree) (old : ThreadsState) (words : List ℕ) (chosen : 
     below : chosen.slot < length old.waits.places
     below = there_if old.waits.places chosen.slot may.waits
 
-    same_waits : mid.waits ≡ record old.waits { places = slice_set old.waits.places chosen.slot None }
-    same_waits = ap (λ (t : ThreadsState). t.waits) after
-
     kept : KeepsOthers old mid chosen.slot
     kept = record {
       slots = others;

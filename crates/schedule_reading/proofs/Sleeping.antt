@@ -2,6 +2,8 @@
 use Rattle.std.proofs.Common.{◌≡◌, ℕ, zero, suc, ◌<◌, ◌≤◌, ◌||◌, Bool, true, false, List, [], ◌∷◌, length, Option, Some, None, IsSome, refl, sym, ap, ◌∙◌, subst, arith, nat_eq, cond}
 use Rattle.std.specs.Prelude.{All, Contains, filter_map, map, slice_get, slice_index_or}
 use Rattle.std.specs.List.{AllByRecursion, cons_option}
+use Rattle.std.proofs.lemmas.Bool.{eqb-true}
+use Rattle.std.proofs.lemmas.List.Elements.{All-from_recursion}
 use Rattle.c_mean.specs.ModelledCalls.{Exchange, wakes_at}
 use Rattle.c_mean.specs.ModelledCalls as table
 use Rattle.c_mean.specs.World as source
@@ -9,6 +11,7 @@ use Rattle.c_tree.specs.Trees.{ProgramTree}
 use Rattle.choice_rules.specs.Clock.{IsLeastOf}
 use Rattle.choice_rules.specs.Readiness as rules
 use Rattle.choice_rules.specs.Seen.{Waiter}
+use Rattle.choice_rules.specs.Waiting.{waits}
 use Rattle.slab.specs.Slab.{Slab, get}
 use Rattle.thread_waits.specs.Waiting as waits_of
 use Rattle.thread_waits.specs.declared.waits.Wait.{Wait}
@@ -17,8 +20,7 @@ use Rattle.schedule_reading.specs.declared.threads.Rest.TheVariants as rest
 use Rattle.schedule_reading.specs.declared.threads.Slot.{Slot}
 use Rattle.schedule_reading.specs.Stands.{AreThreads, IsSince, IsWaiter, RestsAs}
 use Rattle.schedule_reading.specs.Told.{WaitsAs, at_place}
-use Rattle.schedule_reading.specs.Waiting.{waits}
-use Rattle.schedule_reading.proofs.Any.{slot_at, rest_is, number_is}
+use Rattle.schedule_reading.proofs.Any.{slot_at, rest_is}
 
 -- ---- lists
 
@@ -27,11 +29,6 @@ later x xs y c = (suc c.0, omega (arith, c.1), c.2)
 
 head : (x : ℕ) (xs : List ℕ) (y : ℕ) → x ≡ y → Contains (x ∷ xs) y
 head x xs y e = (0, omega arith, e)
-
-all_index : {X : Type 0} (P : X → Type 0) (xs : List X) → AllByRecursion P xs → All P xs
-all_index P [] all k d h = absurd (omega arith)
-all_index P (x ∷ xs) all zero d h = all.0
-all_index P (x ∷ xs) all (suc k) d h = all_index P xs all.1 k d (omega arith)
 
 module _ {X : Type 0} (h : X → Option ℕ) where
   given_on : (time : ℕ) (x : X) (xs : List X) (o : Option ℕ) → Contains (filter_map h xs) time → Contains (cons_option o (filter_map h xs)) time
@@ -97,7 +94,7 @@ module _ (tree : ProgramTree) (slots : Slab Slot) (places : List (Option Wait)) 
     has_with place time slot there e (x ∷ xs) all w = by (nat_eq x.thread slot.number) refl (has_with place time slot there e xs all.1) where
       by : (b : Bool) → nat_eq x.thread slot.number ≡ b → (waits xs slot.number ≡ true → Contains (filter_map h xs) time) → Contains (filter_map h (x ∷ xs)) time
       by true same more =
-          let here : all.0.has.place ≡ place = are.one all.0.has.place place all.0.has.slot slot all.0.has.there there (all.0.has.number_is ∙ number_is x.thread slot.number same) in
+          let here : all.0.has.place ≡ place = are.one all.0.has.place place all.0.has.slot slot all.0.has.there there (all.0.has.number_is ∙ eqb-true x.thread slot.number same) in
           given_here h time xs (h x) (agree x all.0 ∙ ap (λ (k : ℕ). f (at_place places k)) here ∙ e)
       by false other more =
           let rest : waits xs slot.number ≡ true = subst (λ (b : Bool). (b || waits xs slot.number) ≡ true) other w in
@@ -117,7 +114,7 @@ module _ (tree : ProgramTree) (slots : Slab Slot) (places : List (Option Wait)) 
     pub least_sleeps : (time : ℕ) → Contains (map f places) (Some time) → ((other : ℕ) → Contains (map f places) (Some other) → time ≤ other) → IsLeastOf (filter_map h waiting) time
     least_sleeps time c least = record {
       one = has_time c.0 time (sym (at_map f places c.0 (Some time) c.1) ∙ c.2);
-      least = all_index (λ t. time ≤ t) (filter_map h waiting) (gives_above h time waiting (all_above time least waiting are.waiters));
+      least = All-from_recursion (λ t. time ≤ t) (filter_map h waiting) (gives_above h time waiting (all_above time least waiting are.waiters));
     }
 
   -- ---- where nobody is ready

@@ -6,6 +6,9 @@ use Rattle.std.proofs.lemmas.List.Recursion.{is_count_by}
 use Rattle.c_mean.specs.World as source
 use Rattle.c_tree.specs.Trees.{ProgramTree}
 use Rattle.choice_rules.specs.Seen.{Waiter}
+use Rattle.choice_rules.specs.Waiting.{waits}
+use Rattle.choice_rules.proofs.Tests.{left_true, right_true}
+use Rattle.choice_rules.proofs.Waiters.{all_append, none_waits, once_append, waits_append, waits_one}
 use Rattle.lawful_reading.specs.Happenings.{lives}
 use Rattle.slab.specs.Slab.{get}
 use Rattle.thread_waits.specs.declared.waits.Wait.{Wait}
@@ -13,8 +16,6 @@ use Rattle.schedule_reading.specs.declared.threads.Slot.{Slot}
 use Rattle.schedule_reading.specs.Changes.{KeepsOthers}
 use Rattle.schedule_reading.specs.Stands.{AreThreads, HasSlot, IsSince, IsSlot, IsWaiter}
 use Rattle.schedule_reading.specs.Told.{ThreadsState, at_place}
-use Rattle.schedule_reading.specs.Waiting.{waits}
-use Rattle.schedule_reading.proofs.Lists.{all_append, left_true, none_waits, once_append, right_true, waits_append, waits_one}
 use Rattle.schedule_reading.proofs.Places.{not_vacant, same_slot, slot_kept, waiters_kept}
 use Rattle.schedule_reading.proofs.Waits.{here_or_not}
 
@@ -27,11 +28,6 @@ more_last (y ∷ xs) x = more_last xs x
 pub more_long : {X : Type 0} (xs : List X) (x : X) → length (xs ++ x ∷ []) ≡ length xs + 1
 more_long [] x = refl
 more_long (y ∷ xs) x = let rest = more_long xs x in omega (arith, rest)
-
-pub none_past : {X : Type 0} (xs : List X) (k : ℕ) → length xs ≤ k → slice_get xs k ≡ None
-none_past [] k h = refl
-none_past (x ∷ xs) zero h = absurd (omega (arith, h))
-none_past (x ∷ xs) (suc k) h = none_past xs k (omega (arith, h))
 
 pub more_other : {X : Type 0} (xs : List X) (x : X) (k : ℕ) → k ≢ length xs → slice_get (xs ++ x ∷ []) k ≡ slice_get xs k
 more_other [] x zero apart = absurd (apart refl)

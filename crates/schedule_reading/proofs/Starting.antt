@@ -9,8 +9,10 @@ use Rattle.c_mean.specs.World as source
 use Rattle.c_mean.specs.World.{empty_exchange}
 use Rattle.c_tree.specs.Trees.{ProgramTree}
 use Rattle.c_tree.specs.WellScoped.{IsWellScoped}
+use Rattle.choice_rules.specs.Clock.{latest}
 use Rattle.choice_rules.specs.Policy.{all_caps}
 use Rattle.choice_rules.specs.Seen.{Waiter, uses_of}
+use Rattle.choice_rules.proofs.Changes.{at_drop}
 use Rattle.event_trace.specs.Reader.{ReaderState}
 use Rattle.lawful_reading.specs.Given.{Given}
 use Rattle.lawful_reading.specs.State.{State, seen_of, start_of}
@@ -36,7 +38,7 @@ use Rattle.schedule_reading.specs.declared.threads.Slot.{Slot}
 use Rattle.schedule_reading.specs.Changes.{AreNone, AreVacant, HasAdded}
 use Rattle.schedule_reading.specs.Kept.{Core}
 use Rattle.schedule_reading.specs.Starting.{HasFirst, HasSource}
-use Rattle.schedule_reading.specs.Stands.{AreLive, AreThreads, IsOf, IsScheduled, IsSlot, Stands, StandsAt, latest}
+use Rattle.schedule_reading.specs.Stands.{AreLive, AreThreads, IsOf, IsScheduled, IsSlot, Stands, StandsAt}
 use Rattle.schedule_reading.specs.Told.{ThreadsState, VouchesIn, at_place, wait_of}
 use Rattle.schedule_reading.specs.Limits.{MayAudit, given_of}
 use Rattle.schedule_reading.proofs.Joins.{joins}
@@ -57,10 +59,6 @@ one_place (suc place) = refl
 is_true : (b : Bool) → IsTrue b → b ≡ true
 is_true true h = refl
 is_true false h = absurd (cc)
-
-at_drop : (xs : List ℕ) (r : ℕ) → slice_index (drop 1 xs) r ≡ slice_index xs (suc r)
-at_drop [] r = refl
-at_drop (x ∷ xs) r = refl
 
 module _ (backlog : ℕ) (caps : List ℕ) (none : ThreadsState) (first : AreNone backlog caps none) where
   pub nobody_at : (place : ℕ) → at_place none.waits.places place ≡ None

@@ -1,5 +1,5 @@
 -- The lawful choice: which thread goes on, and from where.
-use Rattle.std.proofs.Common.{◌≡◌, ◌≢◌, ℕ, suc, ◌+◌, ◌-◌, ◌<◌, ◌≤◌, ◌||◌, ◌&&◌, not, Bool, true, false, List, [], ◌∷◌, ◌++◌, length, drop, Option, Some, None, IsSome, option_to_list, find, refl, sym, ap, ◌∙◌, subst, arith, ⊎_elim, if◌then◌else◌, append-nil, length-set, ◌⊎◌, inl, inr}
+use Rattle.std.proofs.Common.{◌≡◌, ◌≢◌, ℕ, suc, ◌+◌, ◌-◌, ◌<◌, ◌≤◌, ◌||◌, ◌&&◌, not, Bool, true, false, List, [], ◌∷◌, ◌++◌, length, Option, Some, None, IsSome, option_to_list, find, refl, sym, ap, ◌∙◌, subst, arith, ⊎_elim, if◌then◌else◌, append-nil, length-set, ◌⊎◌, inl, inr}
 use Rattle.std.specs.Prelude.{IfSome, IsTrue, count_by, is_some, slice_get, slice_index}
 use Rattle.std.specs.List.{list_any}
 use Rattle.std.proofs.lemmas.Bool.{eq-eqb, ne_eqb}
@@ -12,12 +12,12 @@ use Rattle.c_tree.specs.Trees.{ProgramTree}
 use Rattle.c_mean.specs.World as source
 use Rattle.c_mean.specs.World.{begun, begun_at}
 use Rattle.choice_rules.specs.Choice as rules
-use Rattle.choice_rules.specs.Choice.{IsLawful, IsLawfulBy, is_open, monitor_of, queue_at}
+use Rattle.choice_rules.specs.Choice.{IsLawful, IsLawfulBy, is_open, monitor_of, queue_at, observed}
+use Rattle.choice_rules.specs.Clock.{latest as latest_of}
 use Rattle.choice_rules.specs.Policy.{Rule}
 use Rattle.choice_rules.specs.Readiness as readiness
 use Rattle.choice_rules.specs.Readiness.{any_elsewhere, any_ready, at_accept, is_ready}
 use Rattle.choice_rules.specs.Seen.{Seen, Waiter, last_choice, newcomers, uses_in, uses_of}
-use Rattle.choice_rules.proofs.Points.{one_choice}
 use Rattle.lawful_reading.specs.Choice.{chosen_from}
 use Rattle.lawful_reading.specs.Given.{Given}
 use Rattle.lawful_reading.specs.Happenings.{lives}
@@ -39,20 +39,21 @@ use Rattle.schedule_reading.specs.declared.threads.Rest.{Rest}
 use Rattle.schedule_reading.specs.declared.threads.Rest.TheVariants as rest
 use Rattle.schedule_reading.specs.declared.threads.Slot.{Slot}
 use Rattle.schedule_reading.specs.Changes.{GoesOn, HasBegun, MayBegin, MayGo}
-use Rattle.schedule_reading.specs.Closing.{observed}
 use Rattle.schedule_reading.specs.Kept.{Core}
 use Rattle.schedule_reading.specs.Rulings.{Chooses, Chosen, ChosenOther}
-use Rattle.schedule_reading.specs.Stands.{AreThreads, CanGo, IsScheduled, IsSince, IsSlot, IsWaiter, RestsAs, StandsAt, StandsWithin, latest as latest_of, numbers_of, waiting_with}
+use Rattle.schedule_reading.specs.Stands.{AreThreads, CanGo, IsScheduled, IsSince, IsSlot, IsWaiter, RestsAs, StandsAt, StandsWithin, numbers_of, waiting_with}
 use Rattle.schedule_reading.specs.Told.{ThreadsState, WaitsAs, any_elsewhere_in, at_accept_in, at_place, is_ready_in, wait_of, waits_in}
 use Rattle.schedule_reading.specs.Uses.{cap_in, used_in}
-use Rattle.schedule_reading.specs.Waiting.{IsPlaced}
 use Rattle.schedule_reading.proofs.Any.{accept_agrees, any_elsewhere_same, ready_agrees}
 use Rattle.schedule_reading.proofs.Beginning.{are_left, none_new, scheduled_left}
-use Rattle.schedule_reading.proofs.Caps.{same_eight, used_is, within_policy}
-use Rattle.schedule_reading.proofs.LawfulChoices as choosing
-use Rattle.schedule_reading.proofs.LawfulChoices.{lawful_choice, some_choice}
+use Rattle.schedule_reading.proofs.Caps.{used_is, within_policy}
+use Rattle.choice_rules.specs.Waiting.{IsPlaced}
+use Rattle.choice_rules.proofs.Changes.{same_eight, drop_long}
+use Rattle.choice_rules.proofs.GraphChoices.{lawful_choice, some_choice}
+use Rattle.choice_rules.proofs.Waiters.{but}
+use Rattle.choice_rules.proofs.Points.{one_choice}
+use Rattle.choice_rules.proofs.GraphChoices as choosing
 use Rattle.schedule_reading.proofs.Keeping.{of_with}
-use Rattle.schedule_reading.proofs.Lists.{but}
 use Rattle.schedule_reading.proofs.Places.{At, placed_at, same_slot}
 use Rattle.schedule_reading.proofs.Pointing.{ready_same}
 use Rattle.schedule_reading.proofs.Waits.{here_or_not}
@@ -96,10 +97,6 @@ row_uses caps x (Block.Sleep ticks) = refl
 row_uses caps x Block.Yield = refl
 row_uses caps x (Block.Take resource amount) = length-set x.uses resource (use_of x resource + amount)
 row_uses caps x (Block.WaitFor channel ticks) = refl
-
-drop_long : (xs : List ℕ) → length xs ≡ 8 → length (drop 1 xs) ≡ 7
-drop_long [] e = absurd (omega (arith, e))
-drop_long (x ∷ xs) e = omega (arith, e)
 
 pub uses_are : (g : Given) (k : Core) (uses : List ℕ) → length uses ≡ 8 → length k.threads.exchange.exchange.uses ≡ 8 → ((r : ℕ) → r < 8 → slice_index uses r ≡ used_in k r) → uses ≡ uses_in (k.policy.chunks - k.free) k.threads.exchange.exchange
 uses_are g k uses eight there same =

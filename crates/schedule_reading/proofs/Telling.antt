@@ -31,10 +31,6 @@ some_at : (slots : Slab Slot) (places : List (Option Wait)) (thread : ThreadId) 
 some_at slots places thread None e some = absurd (cc)
 some_at slots places thread (Some wait) e some = waits_at slots places thread wait e
 
--- and so is its need
-pub need_at : (slots : Slab Slot) (places : List (Option Wait)) (thread : ThreadId) → IsSome (waits_in slots places thread) → at_place places thread.slot ≡ waits_in slots places thread
-need_at slots places thread some = some_at slots places thread (waits_in slots places thread) refl some
-
 -- nobody is vouched for who waits for nothing
 vouched_on : (slots : Slab Slot) (places : List (Option Wait)) (thread : ThreadId) (need : Need) (o : Option Wait) → waits_in slots places thread ≡ o → option_map need_for o ≡ Some need → at_place places thread.slot ≡ None → ⊥
 vouched_on slots places thread need None e v none = absurd (cc)

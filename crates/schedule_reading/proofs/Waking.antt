@@ -1,18 +1,18 @@
 -- The clock goes on to the next time at which something goes on.
 use Rattle.std.proofs.Common.{◌≡◌, ℕ, zero, suc, ◌^◌, ◌<◌, ◌≤◌, ◌||◌, Bool, true, false, List, [], ◌∷◌, ◌++◌, Option, Some, None, refl, sym, ◌∙◌, subst, arith, cond}
-use Rattle.std.specs.Prelude.{All, IfSome, nat_le, slice_get, slice_index_or}
+use Rattle.std.specs.Prelude.{All, IfSome, slice_get, slice_index_or}
 use Rattle.std.specs.List.{list_any}
-use Rattle.std.proofs.lemmas.Bool.Decides.{nat_tests}
 use Rattle.cap_word.specs.declared.calls.Block.{Block}
 use Rattle.c_mean.specs.ModelledCalls as table
-use Rattle.c_mean.specs.ModelledCalls.{Exchange, blocking_row, is_past, wake_of, wakes_at}
+use Rattle.c_mean.specs.ModelledCalls.{Exchange, blocking_row, wake_of, wakes_at}
 use Rattle.c_mean.proofs.CallLemmas.{waits_alone}
-use Rattle.choice_rules.specs.Clock.{IsClockBy, IsLeastOf, event_times, is_due}
+use Rattle.choice_rules.specs.Clock.{IsLeastOf, event_times, is_due, latest}
 use Rattle.choice_rules.specs.Readiness as rules
 use Rattle.choice_rules.specs.Readiness.{any_ready, waking_times}
-use Rattle.choice_rules.specs.Seen.{Seen}
 use Rattle.choice_rules.specs.Stops.{IsIdle}
 use Rattle.choice_rules.specs.Trace.{IsNext}
+use Rattle.choice_rules.proofs.Clocks.{awake_by, clock_moves, later_by}
+use Rattle.choice_rules.proofs.Tests.{not_both, one_false}
 use Rattle.event_trace.specs.declared.events.Event.{Event}
 use Rattle.lawful_reading.specs.Given.{Given}
 use Rattle.lawful_reading.specs.State.{State, seen_of}
@@ -22,35 +22,13 @@ use Rattle.thread_waits.specs.Waiting.{IsWake, sleeps_in}
 use Rattle.thread_waits.specs.declared.waits.Wait.{Wait}
 use Rattle.schedule_reading.specs.Kept.{Kept}
 use Rattle.schedule_reading.specs.Rulings.{Comes, ComesToChoice, Goes, GoesOnFrom, Halts}
-use Rattle.schedule_reading.specs.Stands.{StandsAt, latest}
+use Rattle.schedule_reading.specs.Stands.{StandsAt}
 use Rattle.schedule_reading.specs.Told.{any_ready_in, at_place}
 use Rattle.schedule_reading.proofs.Any.{at_any}
 use Rattle.schedule_reading.proofs.Sleeping.{at_map, least_sleeps, nobody_sleeps, wakes_agrees}
 use Rattle.schedule_reading.proofs.Pointing.{between_is, live_is, next_of, ready_same}
 
 -- ---- who sleeps
-
-not_both : (a b : Bool) → (a || b) ≡ false → (a ≡ false) × (b ≡ false)
-not_both true b e = absurd (cc)
-not_both false b e = (refl, e)
-
-right_true : (a b : Bool) → b ≡ true → (a || b) ≡ true
-right_true true b e = refl
-right_true false b e = e
-
-past_not : (time clock : ℕ) → nat_le time clock ≡ false → clock < time
-past_not time clock e = grind (arith, nat_tests, e)
-
-past_at : (time clock : ℕ) → time ≡ clock → nat_le time clock ≡ true
-past_at time clock is = grind (arith, nat_tests, is)
-
-later_by : (ready : Bool) (clock : ℕ) (o : Option ℕ) (time : ℕ) → (ready || is_past clock o) ≡ false → o ≡ Some time → clock < time
-later_by ready clock None time e is = absurd (cc)
-later_by ready clock (Some t) time e is = let same : t ≡ time = cc in subst (λ (n : ℕ). clock < n) same (past_not t clock (not_both ready (nat_le t clock) e).1)
-
-awake_by : (ready : Bool) (clock : ℕ) (o : Option ℕ) → o ≡ Some clock → (ready || is_past clock o) ≡ true
-awake_by ready clock None e = absurd (cc)
-awake_by ready clock (Some time) e = let is : time ≡ clock = cc in right_true ready (nat_le time clock) (past_at time clock is)
 
 -- one that sleeps until a time isn't ready before it, wakes then and is ready then
 record Sleeps (caps : List ℕ) (x : Exchange) (clock : ℕ) (o : Option Wait) (time : ℕ) : Type 0 where
@@ -78,14 +56,6 @@ none_any : {X : Type 0} (test : Option X → Bool) → test None ≡ false → (
 none_any test none [] k e = none
 none_any test none (x ∷ xs) zero e = (not_both (test x) (list_any test xs) e).0
 none_any test none (x ∷ xs) (suc k) e = none_any test none xs k (not_both (test x) (list_any test xs) e).1
-
-clock_moves : (b : Bool) (seen : Seen) (known : Option Event) (clock : ℕ) → b ≡ false → IsLeastOf (event_times known ++ waking_times seen) clock → IsClockBy b seen known clock
-clock_moves true seen known clock e least = absurd (cc)
-clock_moves false seen known clock e least = least
-
-one_false : (a b : Bool) → a ≡ false → b ≡ false → (a || b) ≡ false
-one_false true b p q = absurd (cc)
-one_false false b p q = q
 
 -- what is kept at another clock
 abbrev pub at_clock : Kept → ℕ → Kept

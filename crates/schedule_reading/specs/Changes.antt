@@ -1,4 +1,4 @@
--- What the calls of the threads change.
+-- How the calls of the threads change their state.
 use Rattle.std.specs.Prelude.{◌≡◌, ◌≢◌, ℕ, ◌+◌, ◌<◌, ◌≤◌, ◌||◌, IsTrue, is_some, List, [], ◌∷◌, length, map, option_to_list, Option, Some, None, IsSome}
 use Rattle.slab.specs.Slab.{get}
 use Rattle.cap_word.specs.declared.calls.Block.{Block}
@@ -25,17 +25,17 @@ pub record AreNone (backlog : ℕ) (caps : List ℕ) (threads : ThreadsState) : 
   pub live : threads.live ≡ 0
   pub next : threads.next ≡ 0
 
--- nobody waits where no thread stands
+-- no thread waits at a place without a thread
 abbrev pub AreVacant : ThreadsState → Type 0
 AreVacant threads = (place : ℕ) → get threads.slots place ≡ None → wait_at threads.waits place ≡ None
 
--- what stands and is waited for at every other place is as it was
+-- thread and wait at every other place stay the same
 pub record KeepsOthers (old new : ThreadsState) (place : ℕ) : Type 0 where
   pub slots : (other : ℕ) → other ≢ place → get new.slots other ≡ get old.slots other
   pub waits : (other : ℕ) → other ≢ place → wait_at new.waits other ≡ wait_at old.waits other
   pub longer : length old.waits.places ≤ length new.waits.places
 
--- what is waited for stays at every place, and so does what threads meet outside themselves
+-- the waits at all places stay the same, and so do the queues and uses
 pub record KeepsAll (old new : ThreadsState) : Type 0 where
   pub waits : (place : ℕ) → wait_at new.waits place ≡ wait_at old.waits place
   pub clock : new.waits.clock ≡ old.waits.clock
@@ -43,7 +43,7 @@ pub record KeepsAll (old new : ThreadsState) : Type 0 where
   pub live : new.live ≡ old.live
   pub next : new.next ≡ old.next
 
--- one more thread stands at a vacant place, with the next number, and hasn't run
+-- one more thread is at a vacant place, with the next number, and hasn't run
 pub record HasAdded (old : ThreadsState) (function : ℕ) (argument : Option ℕ) (new : ThreadsState) (thread : ThreadId) : Type 0 where
   pub number : thread.number ≡ old.next
   pub vacant : get old.slots thread.slot ≡ None
@@ -56,10 +56,10 @@ pub record HasAdded (old : ThreadsState) (function : ℕ) (argument : Option ℕ
   pub live : new.live ≡ old.live + 1
   pub next : new.next ≡ old.next + 1
 
--- ---- a thread goes on
+-- ---- a thread continues
 
--- a thread may go on from where it rests: a function is there with as many parameters as it is given, or the call is ready, now or
--- after some time
+-- a thread may continue from its rest: a function exists with as many parameters as it is given, or the call is ready,
+-- now or at some time
 abbrev pub MayGo : ProgramTree → Exchanging → List ℕ → Rest → Type 0
 MayGo tree x words (rest.Fresh function argument) =
     (function < length tree.functions) × ((signature_at (map signature_of tree.functions) function).params ≡ length (option_to_list argument))
@@ -74,7 +74,8 @@ pub record MayBegin (tree : ProgramTree) (threads : ThreadsState) (words : List 
   pub full : IsFull tree words
   pub may : MayGo tree threads.exchange words slot.rest
 
--- the thread goes on from where it rested: from the start of its function, or with what its call answers and takes
+-- the thread continues from its rest: from the start of its function, or with the result of its call, which takes what
+-- it waited for
 abbrev pub GoesOn : ProgramTree → Rest → (old : Exchanging) (old_words : List ℕ) (new : Exchanging) (words : List ℕ) → Thread → Type 0
 GoesOn tree (rest.Fresh function argument) old old_words new words thread =
     (running_of tree thread words ≡ started tree function (option_to_list argument) (globals_of tree old_words)) × (words ≡ old_words) × (new ≡ old)
@@ -83,7 +84,7 @@ GoesOn tree (rest.Blocked block blocked) old old_words new words thread =
     × (new ≡ record old { exchange = (row_of old block).after })
 GoesOn tree rest.Away old old_words new words thread = ⊥
 
--- what stood at its place, which has now gone, and what it has become
+-- the state at rest that was at its place, which is now taken, and the thread that continues from it
 pub record HasBegun (tree : ProgramTree) (old : ThreadsState) (old_words : List ℕ) (new : ThreadsState) (words : List ℕ) (chosen : ThreadId) (thread : Thread) : Type 0 where
   pub slot : Slot
   pub was : get old.slots chosen.slot ≡ Some slot
@@ -100,7 +101,7 @@ pub record HasBegun (tree : ProgramTree) (old : ThreadsState) (old_words : List 
 
 -- ---- a thread rests
 
--- the thread that runs stands at its place and doesn't wait
+-- the running thread is at its place and doesn't wait
 pub record IsAway (threads : ThreadsState) (running : ThreadId) : Type 0 where
   pub slot : Slot
   pub there : get threads.slots running.slot ≡ Some slot

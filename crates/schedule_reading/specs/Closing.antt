@@ -1,16 +1,15 @@
--- The lines of a segment, beside what is kept.
+-- The lines of a segment, compared with what is kept.
 use Rattle.std.specs.Prelude.{◌≡◌, ℕ, ℤ, ◌+◌, ◌-◌, ◌^◌, ◌<◌, ◌≤◌, List, length, Some, Result, Ok, Err, slice_index}
 use Rattle.blocking_graph.specs.Edges.{count_of, edges_with}
 use Rattle.cap_word.specs.declared.calls.Block.{Block}
 use Rattle.cap_word.specs.Word.{signed}
+use Rattle.choice_rules.specs.Choice.{observed}
 use Rattle.choice_rules.specs.Seen.{changes, uses_in}
 use Rattle.lawful_reading.specs.Given.{Given}
 use Rattle.lawful_reading.specs.Reading.{IsAllowed, IsBeyond}
 use Rattle.lawful_reading.specs.State.{Segment, State}
 use Rattle.ready_tree.specs.declared.needs.Need.{Need}
-use Rattle.resource_monitor.specs.Gate.{gate_after}
-use Rattle.resource_monitor.specs.Monitor.{MonitorState, NoneAbove, SmallCaps}
-use Rattle.resource_monitor.specs.Pressure.{pressures}
+use Rattle.resource_monitor.specs.Monitor.{NoneAbove, SmallCaps}
 use Rattle.schedule_log.specs.declared.entries.Entry.{Entry}
 use Rattle.scheduler.specs.State.{IsJoined, IsTold}
 use Rattle.thread_waits.specs.Waiting.{latest}
@@ -29,12 +28,12 @@ use Rattle.schedule_reading.specs.Stands.{IsEnd, StandsBy, StandsWithin}
 use Rattle.schedule_reading.specs.Told.{Vouches}
 use Rattle.schedule_reading.specs.Uses.{cap_in}
 
--- ---- what is given
+-- ---- premises
 
 abbrev pub WithinSomehow : Core → Under → Type 0
 WithinSomehow k under = (g : Given) × (state : State) × StandsWithin g state k under
 
--- what the thread has come to next, by the steps that were left
+-- what the thread has done next, by the remaining steps
 pub record HasProceeded (g : Given) (state : State) (old : Core) (old_under : Under) (k : Core) (under : Under) (result : Result Happening Failure) : Type 0 where
   pub segment : Segment
   pub under_way : state.segment ≡ Some segment
@@ -43,7 +42,7 @@ pub record HasProceeded (g : Given) (state : State) (old : Core) (old_under : Un
 
 -- ---- outputs
 
--- a line of this thread and value may stand before the end, and is that of the word that the thread of the number put
+-- a line of this thread and value is allowed before the end, and is that of the word that the thread of that number put
 pub record IsPut (end : End) (number word thread : ℕ) (value : ℤ) : Type 0 where
   pub over : end ≡ NotYet
   pub thread_is : thread ≡ number
@@ -51,7 +50,7 @@ pub record IsPut (end : End) (number word thread : ℕ) (value : ℤ) : Type 0 w
 
 -- ---- costs and free chunks
 
--- the total is at most the fuel, and no more chunks are free than there are
+-- the total cost is at most the fuel, and at most all chunks are free
 pub record IsWithin (k : Core) (cost free : ℕ) : Type 0 where
   pub fuel : k.cost + cost ≤ k.policy.fuel
   pub chunks : free ≤ k.policy.chunks
@@ -63,7 +62,7 @@ pub record IsClosing (k : Core) (cost free : ℕ) : Type 0 where
 
 -- ---- the end of a segment
 
--- a line of this thread, cost and number of free chunks may end the segment of the thread of the number
+-- a line of this thread, cost and number of free chunks may end the segment of the thread of that number
 pub record EndsSegment (k : Kept) (number thread cost free : ℕ) : Type 0 where
   pub over : k.end ≡ NotYet
   pub thread_is : thread ≡ number
@@ -79,15 +78,11 @@ pub record MayClose (k : Core) (under : Under) (cost free : ℕ) : Type 0 where
   pub room : count_of k.graph.edges < 2 ^ 40
   pub uses : length k.threads.exchange.exchange.uses ≡ 8
 
--- a monitor after it has taken these uses
-abbrev pub observed : MonitorState → List ℕ → MonitorState
-observed m uses = record m { uses = uses; is_open = gate_after m.high m.low m.is_open (pressures m.curves uses m.caps) }
-
 -- the uses after a segment after which so many chunks are free
 abbrev pub uses_after : Core → ℕ → List ℕ
 uses_after k free = uses_in (k.policy.chunks - free) k.threads.exchange.exchange
 
--- the cost, the free chunks, the clock, the uses and the record of a segment were taken in
+-- the cost, the free chunks, the clock, the uses and the record of a segment are taken up
 abbrev pub closed : Core → Under → (node cost free : ℕ) → Core
 closed k under node cost free = record k {
   cost = k.cost + cost;
@@ -109,7 +104,7 @@ Closes old under node cost free new (Err failure) = failure ≡ Failure.Memory
 
 -- ---- a thread rests
 
--- it has blocked at a call and joined a node, with what it waits for, after its segment was taken in
+-- it has blocked at a call and joined a node, with its wait, after its segment was taken up
 pub record HasRested (old : Kept) (under : Under) (node : ℕ) (block : Block) (cost free : ℕ) (new : Kept) : Type 0 where
   pub counted : count_of (closed old.core under node cost free).graph.edges ≡ count_of old.core.graph.edges + 1
   pub blocked : HasBlocked (closed old.core under node cost free).threads under.choice.thread block under.thread new.core.threads
@@ -125,7 +120,7 @@ RestsAt old under node block cost free new (Err failure) = failure ≡ Failure.M
 
 -- ---- a line
 
--- the line is allowed, and what is kept of the trace is as it was
+-- the line is allowed, and the kept part of the trace is unchanged
 pub record AllowsWithin (g : Given) (state : State) (old : Kept) (entry : Entry) (new : Kept) : Type 0 where
   pub after : State
   pub allowed : IsAllowed g state entry after

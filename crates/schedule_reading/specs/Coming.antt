@@ -1,4 +1,4 @@
--- What the source's run of the thread under way comes to next, beside what is kept.
+-- What the source's run of the running thread does next, compared with what is kept.
 use Rattle.std.specs.Prelude.{◌≡◌, ℕ, suc, ◌+◌, ◌-◌, ◌^◌, ◌<◌, ◌≤◌, Bool, true, List, [], ◌∷◌, ◌++◌, length, Option, None, Some, Result, Ok, Err, slice_set}
 use Rattle.cap_word.specs.Calls.{Immediate}
 use Rattle.cap_word.specs.Runs.{Goes, Stops}
@@ -22,9 +22,9 @@ use Rattle.schedule_reading.specs.declared.rulings.Failure.{Failure}
 use Rattle.schedule_reading.specs.Kept.{Core}
 use Rattle.schedule_reading.specs.Stands.{AreBeside, IsOf, IsRunning, IsTimely}
 
--- ---- what doesn't change
+-- ---- what stays the same
 
--- a run of a thread changes the globals, and the threads by those that it starts; each start was a step
+-- a run of a thread changes only the globals, and the threads by those that it starts; each start was a step
 pub record KeepsBut (old : Core) (old_under : Under) (old_left : ℕ) (new : Core) (under : Under) (left : ℕ) : Type 0 where
   pub choice : under.choice ≡ old_under.choice
   pub before : under.before ≡ old_under.before
@@ -38,9 +38,9 @@ pub record KeepsBut (old : Core) (old_under : Under) (old_left : ℕ) (new : Cor
   pub starts : new.threads.next + left ≤ old.threads.next + old_left
   pub fewer : left ≤ old_left
 
--- ---- what a run is given
+-- ---- the premises of a run
 
--- the thread under way may run, with room for the numbers of those that it may start
+-- the running thread may run, with room for the numbers of those that it may start
 pub record MayRun (g : Given) (state : State) (here : source.Segment) (k : Core) (under : Under) (left : ℕ) : Type 0 where
   pub of : IsOf g k
   pub runs : IsRunning g state here k under
@@ -61,15 +61,16 @@ pub record MayAnswer (g : Given) (state : State) (last : source.Segment) (k : Co
 abbrev pub AsksSomehow : Core → Under → Ask → Type 0
 AsksSomehow k under ask = (g : Given) × (state : State) × (last : source.Segment) × MayAnswer g state last k under ask
 
--- ---- what comes
+-- ---- what comes next
 
--- the next output is this word, after so many steps
+-- the next output is this word, after this number of steps
 pub record Puts (g : Given) (state : State) (here : source.Segment) (steps word : ℕ) (k : Core) (under : Under) : Type 0 where
   pub after : source.Segment
   pub next : PutsNext g.program g.policy.caps here steps word after
   pub runs : IsRunning g state after k under
 
--- the thread next rests so, after so many steps; the threads are those of a world in which it doesn't rest yet
+-- the thread next rests in this way, after this number of steps; the threads are those of a world in which it doesn't
+-- rest yet
 pub record Rests (g : Given) (state : State) (here : source.Segment) (steps : ℕ) (rest : source.Rest) (k : Core) (under : Under) : Type 0 where
   pub last : source.World
   pub beside : AreBeside g state last.threads last.exchange here.number k.threads k.scheduler under.choice.thread
@@ -87,18 +88,18 @@ pub record Ends (g : Given) (state : State) (here : source.Segment) (steps : ℕ
   pub rests : Rests g state here steps source.Ended k under
   pub full : IsFull g.program k.words
 
--- it next traps so
+-- it next traps in this way
 pub record Traps (g : Given) (here : source.Segment) (steps : ℕ) (kind : TrapKind) : Type 0 where
   pub world : source.World
   pub next : RestsNext g.program g.policy.caps here steps (record { trap = Some kind; world = world })
 
--- it next comes to a start where as many live as may, which was looked at but is no step of those that are needed
+-- it next reaches a start while the maximum number is live; the start was tried but isn't counted
 pub record IsCrowded (g : Given) (here : source.Segment) (taken : ℕ) : Type 0 where
   pub steps : ℕ
   pub next : IsCrowdedNext g.program g.policy.caps here steps
   pub taken_is : taken ≡ suc steps
 
--- so many steps lead on in silence
+-- this number of steps continues silently
 pub record GoesOnFor (g : Given) (here : source.Segment) (steps : ℕ) : Type 0 where
   pub after : source.Segment
   pub silent : IsSilent g.program g.policy.caps here steps after
@@ -112,11 +113,11 @@ HasHappened g state here old_left left k under (Ok happening.IsCrowded) = IsCrow
 HasHappened g state here old_left left k under (Ok happening.OutOfSteps) = (left ≡ 0) × GoesOnFor g here old_left
 HasHappened g state here old_left left k under (Err failure) = failure ≡ Failure.Memory
 
--- within so many steps no start comes where as many live as may
+-- within this number of steps there is no start while the maximum number is live
 abbrev pub NoneCrowded : Given → source.Segment → ℕ → Type 0
 NoneCrowded g here taken = (steps : ℕ) → steps < taken → IsCrowdedNext g.program g.policy.caps here steps → ⊥
 
--- a start that is one too many comes only where it is asked for, and then first
+-- a start above the maximum is returned only if it is asked for, and then first
 abbrev pub CrowdsFirst : Given → source.Segment → Bool → (taken : ℕ) → Result Happening Failure → Type 0
 CrowdsFirst g here crowds taken (Ok happening.IsCrowded) = crowds ≡ true
 CrowdsFirst g here crowds taken (Ok came) = crowds ≡ true → NoneCrowded g here taken
@@ -124,7 +125,7 @@ CrowdsFirst g here crowds taken (Err failure) = Unit {0}
 
 -- ---- parts of a run
 
--- the call has an answer, with which the thread goes on from there
+-- the call has an answer, with which the thread continues
 pub record GoesTo (g : Given) (state : State) (last : source.Segment) (outputs : List (ℕ × ℕ)) (k : Core) (under : Under) : Type 0 where
   pub after : source.Segment
   pub goes : segment_step g.program g.policy.caps last ≡ Goes after
@@ -142,7 +143,7 @@ pub record StartsAt (g : Given) (last : source.Segment) : Type 0 where
   pub goes : segment_step g.program g.policy.caps last ≡ Goes after
   pub one_more : length after.world.threads ≡ suc (length last.world.threads)
 
--- it does so where as many live as may
+-- it does so while the maximum number is live
 abbrev pub CrowdsAt : Given → source.Segment → Type 0
 CrowdsAt g last = (live_in last.world ≡ most_live) × StartsAt g last
 
@@ -156,7 +157,7 @@ Answers g state last crowds k under (Ok (Some happening.Ends)) = ⊥
 Answers g state last crowds k under (Ok (Some happening.OutOfSteps)) = ⊥
 Answers g state last crowds k under (Err failure) = failure ≡ Failure.Memory
 
--- the thread has gone on in silence by some steps, or this has come
+-- the thread has continued silently by some steps, or this has come
 pub record GoesOn (g : Given) (state : State) (here : source.Segment) (crowds : Bool) (steps : ℕ) (k : Core) (under : Under) : Type 0 where
   pub after : source.Segment
   pub silent : IsSilent g.program g.policy.caps here steps after
@@ -172,14 +173,14 @@ Advances g state here crowds old_left left k under (Err failure) = failure ≡ F
 
 -- ---- a run of several parts
 
--- the thread has gone on in silence by so many steps, none of which started one too many
+-- the thread has continued silently by this number of steps, none of which started a thread above the maximum
 pub record GoneOn (g : Given) (state : State) (here : source.Segment) (crowds : Bool) (steps : ℕ) (k : Core) (under : Under) : Type 0 where
   pub after : source.Segment
   pub silent : IsSilent g.program g.policy.caps here steps after
   pub runs : IsRunning g state after k under
   pub none : crowds ≡ true → NoneCrowded g here steps
 
--- so it is from where the run began, whose state may run
+-- the same from where the run began, whose state may run
 abbrev pub RunsOn : (old : Core) (old_under : Under) (old_left : ℕ) → Bool → (k : Core) → (under : Under) → (left : ℕ) → Type 0
 RunsOn old old_under old_left crowds k under left =
     (g : Given) (state : State) (here : source.Segment) → MayRun g state here old old_under old_left → GoneOn g state here crowds (old_left - left) k under

@@ -1,4 +1,4 @@
--- What is kept while a log is read.
+-- What a reading keeps.
 use Rattle.std.specs.Prelude.{ℕ, List, Option}
 use Rattle.blocking_graph.specs.Graph.{GraphState}
 use Rattle.event_trace.specs.Reader.{ReaderState}
@@ -11,8 +11,8 @@ use Rattle.schedule_reading.specs.declared.reading.Next.{Next}
 use Rattle.schedule_reading.specs.declared.reading.Under.{Under}
 use Rattle.schedule_reading.specs.Told.{ThreadsState}
 
--- the words of the globals; the chunks that were free last, the printed costs of all segments, and the steps of the source that
--- may still be taken
+-- the words of the globals, the last printed number of free chunks, the sum of the printed costs of all segments, and
+-- the remaining steps of the source
 pub record Core : Type 0 where
   pub policy : AuditPolicy
   pub interpreter : Interpreter
@@ -25,7 +25,7 @@ pub record Core : Type 0 where
   pub cost : ℕ
   pub left : ℕ
 
--- and what is kept of the trace, of the segment under way and of the end
+-- and what is kept of the trace, of the segment in progress and of the end
 pub record Kept : Type 0 where
   pub core : Core
   pub reader : ReaderState

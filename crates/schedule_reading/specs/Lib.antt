@@ -1,7 +1,6 @@
 pub mod Told
 pub mod Changes
 pub mod Starting
-pub mod Waiting
 pub mod Kept
 pub mod Limits
 pub mod Stands

@@ -19,7 +19,7 @@ pub record MayAudit (policy : AuditPolicy) (monitor : MonitorState) : Type 0 whe
   pub monitor_caps : monitor.caps ≡ policy.chunks ∷ drop 1 policy.caps
   pub gate : IsTrue monitor.is_open
 
--- what a log is read against
+-- the policy against which a log is read
 abbrev pub policy_of : AuditPolicy → MonitorState → Policy
 policy_of policy monitor = record {
   chunks = policy.chunks;

@@ -4,7 +4,7 @@ use Rattle.blocking_graph.specs.declared.edges.EdgeLine.{EdgeLine}
 use Rattle.choice_rules.specs.EdgeLines.{shown as averages_of}
 use Rattle.schedule_reading.specs.declared.edges.Shown.{Shown}
 
--- it shows this edge, with the averages of the resources that have these caps
+-- the line of this edge, with the averages of the resources that have caps
 pub record Shows (edge : EdgeLine) (caps : List ℕ) (line : Shown) : Type 0 where
   pub from : edge.from ≡ line.from
   pub to : edge.to ≡ line.to

@@ -1,4 +1,4 @@
--- What is kept, beside the state of the lawful reading.
+-- What a reading keeps, compared with the state of the lawful reading.
 use Rattle.std.specs.Prelude.{◌≡◌, ◌≢◌, ℕ, ◌+◌, ◌-◌, ◌*◌, ◌^◌, ◌<◌, ◌≤◌, IsTrue, List, ◌++◌, length, drop, map, option_map, option_to_list, Option, None, Some, IsSome, IfSome, count_by, slice_get}
 use Rattle.std.specs.List.{AllByRecursion}
 use Rattle.blocking_graph.specs.Edges.{count_of, edges_of}
@@ -8,10 +8,12 @@ use Rattle.c_mean.specs.World as source
 use Rattle.c_tree.specs.Trees.{ProgramTree}
 use Rattle.c_tree.specs.WellScoped.{signature_at, signature_of}
 use Rattle.choice_rules.specs.Choice.{is_open}
+use Rattle.choice_rules.specs.Clock.{latest}
 use Rattle.choice_rules.specs.EdgeLines.{edge_entry}
 use Rattle.choice_rules.specs.Policy.{all_caps, by_graph}
 use Rattle.choice_rules.specs.Seen.{Waiter, Past, last_choice, newcomers, uses_of}
 use Rattle.choice_rules.specs.Trace.{Trace, IsNext, IsRefused, behind}
+use Rattle.choice_rules.specs.Waiting.{IsOnce, waits, AreQueued}
 use Rattle.event_trace.specs.Lines.{FitsEvent}
 use Rattle.event_trace.specs.Reader.{ReaderState}
 use Rattle.lawful_reading.specs.Given.{Given, chunks_of}
@@ -37,11 +39,10 @@ use Rattle.schedule_reading.specs.declared.threads.Rest.TheVariants as rest
 use Rattle.schedule_reading.specs.declared.threads.Slot.{Slot}
 use Rattle.schedule_reading.specs.Kept.{Core, Kept}
 use Rattle.schedule_reading.specs.Told.{ThreadsState, VouchesIn, WaitsAs, at_place}
-use Rattle.schedule_reading.specs.Waiting.{IsOnce, waits, AreQueued}
 
--- ---- what doesn't change
+-- ---- what stays the same
 
--- the program, the limits and the monitor are those that the log is read against
+-- program, limits and monitor are those against which the log is read
 pub record IsOf (g : Given) (k : Core) : Type 0 where
   pub program : tree_of k.interpreter ≡ g.program
   pub ready : IsReady k.interpreter
@@ -63,17 +64,12 @@ pub record IsOf (g : Given) (k : Core) : Type 0 where
 
 -- ---- numbers
 
--- no time of a reading of so much cost is later: up to the latest time of an event, and then for each instruction its one cycle
--- and the ticks of one sleep
-abbrev pub latest : ℕ → ℕ
-latest cost = 10 ^ 15 + 2 ^ 31 * cost
-
 -- the clock isn't later, nor does a thread wake later that sleeps
 pub record IsTimely (clock : ℕ) (places : List (Option Wait)) (cost : ℕ) : Type 0 where
   pub clock_is : clock ≤ latest cost
   pub sleepers : (place : ℕ) → IfSome (wake_of (at_place places place)) (λ time. time ≤ latest cost)
 
--- the printed costs and free chunks, and the steps that may still be taken; each start of a thread was a step
+-- the printed costs and free chunks, and the remaining steps; each start of a thread was a step
 pub record IsCounted (g : Given) (state : State) (k : Core) : Type 0 where
   pub cost : k.cost ≡ state.cost
   pub most_cost : k.cost ≤ g.policy.fuel
@@ -84,13 +80,13 @@ pub record IsCounted (g : Given) (state : State) (k : Core) : Type 0 where
 
 -- ---- threads
 
--- a thread that lives, as the source world has it; one that runs is there as it was when it was chosen
+-- the rest of a live thread, as in the source world; a running thread is kept there as it was when it was chosen
 abbrev pub RestsAs : ProgramTree → Rest → source.Rest → Type 0
 RestsAs tree (rest.Fresh function argument) there = there ≡ source.Fresh function (option_to_list argument)
 RestsAs tree (rest.Blocked block thread) there = there ≡ source.Blocked block (waiting_of tree thread)
 RestsAs tree rest.Away there = IsTrue (lives there)
 
--- it can go on, whatever the globals are then
+-- it can continue, whatever the globals are then
 abbrev pub CanGo : ProgramTree → Rest → Type 0
 CanGo tree (rest.Fresh function argument) =
     (function < length tree.functions) × ((signature_at (map signature_of tree.functions) function).params ≡ length (option_to_list argument))
@@ -106,26 +102,26 @@ pub record IsSlot (tree : ProgramTree) (places : List (Option Wait)) (rests : Li
   pub waits : WaitsAs slot.rest (at_place places place)
   pub in_places : place < length places
 
--- a thread of that number stands at a place
+-- a thread of that number is at a place
 pub record HasSlot (slots : Slab Slot) (number : ℕ) : Type 0 where
   pub place : ℕ
   pub slot : Slot
   pub there : get slots place ≡ Some slot
   pub number_is : slot.number ≡ number
 
--- a thread that is blocked is so since that clock
+-- if the thread is blocked, it is so since that clock
 abbrev pub IsSince : ℕ → Option Wait → Type 0
 IsSince since None = ⊥
 IsSince since (Some Wait.Fresh) = Unit {0}
 IsSince since (Some (Wait.At block clock)) = clock ≡ since
 
--- a thread that waits for a choice stands at a place, and waits there
+-- a thread that waits for a choice is at a place, and waits there
 pub record IsWaiter (slots : Slab Slot) (places : List (Option Wait)) (waiter : Waiter) : Type 0 where
   pub has : HasSlot slots waiter.thread
   pub since : IsSince waiter.since (at_place places has.place)
 
--- threads stand at their places as the source world has them, each at one place, and of these wait for a choice just those that
--- wait for something
+-- the threads are at their places as in the source world, each at one place, and exactly those with a wait wait for a
+-- choice
 pub record AreThreads (tree : ProgramTree) (slots : Slab Slot) (places : List (Option Wait)) (rests : List source.Rest) (waiting : List Waiter) : Type 0 where
   pub each : (place : ℕ) (slot : Slot) → get slots place ≡ Some slot → IsSlot tree places rests place slot
   pub one : (place other : ℕ) (slot another : Slot) → get slots place ≡ Some slot → get slots other ≡ Some another → slot.number ≡ another.number → place ≡ other
@@ -135,8 +131,7 @@ pub record AreThreads (tree : ProgramTree) (slots : Slab Slot) (places : List (O
   pub once : IsOnce waiting
   pub all : (place : ℕ) (slot : Slot) → get slots place ≡ Some slot → IsSome (at_place places place) → IsTrue (waits waiting slot.number)
 
--- and so are what they meet outside themselves, with the uses of the eight resources, their number and the number of those that
--- live
+-- and so are the queues, the uses of the eight resources, the number of threads and the number of live ones
 pub record AreLive (tree : ProgramTree) (threads : ThreadsState) (rests : List source.Rest) (exchange : Exchange) (waiting : List Waiter) : Type 0 where
   pub exchange_is : threads.exchange.exchange ≡ exchange
   pub uses : length exchange.uses ≡ 8
@@ -148,14 +143,14 @@ pub record AreLive (tree : ProgramTree) (threads : ThreadsState) (rests : List s
 abbrev pub numbers_of : Slab Slot → List (Option ℕ)
 numbers_of slots = map (option_map (λ slot. slot.number)) slots.slots
 
--- the scheduler has those who wait in its queues, with what they wait for
+-- the scheduler has the waiting threads in its queues, with what they wait for
 pub record IsScheduled (slots : Slab Slot) (places : List (Option Wait)) (scheduler : SchedulerState) (waiting : List Waiter) : Type 0 where
   pub queued : AreQueued (numbers_of slots) scheduler waiting
   pub known : AreKnown (VouchesIn slots places) scheduler
 
 -- ---- the past
 
--- what choices rest on; and there are no more choices, and no more records and keys, than so many
+-- the data on which choices depend; and there are at most this many choices, records and keys
 pub record HasPast (past : Past) (k : Core) (choices most : ℕ) : Type 0 where
   pub lasts : (node : ℕ) → last_of k.scheduler node ≡ last_choice past.taken node
   pub taken : k.scheduler.noted ≡ length past.taken
@@ -167,7 +162,8 @@ pub record HasPast (past : Past) (k : Core) (choices most : ℕ) : Type 0 where
 
 -- ---- the trace
 
--- what is left of the trace are these bytes, behind the lines that the reader gave; an event that was looked at comes before them
+-- these bytes are the rest of the trace after the lines that the reader returned, preceded by an event that was
+-- examined
 abbrev pub IsTraceIn : Trace → ReaderState → Next → List ℕ → Type 0
 IsTraceIn trace reader next.Unread bytes = trace ≡ record { bytes = bytes; lines = reader.lines; last = reader.last }
 IsTraceIn trace reader (next.Event event) bytes =
@@ -175,23 +171,23 @@ IsTraceIn trace reader (next.Event event) bytes =
 IsTraceIn trace reader next.Over bytes = IsNext trace None
 IsTraceIn trace reader (next.Refused line) bytes = IsRefused trace line
 
--- where the source tells its bytes, they are what the reader holds and the source has left
+-- if the source exposes its bytes, they are what the reader holds, followed by what the source has left
 abbrev pub IsTraceOf : Trace → ReaderState → Next → Option (List ℕ) → Type 0
 IsTraceOf trace reader looked None = ⊥
 IsTraceOf trace reader looked (Some left) = IsTraceIn trace reader looked (reader.held ++ left)
 
--- an event that was looked at is in its ranges; a reader that gave a refusal isn't asked again
+-- an event that was examined is in its ranges; a reader that returned a refusal isn't called again
 abbrev pub IsLooked : ReaderState → Next → Type 0
 IsLooked reader next.Unread = reader.refused ≡ None
 IsLooked reader (next.Event event) = FitsEvent event × (reader.refused ≡ None)
 IsLooked reader next.Over = Unit {0}
 IsLooked reader (next.Refused line) = Unit {0}
 
--- the trace is told, and what is kept of it is what the state has left of it
+-- the trace is exposed, and what is kept of it is the rest in the state
 abbrev pub IsTold : State → Kept → Option (List ℕ) → Type 0
 IsTold state k left = IsTraceOf state.trace k.reader k.next left
 
--- ---- between segments: the clock may have moved
+-- ---- between segments: the clock may have advanced
 
 pub record StandsAt (g : Given) (state : State) (clock : ℕ) (k : Core) : Type 0 where
   pub of : IsOf g k
@@ -210,11 +206,12 @@ pub record StandsAt (g : Given) (state : State) (clock : ℕ) (k : Core) : Type 
 
 -- ---- within a segment
 
--- who waits while a thread runs: also those that it has started
+-- the waiting threads while a thread runs, including those that it has started
 abbrev pub waiting_with : State → List source.Rest → List Waiter
 waiting_with state rests = state.waiting ++ newcomers state.source (length rests)
 
--- the threads beside the one that runs, which stands at its place, are these of a source world, and what they meet is this
+-- the threads other than the running one, which is at its place, are these of a source world, with these queues and
+-- uses
 pub record AreBeside (g : Given) (state : State) (rests : List source.Rest) (exchange : Exchange) (number : ℕ) (threads : ThreadsState) (scheduler : SchedulerState) (running : ThreadId) : Type 0 where
   pub are : AreLive g.program threads rests exchange (waiting_with state rests)
   pub started : length state.source.threads ≤ length rests
@@ -226,7 +223,7 @@ pub record AreBeside (g : Given) (state : State) (rests : List source.Rest) (exc
   pub number_is : running.number ≡ number
   pub scheduled : IsScheduled threads.slots threads.waits.places scheduler (waiting_with state rests)
 
--- the source's run of the thread under way has come to this
+-- the source's run of the running thread has reached this state
 pub record IsRunning (g : Given) (state : State) (here : source.Segment) (k : Core) (under : Under) : Type 0 where
   pub beside : AreBeside g state here.world.threads here.world.exchange here.number k.threads k.scheduler under.choice.thread
   pub thread : IsThread g.program under.thread k.words
@@ -252,14 +249,14 @@ abbrev pub StandsBy : Given → State → Core → Option Under → Type 0
 StandsBy g state k None = StandsAt g state state.clock k
 StandsBy g state k (Some under) = StandsWithin g state k under
 
--- the end of a log: it hasn't begun, or of the edges these are left
+-- the end of a log: it hasn't begun, or these edges are yet to be read
 abbrev pub IsEnd : Given → State → End → Type 0
 IsEnd g state end.NotYet = state.end ≡ reading.NotYet
 IsEnd g state (end.Edges edges read) =
     (state.end ≡ reading.Edges (map (edge_entry g.policy.caps) (drop read edges.items))) × (read ≤ length edges.items)
 IsEnd g state end.Stopped = state.end ≡ reading.Stopped
 
--- after the stop nothing else counts but that no segment is under way
+-- after the stop the only condition is that no segment is in progress
 abbrev pub StandsUnless : Given → State → Kept → End → Type 0
 StandsUnless g state k end.NotYet = StandsBy g state k.core k.under × IsLooked k.reader k.next
 StandsUnless g state k (end.Edges edges read) = StandsBy g state k.core k.under × IsLooked k.reader k.next
@@ -269,6 +266,6 @@ pub record Stands (g : Given) (state : State) (k : Kept) : Type 0 where
   pub end_is : IsEnd g state k.end
   pub stands : StandsUnless g state k k.end
 
--- beside some state
+-- it corresponds to some state
 abbrev pub StandsSomehow : Kept → Type 0
 StandsSomehow k = (g : Given) × (state : State) × Stands g state k

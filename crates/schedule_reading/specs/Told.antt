@@ -1,4 +1,4 @@
--- What the threads of a log's run tell of themselves: which are ready, and what each waits for.
+-- What the threads of a log's run expose: which are ready, and what each waits for.
 use Rattle.std.specs.Prelude.{◌≡◌, ℕ, ◌≤◌, Bool, List, Option, Some, None, option_map, if◌then◌else◌, nat_eq, slice_index_or}
 use Rattle.slab.specs.Slab.{Slab, get}
 use Rattle.cap_word.specs.declared.threads.ThreadId.{ThreadId}
@@ -12,8 +12,8 @@ use Rattle.schedule_reading.specs.declared.threads.Rest.{Rest}
 use Rattle.schedule_reading.specs.declared.threads.Rest.TheVariants as rest
 use Rattle.schedule_reading.specs.declared.threads.Slot.{Slot}
 
--- the live threads at their places, what those who wait wait for, what they meet outside themselves, how many live, and the
--- number of the next one
+-- the live threads at their places, what the waiting ones wait for, the queues and uses, the number of live threads,
+-- and the number of the next one
 pub record ThreadsState : Type 0 where
   pub slots : Slab Slot
   pub waits : Waiting
@@ -21,7 +21,7 @@ pub record ThreadsState : Type 0 where
   pub live : ℕ
   pub next : ℕ
 
--- what is waited for at a place
+-- the wait at a place
 abbrev pub at_place : List (Option Wait) → ℕ → Option Wait
 at_place places place = slice_index_or places place None
 
@@ -29,7 +29,7 @@ abbrev pub wait_of : List (Option Wait) → ThreadId → Option Slot → Option 
 wait_of places thread None = None
 wait_of places thread (Some slot) = if nat_eq slot.number thread.number then at_place places thread.slot else None
 
--- what a thread waits for, where it stands at its place and doesn't run
+-- the wait of a thread, if it is at its place and doesn't run
 abbrev pub waits_in : Slab Slot → List (Option Wait) → ThreadId → Option Wait
 waits_in slots places thread = wait_of places thread (get slots thread.slot)
 
@@ -48,24 +48,24 @@ any_ready_in threads = waits.any_ready_in threads.exchange.caps threads.exchange
 abbrev pub any_elsewhere_in : ThreadsState → Bool
 any_elsewhere_in threads = waits.any_elsewhere_in threads.exchange.caps threads.exchange.exchange threads.waits
 
--- the need is that of what the thread waits for
+-- the need is that of the thread's wait
 abbrev pub VouchesIn : Slab Slot → List (Option Wait) → ThreadId → Need → Type 0
 VouchesIn slots places thread need = option_map need_for (waits_in slots places thread) ≡ Some need
 
 abbrev pub Vouches : ThreadsState → ThreadId → Need → Type 0
 Vouches threads thread need = VouchesIn threads.slots threads.waits.places thread need
 
--- a call at which a thread waits was no trap, and it has waited since a clock that may be
+-- the call at which a thread waits was no trap, and it has waited since a possible clock
 abbrev pub IsUntrapped : Exchanging → Option Wait → Type 0
 IsUntrapped x None = Unit {0}
 IsUntrapped x (Some Wait.Fresh) = Unit {0}
 IsUntrapped x (Some (Wait.At block since)) = ((row_of x block).trap ≡ None) × (since ≤ latest)
 
--- all of those who wait do so
+-- this holds of all waiting threads
 abbrev pub AreUntrapped : Exchanging → Waiting → Type 0
 AreUntrapped x waiting = (place : ℕ) → IsUntrapped x (wait_at waiting place)
 
--- what is waited for at the place of a thread that rests so
+-- the wait at the place of a thread with this rest
 abbrev pub WaitsAs : Rest → Option Wait → Type 0
 WaitsAs (rest.Fresh function argument) wait = wait ≡ Some Wait.Fresh
 WaitsAs (rest.Blocked block thread) wait = (since : ℕ) × (wait ≡ Some (Wait.At block since))

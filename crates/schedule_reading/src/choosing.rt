@@ -15,7 +15,7 @@ impl<C: Measure + Drop> Reading<'_, C> {
     ghost use Rattle.schedule_reading.specs.Stands.{Stands};
     ghost use Rattle.schedule_reading.specs.declared.reading.End.TheVariants.{NotYet};
 
-    /// A line `run`: the lawful choice, with which a segment begins.
+    /// Judges a line `run`: it is allowed if it names the lawful choice, whose segment then begins.
     pub fn choice<S: Source>(
         &mut self,
         trace: &mut S,
@@ -37,7 +37,7 @@ impl<C: Measure + Drop> Reading<'_, C> {
         self.take(number, node)
     }
 
-    /// The lawful choice is taken, and its thread goes on; unless it isn't that of the line.
+    /// Makes the lawful choice and begins its segment, unless the line names another one.
     fn take(&mut self, number: u32, node: u32) -> Result<Ruling, Failure>
         requires { ChoosesSomehow self.old.core }
         ensures rules { (g : Given) (state : State) → Chooses g state self.old.core → RulesChoice g state self.old.core number node self.new.core self.new.under result }

@@ -1,4 +1,4 @@
-// The end of a segment: it is taken in, and its thread may have come to wait.
+// The end of a segment: its record, and the wait of its thread.
 ghost use Rattle.std.specs.Prelude.{◌≡◌, ◌↔◌, IsTrue, None};
 ghost use Rattle.c_mean.specs.Frames.{key_of};
 ghost use Rattle.c_tree.specs.Trees.{ProgramTree};
@@ -17,7 +17,7 @@ impl<'a, C: Measure + Drop> Reading<'a, C> {
     ghost use Rattle.schedule_reading.specs.Changes.{IsAway};
     ghost use Rattle.thread_exchange.specs.Exchanges.{row_of};
 
-    /// The segment has ended at a blocking call.
+    /// Ends the segment at a blocking call.
     pub fn rest_at(
         &mut self,
         under: Under<'a>,
@@ -39,7 +39,7 @@ impl<'a, C: Measure + Drop> Reading<'a, C> {
         Ok(())
     }
 
-    /// The cost, the free chunks and the record of a segment that has ended at a node.
+    /// Takes up the cost, the free chunks and the record of a segment that has ended at a node.
     pub fn close(
         &mut self,
         under: &Under<'a>,
@@ -66,7 +66,7 @@ impl<'a, C: Measure + Drop> Reading<'a, C> {
     }
 }
 
-/// Whether a key is that of the call at which a thread is.
+/// Checks whether a key is that of the call at which a thread is.
 pub fn is_key_of(thread: &Thread<'_>, key: &SiteKey) -> bool
     ensures { (tree : ProgramTree) → IsTrue result ↔ (key.now ≡ key_of (waiting_of tree thread.now)) }
 {

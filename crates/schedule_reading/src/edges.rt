@@ -13,18 +13,18 @@ use cap_io::Source;
 use resource_monitor::Measure;
 use schedule_log::Averages;
 
-/// The line of an edge, as it is printed.
+/// The line of an edge, as printed.
 #[derive(Clone, Copy)]
 pub struct Shown {
-    /// The node where its segments began.
+    /// The node from which its segments began.
     pub from: u32,
-    /// The node where they ended.
+    /// The node at which they ended.
     pub to: u32,
-    /// How many there were.
+    /// The number of its segments.
     pub count: u64,
-    /// Their average cost, as the log has it.
+    /// Their average cost, as in the log.
     pub cost: i128,
-    /// The average changes of the uses, likewise.
+    /// The average changes of the uses, as in the log.
     pub changes: Averages,
 }
 
@@ -36,7 +36,7 @@ impl<C: Measure + Drop> Reading<'_, C> {
     ghost use Rattle.schedule_reading.specs.declared.reading.End.TheVariants.{Stopped};
     ghost use Rattle.schedule_reading.specs.declared.rulings.Failure.TheVariants.{Memory};
 
-    /// Whether no edge is left to be read.
+    /// Checks whether no edge is yet to be read.
     pub fn are_edges_over(&self) -> Result<bool, Failure>
         ensures over { IfOk result (λ over. IsTrue over ↔ AreOver self.now.core self.now.end) }
         ensures failure { IfErr result (λ failure. failure ≡ Memory) }
@@ -48,7 +48,7 @@ impl<C: Measure + Drop> Reading<'_, C> {
         }
     }
 
-    /// A line `edge`, which comes only where a stop can.
+    /// Judges a line `edge`, which may only come where a stop may.
     pub fn edge<S: Source>(&mut self, trace: &mut S, shown: &Shown) -> Result<Ruling, Failure>
         requires stands { StandsSomehow self.old }
         requires going { self.old.end ≡ Stopped → ⊥ }
@@ -61,7 +61,7 @@ impl<C: Measure + Drop> Reading<'_, C> {
         self.next_edge(shown)
     }
 
-    /// Whether a stop may come here: within a segment it always may.
+    /// Checks whether a stop may come here; within a segment it always may.
     fn may_stop<S: Source>(&mut self, trace: &mut S) -> Result<bool, Failure>
         requires stands { StandsSomehow self.old }
         requires going { self.old.end ≡ Stopped → ⊥ }
@@ -78,7 +78,7 @@ impl<C: Measure + Drop> Reading<'_, C> {
         }
     }
 
-    /// The line of the next edge.
+    /// Judges the line of the next edge.
     fn next_edge(&mut self, shown: &Shown) -> Result<Ruling, Failure>
         ensures rules { (g : Given) (state : State) → IsEnd g state self.old.end → self.old.core.graph.edges ≡ edges_of state.past.records → self.old.core.policy.caps ≡ g.policy.caps → RulesEdge g state self.old shown.now self.new result }
         ensures rest { self.new ≡ record self.old { end = self.new.end } }
@@ -98,7 +98,7 @@ impl<C: Measure + Drop> Reading<'_, C> {
         Ok(Ruling::Refused)
     }
 
-    /// From the first line of an edge on the edges are kept.
+    /// Keeps the edges, from the first line of an edge on.
     fn begin_edges(&mut self) -> Result<(), Failure>
         ensures begins { (g : Given) (state : State) → IsEnd g state self.old.end → self.old.core.graph.edges ≡ edges_of state.past.records → IfOk result (λ _. AreLeft g state self.new.end) }
         ensures failure { IfErr result (λ failure. failure ≡ Memory) }
@@ -112,8 +112,7 @@ impl<C: Measure + Drop> Reading<'_, C> {
     }
 }
 
-/// Whether a line shows an edge, with the averages of resource 0 and of the resources that are
-/// given.
+/// Checks whether a line is that of an edge, with the averages of resource 0 and of the resources with caps.
 fn is_line_of(edge: &EdgeLine, caps: &[u32; 8], shown: &Shown) -> bool
     ensures { IsTrue result ↔ Shows edge.now caps.now shown.now }
 {

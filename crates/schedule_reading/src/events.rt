@@ -1,4 +1,4 @@
-// What the thread that runs comes to next, by the source's own run.
+// What the running thread does next, by the source's own run.
 ghost use Rattle.std.specs.Prelude.{◌≡◌, ◌-◌, ◌<◌};
 ghost use Rattle.cap_word.specs.declared.calls.Ask.TheVariants.{Spawn};
 ghost use Rattle.c_mean.specs.Steps.{source_resume};
@@ -15,10 +15,10 @@ use ready_tree::Need;
 use resource_monitor::Measure;
 use source_runs::Coming;
 
-/// As many threads live as may.
+/// The maximum number of live threads.
 const MOST_LIVE: u32 = 65_535;
 
-/// What the thread that runs comes to next.
+/// What the running thread does next.
 #[derive(Clone, Copy)]
 pub enum Happening {
     /// It puts a word.
@@ -27,19 +27,19 @@ pub enum Happening {
     Blocks(Block),
     /// It ends.
     Ends,
-    /// It does what it may not do.
+    /// It traps.
     Traps(TrapKind),
-    /// It is to start a thread where as many live as may; only where this is asked for.
+    /// It asks to start a thread while the maximum number is live; only if the caller asks for this.
     IsCrowded,
-    /// Nothing within the steps that may be taken.
+    /// Nothing within the limit on steps.
     OutOfSteps,
 }
 
 impl<'a, C: Measure + Drop> Reading<'a, C> {
     ghost use Rattle.schedule_reading.specs.Coming.{Advances, Answers, AsksSomehow, CrowdsFirst, HasHappened, KeepsBut, MayAnswer, MayRun, RunsSomehow};
 
-    /// Runs the thread of a segment up to what comes next, by at most `left` steps, which falls by the steps taken. Where
-    /// `crowds` is so, a thread that is to start where as many live as may is what comes.
+    /// Runs the thread of a segment up to what it does next, by at most `left` steps, and subtracts the steps taken. If
+    /// `crowds` is set, it stops at a start of a thread while the maximum number is live.
     pub fn happen(
         &mut self,
         under: &mut Under<'a>,
@@ -60,8 +60,8 @@ impl<'a, C: Measure + Drop> Reading<'a, C> {
         Ok(Happening::OutOfSteps)
     }
 
-    /// Runs the thread up to what it asks next, and answers a call that is answered at once: where it goes on then, nothing has
-    /// come yet.
+    /// Runs the thread up to its next question, and answers a call that is answered at once. Returns `None` if the
+    /// thread continues after that.
     fn advance(
         &mut self,
         under: &mut Under<'a>,
@@ -89,7 +89,7 @@ impl<'a, C: Measure + Drop> Reading<'a, C> {
         }
     }
 
-    /// A call that is answered at once: the thread goes on with its result, or this is what it has come to.
+    /// Answers a call at once: the thread continues with the result, or this is what it does next.
     fn answer(
         &mut self,
         under: &mut Under<'a>,
@@ -122,7 +122,7 @@ impl<'a, C: Measure + Drop> Reading<'a, C> {
         }
     }
 
-    /// A thread is started, which waits at node 0.
+    /// Starts a thread, which waits at node 0.
     fn spawn(
         &mut self,
         under: &mut Under<'a>,
@@ -144,7 +144,7 @@ impl<'a, C: Measure + Drop> Reading<'a, C> {
         Ok(None)
     }
 
-    /// The thread goes on with the result of its call.
+    /// Continues the thread with the result of its call.
     fn resume(&mut self, under: &mut Under<'a>, word: u32)
         requires ready { IsReady self.old.core.interpreter }
         requires thread { IsThread (tree_of self.old.core.interpreter) under.old.thread self.old.core.words }

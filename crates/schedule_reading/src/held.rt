@@ -1,9 +1,10 @@
-// Values that are held over what may fail, as generic functions: what is let go is one step there, whatever its type.
+// Values that are held while something may fail, as generic functions: the drop of a value is one step there, whatever
+// its type.
 ghost use Rattle.std.specs.Prelude.{◌≡◌, Ok, IfOk};
 
 use std::alloc::AllocError;
 
-/// The value that is held and the next one, where that could be had.
+/// Returns the held value and the next one, if that succeeded.
 pub(crate) fn both<T: Drop, U: Drop>(
     held: T,
     next: Result<U, AllocError>,
@@ -17,7 +18,7 @@ pub(crate) fn both<T: Drop, U: Drop>(
     }
 }
 
-/// The value that is held, where something else could be done.
+/// Returns the held value, if something else succeeded.
 pub(crate) fn after<T: Drop>(held: T, done: Result<(), AllocError>) -> Result<T, AllocError>
     ensures held { IfOk result (λ value. value ≡ held) }
     ensures done { IfOk result (λ value. done ≡ Ok tt) }
@@ -28,7 +29,7 @@ pub(crate) fn after<T: Drop>(held: T, done: Result<(), AllocError>) -> Result<T,
     }
 }
 
-/// All three values, where each could be had.
+/// Returns all three values, if each succeeded.
 pub(crate) fn all<T: Drop, U: Drop, V: Drop>(
     first: Result<T, AllocError>,
     second: Result<U, AllocError>,

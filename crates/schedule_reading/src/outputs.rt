@@ -8,7 +8,8 @@ use resource_monitor::Measure;
 impl<C: Measure + Drop> Reading<'_, C> {
     ghost use Rattle.schedule_reading.specs.Closing.{IsPut};
 
-    /// Whether a line `out` of a thread and a value may stand here and is that of the word that the thread of this number put.
+    /// Checks whether a line `out` of a thread and a value is allowed here and is that of the word that the thread
+    /// `number` put.
     pub fn is_output(&self, number: u32, word: u32, thread: u32, value: i32) -> bool
         ensures { IsTrue result ↔ IsPut self.now.end number word thread value }
     {
@@ -16,7 +17,7 @@ impl<C: Measure + Drop> Reading<'_, C> {
     }
 }
 
-/// A word read as a signed number.
+/// Returns a word as a signed number.
 fn signed_word(word: u32) -> i32
     ensures { result ≡ signed word }
 {

@@ -1,4 +1,4 @@
-// What a reading needs memory for before the first line: each part is made by a function of its own.
+// The parts of a reading that need memory before the first line, each made by a separate function.
 ghost use Rattle.std.specs.Prelude.{IfOk};
 ghost use Rattle.c_tree.specs.ProgramView.{program_tree};
 ghost use Rattle.schedule_reading.specs.Starting.{HasFirst, HasFirstThread, HasSource, IsQueued};
@@ -11,7 +11,7 @@ use scheduler::Scheduler;
 use source_runs::Interpreter;
 use std::alloc::{AllocError, Global};
 
-/// An interpreter of a program, and the words of its globals before anything has run.
+/// Returns an interpreter of a program, and the words of its globals at the start.
 pub(crate) fn source_of<'a>(
     alloc: Global,
     program: &'a Program,
@@ -23,7 +23,7 @@ pub(crate) fn source_of<'a>(
     both(interpreter, globals)
 }
 
-/// Thread 0 alone, which is to run this function and waits at node 0.
+/// Returns the first threads and their queues: only thread 0, which will run this function and waits at node 0.
 pub(crate) fn first_of<'a>(
     alloc: Global,
     backlog: u32,
@@ -36,7 +36,7 @@ pub(crate) fn first_of<'a>(
     both(threads, queue_of(alloc, thread))
 }
 
-// Thread 0 alone.
+// Returns threads with only thread 0.
 fn first_thread<'a>(
     alloc: Global,
     backlog: u32,
@@ -50,7 +50,7 @@ fn first_thread<'a>(
     both(threads, added)
 }
 
-// A scheduler with one thread, which waits at node 0.
+// Returns a scheduler with one thread, which waits at node 0.
 fn queue_of(alloc: Global, thread: ThreadId) -> Result<Scheduler, AllocError>
     ensures { IfOk result (λ scheduler. IsQueued thread scheduler) }
 {

@@ -1,4 +1,4 @@
-// Choice points: what comes from outside, the clock, and where a run stops that has come to one.
+// Choice points: events, the clock, and the stops.
 ghost use Rattle.std.specs.Prelude.{◌≡◌, ◌↔◌, ℕ, List, Option, OnOk, IfOk, IsTrue, false};
 ghost use Rattle.choice_rules.specs.Clock.{is_due};
 ghost use Rattle.choice_rules.specs.Deliveries as rules;
@@ -14,35 +14,36 @@ use event_trace::{Event, EventKind, TraceError};
 use resource_monitor::Measure;
 use schedule_log::Item;
 
-/// What has to come at a choice point.
+/// What is required at a choice point.
 #[derive(Clone, Copy)]
 pub enum Point {
     /// Every thread has ended.
     Done,
     /// The trace is over, and no thread will be ready again.
     Idle,
-    /// The next line of the trace, of this number, is refused.
+    /// The next line of the trace is refused.
     BadTrace {
-        /// Counted from 1.
+        /// The number of the line, counted from 1.
         line: u64,
     },
     /// The next event is due.
     Comes {
-        /// As the trace has it.
+        /// The event, as in the trace.
         event: Event,
     },
-    /// A thread is to be chosen.
+    /// A thread has to be chosen.
     Choice,
 }
 
 impl<C: Measure + Drop> Reading<'_, C> {
-    ghost use Rattle.schedule_reading.specs.Rulings.{CountsReads, GoesOnFrom, GoesOnSomehow, IsPoint, KeepsThreads, Rules, StandsBetween, StandsBetweenSomehow, coming_entry};
+    ghost use Rattle.choice_rules.specs.Deliveries.{coming_entry};
+    ghost use Rattle.schedule_reading.specs.Rulings.{CountsReads, GoesOnFrom, GoesOnSomehow, IsPoint, KeepsThreads, Rules, StandsBetween, StandsBetweenSomehow};
     ghost use Rattle.schedule_reading.specs.Stands.{IsLooked, IsTraceOf, Stands};
     ghost use Rattle.schedule_reading.specs.Told.{any_ready_in};
     ghost use Rattle.schedule_reading.specs.declared.reading.End.TheVariants.{NotYet};
     ghost use Rattle.schedule_reading.specs.declared.reading.Next.TheVariants.{Unread};
 
-    /// What has to come at this choice point. The clock goes on where it has to.
+    /// Returns what is required at this choice point. The clock advances if it has to.
     pub fn point<S: Source>(&mut self, trace: &mut S) -> Result<Point, Failure>
         requires { StandsBetweenSomehow self.old }
         ensures is { (g : Given) (state : State) → StandsBetween g state self.old → IfOk result (IsPoint g state self.old (S.left trace.old) self.new (S.left trace.new)) }
@@ -60,7 +61,7 @@ impl<C: Measure + Drop> Reading<'_, C> {
         }
     }
 
-    /// What has to come where the next line of the trace is good.
+    /// Returns what is required if the next line of the trace isn't refused.
     fn point_before(&mut self, next: Option<Event>) -> Point
         requires { GoesOnSomehow self.old next }
         ensures is { (g : Given) (state : State) (told : Option (List ℕ)) → GoesOnFrom g state self.old next → IsPoint g state self.old told self.new told result }
@@ -77,8 +78,8 @@ impl<C: Measure + Drop> Reading<'_, C> {
         self.wait(next)
     }
 
-    /// What has to come where no thread is ready and the next event isn't due: the clock goes on to the next time at which
-    /// something may go on.
+    /// Returns what is required if no thread is ready and the next event isn't due: the clock advances to the next time
+    /// at which something may happen.
     fn wait(&mut self, next: Option<Event>) -> Point
         requires goes { GoesOnSomehow self.old next }
         requires not_due { is_due next self.old.core.threads.waits.clock ≡ false }
@@ -108,7 +109,7 @@ impl<C: Measure + Drop> Reading<'_, C> {
         }
     }
 
-    /// Looks at the next line of the trace, which stays until it is delivered.
+    /// Examines the next line of the trace and returns what it is. The line stays until it is delivered.
     fn look<S: Source>(&mut self, trace: &mut S) -> Result<Next, Failure>
         requires { IsLooked self.old.reader self.old.next }
         ensures looks { (left : Trace) → IsTraceOf left self.old.reader self.old.next (S.left trace.old) → OnOk result (IsTraceOf left self.new.reader self.new.next (S.left trace.new)) }
@@ -124,7 +125,7 @@ impl<C: Measure + Drop> Reading<'_, C> {
         Ok(self.next)
     }
 
-    /// A line `event` or `drop`.
+    /// Judges a line `event` or `drop`.
     pub fn delivery<S: Source>(
         &mut self,
         trace: &mut S,
@@ -151,7 +152,7 @@ impl<C: Measure + Drop> Reading<'_, C> {
     }
 }
 
-/// What an answer of the trace's reader is, as its next line.
+/// Returns the next line of the trace, from an answer of its reader.
 fn looked(answer: Result<Option<Event>, TraceError>) -> Result<Next, Failure>
     ensures { IsLookOf answer result }
 {
@@ -164,7 +165,7 @@ fn looked(answer: Result<Option<Event>, TraceError>) -> Result<Next, Failure>
     }
 }
 
-/// Whether a line's item is that of an event: its words read as signed numbers.
+/// Checks whether a line's item is that of an event, with its words as signed numbers.
 fn is_item_of(item: &Item, kind: EventKind) -> bool
     ensures { IsTrue result ↔ (item.now ≡ rules.item_of kind) }
 {

@@ -5,11 +5,11 @@ pub struct AuditPolicy {
     pub chunks: u32,
     /// The number of instructions after which the run stops, at most 1,000,000,000.
     pub fuel: u64,
-    /// How many items wait in a queue at most, from 1 to 4,096.
+    /// The maximum length of a queue, from 1 to 4,096.
     pub backlog: u32,
-    /// The caps of the resources 1 to 7 by their numbers, each at most 1,000,000; 0 where a resource isn't given. That of
-    /// resource 0 isn't read.
+    /// The caps of the resources 1 to 7 by number, each at most 1,000,000, or 0 for a resource without one. Entry 0
+    /// isn't read.
     pub caps: [u32; 8],
-    /// How many steps of the source may be taken, at most 1,000,000,000.
+    /// The maximum number of steps of the source, at most 1,000,000,000.
     pub steps: u64,
 }

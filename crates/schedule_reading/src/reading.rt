@@ -1,4 +1,4 @@
-// Where the reading of a log has come to.
+// The state of a reading after some lines of a log.
 ghost use Rattle.std.specs.Prelude.{◌≡◌, ◌↔◌, [], IfOk, IsTrue, List, None, ℕ};
 ghost use Rattle.c_tree.specs.ProgramView.{program_tree};
 ghost use Rattle.lawful_reading.specs.State.{start_of};
@@ -16,37 +16,37 @@ use source_runs::{Interpreter, Thread};
 use std::alloc::{AllocError, Global};
 use std::marker::Model;
 
-/// A segment that is under way: the choice that took its thread, the uses then, and the thread.
+/// A segment in progress: the choice that took its thread, the uses at that choice, and the thread.
 #[derive(Drop)]
 pub struct Under<'a> {
     /// The choice with which it began.
     pub choice: Choice,
-    /// The uses of the eight resources then.
+    /// The uses of the eight resources at that choice.
     pub before: [u32; 8],
     /// The thread, as far as it has run.
     pub thread: Thread<'a>,
 }
 
-/// The next line of the trace.
+/// The next line of the trace, if it has been examined.
 #[derive(Clone, Copy)]
 pub enum Next {
-    /// It hasn't been looked at.
+    /// It hasn't been examined.
     Unread,
-    /// It is that of an event.
+    /// It is an event.
     Event(Event),
     /// There is none.
     Over,
-    /// It is refused; its number.
+    /// It is refused; the number of the line.
     Refused(u64),
 }
 
-/// The end of a log, where it has begun: the edges, and how many of them have been read; or the stop, after which nothing
-/// comes.
+/// The end of a log: not begun, or the edges with the number of those that have been read, or the stop, after which
+/// nothing may follow.
 #[derive(Drop)]
 pub enum End {
     /// It hasn't begun.
     NotYet,
-    /// Lines of edges come, or the stop.
+    /// Lines of edges, or the stop, are next.
     Edges {
         /// The edges of all segments.
         edges: Vec<EdgeLine>,
@@ -57,14 +57,14 @@ pub enum End {
     Stopped,
 }
 
-/// What the lines so far lead to.
+/// The state after the lines so far.
 #[derive(Drop)]
 pub struct Reading<'a, C: Measure> {
     /// The limits under which the log is read.
     pub policy: AuditPolicy,
     pub(crate) interpreter: Interpreter<'a>,
     pub(crate) globals: Vec<u32>,
-    /// The threads that live.
+    /// The live threads.
     pub threads: Threads<'a>,
     pub(crate) scheduler: Scheduler,
     /// The blocking graph of all segments.
@@ -72,13 +72,13 @@ pub struct Reading<'a, C: Measure> {
     pub(crate) monitor: Monitor<C>,
     pub(crate) reader: TraceReader,
     pub(crate) next: Next,
-    /// The chunks that were free last.
+    /// The number of free chunks that was printed last.
     pub(crate) free: u32,
-    /// The printed costs of all segments.
+    /// The sum of the printed costs of all segments.
     pub cost: u64,
-    /// The steps of the source that may still be taken.
+    /// The remaining steps of the source.
     pub left: u64,
-    /// The segment under way, if one is.
+    /// The segment in progress, if there is one.
     pub under: Option<Under<'a>>,
     /// The end of the log.
     pub end: End,
@@ -120,7 +120,7 @@ impl<'a, C: Measure + Drop> Reading<'a, C> {
     ghost use Rattle.schedule_reading.specs.declared.reading.End.TheVariants.{NotYet};
     ghost use Rattle.schedule_reading.specs.declared.reading.Next.TheVariants.{Unread};
 
-    /// Before the first line: thread 0 waits at node 0, and one chunk is held.
+    /// Returns the state before the first line: thread 0 waits at node 0, and one chunk is held.
     pub fn new(
         alloc: Global,
         program: &'a Program,
@@ -165,7 +165,7 @@ impl<'a, C: Measure + Drop> Reading<'a, C> {
         }
     }
 
-    /// Whether the end of the log hasn't begun.
+    /// Checks whether the end of the log hasn't begun.
     pub fn is_before_end(&self) -> bool
         ensures { IsTrue result ↔ (self.now.end ≡ NotYet) }
     {

@@ -1,26 +1,26 @@
-// What is said of one line, and why a reading can't go on.
+// The ruling on one line, and why a reading fails.
 ghost use Rattle.std.specs.Prelude.{◌≡◌};
 ghost use Rattle.schedule_reading.specs.Ruled.{ruled};
 
 use std::alloc::AllocError;
 
-/// What is said of one line.
+/// The ruling on one line.
 #[derive(Clone, Copy, PartialEq, Eq)]
 pub enum Ruling {
-    /// It may stand here.
+    /// The line is allowed here.
     Allowed,
-    /// It may not.
+    /// The line isn't allowed here.
     Refused,
-    /// To say so takes more steps of the source than may be taken.
+    /// A ruling needs more steps of the source than the limit.
     OutOfSteps,
 }
 
-/// Why a reading can't go on.
+/// Why a reading fails.
 #[derive(Clone, Copy, PartialEq, Eq)]
 pub enum Failure {
-    /// The trace could not be read.
+    /// The trace couldn't be read.
     Read,
-    /// There was no memory.
+    /// Out of memory.
     Memory,
 }
 
@@ -35,7 +35,7 @@ impl From<AllocError> for Failure {
     }
 }
 
-/// Allowed where it holds, and else refused.
+/// Returns `Allowed` if the condition holds, and otherwise `Refused`.
 pub fn ruling_of(holds: bool) -> Ruling
     ensures { result ≡ ruled holds }
 {

@@ -1,4 +1,4 @@
-// What a stop tells: what has to come at a choice point, or what the thread under way comes to.
+// The causes of stops: what is required at a choice point, or what the running thread does next.
 ghost use Rattle.std.specs.Prelude.{◌≡◌, ◌↔◌, ◌+◌, ◌≤◌, IsTrue, OnOk};
 ghost use Rattle.lawful_reading.specs.Given.{Given};
 ghost use Rattle.lawful_reading.specs.State.{State};
@@ -29,7 +29,7 @@ impl<'a, C: Measure + Drop> Reading<'a, C> {
     ghost use Rattle.schedule_reading.specs.Stands.{IsTold, Stands, StandsSomehow, StandsWithin};
     ghost use Rattle.schedule_reading.specs.declared.reading.End.TheVariants.{Stopped};
 
-    /// Whether a stop at a choice point has the cause that it tells: this is what has to come there.
+    /// Returns the ruling on a stop at a choice point: it is allowed if this is what is required there.
     pub fn stop_between<S: Source>(
         &mut self,
         trace: &mut S,
@@ -48,7 +48,7 @@ impl<'a, C: Measure + Drop> Reading<'a, C> {
         Ok(ruling_of(is_stop_of(point, stop)))
     }
 
-    /// Whether the whole fuel is spent after so much more.
+    /// Checks whether this further cost spends the whole fuel.
     pub fn is_spent(&self, cost: u64) -> bool
         requires { self.now.core.cost ≤ self.now.core.policy.fuel }
         ensures { IsTrue result ↔ (self.now.core.cost + cost ≡ self.now.core.policy.fuel) }
@@ -56,8 +56,8 @@ impl<'a, C: Measure + Drop> Reading<'a, C> {
         cost == self.policy.fuel - self.cost
     }
 
-    /// Whether the thread next comes to the start of a thread where as many live as may. The
-    /// steps up to it are those that are needed, without the start itself.
+    /// Returns the ruling on a stop by too many threads: it is allowed if the thread next starts one while the maximum
+    /// number is live. It needs the steps up to the start, without the start itself.
     pub fn crowd(&mut self, under: &mut Under<'a>) -> Result<Ruling, Failure>
         requires { WithinSomehow self.old.core under.old }
         ensures rules { (g : Given) (state : State) → StandsWithin g state self.old.core under.old → RulesCrowd g state result }
@@ -79,7 +79,7 @@ impl<'a, C: Measure + Drop> Reading<'a, C> {
     }
 }
 
-/// Whether what has to come at a choice point is this stop.
+/// Checks whether what is required at a choice point is this stop.
 fn is_stop_of(point: Point, stop: Between) -> bool
     ensures { IsTrue result ↔ Fits point stop }
 {

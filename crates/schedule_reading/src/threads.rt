@@ -1,4 +1,4 @@
-// The threads of a log's run that live: what each waits for, and where it goes on.
+// The live threads of a log's run: what each waits for, and where it continues.
 
 use cap_word::{Block, Ready, ThreadId, TrapKind};
 use event_trace::EventKind;
@@ -11,7 +11,7 @@ use std::mem;
 use thread_exchange::Exchange;
 use thread_waits::{Wait, Waits};
 
-/// Where a thread rests.
+/// The state of a thread at rest.
 #[derive(Drop)]
 pub enum Rest<'a> {
     /// It hasn't run: a function and an argument, if it takes one.
@@ -25,7 +25,7 @@ pub enum Rest<'a> {
     Blocked {
         /// The call.
         block: Block,
-        /// The thread, which waits for its result.
+        /// The thread, which waits for the call's result.
         thread: Thread<'a>,
     },
     /// It runs.
@@ -37,11 +37,11 @@ pub enum Rest<'a> {
 pub struct Slot<'a> {
     /// The thread's number.
     pub number: u32,
-    /// Where it rests.
+    /// Its state.
     pub rest: Rest<'a>,
 }
 
-/// The live threads at their places, what those who wait wait for, and what they meet outside themselves. No call at which one
+/// The live threads at their places, what the waiting ones wait for, and the queues and uses. No call at which a thread
 /// waits was a trap.
 #[derive(Drop)]
 pub struct Threads<'a> {
@@ -83,7 +83,7 @@ impl<'a> Threads<'a> {
     ghost use Rattle.schedule_reading.specs.Changes.{AreNone, AreVacant, HasAdded, HasBegun, HasBlocked, HasEnded, IsAway, KeepsAll, MayBegin};
     ghost use Rattle.schedule_reading.specs.Told.{Vouches, any_ready_in, waits_for};
 
-    /// No thread yet.
+    /// Returns threads without any thread yet.
     pub(crate) fn new(
         alloc: Global,
         backlog: u32,
@@ -103,7 +103,7 @@ impl<'a> Threads<'a> {
         })
     }
 
-    /// One more thread, which hasn't run.
+    /// Adds a thread that hasn't run.
     pub(crate) fn add(
         &mut self,
         function: u32,
@@ -131,7 +131,7 @@ impl<'a> Threads<'a> {
         Ok(ThreadId { slot, number })
     }
 
-    /// A thread that is chosen goes on: what it waited for is taken.
+    /// Begins the segment of a chosen thread: it takes what it waited for.
     pub(crate) fn begin(
         &mut self,
         interpreter: &Interpreter<'a>,
@@ -142,7 +142,7 @@ impl<'a> Threads<'a> {
         requires may { MayBegin (tree_of interpreter.now) self.old globals.old.items chosen }
         ensures { IfOk result (HasBegun (tree_of interpreter.now) self.old globals.old.items self.new globals.new.items chosen) }
     {
-        // What all threads keep: no call at which one waits was a trap.
+        // By the invariant, no call at which a thread waits was a trap.
         let _waits = &self.waits;
         match self.set_out(chosen) {
             Rest::Fresh { function, argument } => interpreter.start(function, argument),
@@ -155,7 +155,7 @@ impl<'a> Threads<'a> {
         }
     }
 
-    /// A thread waits no more, and what it rested at is taken from its place.
+    /// Ends the wait of a thread, and takes its state at rest from its place.
     fn set_out(&mut self, chosen: ThreadId) -> Rest<'a>
         requires there { IsSome (get self.old.slots chosen.slot) }
         requires waits { IsSome (wait_at self.old.waits chosen.slot) }
@@ -172,14 +172,14 @@ impl<'a> Threads<'a> {
         rest
     }
 
-    /// The thread that runs blocks.
+    /// Blocks the running thread.
     pub(crate) fn block(&mut self, running: ThreadId, block: Block, thread: Thread<'a>)
         requires away { IsAway self.old running }
         requires untrapped { (row_of self.old.exchange block).trap ≡ None }
         requires early { self.old.waits.clock ≤ latest }
         ensures { HasBlocked self.old running block thread.entry self.new }
     {
-        // What every exchange tells: there are eight caps.
+        // By the exchange's clause, there are eight caps.
         let _trap = self.exchange.trap_of(block);
         let since = self.waits.clock();
         match self.slots.get_mut(running.slot as usize) {
@@ -190,7 +190,7 @@ impl<'a> Threads<'a> {
             .wait(running.slot as usize, Wait::At { block, since });
     }
 
-    /// The thread that runs ends.
+    /// Ends the running thread.
     pub fn end(&mut self, running: ThreadId)
         requires there { IsSome (get self.old.slots running.slot) }
         requires live { 0 < self.old.live }
@@ -200,7 +200,7 @@ impl<'a> Threads<'a> {
         self.live -= 1;
     }
 
-    /// What comes joins its queue, or is dropped. Tells whether it joined.
+    /// Delivers an event: it joins its queue, or is dropped. Returns whether it joined.
     pub(crate) fn deliver(&mut self, kind: EventKind) -> bool
         requires { FitsKind kind }
         ensures queued { result ≡ not (table.is_dropped self.old.exchange.backlog self.old.exchange.exchange (delivery_of kind)) }
@@ -212,14 +212,14 @@ impl<'a> Threads<'a> {
         }
     }
 
-    /// The clock.
+    /// Returns the clock.
     pub(crate) fn clock(&self) -> u64
         ensures { result ≡ self.now.waits.clock }
     {
         self.waits.clock()
     }
 
-    /// The clock goes on to a time.
+    /// Advances the clock to a time.
     pub(crate) fn advance(&mut self, time: u64)
         requires later { self.old.waits.clock ≤ time }
         requires possible { time ≤ latest }
@@ -228,14 +228,14 @@ impl<'a> Threads<'a> {
         self.waits.advance(time);
     }
 
-    /// How many threads live.
+    /// Returns the number of live threads.
     pub(crate) fn live(&self) -> u32
         ensures { result ≡ self.now.live }
     {
         self.live
     }
 
-    /// The use of a resource.
+    /// Returns the use of a resource.
     pub(crate) fn used(&self, resource: u32) -> u32
         requires { resource < 8 }
         ensures use_is { result ≡ use_of self.now.exchange.exchange resource }
@@ -244,14 +244,14 @@ impl<'a> Threads<'a> {
         self.exchange.used(resource)
     }
 
-    /// The trap that a call which blocks is, if it is one.
+    /// Returns the trap of a call that blocks, if it traps.
     pub(crate) fn trap_of(&self, block: Block) -> Option<TrapKind>
         ensures { result ≡ (row_of self.now.exchange block).trap }
     {
         self.exchange.trap_of(block)
     }
 
-    /// So much of a resource is given back; or the trap that this is.
+    /// Gives an amount of a resource back, or returns the trap of the call.
     pub(crate) fn give(&mut self, resource: u32, amount: u32) -> Option<TrapKind>
         ensures trap { result ≡ table.resource_trap self.old.exchange.caps resource amount (use_of self.old.exchange.exchange resource) }
         ensures after { self.new ≡ record self.old { exchange = after_ask self.old.exchange (immediate_row self.old.exchange.caps self.old.exchange.exchange 0 0 (Ask.Give resource amount)) } }
@@ -259,7 +259,7 @@ impl<'a> Threads<'a> {
         self.exchange.give(resource, amount)
     }
 
-    /// What a thread waits for, where it waits.
+    /// Returns what a thread waits for, if it waits.
     fn wait_of(&self, thread: ThreadId) -> Option<Wait>
         ensures { result ≡ waits_for self.now thread }
     {
@@ -270,12 +270,12 @@ impl<'a> Threads<'a> {
         self.waits.at(thread.slot as usize)
     }
 
-    /// What must be so for a thread that waits to be ready.
+    /// Returns the need of a thread that waits.
     pub(crate) fn need_of(&self, thread: ThreadId) -> Need
         requires { IsSome (waits_for self.now thread) }
         ensures { Vouches self.now thread result }
     {
-        // A thread that waits for something does so at its own place.
+        // A thread that waits does so at its own place.
         let _wait = self.wait_of(thread);
         match self.waits.need_at(thread.slot as usize) {
             Some(need) => need,
@@ -283,14 +283,14 @@ impl<'a> Threads<'a> {
         }
     }
 
-    /// Whether some thread is ready.
+    /// Checks whether any thread is ready.
     pub(crate) fn any_ready(&self) -> bool
         ensures { result ≡ any_ready_in self.now }
     {
         self.waits.any_ready(&self.exchange)
     }
 
-    /// The least time until which a thread sleeps, if one does.
+    /// Returns the least time at which a sleeping thread wakes, if there is one.
     pub(crate) fn wake(&self) -> Option<u64>
         ensures { IsWake self.now.exchange.caps self.now.exchange.exchange self.now.waits result }
     {
@@ -308,7 +308,7 @@ impl Ready for Threads<'_> {
     ghost any_elsewhere = { any_elsewhere_in };
 
     fn is_ready(&self, thread: ThreadId) -> bool {
-        // What all threads keep: no call at which one waits was a trap.
+        // By the invariant, no call at which a thread waits was a trap.
         let _waits = &self.waits;
         match self.wait_of(thread) {
             None => false,

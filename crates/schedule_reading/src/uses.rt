@@ -7,7 +7,7 @@ use resource_monitor::Measure;
 impl<C: Measure + Drop> Reading<'_, C> {
     ghost use Rattle.schedule_reading.specs.Uses.{cap_in, used_in};
 
-    /// The uses of the eight resources; that of resource 0 is the number of held chunks.
+    /// Returns the uses of the eight resources; that of resource 0 is the number of held chunks.
     pub(crate) fn uses(&self) -> [u32; 8]
         requires { self.now.core.free ≤ self.now.core.policy.chunks }
         ensures uses { (r : ℕ) → r < 8 → slice_index result r ≡ used_in self.now.core r }
@@ -21,7 +21,7 @@ impl<C: Measure + Drop> Reading<'_, C> {
         uses
     }
 
-    /// The use of a resource.
+    /// Returns the use of a resource.
     fn used(&self, resource: u32) -> u32
         requires there { resource < 8 }
         requires free { self.now.core.free ≤ self.now.core.policy.chunks }
@@ -36,7 +36,7 @@ impl<C: Measure + Drop> Reading<'_, C> {
     }
 }
 
-/// The change of each use.
+/// Returns the change of each use.
 pub(crate) fn changes(before: &[u32; 8], after: &[u32; 8]) -> [i64; 8]
     ensures { (r : ℕ) → r < 8 → slice_index_or result r (pos 0) ≡ pos (slice_index after.now r) -ℤ pos (slice_index before.now r) }
 {
@@ -47,7 +47,7 @@ pub(crate) fn changes(before: &[u32; 8], after: &[u32; 8]) -> [i64; 8]
     change
 }
 
-/// How much more the second is than the first.
+/// Returns the second use minus the first.
 fn difference(before: u32, after: u32) -> i64
     ensures { result ≡ pos after -ℤ pos before }
 {

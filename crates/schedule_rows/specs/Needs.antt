@@ -1,10 +1,10 @@
--- Threads whose needs go by their numbers.
+-- Threads whose numbers determine their needs.
 use Rattle.std.specs.Prelude.{ℕ, ◌≡◌, ◌==◌, ◌-◌, ◌^◌, if◌then◌else◌}
 use Rattle.cap_word.specs.declared.threads.ThreadId.{ThreadId}
 use Rattle.ready_tree.specs.declared.needs.Need.{Need}
 use Rattle.scheduler.specs.State.{SchedulerState, AreKnown}
 
--- what a thread waits for: the first six for something of each kind, each other one until the clock is its number
+-- the need of a thread: for the first six something of each kind, for each other one that the clock is its number
 abbrev pub need_by : ℕ → Need
 need_by number =
     if number == 1 then Need.Nothing
@@ -15,10 +15,10 @@ need_by number =
     else if number == 6 then Need.Amount 1 3
     else Need.Event 0 number
 
--- a thread's need goes by its number
+-- a thread's need is that of its number
 abbrev pub IsByNumber : ThreadId → Need → Type 0
 IsByNumber thread need = need ≡ need_by thread.number
 
--- the needs that were told go by numbers
+-- the recorded needs are those of the numbers
 abbrev pub KnowsNeeds : SchedulerState → Type 0
 KnowsNeeds scheduler = AreKnown IsByNumber scheduler

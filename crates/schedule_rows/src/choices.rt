@@ -1,4 +1,4 @@
-// Threads that wait, and which of them goes on next.
+// Waiting threads, and which of them is chosen next.
 
 ghost use Rattle.std.specs.Prelude.{◌≡◌, ◌==◌, ◌+◌, ◌^◌, ◌<◌, ◌≤◌, true};
 ghost use Rattle.blocking_graph.specs.Graph.{IsSegment};
@@ -44,7 +44,7 @@ fn thread(number: u32) -> ThreadId {
     ThreadId { slot: 0, number }
 }
 
-/// The only resource is in use as a whole: its pressure is 1000, and the gate is closed.
+/// Returns a monitor whose only resource is fully used: its pressure is 1000, and the gate is closed.
 pub(crate) fn full_monitor<C: Measure + Copy>(
     alloc: Global,
     call: C,
@@ -71,34 +71,34 @@ fn releasing() -> SegmentRecord
     }
 }
 
-// A graph in which a segment from node 4 is expected to release the resource, where there is memory.
+// Returns a graph in which a segment from node 4 is expected to free the resource, unless memory runs out.
 fn releasing_graph(alloc: Global) -> Graph {
     let mut graph = Graph::new(alloc);
     let _noted = graph.note(releasing());
     graph
 }
 
-/// A step of a row: a thread that joins, or a choice, with the thread and the node that it is to be of.
+/// A step of a row: a thread that joins, or a choice with its expected thread and node.
 #[derive(Clone, Copy)]
 enum Step {
     /// The thread of this number joins the queue of this node.
     Join(u32, u32),
-    /// This thread at this node is taken, while another is ready elsewhere than at `accept`.
+    /// This thread at this node is taken, while another is ready that isn't at `accept`.
     Take(u32, u32),
-    /// It would be taken, while another is ready elsewhere or none is.
+    /// This thread at this node would be taken; the flag says whether another is ready that isn't at `accept`.
     Choose(bool, u32, u32),
-    /// None would be taken, while another is ready elsewhere.
+    /// None would be taken, while another is ready that isn't at `accept`.
     None,
 }
 
-// The thread of this number joins the queue of a node, where there is memory.
+// Adds the thread of this number to the queue of a node. Returns `false` if memory runs out.
 fn join(scheduler: &mut Scheduler, number: u32, node: u32) -> bool
     ensures { scheduler.new.noted ≡ scheduler.old.noted }
 {
     matches!(scheduler.enqueue(node, thread(number)), Ok(()))
 }
 
-// What is chosen, while another thread is ready elsewhere or none is.
+// Returns the choice; the flag says whether another thread is ready that isn't at `accept`.
 fn chosen<C: Measure>(
     scheduler: &Scheduler,
     graph: &Graph,
@@ -112,7 +112,7 @@ fn chosen<C: Measure>(
     scheduler.choose(graph, monitor, &world)
 }
 
-// What is chosen and taken.
+// Makes the choice and takes the thread.
 fn taken<C: Measure>(
     scheduler: &mut Scheduler,
     graph: &Graph,
@@ -132,7 +132,7 @@ fn taken<C: Measure>(
     choice
 }
 
-// Whether the choice is of this thread at this node.
+// Checks whether the choice is of this thread at this node.
 fn is_of(choice: Option<Choice>, number: u32, node: u32) -> bool {
     match choice {
         Some(choice) => choice.thread == thread(number) && choice.node == node,
@@ -159,7 +159,7 @@ fn goes_so<C: Measure>(
     }
 }
 
-// Whether each of at most 20 steps goes as it says.
+// Checks whether each of at most 20 steps has its expected result.
 fn go_so<C: Measure>(
     scheduler: &mut Scheduler,
     graph: &Graph,
@@ -179,7 +179,7 @@ fn go_so<C: Measure>(
     true
 }
 
-// Whether the steps go as they say, with a scheduler of their own.
+// Checks whether the steps have their expected results, with a new scheduler.
 fn hold<C: Measure>(alloc: Global, graph: &Graph, monitor: &Monitor<C>, steps: &[Step]) -> bool {
     let mut scheduler = Scheduler::new(alloc);
     let right = go_so(&mut scheduler, graph, monitor, steps);
@@ -187,7 +187,7 @@ fn hold<C: Measure>(alloc: Global, graph: &Graph, monitor: &Monitor<C>, steps: &
     right
 }
 
-// The nodes go by number: node 2 has the lesser one, and is then the one that was taken earlier.
+// The nodes are chosen by number: node 2 has the lesser one, and is then the one that was taken earlier.
 const BY_NUMBER: &[Step] = &[
     Step::Join(1, 4),
     Step::Join(0, 2),
@@ -196,7 +196,7 @@ const BY_NUMBER: &[Step] = &[
     Step::None,
 ];
 
-// Node 2 was taken earlier. Its arrival waits while another thread is ready, and goes first where none is.
+// Node 2 was taken earlier. Its arrival waits while another thread is ready, and is first if none is.
 const ARRIVAL: &[Step] = &[
     Step::Join(1, 2),
     Step::Join(2, 4),
@@ -208,14 +208,14 @@ const ARRIVAL: &[Step] = &[
     Step::Choose(false, 9, 2),
 ];
 
-// A segment from node 4 that is expected to release the resource goes before it.
+// A segment from node 4 that is expected to free the resource comes before it.
 const RELEASING_BEFORE_ARRIVAL: &[Step] = &[
     Step::Join(9, 2),
     Step::Join(3, 4),
     Step::Choose(false, 3, 4),
 ];
 
-// Three nodes of one score go in turns, each queue from its front. Two threads are at each, and joined in turns.
+// Three nodes of one score are taken in turns, each queue from its front. Two threads are at each, and joined in turns.
 const IN_ROUNDS: &[Step] = &[
     Step::Join(1, 4),
     Step::Join(3, 2),
@@ -232,7 +232,7 @@ const IN_ROUNDS: &[Step] = &[
     Step::None,
 ];
 
-// A node that releases is served before the others until its queue is empty.
+// A node that frees the resource is served before the others until its queue is empty.
 const RELEASING_FIRST: &[Step] = &[
     Step::Join(1, 4),
     Step::Join(3, 2),
@@ -248,7 +248,7 @@ const RELEASING_FIRST: &[Step] = &[
     Step::Take(6, 3),
 ];
 
-// An arrival that is held back lets the thread behind it pass, and keeps its place.
+// An arrival that is held back lets the next thread pass, and keeps its place.
 const PASSED: &[Step] = &[
     Step::Join(9, 2),
     Step::Join(3, 2),
@@ -257,7 +257,7 @@ const PASSED: &[Step] = &[
     Step::Choose(false, 9, 2),
 ];
 
-// The rows over a graph with no edge.
+// Checks the rows over a graph without edges.
 fn hold_of_none<C: Measure>(alloc: Global, monitor: &Monitor<C>) -> bool {
     let graph = Graph::new(alloc);
     let right = hold(alloc, &graph, monitor, BY_NUMBER)
@@ -268,7 +268,7 @@ fn hold_of_none<C: Measure>(alloc: Global, monitor: &Monitor<C>) -> bool {
     right
 }
 
-// The rows over the graph with the edge that releases.
+// Checks the rows over the graph with the edge that frees the resource.
 fn hold_of_one<C: Measure>(alloc: Global, monitor: &Monitor<C>) -> bool {
     let graph = releasing_graph(alloc);
     let right = hold(alloc, &graph, monitor, RELEASING_BEFORE_ARRIVAL)

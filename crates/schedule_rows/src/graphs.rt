@@ -8,10 +8,10 @@ use blocking_graph::{EdgeLine, Graph, SegmentRecord};
 use cap_word::SiteKey;
 use std::alloc::Global;
 
-/// A segment: the nodes that it leads from and to, its cost, and how it changes the use of resource 1.
+/// A segment: the nodes from and to which it leads, its cost, and its change of the use of resource 1.
 type Segment = (u32, u32, u32, i32);
 
-// Takes in a segment, and tells whether there was memory.
+// Records a segment. Returns `false` if memory runs out.
 fn note(graph: &mut Graph, segment: &Segment) -> bool
     requires room { count_of graph.old.edges < 2 ^ 40 }
     ensures { count_of graph.new.edges ≤ count_of graph.old.edges + 1 }
@@ -26,7 +26,7 @@ fn note(graph: &mut Graph, segment: &Segment) -> bool
     matches!(graph.note(record), Ok(()))
 }
 
-// Takes in at most eight segments, one after another.
+// Records at most eight segments, one after another. Returns `false` if memory runs out.
 fn note_all(graph: &mut Graph, segments: &[Segment]) -> bool
     requires { graph.old ≡ empty_graph }
 {
@@ -41,7 +41,7 @@ fn note_all(graph: &mut Graph, segments: &[Segment]) -> bool
     true
 }
 
-// Whether a key has these eight sites, and so many.
+// Checks whether a key has these sites, at most eight.
 fn keys_are_their_sites() -> bool {
     let full = SiteKey::new(&[1, 2, 3, 4, 5, 6, 7, 8]);
     let key = SiteKey::new(&[7, 0]);
@@ -52,7 +52,7 @@ fn keys_are_their_sites() -> bool {
         && key != SiteKey::new(&[7, 0, 0])
 }
 
-// The number of a key, or 0 where memory is wanting.
+// Returns the number of a key, or 0 if memory runs out.
 fn number_in(graph: &mut Graph, key: &[u32]) -> u32
     requires room { length graph.old.keys < 2 ^ 31 }
     requires some { 1 ≤ length key.now }
@@ -65,7 +65,7 @@ fn number_in(graph: &mut Graph, key: &[u32]) -> u32
     }
 }
 
-// Keys and their numbers: the third is the first again.
+// Keys and their numbers; the third key is the first again.
 const KEYS: &[(&[u32], u32)] = &[(&[7, 3], 2), (&[7], 3), (&[7, 3], 2), (&[3, 7], 4)];
 
 fn are_numbered(graph: &mut Graph, rows: &[(&[u32], u32)]) -> bool
@@ -90,7 +90,7 @@ fn keys_have_numbers(alloc: Global) -> bool {
     right
 }
 
-// Whether the edges are these.
+// Checks whether the edges are these.
 fn has_edges(graph: &Graph, wanted: &[EdgeLine]) -> bool {
     match graph.edges() {
         Ok(edges) => {
@@ -102,7 +102,7 @@ fn has_edges(graph: &Graph, wanted: &[EdgeLine]) -> bool {
     }
 }
 
-/// A node, a resource, and what a segment from the node is expected to change its use by.
+/// A node, a resource, and the expected change of its use by a segment from the node.
 type Prediction = (u32, u32, i128);
 
 fn predicts(graph: &Graph, rows: &[Prediction]) -> bool {
@@ -132,8 +132,8 @@ const OF_TWO: &[Segment] = &[(4, 4, 5, 0), (4, 2, 5, -1), (4, 2, 5, -1), (4, 2, 
 
 const FROM_TWO: &[Prediction] = &[(4, 1, -192), (4, 0, 0)];
 
-// Pairs that are met out of order, and met again, stand in order with their averages, and each node's prediction is of its
-// own edges.
+// Pairs that occur out of order, and occur again, are in order with their averages, and each node's prediction is from
+// its own edges.
 const OF_THREE: &[Segment] = &[
     (4, 2, 8, -1),
     (2, 4, 4, 2),
@@ -168,7 +168,7 @@ const THREE_EDGES: &[EdgeLine] = &[
 
 const FROM_THREE: &[Prediction] = &[(2, 1, 341), (4, 1, -224), (3, 1, 0)];
 
-// Whether segments lead to these predictions and, where any are told, to these edges.
+// Checks whether segments lead to these predictions and, if any are given, to these edges.
 fn lead_to(
     alloc: Global,
     segments: &[Segment],

@@ -1,4 +1,4 @@
-// Uses, the pressures that they give, and the gate after them.
+// Uses, their pressures, and the gate after them.
 
 ghost use Rattle.std.specs.Prelude.{◌≡◌, ◌≤◌, [], ◌∷◌, IfOk, vec_len};
 ghost use Rattle.resource_monitor.specs.Pressure.{AnswersCurve, IsInRange, IsReading, curve_value};
@@ -7,7 +7,7 @@ ghost use Rattle.resource_monitor.specs.declared.curves.Curve.TheVariants.{Linea
 use resource_monitor::{Curve, Gauge, Measure, Monitor};
 use std::alloc::{AllocError, Global};
 
-/// The uses of resources 1 and 2, the pressures that they give, and the gate after them.
+/// The uses of resources 1 and 2, their pressures, and the gate after them.
 type Row = (u32, u32, u32, u32, bool);
 
 // Caps of 10 for resource 1 and of 3 for resource 2.
@@ -20,7 +20,7 @@ const ROWS: &[Row] = &[
     (0, 2, 0, 666, true),
 ];
 
-// A gauge for each of the eight resources.
+// Returns a gauge for each of the eight resources.
 fn gauges_of<C: Measure + Copy>(
     alloc: Global,
     curve: Curve,
@@ -37,7 +37,7 @@ fn gauges_of<C: Measure + Copy>(
     Ok(gauges)
 }
 
-/// A monitor with a curve, and the caps of resources 1 and 2.
+/// Returns a monitor with a curve, and the caps of resources 1 and 2.
 pub(crate) fn monitor_of<C: Measure + Copy>(
     alloc: Global,
     curve: Curve,
@@ -66,7 +66,7 @@ fn observe_two<C: Measure>(monitor: &mut Monitor<C>, first: u32, second: u32)
     monitor.observe([0, first, second, 0, 0, 0, 0, 0]);
 }
 
-// Whether the pressures and the gate are those of a row.
+// Checks whether the pressures and the gate are those of a row.
 fn is_row<C: Measure>(monitor: &Monitor<C>, row: &Row) -> bool {
     monitor.pressure(0) == 0
         && monitor.pressure(1) == row.2
@@ -74,7 +74,7 @@ fn is_row<C: Measure>(monitor: &Monitor<C>, row: &Row) -> bool {
         && monitor.gate() == row.4
 }
 
-// Whether the pressures and the gate are those of each row.
+// Checks whether the pressures and the gate are those of each row.
 fn follows_rows<C: Measure>(monitor: &mut Monitor<C>, rows: &[Row]) -> bool
     requires { monitor.old.caps ≡ 0 ∷ 10 ∷ 3 ∷ 0 ∷ 0 ∷ 0 ∷ 0 ∷ 0 ∷ [] }
 {
@@ -89,7 +89,7 @@ fn follows_rows<C: Measure>(monitor: &mut Monitor<C>, rows: &[Row]) -> bool
     is_so
 }
 
-/// Whether the gate follows the pressure, as in each row.
+/// Checks whether the gate follows the pressure, as in each row.
 pub(crate) fn gate_follows<C: Measure + Copy>(alloc: Global, call: C) -> bool
     requires { AnswersCurve (C.can_measure call) (C.measure_gives call) Linear }
 {
@@ -111,7 +111,7 @@ fn observe_four<C: Measure>(monitor: &mut Monitor<C>, used: u32)
     monitor.observe([0, used, 0, 0, 0, 0, 0, 0]);
 }
 
-// Whether these are the pressures of resource 1 at uses from 0 to 4.
+// Checks whether these are the pressures of resource 1 at uses from 0 to 4.
 fn follows_curve<C: Measure>(monitor: &mut Monitor<C>, pressures: &[u32; 5]) -> bool
     requires { monitor.old.caps ≡ 0 ∷ 4 ∷ 0 ∷ 0 ∷ 0 ∷ 0 ∷ 0 ∷ 0 ∷ [] }
 {
@@ -123,7 +123,7 @@ fn follows_curve<C: Measure>(monitor: &mut Monitor<C>, pressures: &[u32; 5]) -> 
     is_so
 }
 
-/// Whether the pressures of uses from 0 to 4 of a cap of 4 are these.
+/// Checks whether the pressures of uses from 0 to 4 of a cap of 4 are these.
 pub(crate) fn curve_follows<C: Measure + Copy>(
     alloc: Global,
     curve: Curve,

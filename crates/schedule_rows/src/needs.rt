@@ -1,4 +1,4 @@
-// Threads with their needs, and which of them a choice by needs takes.
+// Threads with needs, and which of them a choice by needs takes.
 
 ghost use Rattle.std.specs.Prelude.{◌≡◌, ◌+◌, ◌<◌, ◌≤◌, ◌^◌};
 ghost use Rattle.ready_tree.specs.Needs.{is_met, is_arrival};
@@ -15,7 +15,7 @@ use resource_monitor::{Measure, Monitor};
 use scheduler::Scheduler;
 use std::alloc::Global;
 
-/// A world in which each thread waits for what its number says.
+/// A world in which the number of a thread determines its need.
 #[derive(Clone, Copy)]
 struct ByNumber {
     bounds: Bounds,
@@ -82,7 +82,7 @@ fn need_by(number: u32) -> Need
     }
 }
 
-// The thread joins the queue of node 2 with its need, where there is memory.
+// Adds the thread with its need to the queue of node 2. Returns `false` if memory runs out.
 fn join(scheduler: &mut Scheduler, number: u32) -> bool
     requires { KnowsNeeds scheduler.old }
     ensures known { KnowsNeeds scheduler.new }
@@ -92,7 +92,7 @@ fn join(scheduler: &mut Scheduler, number: u32) -> bool
     matches!(scheduler.enqueue_for(2, thread, need_by(number)), Ok(()))
 }
 
-// So many threads join, each of the number below that of the one before.
+// Adds `count` threads with decreasing numbers. Returns `false` if memory runs out.
 fn join_down(scheduler: &mut Scheduler, first: u32, count: u32) -> bool
     requires started { scheduler.old ≡ started }
     requires fit { count ≤ first }
@@ -106,7 +106,7 @@ fn join_down(scheduler: &mut Scheduler, first: u32, count: u32) -> bool
     joined
 }
 
-// The number of the thread that is taken, or 0 where none is.
+// Returns the number of the thread that is taken, or 0 if none is.
 fn taken<C: Measure>(
     scheduler: &mut Scheduler,
     graph: &Graph,
@@ -124,8 +124,8 @@ fn taken<C: Measure>(
     }
 }
 
-/// Whether an arrival waits, the channels that hold a message, the clock, how much of resource 1 is unused, whether a thread elsewhere
-/// than at `accept` is ready, and which thread is taken while the gate is closed; 0 for none.
+/// Whether an arrival waits, the channels that have a message, the clock, the unused amount of resource 1, whether a
+/// thread is ready that isn't at `accept`, and which thread is taken while the gate is closed, or 0 for none.
 type Turn = (bool, u64, u64, u32, bool, u32);
 
 fn world_of(turn: &Turn) -> ByNumber {
@@ -141,7 +141,7 @@ fn world_of(turn: &Turn) -> ByNumber {
     }
 }
 
-// Of threads 6 to 1, in this order of joining.
+// For threads 6 to 1, which join in this order.
 const TURNS: &[Turn] = &[
     (true, 4, 10, 0, true, 5),
     (true, 4, 10, 0, true, 3),
@@ -154,7 +154,7 @@ const TURNS: &[Turn] = &[
     (true, 4, 100, 3, false, 0),
 ];
 
-// Of those who wait until the clock is their number, 139 first and 100 last.
+// For threads that wait until the clock is their number, 139 first and 100 last.
 const TIMES: &[Turn] = &[
     (false, 0, 99, 0, true, 0),
     (false, 0, 104, 0, true, 104),
@@ -165,7 +165,7 @@ const TIMES: &[Turn] = &[
     (false, 0, 100, 0, true, 100),
 ];
 
-// Whether each of at most ten turns takes the thread that it is to take.
+// Checks whether each of at most ten turns takes its expected thread.
 fn takes_in_turn<C: Measure>(
     scheduler: &mut Scheduler,
     graph: &Graph,
@@ -187,7 +187,7 @@ fn takes_in_turn<C: Measure>(
     true
 }
 
-// Whether a queue of so many goes as the turns say.
+// Checks whether a queue of `count` threads has the expected turns.
 fn goes_in_turn<C: Measure>(
     alloc: Global,
     monitor: &Monitor<C>,
@@ -206,7 +206,7 @@ fn goes_in_turn<C: Measure>(
     joined && right
 }
 
-// A queue of six that wait for different things, and one of forty, over several blocks of places.
+// Checks a queue of six threads that wait for different things, and one of forty, over several blocks of places.
 fn go_by_needs<C: Measure + Copy>(alloc: Global, call: C) -> bool
     requires { AnswersCurve (C.can_measure call) (C.measure_gives call) Linear }
 {

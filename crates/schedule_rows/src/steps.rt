@@ -10,10 +10,10 @@ use resource_monitor::Curve;
 // A step at each eighth of the cap.
 const EIGHTHS: [u32; 8] = [125, 250, 375, 500, 625, 750, 875, 1000];
 
-// The pressures of uses from 0 to 4 of a cap of 4, of which each is two eighths.
+// The pressures of uses from 0 to 4 of a cap of 4, each of which is two eighths.
 const BY_EIGHTHS: [u32; 5] = [0, 250, 500, 750, 1000];
 
-// 125 for each of these places that the use has reached.
+// Returns 125 for each of these thresholds that the use has reached.
 fn by_steps(at: &[u32; 8], used: u32, cap: u32) -> u32
     requires range { IsInRange (Steps at.now) }
     requires reading { IsReading used cap }

@@ -1,4 +1,4 @@
-// Threads that go on by strides.
+// Threads chosen by strides.
 
 ghost use Rattle.std.specs.Prelude.{◌≡◌, ◌==◌, ◌<◌, ◌≤◌, ◌+◌, ◌^◌, ◌∷◌, [], not, true, false, None, OnOk};
 ghost use Rattle.stride_rule.specs.State.{new_rule};
@@ -7,7 +7,7 @@ use cap_word::{Ready, ThreadId};
 use std::alloc::{AllocError, Global};
 use stride_rule::StrideRule;
 
-/// A world in which every thread is ready but one.
+/// A world in which every thread except one is ready.
 #[derive(Clone, Copy)]
 struct AllButOne {
     kept: u32,
@@ -42,7 +42,7 @@ fn thread(number: u32) -> ThreadId
     }
 }
 
-// The thread that goes on next, for one segment; none where none may.
+// Chooses the next thread and runs it for one segment. Returns `None` if no thread may run.
 fn go_on(rule: &mut StrideRule, world: &AllButOne) -> Option<u32>
     requires between { rule.old.running ≡ None }
     requires room { rule.old.noted < 2 ^ 40 }
@@ -72,9 +72,9 @@ fn start_three(rule: &mut StrideRule) -> Result<(), AllocError>
 /// A step of the row.
 #[derive(Clone, Copy)]
 enum Step {
-    /// While this thread may not go on, that one does, for one segment.
+    /// While the first thread isn't ready, the second is chosen, for one segment.
     Goes(u32, u32),
-    /// The passes are so far apart.
+    /// The passes differ by this.
     Spread(u64),
     /// A thread was held back, so nothing is said of the passes.
     NoSpread,
@@ -112,8 +112,9 @@ fn goes_so(rule: &mut StrideRule, step: Step) -> bool
     }
 }
 
-// Threads 0, 1 and 2, of which thread 1 has two tickets: those that go on, worked out by hand, while each thread may. After
-// eight turns the passes are 2,097,152 for each of them. Then one goes on, and the next time thread 1 is held back.
+// Threads 0, 1 and 2, of which thread 1 has two tickets: the chosen threads, worked out by hand, while each thread is
+// ready. After eight turns the pass of each is 2,097,152. Then one more is chosen, and the next time thread 1 is held
+// back.
 const STEPS: &[Step] = &[
     Step::Goes(9, 0),
     Step::Goes(9, 1),
@@ -130,7 +131,7 @@ const STEPS: &[Step] = &[
     Step::NoSpread,
 ];
 
-// Whether each of at most 20 steps goes as it says.
+// Checks whether each of at most 20 steps has its expected result.
 fn go_so(rule: &mut StrideRule, steps: &[Step]) -> bool
     requires between { rule.old.running ≡ None }
     requires noted { rule.old.noted ≡ 0 }
@@ -146,7 +147,8 @@ fn go_so(rule: &mut StrideRule, steps: &[Step]) -> bool
     true
 }
 
-// Whether the passes are together before a thread has started, and the steps go as they say once three have.
+// Checks whether the passes are equal before a thread has started, and the steps have their expected results once three
+// have.
 fn follows_rows(rule: &mut StrideRule) -> bool
     requires { rule.old ≡ new_rule ((1, 2) ∷ []) }
 {

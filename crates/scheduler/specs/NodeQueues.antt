@@ -1,4 +1,4 @@
--- What the tree above the queues of the nodes tells of them.
+-- The tree above the queues of the nodes.
 use Rattle.std.specs.Prelude.{ℕ, ◌≡◌, ◌<◌, ◌≤◌, ◌^◌, false, IsSome, Option, Some, None, List}
 use Rattle.std.specs.List.{AllByRecursion}
 use Rattle.std.specs.BTreeMap.{BTreeMap, get}
@@ -11,7 +11,7 @@ use Rattle.ready_tree.specs.NeedTrees.{needs_of, queues_of}
 use Rattle.ready_tree.specs.Trees.{CoversAll}
 use Rattle.scheduler.specs.Queues.{entries_in}
 
--- the tree has a place for each queue, and there what covers each thread of it
+-- the tree has a place for each queue, with needs that cover each thread of it
 pub record AreCovered (queues : BTreeMap ℕ (List (Option Entry))) (above : List Needs) : Type 0 where
   pub placed : (node : ℕ) → IsSome (get nat_cmp queues node) → node < queues_of above
   pub numbered : (node : ℕ) → IsSome (get nat_cmp queues node) → node < 2 ^ 32
@@ -21,12 +21,12 @@ pub record AreCovered (queues : BTreeMap ℕ (List (Option Entry))) (above : Lis
 abbrev pub AreUnmet : Bounds → List Entry → Type 0
 AreUnmet bounds entries = AllByRecursion (λ entry. is_met bounds entry.need ≡ false) entries
 
--- a node from this number on, and at no node between the two a need is met
+-- a node from this number on, such that at no node between the two a need is met
 pub record IsFirstNode (bounds : Bounds) (queues : BTreeMap ℕ (List (Option Entry))) (from node : ℕ) : Type 0 where
   pub behind : from ≤ node
   pub before : (other : ℕ) → from ≤ other → other < node → AreUnmet bounds (entries_in queues other)
 
--- the next node, and none where from there on no need is met
+-- the next node, and none if from there on no need is met
 abbrev pub IsNextNode : Bounds → BTreeMap ℕ (List (Option Entry)) → ℕ → Option ℕ → Type 0
 IsNextNode bounds queues from None = (other : ℕ) → from ≤ other → AreUnmet bounds (entries_in queues other)
 IsNextNode bounds queues from (Some node) = IsFirstNode bounds queues from node

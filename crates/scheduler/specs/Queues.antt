@@ -9,7 +9,7 @@ use Rattle.ready_tree.specs.declared.entries.Entry.{Entry}
 use Rattle.ready_tree.specs.Needs.{is_met}
 use Rattle.ready_tree.specs.Entries.{entries_of}
 
--- whether two names are of one thread
+-- whether two identify the same thread
 abbrev pub is_same : ThreadId → ThreadId → Bool
 is_same thread other = thread.slot == other.slot && thread.number == other.number
 
@@ -18,7 +18,7 @@ abbrev pub without : ThreadId → List ThreadId → List ThreadId
 without thread [] = []
 without thread (first ∷ queue) = if is_same first thread then queue else first ∷ without thread queue
 
--- the same with needs
+-- the same for entries
 abbrev pub without_entry : ThreadId → List Entry → List Entry
 without_entry thread [] = []
 without_entry thread (first ∷ queue) = if is_same first.thread thread then queue else first ∷ without_entry thread queue
@@ -27,7 +27,7 @@ without_entry thread (first ∷ queue) = if is_same first.thread thread then que
 abbrev pub threads_of : List Entry → List ThreadId
 threads_of entries = map (λ entry. entry.thread) entries
 
--- the places of a queue, and none where there is no queue
+-- the places of a queue, and none if there is no queue
 abbrev pub places_of : Option (List (Option Entry)) → List (Option Entry)
 places_of None = []
 places_of (Some places) = places
@@ -43,17 +43,17 @@ entries_in queues node = entries_of (places_in queues node)
 abbrev pub queue_in : BTreeMap ℕ (List (Option Entry)) → ℕ → List ThreadId
 queue_in queues node = threads_of (entries_in queues node)
 
--- the queues of so many nodes, by number
+-- the queues of this number of nodes, by number
 abbrev pub queues_of : BTreeMap ℕ (List (Option Entry)) → ℕ → List (List Entry)
 queues_of queues count = map (entries_in queues) (range_with_len 0 count)
 
--- ---- who may go on
+-- ---- which threads are eligible
 
 -- whether the thread at a place passes a test
 abbrev pub passes_at : (ThreadId → Bool) → Option Entry → Bool
 passes_at test None = false
 passes_at test (Some entry) = test entry.thread
 
--- the needs say which threads pass the test
+-- the needs determine which threads pass the test
 abbrev pub AreExact : Bounds → (ThreadId → Bool) → List Entry → Type 0
 AreExact bounds test entries = AllByRecursion (λ entry. is_met bounds entry.need ≡ test entry.thread) entries

@@ -14,7 +14,7 @@ score_of_first pressure predicted (suc resource) =
 abbrev pub score : MonitorState → List EdgeLine → ℕ → ℤ
 score monitor edges node = score_of_first (pressure_at monitor) (prediction edges node) 8
 
--- the same by the eight pressures
+-- the same, from the eight pressures
 abbrev pub score_by : List ℕ → List EdgeLine → ℕ → ℤ
 score_by pressures edges node = score_of_first (slice_index pressures) (prediction edges node) 8
 
@@ -24,6 +24,7 @@ ranks_below score last node other_score other_last other =
     int_lt score other_score
     || (int_le score other_score && (nat_lt last other_last || (last == other_last && nat_lt node other)))
 
--- whether a node comes before another: by score, then by the choice that last took it, then by number
+-- whether a node comes before another: by score, then by the number of its last choice, then by
+-- number
 abbrev pub comes_before : (ℕ → ℤ) → (ℕ → ℕ) → ℕ → ℕ → Bool
 comes_before score last node other = ranks_below (score node) (last node) node (score other) (last other) other

@@ -18,12 +18,12 @@ pub record IsRankOf (score_of : ℕ → ℤ) (last_of : ℕ → ℕ) (rank : Ran
   pub score : rank.score ≡ score_of rank.node
   pub last : rank.last ≡ last_of rank.node
 
--- the first thread of these that may go on, and its place
+-- the first eligible thread of these, and its place
 pub record IsFound (eligible : ThreadId → Bool) (places : List (Option Entry)) (found : Found) : Type 0 where
   pub thread : find eligible (threads_of (entries_of places)) ≡ Some found.thread
   pub place : position (passes_at eligible) places ≡ Some found.place
 
--- the first that may go on, and none where none may
+-- the first eligible thread, and none if there is none
 abbrev pub IsFoundIf : (ThreadId → Bool) → List (Option Entry) → Option Found → Type 0
 IsFoundIf eligible places None = find eligible (threads_of (entries_of places)) ≡ None
 IsFoundIf eligible places (Some found) = IsFound eligible places found
@@ -37,12 +37,12 @@ abbrev pub is_rank_below_best : Rank → Option Candidate → Bool
 is_rank_below_best rank None = true
 is_rank_below_best rank (Some best) = is_rank_below rank best.rank
 
--- a node doesn't come before the best so far, which there is
+-- a node doesn't come before the best so far, which exists
 abbrev pub IsNoBetter : (ℕ → ℤ) → (ℕ → ℕ) → Option Candidate → ℕ → Type 0
 IsNoBetter score last None node = ⊥
 IsNoBetter score last (Some best) node = comes_before score last node best.rank.node ≡ false
 
--- the best of the nodes that were seen: its thread is the first eligible one of its queue, and no such node with an
+-- the best of the nodes seen so far: its thread is the first eligible one of its queue, and no such node with an
 -- eligible thread comes before it
 pub record IsBestOf (eligible : ThreadId → Bool) (score : ℕ → ℤ) (last : ℕ → ℕ) (queues : BTreeMap ℕ (List (Option Entry)))
     (seen : ℕ → Type 0) (best : Option Candidate) : Type 0 where
@@ -51,7 +51,7 @@ pub record IsBestOf (eligible : ThreadId → Bool) (score : ℕ → ℤ) (last :
   pub place : IfSome best (λ candidate. position (passes_at eligible) (places_in queues candidate.rank.node) ≡ Some candidate.place)
   pub least : (node : ℕ) → IsSome (find eligible (queue_in queues node)) → seen node → IsNoBetter score last best node
 
--- a node isn't among the queues left
+-- a node isn't among the remaining queues
 abbrev pub IsPassed : List (ℕ × List (Option Entry)) → ℕ → Type 0
 IsPassed left node = lookup (is_at (nat_cmp node)) left ≡ None
 

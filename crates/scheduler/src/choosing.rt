@@ -18,7 +18,7 @@ use cap_word::{Ready, ThreadId};
 use ready_tree::Bounds;
 use resource_monitor::{Measure, Monitor};
 
-/// A thread that may go on, with its place and its node's rank.
+/// An eligible thread, with its place and its node's rank.
 #[derive(Clone, Copy)]
 pub struct Candidate {
     /// The node's rank.
@@ -29,7 +29,7 @@ pub struct Candidate {
     pub thread: ThreadId,
 }
 
-/// Whether a node's rank is below that of the best so far, or there is none so far.
+/// Returns whether a node's rank is below that of the best so far, or there is none so far.
 fn is_below_best(rank: &Rank, best: &Option<Candidate>) -> bool
     ensures { result ≡ is_rank_below_best rank.now best.now }
 {
@@ -39,7 +39,7 @@ fn is_below_best(rank: &Rank, best: &Option<Candidate>) -> bool
     }
 }
 
-/// The choice of a candidate.
+/// Returns the choice of a candidate.
 pub(crate) fn as_choice(best: Option<Candidate>) -> Option<Choice>
     ensures { result ≡ choice_of best }
 {
@@ -49,7 +49,7 @@ pub(crate) fn as_choice(best: Option<Candidate>) -> Option<Choice>
     })
 }
 
-/// The lawful choice, by asking. A node that ranks after the best so far isn't asked for a thread.
+/// Returns the lawful choice, by asking the world. A node that ranks after the best so far is skipped.
 pub(crate) fn best_of<C: Measure, R: Ready>(
     queues: &Queues,
     lasts: &[u64],
@@ -77,7 +77,8 @@ pub(crate) fn best_of<C: Measure, R: Ready>(
     best
 }
 
-/// The lawful choice where the needs say which threads may go on. A node at which none may isn't looked at.
+/// Returns the lawful choice, if the needs determine which threads are eligible. A node without an eligible
+/// thread is skipped.
 pub(crate) fn best_met<C: Measure>(
     queues: &NodeQueues,
     lasts: &[u64],

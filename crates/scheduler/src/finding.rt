@@ -11,7 +11,7 @@ use crate::eligibility::may_go_on;
 use cap_word::{Ready, ThreadId};
 use ready_tree::{Bounded, Bounds, ReadyTree};
 
-/// A thread that may go on, with its place in its queue.
+/// An eligible thread, with its place in its queue.
 #[derive(Clone, Copy)]
 pub struct Found {
     /// The place.
@@ -20,15 +20,16 @@ pub struct Found {
     pub thread: ThreadId,
 }
 
-/// Whether an arrival lets a thread go on: it waits, and the gate is open or no thread elsewhere than at `accept` is ready.
+/// Returns whether an arrival makes a thread eligible: one is queued, and the gate is open or no thread that isn't at
+/// `accept` is ready.
 fn arrival_at_gate<W: Ready>(world: &W, arrival: bool, gate_open: bool) -> bool
     ensures { result ≡ (arrival && (gate_open || not (W.any_elsewhere world.now))) }
 {
     arrival && (gate_open || !world.any_elsewhere())
 }
 
-/// What is there for threads that may go on: while the gate is closed and a thread elsewhere than at `accept` is ready, no
-/// arrival.
+/// Returns what is available for eligible threads: while the gate is closed and a thread that isn't at `accept` is
+/// ready, no arrival.
 pub fn bounds_at_gate<W: Bounded>(world: &W, gate_open: bool) -> Bounds
     ensures { (thread : ThreadIdOf) → (need : NeedOf) → W.vouches world.now thread need → is_met result need ≡ is_eligible (W.is_ready world.now) (W.at_accept world.now) (W.any_elsewhere world.now) gate_open thread }
 {
@@ -37,7 +38,7 @@ pub fn bounds_at_gate<W: Bounded>(world: &W, gate_open: bool) -> Bounds
     Bounds { arrival, ..bounds }
 }
 
-/// The first place whose thread may go on. Each thread before it is asked, and none after it.
+/// Returns the first place with an eligible thread. It asks each thread before it, and none after it.
 fn first_asked<R: Ready>(queue: &ReadyTree, ready: &R, gate_open: bool) -> Option<usize>
     ensures { result ≡ position (passes_at (is_eligible (R.is_ready ready.now) (R.at_accept ready.now) (R.any_elsewhere ready.now) gate_open)) queue.now }
 {
@@ -51,7 +52,7 @@ fn first_asked<R: Ready>(queue: &ReadyTree, ready: &R, gate_open: bool) -> Optio
     None
 }
 
-/// The thread at a place, which is the first that passes some test.
+/// Returns the thread at a place, which is the first that passes some test.
 fn found_at(queue: &ReadyTree, place: Option<usize>) -> Option<Found>
     requires { IfSome place (λ there. there < length queue.now) }
     ensures { (test : ThreadIdOf → Bool) → place ≡ position (passes_at test) queue.now → IsFoundIf test queue.now result }
@@ -68,14 +69,15 @@ fn found_at(queue: &ReadyTree, place: Option<usize>) -> Option<Found>
     })
 }
 
-/// The first thread of a queue that may go on. Each before it is asked.
+/// Returns the first eligible thread of a queue. It asks each thread before it.
 pub(crate) fn first_of<R: Ready>(queue: &ReadyTree, ready: &R, gate_open: bool) -> Option<Found>
     ensures { IsFoundIf (is_eligible (R.is_ready ready.now) (R.at_accept ready.now) (R.any_elsewhere ready.now) gate_open) queue.now result }
 {
     found_at(queue, first_asked(queue, ready, gate_open))
 }
 
-/// The first thread of a queue whose need is met. Where the needs say which threads pass a test, it is the first that passes.
+/// Returns the first thread of a queue whose need is met. If the needs determine which threads pass a test, it is the
+/// first that passes.
 pub(crate) fn first_met(queue: &ReadyTree, bounds: &Bounds) -> Option<Found>
     ensures { (test : ThreadIdOf → Bool) → AreExact bounds.now test (entries_of queue.now) → IsFoundIf test queue.now result }
 {

@@ -16,7 +16,7 @@ use ready_tree::{Bounds, Entry, NeedTree};
 use std::alloc::{AllocError, Global};
 use std::collections::BTreeMap;
 
-/// The queues of the nodes at which threads wait, with a tree above them of what the threads wait for.
+/// The queues of the nodes at which threads wait, with a tree of their needs above them.
 #[derive(Drop)]
 pub(crate) struct NodeQueues {
     /// The queues by the numbers of their nodes.
@@ -26,7 +26,7 @@ pub(crate) struct NodeQueues {
 }
 
 impl NodeQueues {
-    /// No queues. They take no memory.
+    /// Returns no queues. It doesn't allocate.
     pub(crate) fn new(alloc: Global) -> NodeQueues
         ensures queues { result.queues.entries ≡ [] }
         ensures covered { AreCovered result.queues result.above }
@@ -37,7 +37,7 @@ impl NodeQueues {
         }
     }
 
-    /// Puts a thread at the end of a node's queue.
+    /// Appends a thread to a node's queue.
     pub(crate) fn join(&mut self, alloc: Global, node: u32, entry: Entry) -> Result<(), AllocError>
         requires covered { AreCovered self.old.queues self.old.above }
         ensures covered { AreCovered self.new.queues self.new.above }
@@ -53,7 +53,7 @@ impl NodeQueues {
         joined
     }
 
-    /// Takes the thread at a place out of a node's queue. A queue that is then empty goes, and its memory.
+    /// Removes the thread at a place from a node's queue. A queue that is then empty is freed.
     pub(crate) fn leave_at(&mut self, node: u32, place: usize)
         requires covered { AreCovered self.old.queues self.old.above }
         requires place { place < length (places_in self.old.queues node) }
@@ -66,7 +66,7 @@ impl NodeQueues {
         renew(&mut self.above, &self.queues, node);
     }
 
-    /// Takes the choice's thread out of its node's queue.
+    /// Removes the choice's thread from its node's queue.
     pub(crate) fn leave(&mut self, choice: &Choice)
         requires covered { AreCovered self.old.queues self.old.above }
         ensures covered { AreCovered self.new.queues self.new.above }
@@ -79,8 +79,8 @@ impl NodeQueues {
         }
     }
 
-    /// The next node, from this number on, at which the need of some thread may be met. It takes at most four steps for each
-    /// level of the tree.
+    /// Returns the next node, from this number on, at which the need of some thread may be met. It takes at most four
+    /// steps for each level of the tree.
     pub(crate) fn next(&self, from: usize, bounds: &Bounds) -> Option<u32>
         requires { AreCovered self.now.queues self.now.above }
         ensures { IsNextNode bounds.now self.now.queues from result }
@@ -92,8 +92,8 @@ impl NodeQueues {
         Some(node as u32)
     }
 
-    /// The first thread of a node's queue whose need is met. Where the needs say which threads pass a test, it is the first
-    /// that passes.
+    /// Returns the first thread of a node's queue whose need is met. If the needs determine which threads pass a test,
+    /// it is the first that passes.
     pub(crate) fn first_at(&self, node: u32, bounds: &Bounds) -> Option<Found>
         ensures found { (test : ThreadIdOf → Bool) → AreExact bounds.now test (entries_in self.now.queues node) → IsFoundIf test (places_in self.now.queues node) result }
         ensures there { IfSome result (λ found. IsSome (get nat_cmp self.now.queues node)) }
@@ -102,7 +102,7 @@ impl NodeQueues {
     }
 }
 
-/// Puts what the threads at a node wait for into the tree.
+/// Updates the tree with the needs of the threads at a node.
 fn renew(above: &mut NeedTree, queues: &Queues, node: u32)
     requires { node < queues_of above.old }
     ensures same { queues_of above.new ≡ queues_of above.old }

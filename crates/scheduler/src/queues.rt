@@ -13,7 +13,7 @@ use std::collections::BTreeMap;
 /// The queues of the nodes at which threads wait.
 pub(crate) type Queues = BTreeMap<u32, ReadyTree>;
 
-/// Makes a place for the last choice of a node, which is 0 so far.
+/// Makes a place for the last choice of a node, which is initially 0.
 pub(crate) fn make_place(lasts: &mut Vec<u64>, node: u32) -> Result<(), AllocError>
     ensures same { (other : ℕ) → slice_index lasts.new.items other ≡ slice_index lasts.old.items other }
     ensures longer { vec_len lasts.old ≤ vec_len lasts.new }
@@ -28,7 +28,7 @@ pub(crate) fn make_place(lasts: &mut Vec<u64>, node: u32) -> Result<(), AllocErr
     Ok(())
 }
 
-/// A queue of one thread.
+/// Returns a queue of one thread.
 fn queue_of_one(alloc: Global, entry: Entry) -> Result<ReadyTree, AllocError>
     ensures { IfOk result (λ queue. entries_of queue ≡ entry ∷ []) }
 {
@@ -37,7 +37,7 @@ fn queue_of_one(alloc: Global, entry: Entry) -> Result<ReadyTree, AllocError>
     Ok(queue)
 }
 
-/// Puts a thread at the end of a node's queue.
+/// Appends a thread to a node's queue.
 pub(crate) fn join(
     queues: &mut Queues,
     alloc: Global,
@@ -59,7 +59,7 @@ pub(crate) fn join(
     Ok(())
 }
 
-/// Takes the thread at a place out of a node's queue. A queue that is then empty goes, and its memory.
+/// Removes the thread at a place from a node's queue. A queue that is then empty is freed.
 pub(crate) fn leave_at(queues: &mut Queues, node: u32, place: usize)
     requires { place < length (places_in queues.old node) }
     ensures queue { entries_in queues.new node ≡ entries_of (slice_set (places_in queues.old node) place None) }
@@ -76,14 +76,14 @@ pub(crate) fn leave_at(queues: &mut Queues, node: u32, place: usize)
     }
 }
 
-/// The place of a thread in a node's queue. It looks at each place before that.
+/// Returns the place of a thread in a node's queue. It tests each place before that.
 pub(crate) fn place_in(queues: &Queues, choice: &Choice) -> Option<usize>
     ensures { result ≡ position (is_of choice.now.thread) (places_in queues.now choice.now.node) }
 {
     queues.get(&choice.node)?.place_of(choice.thread)
 }
 
-/// What some of the threads at a node wait for.
+/// Returns the needs of the threads at a node together.
 pub(crate) fn needs_in(queues: &Queues, node: u32) -> Needs
     ensures { CoversAll result (entries_in queues.now node) }
 {

@@ -14,8 +14,8 @@ use resource_monitor::{Measure, Monitor};
 use std::alloc::{AllocError, Global};
 use std::marker::Model;
 
-/// The threads that wait at the nodes of the blocking graph. What it means is the queue of each node, the
-/// number of the choice that last took each node, and the number of choices.
+/// The threads that wait at the nodes of the blocking graph. Contracts see the queue of each node, the number of the
+/// last choice of each node, and the number of choices.
 #[derive(Drop)]
 pub struct Scheduler {
     queues: NodeQueues,
@@ -38,7 +38,7 @@ impl Model for Scheduler {
 impl Scheduler {
     ghost use Rattle.scheduler.specs.State.{started, queue_of, last_of, AreKnown, IsJoined, IsNoted, IsTaken, IsTold};
 
-    /// A scheduler at which nothing waits. It takes no memory.
+    /// Returns a scheduler without threads. It doesn't allocate.
     pub fn new(alloc: Global) -> Scheduler
         ensures { result ≡ started }
     {
@@ -49,7 +49,7 @@ impl Scheduler {
         }
     }
 
-    /// Puts a thread at the end of a node's queue that waits for nothing, or that only `choose` is to choose.
+    /// Appends a thread to a node's queue that needs nothing, or that only `choose` may choose.
     pub fn enqueue(&mut self, node: u32, thread: ThreadId) -> Result<(), AllocError>
         ensures ok { OnOk result (IsJoined self.old self.new node thread) }
         ensures told { OnOk result (IsTold self.old self.new node (record { thread = thread; need = Need.Nothing })) }
@@ -58,7 +58,7 @@ impl Scheduler {
         self.enqueue_for(node, thread, Need::Nothing)
     }
 
-    /// Puts a thread at the end of a node's queue, with what it waits for.
+    /// Appends a thread to a node's queue, with its need.
     pub fn enqueue_for(&mut self, node: u32, thread: ThreadId, need: Need) -> Result<(), AllocError>
         ensures ok { OnOk result (IsJoined self.old self.new node thread) }
         ensures told { OnOk result (IsTold self.old self.new node (record { thread = thread; need = need })) }
@@ -76,11 +76,11 @@ impl Scheduler {
         }
     }
 
-    /// The thread to go on next, with its node, or none where no thread that waits is eligible. A thread is
-    /// eligible where it is ready and, if it is at `accept`, the gate is open or no thread elsewhere than at
-    /// `accept` is ready. The node has the least score, of those with an eligible thread; of nodes with the
-    /// same score it was taken longest ago; of those it has the least number. The thread is the first
-    /// eligible one of that node's queue. It takes no memory.
+    /// Returns the thread that runs next, with its node, or `None` if no queued thread is eligible. A thread is
+    /// eligible if it is ready and, if it is at `accept`, the gate is open or no thread that isn't at `accept` is
+    /// ready. Of the nodes with an eligible thread, the choice takes the one with the least score; of these the one
+    /// whose last choice is the longest ago; and of these the one with the least number. The thread is the first
+    /// eligible one in that node's queue. It doesn't allocate.
     pub fn choose<C: Measure, R: Ready>(
         &self,
         graph: &Graph,
@@ -100,9 +100,9 @@ impl Scheduler {
         as_choice(best)
     }
 
-    /// The choice that `choose` makes, which is noted then. No thread is asked: the needs that were told say who may go on, and
-    /// the world vouches for them. A node at which no thread is eligible isn't looked at; each of the others costs two searches, of
-    /// as many steps as the tree above the nodes and the tree above its queue are high, and a score. It takes no memory.
+    /// Makes the same choice as `choose`, and notes it. It asks no thread: the needs determine which threads are
+    /// eligible, and the world guarantees them. Nodes without an eligible thread are skipped; each of the others costs
+    /// two searches, along the tree above the nodes and the tree above its queue, and a score. It doesn't allocate.
     pub fn take_choice<C: Measure, W: Bounded>(
         &mut self,
         graph: &Graph,
@@ -132,7 +132,7 @@ impl Scheduler {
         })
     }
 
-    /// Takes the chosen thread out of its queue, and notes that its node was taken. It takes no memory.
+    /// Removes the chosen thread from its queue, and records the choice as the last of its node. It doesn't allocate.
     pub fn note_choice(&mut self, choice: &Choice)
         requires queued { Contains (queue_of self.old choice.now.node) choice.now.thread }
         requires room { self.old.noted < 2 ^ 40 }

@@ -7,18 +7,18 @@ ghost use Rattle.scheduler.specs.Search.{IsRankOf, is_rank_below};
 use blocking_graph::Graph;
 use resource_monitor::{Measure, Monitor};
 
-/// What nodes are ordered by: the score, then the choice that last took the node, then its number.
+/// The rank of a node: the score, then the number of the node's last choice, then its number.
 #[derive(Clone, Copy)]
 pub struct Rank {
     /// The node's score.
     pub score: i128,
-    /// The number of the choice that last took the node, or 0.
+    /// The number of the node's last choice, or 0.
     pub last: u64,
     /// The node's number.
     pub node: u32,
 }
 
-/// The pressures of the eight resources. They don't change while a choice is made.
+/// Returns the pressures of the eight resources. They don't change during a choice.
 pub(crate) fn pressures_of<C: Measure>(monitor: &Monitor<C>) -> [u32; 8]
     ensures scores { (edges : List EdgeLine) → (node : ℕ) → score_by result edges node ≡ score monitor.now edges node }
     ensures most { (resource : ℕ) → resource < 8 → slice_index result resource ≤ 1000 }
@@ -30,7 +30,7 @@ pub(crate) fn pressures_of<C: Measure>(monitor: &Monitor<C>) -> [u32; 8]
     pressures
 }
 
-/// The pressure on a resource times the change of it that is expected of a segment from the node.
+/// Returns the pressure on a resource times the prediction of the node for it.
 fn expected_strain(graph: &Graph, pressure: u32, node: u32, resource: u32) -> i128
     requires there { resource < 8 }
     requires most { pressure ≤ 1000 }
@@ -43,7 +43,7 @@ fn expected_strain(graph: &Graph, pressure: u32, node: u32, resource: u32) -> i1
     i128::from(pressure) * graph.predicted(node, resource)
 }
 
-/// The score of a node: the sum of that over the eight resources.
+/// Returns the score of a node: the sum of pressure times prediction over the eight resources.
 fn score_of(graph: &Graph, pressures: &[u32; 8], node: u32) -> i128
     requires { (resource : ℕ) → resource < 8 → slice_index pressures.now resource ≤ 1000 }
     ensures { result ≡ score_by pressures.now graph.now.edges node }
@@ -55,7 +55,7 @@ fn score_of(graph: &Graph, pressures: &[u32; 8], node: u32) -> i128
     total
 }
 
-/// The rank of a node.
+/// Returns the rank of a node.
 pub(crate) fn rank_of(lasts: &[u64], graph: &Graph, pressures: &[u32; 8], node: u32) -> Rank
     requires there { node < length lasts.now }
     requires most { (resource : ℕ) → resource < 8 → slice_index pressures.now resource ≤ 1000 }
@@ -69,7 +69,7 @@ pub(crate) fn rank_of(lasts: &[u64], graph: &Graph, pressures: &[u32; 8], node: 
     }
 }
 
-/// Whether a rank is below another.
+/// Returns whether a rank is below another.
 pub(crate) fn is_below(rank: &Rank, other: &Rank) -> bool
     ensures { result ≡ is_rank_below rank.now other.now }
 {

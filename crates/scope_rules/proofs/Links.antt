@@ -1,22 +1,16 @@
 -- The map of names and the list of what each hides, as a name is added and taken away.
-use Rattle.std.proofs.Common.{ℕ, suc, ◌≡◌, refl, sym, ap, ◌∙◌, List, [], ◌∷◌, ◌++◌, length, map, reverse, arith, nat_cmp, Some, None, Bool, true, false, Option, Ordering, ◌<◌, ◌-◌, drop, rules}
+use Rattle.std.proofs.Common.{ℕ, suc, ◌≡◌, refl, sym, ap, ◌∙◌, List, [], ◌∷◌, ◌++◌, length, map, reverse, arith, nat_cmp, Some, None, Bool, true, false, Option, ◌<◌, ◌-◌, drop, rules}
 use Rattle.std.proofs.lemmas.List.{reverse-append, length-map, length-reverse}
 use Rattle.std.proofs.lemmas.Slice.Eq.{bytes_eq-Decides}
-use Rattle.std.specs.BTreeMap.{BTreeMap, get, get_by, UpdatesBy}
+use Rattle.std.specs.BTreeMap.{BTreeMap, get, UpdatesBy}
 use Rattle.std.specs.Cmp.Lexicographic.{slice_cmp}
 use Rattle.std.specs.Str.{bytes_eq}
 use mathlib.Core.Bool.{cond}
 use Rattle.scope_rules.specs.declared.meanings.Found.{Found}
 use Rattle.scope_rules.specs.declared.names.Declared.{Declared}
 use Rattle.std.specs.Global.{Vec}
-use Rattle.scope_rules.proofs.TextKeys.{text_updates}
+use Rattle.scope_rules.proofs.TextKeys.{at_text, ByText, text_updates}
 use Rattle.scope_rules.specs.Names.{Binding, find, binding_of, AreLinked, Finds}
-
-abbrev pub at_text : List ℕ → BTreeMap (Vec ℕ) Found → Option Found
-at_text t m = get_by (λ k. slice_cmp nat_cmp t k.items) m
-
-abbrev pub ByText : Vec ℕ → Vec ℕ → Ordering
-ByText = λ x y. slice_cmp nat_cmp x.items y.items
 
 pub reverse-snoc : {A : Type 0} (xs : List A) (y : A) → reverse (xs ++ y ∷ []) ≡ y ∷ reverse xs
 reverse-snoc xs y = reverse-append xs (y ∷ [])

@@ -1,4 +1,5 @@
--- Calls, and right sides, which may be calls: the rules that they break, and what they are with numbers for names.
+-- Calls, and right sides, which may be calls: the rules that they break, and their trees with numbers in place of
+-- names.
 use Rattle.std.specs.Prelude.{ℕ, ◌+◌, Bool, true, not, ◌||◌, ◌&&◌, List, [], ◌∷◌, ◌++◌, length, Option, Some, None}
 use Rattle.c_tree.specs.RawTrees.{NameTree, RawExprTree, RawName, RawCall, RawTableCall}
 use Rattle.c_tree.specs.Trees.{ExprTree, Number, CallTree, CallFunction, CallTable, CallSpawn, CallModelled, RightTree, Computed, Called}
@@ -12,20 +13,20 @@ use Rattle.scope_rules.specs.Faults.{fault, broken}
 use Rattle.scope_rules.specs.Meanings.{is_callable, is_table, is_spawnable, is_void, takes, is_wrong_count, table_of, function_of, callee_of}
 use Rattle.scope_rules.specs.Expressions.{use_faults, expr_faults, exprs_faults, listed, expr_of, exprs_of}
 
--- the name of a call without an index, which has so many arguments: Unknown where it isn't in scope, Arity where it takes
--- another number of arguments, Kind where it is neither a function nor a modelled call, or gives no result where one is
--- used
+-- the name of a call without an index, with this many arguments, breaks Unknown if it isn't in scope; Arity if it
+-- takes another number of arguments; and Kind if it is neither a function nor a modelled call, or if its result is
+-- used and it gives none
 abbrev pub call_name_faults : Bool → Option Found → ℕ → ℕ → List Fault
 call_name_faults used None at count = fault at Rule.Unknown ∷ []
 call_name_faults used (Some f) at count = broken (is_wrong_count (takes f.meaning) count) at Rule.Arity ++ broken (not (is_callable f.meaning) || (used && is_void f.meaning)) at Rule.Kind
 
--- the name of a call with an index, which has one argument beside it: Kind where it isn't a table
+-- the name of a call with an index and one argument breaks Kind if it isn't a table
 abbrev pub table_name_faults : Option Found → ℕ → List Fault
 table_name_faults None at = fault at Rule.Unknown ∷ []
 table_name_faults (Some f) at = broken (is_wrong_count (takes f.meaning) 1) at Rule.Arity ++ broken (not (is_table f.meaning)) at Rule.Kind
 
--- the first argument of spawn: Kind at `spawn` where it isn't a name alone, and at the name where that isn't a function
--- with one parameter
+-- the first argument of spawn breaks Kind at `spawn` if it isn't a name alone, and at the name if that isn't a
+-- function with one parameter
 abbrev pub spawned_faults : List Binding → ℕ → RawExprTree → List Fault
 spawned_faults names at (RawName g) = use_faults is_spawnable (find g.text names) g.at
 spawned_faults names at e = fault at Rule.Kind ∷ expr_faults names e
@@ -34,7 +35,7 @@ abbrev pub spawn_faults : List Binding → ℕ → List RawExprTree → List Fau
 spawn_faults names at [] = []
 spawn_faults names at (e ∷ es) = spawned_faults names at e ++ exprs_faults names es
 
--- the arguments: values, but for the first one of spawn
+-- the arguments: values, except for the first one of spawn
 abbrev pub arguments_faults : Callee → List Binding → ℕ → List RawExprTree → List Fault
 arguments_faults (Callee.Function f) names at es = exprs_faults names es
 arguments_faults (Callee.Modelled m) names at es = exprs_faults names es
@@ -46,7 +47,7 @@ call_faults used names n es = call_name_faults used (find n.text names) n.at (le
 abbrev pub table_call_faults : List Binding → NameTree → RawExprTree → RawExprTree → List Fault
 table_call_faults names n i e = table_name_faults (find n.text names) n.at ++ (expr_faults names i ++ expr_faults names e)
 
--- a right side or a returned value, where a call's result is used
+-- a right side or a returned value, in which a call's result is used
 abbrev pub right_faults : List Binding → RawExprTree → List Fault
 right_faults names (RawCall n es) = call_faults true names n (listed es)
 right_faults names (RawTableCall n i e) = table_call_faults names n i e
@@ -83,7 +84,7 @@ right_of names k (RawCall n es) = Called (call_of names k n (listed es))
 right_of names k (RawTableCall n i e) = Called (table_call_of names k n i e)
 right_of names k e = Computed (expr_of names e)
 
--- the site after one: a number above every limit isn't told apart from the next
+-- the number of the next site; numbers above every limit are equal
 abbrev pub next : ℕ → ℕ
 next k = capped (1 + k)
 

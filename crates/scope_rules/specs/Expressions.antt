@@ -1,4 +1,4 @@
--- Expressions: the rules that their names break, and what they are with numbers for names.
+-- Expressions: the rules that their names break, and their trees with numbers in place of names.
 use Rattle.std.specs.Prelude.{ℕ, ◌^◌, ◌%◌, Bool, not, List, [], ◌∷◌, ◌++◌, map, Option, Some, None}
 use Rattle.c_tree.specs.RawTrees.{NameTree, RawExprTree, RawExprTrees, RawNumber, RawName, RawElement, RawUnary, RawParenthesized, RawBinary, RawLogicalAnd, RawLogicalOr, RawConditional, RawCall, RawTableCall, NoExprs, And}
 use Rattle.c_tree.specs.Trees.{ExprTree, Number, Local, Global, LocalElement, GlobalElement, Unary, Parenthesized, Binary, LogicalAnd, LogicalOr, Conditional}
@@ -11,7 +11,8 @@ use Rattle.scope_rules.specs.Names.{Binding, find}
 use Rattle.scope_rules.specs.Faults.{fault, broken}
 use Rattle.scope_rules.specs.Meanings.{is_scalar, is_array, variable_of}
 
--- a use of a name: Unknown where it isn't in scope there, Kind where it is no name for such a use
+-- a use of a name breaks Unknown if the name isn't in scope there, and Kind if its meaning doesn't
+-- permit this use
 abbrev pub use_faults : (Meaning → Bool) → Option Found → ℕ → List Fault
 use_faults may None at = fault at Rule.Unknown ∷ []
 use_faults may (Some f) at = broken (not (may f.meaning)) at Rule.Kind
@@ -24,7 +25,7 @@ scalar_faults names n = use_faults is_scalar (find n.text names) n.at
 abbrev pub array_faults : List Binding → NameTree → List Fault
 array_faults names n = use_faults is_array (find n.text names) n.at
 
--- an expression; a call stands in none, so nothing is asked of one
+-- an expression; it contains no calls, so they have no faults here
 abbrev pub expr_faults : List Binding → RawExprTree → List Fault
 expr_faults names (RawNumber v) = []
 expr_faults names (RawName n) = scalar_faults names n
@@ -51,7 +52,7 @@ abbrev pub element_value : Variable → ExprTree → ExprTree
 element_value (Variable.Local a) i = LocalElement a i
 element_value (Variable.Global a) i = GlobalElement a i
 
--- an expression with numbers for names; a number is taken as a word
+-- an expression with numbers in place of names; a number is taken modulo 2 ^ 32
 abbrev pub expr_of : List Binding → RawExprTree → ExprTree
 expr_of names (RawNumber v) = Number (v % 2 ^ 32)
 expr_of names (RawName n) = scalar_value (variable_of (find n.text names))

@@ -1,4 +1,4 @@
--- What an expression is as a whole: a name alone, a call, or neither.
+-- The form of an expression: a name alone, a call, or neither.
 use Rattle.std.specs.Prelude.{◌≡◌}
 use Rattle.c_tree.specs.RawTrees.{RawExprTree, RawNumber, RawName, RawElement, RawUnary, RawParenthesized, RawBinary, RawLogicalAnd, RawLogicalOr, RawConditional, RawCall, RawTableCall}
 use Rattle.c_tree.specs.RawViews.{name_tree, raw_expr_tree, raw_expr_trees}

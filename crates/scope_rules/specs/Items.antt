@@ -1,4 +1,4 @@
--- What a source declares and defines outside functions: the rules that it breaks, and the program that it is.
+-- Declarations and definitions outside functions: the rules that they break, and the program of a source.
 use Rattle.std.specs.Prelude.{ℕ, Bool, true, false, not, ◌||◌, ◌&&◌, nat_eq, List, [], ◌∷◌, ◌++◌, length, Option, Some, None, codes}
 use Rattle.std.specs.Str.{bytes_eq}
 use Rattle.cap_word.specs.ModelledCalls.{all_calls, name_of}
@@ -22,12 +22,12 @@ use Rattle.scope_rules.specs.Statements.{inside, stmts_after, stmts_faults, stmt
 abbrev pub modelled : ModelledCall → Binding
 modelled call = record { text = name_of call; meaning = Meaning.Modelled call }
 
--- these names, and those of modelled calls
+-- these names, followed by those of modelled calls
 abbrev pub with_calls : List Binding → List ModelledCall → List Binding
 with_calls names [] = names
 with_calls names (call ∷ calls) = with_calls (modelled call ∷ names) calls
 
--- the names of the table of modelled calls and of `spawn`, which stand outside every scope of the source
+-- the names of the table of modelled calls and of `spawn`, which are outside every scope of the source
 abbrev pub modelled_names : List Binding
 modelled_names = record { text = codes "spawn"; meaning = Meaning.Spawn } ∷ with_calls [] all_calls
 
@@ -46,7 +46,7 @@ with_definitions ds (i ∷ is) = with_definitions (with_definition ds i) is
 abbrev pub definitions : List RawItemTree → List Binding
 definitions is = with_definitions [] is
 
--- what the items so far make: the names in scope and the number of the next site, globals, tables and functions
+-- the resolved items so far: the names in scope and the number of the next site, globals, tables and functions
 pub record Sofar : Type 0 where
   pub spot : Spot
   pub globals : List GlobalFact
@@ -56,7 +56,7 @@ pub record Sofar : Type 0 where
 abbrev pub at_start : Sofar
 at_start = record { spot = record { names = modelled_names; outer = length modelled_names; sizes = []; site = 0 }; globals = []; tables = []; functions = [] }
 
--- a global's or a table's name: Twice where it is declared already, Kind where it is a modelled call's
+-- a global's or a table's name breaks Twice if it is already declared, and Kind if it is that of a modelled call
 abbrev pub outer_in : ℕ → Meaning → List Fault
 outer_in at (Meaning.Local x array) = fault at Rule.Twice ∷ []
 outer_in at (Meaning.Global g array) = fault at Rule.Twice ∷ []
@@ -74,8 +74,9 @@ abbrev pub differ : Bool → Bool → Bool
 differ true b = not b
 differ false b = b
 
--- a prototype or a definition of what the name is already: Twice where that isn't a function, or is defined twice; Arity
--- where the results or the numbers of parameters differ; Kind where it is a modelled call
+-- a prototype or a definition of a name with this meaning breaks Twice if that isn't a function, or is already
+-- defined and defined again; Arity if the results or the numbers of parameters differ; and Kind if it is a modelled
+-- call
 abbrev pub repeated_faults : Bool → Bool → ℕ → ℕ → Meaning → List Fault
 repeated_faults defining gives params at (Meaning.Local x array) = fault at Rule.Twice ∷ []
 repeated_faults defining gives params at (Meaning.Global g array) = fault at Rule.Twice ∷ []
@@ -88,16 +89,16 @@ abbrev pub function_faults : Bool → Bool → ℕ → ℕ → Option Found → 
 function_faults defining gives params at None = []
 function_faults defining gives params at (Some f) = repeated_faults defining gives params at f.meaning
 
--- main has no parameters
+-- the definition of main has no parameters
 abbrev pub main_faults : NameTree → ℕ → List Fault
 main_faults n params = broken (bytes_eq n.text (codes "main") && not (nat_eq params 0)) n.at Rule.Kind
 
--- a prototype is of a function that the source defines
+-- the function of a prototype isn't defined in the source
 abbrev pub is_missing : Option Found → Bool
 is_missing None = true
 is_missing (Some f) = false
 
--- whether the name is a function that is defined already
+-- whether the name is a function that is already defined
 abbrev pub is_defined_in : Meaning → Bool
 is_defined_in (Meaning.Local x array) = false
 is_defined_in (Meaning.Global g array) = false
@@ -114,7 +115,7 @@ is_defined (Some f) = is_defined_in f.meaning
 abbrev pub with_function : List Binding → List Binding → Bool → NameTree → ℕ → Bool → List Binding
 with_function defs names gives n params defined = bound names n.text (Meaning.Function (function_of (find n.text defs)) gives params defined)
 
--- the names in a prototype's parentheses, a scope of their own that has `outer` names outside it
+-- the names in a prototype's parentheses, which are a scope with `outer` names outside it
 abbrev pub param_faults : List Binding → ℕ → Option NameTree → List Fault
 param_faults names outer None = []
 param_faults names outer (Some n) = declared_faults (find n.text names) outer n.at
@@ -145,18 +146,18 @@ abbrev pub members_of : List Binding → List NameTree → List ℕ
 members_of names [] = []
 members_of names (n ∷ ns) = function_of (find n.text names) ∷ members_of names ns
 
--- at the start of a function's scope, which has no variables yet
+-- the start of a function's scope, without variables
 abbrev pub unsized : Spot → Spot
 unsized s = inside (record s { sizes = [] })
 
--- where a function's parameters begin: its own name is in scope there; and where its body begins
+-- the start of a function's parameters, where the function's name is in scope; and the start of its body
 abbrev pub params_spot : List Binding → Spot → Bool → NameTree → List NameTree → Spot
 params_spot defs s gives n params = unsized (record s { names = with_function defs s.names gives n (length params) true })
 
 abbrev pub body_spot : List Binding → Spot → Bool → NameTree → List NameTree → Spot
 body_spot defs s gives n params = params_after (params_spot defs s gives n params) params
 
--- after a function: its own name stays in scope, its variables are gone
+-- after a function: its name stays in scope, its variables don't
 abbrev pub function_left : Spot → List Binding → Spot → Spot
 function_left s names e = record e { names = names; outer = s.outer; sizes = [] }
 
@@ -183,14 +184,14 @@ item_faults defs w (RawFunctionItem gives n params body) =
     ++ (params_faults (params_spot defs w.spot gives n params) params
     ++ stmts_faults gives false (body_spot defs w.spot gives n params) body))
 
--- with a global, a table
+-- with one more global or table
 abbrev pub with_global : Sofar → NameTree → Bool → GlobalFact → Sofar
 with_global w n array g = record w { spot = record w.spot { names = bound w.spot.names n.text (Meaning.Global (capped (length w.globals)) array) }; globals = w.globals ++ g ∷ [] }
 
 abbrev pub with_table : Sofar → NameTree → List ℕ → Sofar
 with_table w n row = record w { spot = record w.spot { names = bound w.spot.names n.text (Meaning.Table (capped (length w.tables))) }; tables = w.tables ++ row ∷ [] }
 
--- what the items make after one more; a table's name isn't in scope among its own members
+-- the resolved items after one more; a table's name isn't in scope among its members
 abbrev pub item_after : List Binding → Sofar → RawItemTree → Sofar
 item_after defs w (RawGlobal n start) = with_global w n false (record { words = 1; start = start })
 item_after defs w (RawGlobalArray n size) = with_global w n true (record { words = size; start = 0 })
@@ -215,7 +216,7 @@ items_after defs w (i ∷ is) = items_after defs (item_after defs w i) is
 abbrev pub faults_of : List RawItemTree → List Fault
 faults_of is = items_faults (definitions is) at_start is
 
--- the program that a source is: its tree with numbers for names
+-- the program of a source: its tree with numbers in place of names
 abbrev pub parts_of : List RawItemTree → Sofar
 parts_of is = items_after (definitions is) at_start is
 

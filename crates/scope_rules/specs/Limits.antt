@@ -5,7 +5,7 @@ use Rattle.c_tree.specs.Trees.{FunctionTree, ProgramTree}
 use Rattle.c_tree.specs.Sizes.{declared_words}
 use Rattle.c_tree.specs.TextOrder.{program_sites}
 
--- the most words that a function declares, its parameters not counted
+-- the maximum number of words that a function declares, without its parameters
 abbrev pub most_locals : List FunctionTree → ℕ
 most_locals [] = 0
 most_locals (f ∷ fs) = max (sum (declared_words f)) (most_locals fs)

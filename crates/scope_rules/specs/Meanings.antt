@@ -1,4 +1,4 @@
--- What each kind of name may be used for.
+-- The permitted uses of each kind of name.
 use Rattle.std.specs.Prelude.{ℕ, Bool, true, false, not, nat_eq, ◌&&◌, Option, Some, None}
 use Rattle.cap_word.specs.ModelledCalls.{parameters_of, gives_result}
 use Rattle.scope_rules.specs.declared.meanings.Meaning.{Meaning}
@@ -42,7 +42,7 @@ is_callable (Meaning.Function f gives params defined) = true
 is_callable (Meaning.Modelled m) = true
 is_callable Meaning.Spawn = true
 
--- a name that can't be declared: a modelled call's
+-- a modelled call, whose name can't be declared
 abbrev pub is_modelled : Meaning → Bool
 is_modelled (Meaning.Local x array) = false
 is_modelled (Meaning.Global g array) = false
@@ -69,7 +69,7 @@ is_member (Meaning.Function f gives params defined) = gives && nat_eq params 1
 is_member (Meaning.Modelled m) = false
 is_member Meaning.Spawn = false
 
--- what gives no result when it is called
+-- a call of it gives no result
 abbrev pub is_void : Meaning → Bool
 is_void (Meaning.Local x array) = false
 is_void (Meaning.Global g array) = false
@@ -78,7 +78,7 @@ is_void (Meaning.Function f gives params defined) = not gives
 is_void (Meaning.Modelled m) = not (gives_result m)
 is_void Meaning.Spawn = false
 
--- how many arguments a call has, an index not counted: one for a table
+-- the number of arguments of a call, without an index; one for a table
 abbrev pub takes : Meaning → Option ℕ
 takes (Meaning.Local x array) = None
 takes (Meaning.Global g array) = None
@@ -87,13 +87,12 @@ takes (Meaning.Function f gives params defined) = Some params
 takes (Meaning.Modelled m) = Some (parameters_of m)
 takes Meaning.Spawn = Some 2
 
--- whether a count of arguments is another than that
+-- whether a number of arguments differs from that
 abbrev pub is_wrong_count : Option ℕ → ℕ → Bool
 is_wrong_count None k = false
 is_wrong_count (Some n) k = not (nat_eq n k)
 
--- the variable or global that a name stands for; where it stands for none, the rules above are broken and nothing is made
--- of it
+-- the variable or global that a name stands for; if it stands for none, a rule is broken, and the value isn't used
 abbrev pub variable_in : Meaning → Variable
 variable_in (Meaning.Local x array) = Variable.Local x
 variable_in (Meaning.Global g array) = Variable.Global g
@@ -106,7 +105,7 @@ abbrev pub variable_of : Option Found → Variable
 variable_of None = Variable.Local 0
 variable_of (Some f) = variable_in f.meaning
 
--- the table that a name stands for, in the same way
+-- the table that a name stands for, likewise
 abbrev pub table_in : Meaning → ℕ
 table_in (Meaning.Local x array) = 0
 table_in (Meaning.Global g array) = 0
@@ -119,7 +118,7 @@ abbrev pub table_of : Option Found → ℕ
 table_of None = 0
 table_of (Some f) = table_in f.meaning
 
--- the function that a name stands for, in the same way
+-- the function that a name stands for, likewise
 abbrev pub function_in : Meaning → ℕ
 function_in (Meaning.Local x array) = 0
 function_in (Meaning.Global g array) = 0
@@ -132,7 +131,7 @@ abbrev pub function_of : Option Found → ℕ
 function_of None = 0
 function_of (Some f) = function_in f.meaning
 
--- what a call of a name calls, in the same way
+-- the callee of a call of a name, likewise
 abbrev pub callee_in : Meaning → Callee
 callee_in (Meaning.Local x array) = Callee.Function 0
 callee_in (Meaning.Global g array) = Callee.Function 0

@@ -1,4 +1,4 @@
--- The names in scope at a place, and what a name is there.
+-- The names in scope at a place, and their meanings there.
 use Rattle.std.specs.Prelude.{ℕ, ◌≡◌, ◌≢◌, List, [], ◌∷◌, length, map, Option, Some, None, if◌then◌else◌}
 use Rattle.std.specs.Str.{bytes_eq}
 use Rattle.std.specs.Cmp.Lexicographic.{slice_cmp}
@@ -9,12 +9,13 @@ use Rattle.scope_rules.specs.declared.meanings.Meaning.{Meaning}
 use Rattle.scope_rules.specs.declared.meanings.Found.{Found}
 use Rattle.scope_rules.specs.declared.names.Declared.{Declared}
 
--- a name in scope, and what it is
+-- a name in scope, and its meaning
 pub record Binding : Type 0 where
   pub text : List ℕ
   pub meaning : Meaning
 
--- what a name is where these names are in scope, the latest first: an inner name hides an outer one
+-- the meaning of a name if these names are in scope, the latest first: an inner name hides an outer
+-- one
 abbrev pub find : List ℕ → List Binding → Option Found
 find t [] = None
 find t (b ∷ bs) = if bytes_eq b.text t then Some (record { position = length bs; meaning = b.meaning }) else find t bs
@@ -22,19 +23,19 @@ find t (b ∷ bs) = if bytes_eq b.text t then Some (record { position = length b
 abbrev pub binding_of : Declared → Binding
 binding_of d = record { text = d.text.items; meaning = d.found.meaning }
 
--- each entry tells how many names were there before it, and what its name was
+-- each entry has the number of names before it, and its name's earlier meaning
 abbrev pub AreLinked : List Declared → Type 0
 AreLinked [] = Unit {0}
 AreLinked (d ∷ ds) = (d.found.position ≡ length ds) × (d.hidden ≡ find d.text.items (map binding_of ds)) × AreLinked ds
 
--- the map finds what each name is
+-- the map has the meaning of each name
 abbrev pub Finds : BTreeMap (Vec ℕ) Found → List Binding → Type 0
 Finds m bs = (t : List ℕ) → get_by (λ k. slice_cmp nat_cmp t k.items) m ≡ find t bs
 
--- the map finds something by this text
+-- the map has an entry for this text
 abbrev pub IsThere : List ℕ → BTreeMap (Vec ℕ) Found → Type 0
 IsThere t m = get_by (λ k. slice_cmp nat_cmp t k.items) m ≢ None
 
--- n finds w by this text, and by each other what m finds
+-- n maps this text to w, and all others as m does
 abbrev pub Changes : List ℕ → BTreeMap (Vec ℕ) Found → BTreeMap (Vec ℕ) Found → Option Found → Type 0
 Changes t m n w = UpdatesBy (λ x y. slice_cmp nat_cmp x.items y.items) (λ k. slice_cmp nat_cmp t k.items) m n w

@@ -1,4 +1,4 @@
--- A program whose call sites have other numbers, by a table: the number in the place of k is the k-th of it.
+-- A program whose call sites are renumbered by a table: k is replaced by entry k of the table.
 use Rattle.std.specs.Prelude.{ℕ, ◌≡◌, true, List, [], map, None, option_map, slice_index_or}
 use Rattle.c_tree.specs.RawTrees.{RawItemTree}
 use Rattle.c_tree.specs.Trees.{CallTree, CallFunction, CallTable, CallSpawn, CallModelled, RightTree, Computed, Called, SimpleTree, DeclareScalar, DeclareArray, DeclareWith, SetLocal, SetGlobal, SetLocalElement, SetGlobalElement, Calling, StmtTree, StmtTrees, Do, Empty, Block, If, IfElse, While, For, Break, Continue, Return, NoStmts, Then, FunctionTree, ProgramTree}

@@ -1,5 +1,5 @@
--- Operators one after another, as the code has them: the rules that the operands break, and what they are with numbers
--- for names.
+-- The operators of a chain, as the code has them: the rules that their operands break, and their trees with numbers in
+-- place of names.
 use Rattle.std.specs.Prelude.{List, [], ◌∷◌, ◌++◌}
 use Rattle.c_tree.specs.declared.operators.Infix.{Infix}
 use Rattle.c_tree.specs.declared.expressions.Expr.{Expr}

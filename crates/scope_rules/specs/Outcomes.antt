@@ -1,4 +1,4 @@
--- What resolving a source ends in.
+-- The outcomes of resolving a source.
 use Rattle.std.specs.Prelude.{ℕ, ◌≡◌, true, false, List, [], ◌∷◌, Some, None}
 use Rattle.std.specs.List.{AllByRecursion}
 use Rattle.c_tree.specs.RawTrees.{RawItemTree}
@@ -15,20 +15,21 @@ pub data IsOneOf : Fault → List Fault → Type 0 where
   here : {f : Fault} {fs : List Fault} → IsOneOf f (f ∷ fs)
   further : {f g : Fault} {fs : List Fault} → IsOneOf f fs → IsOneOf f (g ∷ fs)
 
--- f is refused: it is one of the faults, and none of them stands before it
+-- f is reported: it is one of the faults, and no other takes precedence over it
 pub record IsLeast (f : Fault) (fs : List Fault) : Type 0 where
   pub one : IsOneOf f fs
   pub least : AllByRecursion (λ g. is_before g f ≡ false) fs
 
 -- a source is this program: it breaks no rule, defines main, exceeds no limit, and the program is its tree with numbers
+-- in place of names
 pub record IsResolved (is : List RawItemTree) (p : ProgramTree) : Type 0 where
   pub rules : faults_of is ≡ []
   pub main : has_main is ≡ true
   pub limits : exceeded (program_of is) ≡ None
   pub tree : p ≡ program_of is
 
--- a source is refused for this: the least fault; or, where there is none, that it defines no main; or, where it defines
--- one, the first limit that it exceeds
+-- the refusal of a source: the least fault; or, if there is none, that main has no definition; or, if it has one, the
+-- first limit that is exceeded
 abbrev pub IsRefused : List RawItemTree → ScopeError → Type 0
 IsRefused is (ScopeError.Unknown at) = IsLeast (fault at Rule.Unknown) (faults_of is)
 IsRefused is (ScopeError.Twice at) = IsLeast (fault at Rule.Twice) (faults_of is)
@@ -38,7 +39,7 @@ IsRefused is ScopeError.NoMain = (faults_of is ≡ []) × (has_main is ≡ false
 IsRefused is (ScopeError.Limit which) = (faults_of is ≡ []) × (has_main is ≡ true) × (exceeded (program_of is) ≡ Some which)
 IsRefused is ScopeError.Memory = Unit {0}
 
--- a refusal of the source, and not for want of memory
+-- a refusal of the source, other than out of memory
 abbrev pub IsNoMemory : ScopeError → Type 0
 IsNoMemory (ScopeError.Unknown at) = Unit {0}
 IsNoMemory (ScopeError.Twice at) = Unit {0}
@@ -48,7 +49,7 @@ IsNoMemory ScopeError.NoMain = Unit {0}
 IsNoMemory (ScopeError.Limit which) = Unit {0}
 IsNoMemory ScopeError.Memory = ⊥
 
--- the refusal of a fault
+-- the refusal for a fault
 abbrev pub refusal_by : Rule → ℕ → ScopeError
 refusal_by Rule.Unknown at = ScopeError.Unknown at
 refusal_by Rule.Twice at = ScopeError.Twice at

@@ -1,11 +1,11 @@
--- Where a statement stands: what is in scope there, and the numbers that come next.
+-- The scope at a statement, and the next numbers.
 use Rattle.std.specs.Prelude.{ℕ, List}
 use Rattle.scope_rules.specs.Names.{Binding}
 use Rattle.scope_rules.specs.Calls.{next}
 use Rattle.scope_rules.specs.declared.places.Place.{Place}
 
--- the names in scope, the latest first; how many of them stand outside this scope; the words of the variables so far; the
--- number of the next site
+-- the names in scope, the latest first; the number of names outside this scope; the sizes in words of the variables so
+-- far; the number of the next site
 pub record Spot : Type 0 where
   pub names : List Binding
   pub outer : ℕ

@@ -1,4 +1,4 @@
--- A source that is read item by item.
+-- A source that is resolved item by item.
 use Rattle.std.specs.Prelude.{ℕ, ◌≡◌, List, None, length}
 use Rattle.c_tree.specs.RawTrees.{RawItemTree}
 use Rattle.c_tree.specs.RawTemporaries.{AreWithinTemporaries}
@@ -11,14 +11,14 @@ use Rattle.scope_rules.specs.Faults.{least_of}
 use Rattle.scope_rules.specs.Items.{definitions, at_start, items_after, items_faults, program_of}
 use Rattle.scope_rules.specs.ItemViews.{sofar_of, IsCounted}
 
--- these items were read, of a source that defines what `all` defines
+-- these items were resolved, of a source that defines the same functions as `all`
 pub record HaveRead (w : Items) (all read : List RawItemTree) : Type 0 where
   pub defined : w.definitions ≡ definitions all
   pub sofar : sofar_of w ≡ items_after (definitions all) at_start read
   pub faults : w.place.least ≡ least_of None (items_faults (definitions all) at_start read)
   pub counted : IsCounted w
 
--- all items of a source were read, whose statements take no more temporaries than there are
+-- all items of a source were resolved, whose statements need no more temporaries than allowed
 pub record AreAllRead (w : Items) : Type 0 where
   pub source : List RawItemTree
   pub read : HaveRead w source source
@@ -27,7 +27,8 @@ pub record AreAllRead (w : Items) : Type 0 where
 abbrev pub HasRead : Resolver → List RawItemTree → List RawItemTree → Type 0
 HasRead r all read = HaveRead r.items all read
 
--- a source was read whole, in which every call is whole, and there is a number for each call
+-- a source in which every call is whole was resolved completely, and there is a number for each
+-- call
 pub record CanNumber (r : Resolver) (numbers : List ℕ) : Type 0 where
   pub source : List RawItemTree
   pub read : HasRead r source source

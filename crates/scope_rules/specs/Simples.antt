@@ -1,4 +1,4 @@
--- Declarations, assignments and calls: the rules that they break, what they are with numbers for names, and what is in
+-- Declarations, assignments and calls: the rules that they break, their trees with numbers in place of names, and the
 -- scope after them.
 use Rattle.std.specs.Prelude.{ℕ, Bool, true, false, not, ◌||◌, nat_lt, List, [], ◌∷◌, ◌++◌, length, Option, Some, None, if◌then◌else◌}
 use Rattle.c_tree.specs.RawTrees.{NameTree, RawExprTree, RawSimpleTree, RawDeclareScalar, RawDeclareArray, RawDeclareWith, RawSet, RawSetElement, RawCalling, RawTableCalling}
@@ -16,7 +16,7 @@ use Rattle.scope_rules.specs.Expressions.{scalar_faults, array_faults, expr_faul
 use Rattle.scope_rules.specs.Calls.{call_faults, table_call_faults, right_faults, call_of, table_call_of, right_of, right_after}
 use Rattle.scope_rules.specs.Places.{Spot, called}
 
--- a name that is declared: Twice where it is declared in this scope already, Kind where it is a modelled call's
+-- a declared name breaks Twice if it is already declared in this scope, and Kind if it is that of a modelled call
 abbrev pub declared_faults : Option Found → ℕ → ℕ → List Fault
 declared_faults None outer at = []
 declared_faults (Some f) outer at = broken (not (nat_lt f.position outer)) at Rule.Twice ++ broken (is_modelled f.meaning) at Rule.Kind
@@ -24,11 +24,11 @@ declared_faults (Some f) outer at = broken (not (nat_lt f.position outer)) at Ru
 abbrev pub declare_faults : Spot → NameTree → List Fault
 declare_faults s n = declared_faults (find n.text s.names) s.outer n.at
 
--- Kind where an array has no word or more than 65,536
+-- an array breaks Kind if it has no word or more than 65,536
 abbrev pub size_faults : NameTree → ℕ → List Fault
 size_faults n size = broken (nat_lt size 1 || nat_lt 65536 size) n.at Rule.Kind
 
--- the names with one more, which hides what it was; a modelled call's name stays what it is
+-- the names with one more, which hides its earlier meaning; a modelled call's name keeps its meaning
 abbrev pub is_fixed : Option Found → Bool
 is_fixed None = false
 is_fixed (Some f) = is_modelled f.meaning
@@ -40,7 +40,7 @@ bound names t m = if is_fixed (find t names) then names else record { text = t; 
 abbrev pub next_variable : Spot → ℕ
 next_variable s = capped (length s.sizes)
 
--- after the declaration of a variable of so many words
+-- after the declaration of a variable of this many words
 abbrev pub with_variable : Spot → NameTree → Bool → ℕ → Spot
 with_variable s n array words = record s { names = bound s.names n.text (Meaning.Local (next_variable s) array); sizes = s.sizes ++ words ∷ [] }
 
@@ -75,7 +75,7 @@ simple_of s (RawSetElement n i v) = set_element (variable_of (find n.text s.name
 simple_of s (RawCalling n es) = Calling (call_of s.names s.site n (listed es))
 simple_of s (RawTableCalling n i e) = Calling (table_call_of s.names s.site n i e)
 
--- a name is in scope after its own initialiser, and not in it
+-- a name is in scope after its initialiser, but not in it
 abbrev pub simple_after : Spot → RawSimpleTree → Spot
 simple_after s (RawDeclareScalar n) = with_variable s n false 1
 simple_after s (RawDeclareArray n size) = with_variable s n true size
@@ -85,7 +85,7 @@ simple_after s (RawSetElement n i v) = valued s v
 simple_after s (RawCalling n es) = called s
 simple_after s (RawTableCalling n i e) = called s
 
--- the start of a for, one part after another
+-- the first part of a for, one declaration or assignment after another
 abbrev pub simples_faults : Spot → List RawSimpleTree → List Fault
 simples_faults s [] = []
 simples_faults s (p ∷ ps) = simple_faults s p ++ simples_faults (simple_after s p) ps

@@ -1,4 +1,4 @@
--- Statements: the rules that they break, what they are with numbers for names, and what is in scope after them.
+-- Statements: the rules that they break, their trees with numbers in place of names, and the scope after them.
 use Rattle.std.specs.Prelude.{ℕ, Bool, true, not, List, [], ◌∷◌, ◌++◌, length, Option, Some, None, option_map}
 use Rattle.c_tree.specs.RawTrees.{RawExprTree, RawSimpleTree, RawDeclareScalar, RawDeclareArray, RawDeclareWith, RawSet, RawSetElement, RawCalling, RawTableCalling, RawStmtTree, RawStmtTrees, RawDo, RawEmpty, RawBlock, RawIf, RawIfElse, RawWhile, RawFor, RawBreak, RawContinue, RawReturn, NoRawStmts, RawThen}
 use Rattle.c_tree.specs.Trees.{RightTree, StmtTree, StmtTrees, Do, Empty, Block, If, IfElse, While, For, Break, Continue, Return, NoStmts, Then}
@@ -11,11 +11,12 @@ use Rattle.scope_rules.specs.Calls.{right_faults, right_of}
 use Rattle.scope_rules.specs.Places.{Spot}
 use Rattle.scope_rules.specs.Simples.{valued, simple_faults, simple_of, simple_after, simples_faults, simples_of, simples_after}
 
--- at the start of a scope: the names so far stand outside it
+-- the start of a scope: the names so far are outside it
 abbrev pub inside : Spot → Spot
 inside s = record s { outer = length s.names }
 
--- after a scope that began at the first of two spots and ended at the other: its names are gone, what was counted stays
+-- after a scope that began at the first of two spots and ended at the other: its names are out of scope, the counts are
+-- kept
 abbrev pub left : Spot → Spot → Spot
 left s e = record e { names = s.names; outer = s.outer }
 
@@ -23,7 +24,7 @@ abbrev pub condition_faults : List Binding → Option RawExprTree → List Fault
 condition_faults names None = []
 condition_faults names (Some e) = expr_faults names e
 
--- the step of a for; one that declares a name, as no source has it, is Kind
+-- the step of a for breaks Kind if it declares a name, which no source has
 abbrev pub step_kind : RawSimpleTree → List Fault
 step_kind (RawDeclareScalar n) = fault n.at Rule.Kind ∷ []
 step_kind (RawDeclareArray n size) = fault n.at Rule.Kind ∷ []
@@ -45,7 +46,7 @@ step_after s (Some p) = simple_after s p
 abbrev pub parts_faults : Spot → List RawSimpleTree → Option RawExprTree → Option RawSimpleTree → List Fault
 parts_faults s init c step = simples_faults s init ++ (condition_faults (simples_after s init).names c ++ step_faults (simples_after s init) step)
 
--- return: Kind with a value in a void function, and without one in an int function
+-- a return breaks Kind with a value in a void function, and without one in an int function
 abbrev pub return_faults : Bool → List Binding → ℕ → Option RawExprTree → List Fault
 return_faults gives names at None = broken gives at Rule.Kind
 return_faults gives names at (Some v) = broken (not gives) at Rule.Kind ++ right_faults names v
@@ -58,7 +59,7 @@ abbrev pub returned_after : Spot → Option RawExprTree → Spot
 returned_after s None = s
 returned_after s (Some v) = valued s v
 
--- what is in scope after a statement: a block, a body, and a for with its parts are scopes of their own
+-- the scope after a statement: a block, a body, and a for with its parts are scopes
 abbrev mutual
   pub stmt_after : Spot → RawStmtTree → Spot
   stmt_after s (RawDo p) = simple_after s p
@@ -99,7 +100,7 @@ abbrev mutual
   stmts_faults gives loop s NoRawStmts = []
   stmts_faults gives loop s (RawThen p ps) = stmt_faults gives loop s p ++ stmts_faults gives loop (stmt_after s p) ps
 
--- a statement with numbers for names
+-- a statement with numbers in place of names
 abbrev mutual
   pub stmt_of : Spot → RawStmtTree → StmtTree
   stmt_of s (RawDo p) = Do (simple_of s p)

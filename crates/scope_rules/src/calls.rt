@@ -18,7 +18,7 @@ use crate::places::Place;
 use c_tree::{Call, Expr, Name, RawExpr, RightSide};
 use std::alloc::{AllocError, Global};
 
-// What is wrong with the name of a call without an index.
+// Notes the faults of the name of a call without an index.
 fn check_call_name(
     least: &mut Option<Fault>,
     used: bool,
@@ -39,7 +39,7 @@ fn check_call_name(
     }
 }
 
-// What is wrong with the name of a call with an index.
+// Notes the faults of the name of a call with an index.
 fn check_table_name(least: &mut Option<Fault>, found: Option<Found>, at: u32)
     ensures { least.new ≡ least_of least.old (table_name_faults found at) }
 {
@@ -53,7 +53,7 @@ fn check_table_name(least: &mut Option<Fault>, found: Option<Found>, at: u32)
     }
 }
 
-// The function that `spawn`, which stands at `at`, starts.
+// The function that a `spawn` at the place `at` starts.
 fn spawned(
     alloc: Global,
     names: &Names,
@@ -88,7 +88,7 @@ fn spawned(
     }
 }
 
-// The first of the values, or the number 0 where there is none.
+// The first of the values, or the number 0 if there is none.
 fn first_value(mut values: Vec<Expr>) -> Expr
     ensures { expr_tree result ≡ first_value (map expr_tree values.items) }
 {
@@ -101,7 +101,7 @@ fn first_value(mut values: Vec<Expr>) -> Expr
     first
 }
 
-// A call of `spawn`, which stands at `at`.
+// A call of `spawn` at the place `at`.
 fn spawn(
     alloc: Global,
     names: &Names,
@@ -114,19 +114,25 @@ fn spawn(
     ensures faults { OnOk result (least.new ≡ least_of least.old (spawn_faults names.now at (map raw_expr_tree arguments.now))) }
 {
     match arguments.split_first() {
-        None => Ok(Call::Spawn {
-            site,
-            function: 0,
-            argument: Expr::Number(0),
-        }),
+        None => {
+            let argument = Box::new(alloc, Expr::Number(0))?;
+            Ok(Call::Spawn {
+                site,
+                function: 0,
+                argument,
+            })
+        }
         Some((first, rest)) => {
             let function = spawned(alloc, names, least, at, first)?;
             match exprs(alloc, names, least, rest) {
-                Ok(values) => Ok(Call::Spawn {
-                    site,
-                    function,
-                    argument: first_value(values),
-                }),
+                Ok(values) => {
+                    let argument = Box::new(alloc, first_value(values))?;
+                    Ok(Call::Spawn {
+                        site,
+                        function,
+                        argument,
+                    })
+                }
                 Err(error) => Err(error),
             }
         }
@@ -144,7 +150,7 @@ fn number_site(site: &mut u32) -> u32
 }
 
 impl Place {
-    /// A call without an index, whose result is used or dropped.
+    /// Resolves a call without an index, whose result is used or discarded.
     pub fn call(
         &mut self,
         used: bool,
@@ -193,7 +199,7 @@ impl Place {
         }
     }
 
-    /// A call with an index.
+    /// Resolves a call with an index.
     pub fn table_call(
         &mut self,
         name: &Name,
@@ -221,7 +227,7 @@ impl Place {
         }
     }
 
-    /// A right side or a returned value.
+    /// Resolves a right side or a returned value.
     pub fn right(&mut self, raw: &RawExpr) -> Result<RightSide, AllocError>
         ensures tree { IfOk result (λ v. right_tree v ≡ right_of self.old.names self.old.site (raw_expr_tree raw.now)) }
         ensures place { OnOk result (spot_of self.new ≡ record (spot_of self.old) { site = right_after self.old.site (raw_expr_tree raw.now) }) }
@@ -247,7 +253,7 @@ impl Place {
         }
     }
 
-    /// A right side, and what stands before it.
+    /// Resolves a right side, and returns it with the value before it.
     pub fn then_right<T: Drop>(
         &mut self,
         before: T,

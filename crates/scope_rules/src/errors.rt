@@ -1,18 +1,20 @@
-// Why a source is no program.
+// Why a source isn't a program.
 
 use cap_word::Which;
 
-/// Why a tree as it is read is no program (ISO/IEC 9899:2018, 6.2.1, 6.5.2.2, 6.7 and 6.8.6). `at` is the
-/// least place where a rule is broken, counted from 0; at one place the first of `Unknown`, `Twice`,
-/// `Arity`, `Kind`.
+/// Why a tree, as it is read, isn't a program (ISO/IEC 9899:2018, 6.2.1, 6.5.2.2, 6.7 and 6.8.6). `at` is
+/// the least place where a rule is broken, counted from 0; if several rules are broken there, the first
+/// of `Unknown`, `Twice`, `Arity`, `Kind` is reported.
 #[derive(Clone, Copy)]
 pub enum ScopeError {
-    /// A name isn't in scope there and is no modelled call's, or a prototype there has no definition.
+    /// A name isn't in scope there and isn't that of a modelled call, or a prototype there has no
+    /// definition.
     Unknown {
         /// The name's place.
         at: u32,
     },
-    /// A name is declared twice in one scope, other than a function's prototypes and its one definition.
+    /// A name is declared twice in one scope; prototypes of a function and its one definition don't
+    /// count.
     Twice {
         /// The later name's place.
         at: u32,
@@ -28,13 +30,13 @@ pub enum ScopeError {
         /// The name's or the keyword's place.
         at: u32,
     },
-    /// No rule is broken, and `main` has no definition.
+    /// No rule is broken, but `main` has no definition.
     NoMain,
-    /// No rule is broken, and this is the first limit that the program exceeds.
+    /// No rule is broken, but the program exceeds this limit, and none before it.
     Limit {
         /// The quantity.
         which: Which,
     },
-    /// Memory ran out.
+    /// An allocation failed.
     Memory,
 }

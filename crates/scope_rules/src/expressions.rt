@@ -1,4 +1,4 @@
-// Expressions: what each name in them is.
+// Expressions: the meaning of each name in them.
 
 ghost use Rattle.std.specs.Prelude.{◌≡◌, IfOk, OnOk, map};
 ghost use Rattle.c_tree.specs.RawViews.{name_tree, raw_expr_tree};
@@ -16,7 +16,7 @@ use crate::names::Names;
 use c_tree::{Expr, Infix, Name, RawExpr};
 use std::alloc::{AllocError, Global};
 
-/// The variable or global that a name without an index stands for.
+/// Returns the variable or global that a name without an index stands for.
 pub fn scalar(names: &Names, least: &mut Option<Fault>, name: &Name) -> Variable
     ensures variable { result ≡ variable_of (find name.now.text.items names.now) }
     ensures faults { least.new ≡ least_of least.old (scalar_faults names.now (name_tree name.now)) }
@@ -29,7 +29,7 @@ pub fn scalar(names: &Names, least: &mut Option<Fault>, name: &Name) -> Variable
     variable_of(found)
 }
 
-/// The array that a name with an index stands for.
+/// Returns the array that a name with an index stands for.
 pub fn array(names: &Names, least: &mut Option<Fault>, name: &Name) -> Variable
     ensures variable { result ≡ variable_of (find name.now.text.items names.now) }
     ensures faults { least.new ≡ least_of least.old (array_faults names.now (name_tree name.now)) }
@@ -62,7 +62,7 @@ fn element_value(array: Variable, index: Box<Expr>) -> Expr
     }
 }
 
-/// An expression, with numbers for names.
+/// Returns an expression with numbers in place of names.
 #[cycle(expressions)]
 pub fn expr(
     alloc: Global,
@@ -156,7 +156,7 @@ fn operands(
     Ok(operands)
 }
 
-/// An expression, and what stands before it.
+/// Resolves an expression, and returns it with the value before it.
 pub fn then_boxed<T: Drop>(
     before: T,
     alloc: Global,
@@ -171,7 +171,7 @@ pub fn then_boxed<T: Drop>(
     both(before, boxed(alloc, expr(alloc, names, least, raw)))
 }
 
-/// Arguments, with numbers for names.
+/// Returns arguments with numbers in place of names.
 pub fn exprs(
     alloc: Global,
     names: &Names,

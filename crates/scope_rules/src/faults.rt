@@ -1,9 +1,9 @@
-// The rules of scope, and the one to refuse of those that a source breaks.
+// The rules of scope, and which broken rule is reported.
 
 ghost use Rattle.std.specs.Prelude.{◌≡◌};
 ghost use Rattle.scope_rules.specs.Faults.{rank, is_before, fault, broken, lesser, least_of};
 
-/// A rule that a source breaks; at one place the earlier one here is refused.
+/// A rule that a source breaks; at one place the earlier variant is reported.
 #[derive(Clone, Copy)]
 pub enum Rule {
     /// A name isn't in scope, or a prototype has no definition.
@@ -44,7 +44,7 @@ impl Fault {
     }
 }
 
-/// Adds a fault to the one to refuse so far.
+/// Adds a fault to the least one so far.
 pub fn note(least: &mut Option<Fault>, at: u32, rule: Rule)
     ensures { least.new ≡ lesser least.old (fault at rule) }
 {
@@ -59,7 +59,7 @@ pub fn note(least: &mut Option<Fault>, at: u32, rule: Rule)
     }
 }
 
-/// Adds a fault where a rule is broken.
+/// Adds a fault if a rule is broken.
 pub fn note_if(least: &mut Option<Fault>, is_broken: bool, at: u32, rule: Rule)
     ensures { least.new ≡ least_of least.old (broken is_broken at rule) }
 {

@@ -1,11 +1,11 @@
-// What an expression is as a whole: a name alone, a call, or neither.
+// The form of an expression: a name alone, a call, or neither.
 
 ghost use Rattle.c_tree.specs.RawViews.{raw_expr_tree};
 ghost use Rattle.scope_rules.specs.Forms.{IsForm};
 
 use c_tree::{Name, RawExpr};
 
-/// What an expression is as a whole. A chain with no operator in it is what its one operand is.
+/// The form of an expression. A chain without operators has the form of its one operand.
 #[derive(Clone, Copy)]
 pub enum Form<'r> {
     Name(&'r Name),
@@ -14,7 +14,7 @@ pub enum Form<'r> {
     Neither,
 }
 
-/// What the expression is as a whole.
+/// Returns the form of the expression.
 pub fn form_of(raw: &RawExpr) -> Form<'_>
     ensures { IsForm result (raw_expr_tree raw.now) }
 {

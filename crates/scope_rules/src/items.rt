@@ -1,4 +1,4 @@
-// What a source declares and defines outside functions.
+// Declarations and definitions outside functions.
 
 ghost use Rattle.std.specs.Prelude.{◌≡◌, ◌∷◌, ◌++◌, [], None, false, IfOk, OnOk, map, option_map, length};
 ghost use Rattle.c_tree.specs.RawViews.{name_tree, raw_stmt_trees, raw_item_tree, raw_item_trees};
@@ -26,7 +26,7 @@ use c_tree::{
 use std::alloc::{AllocError, Global};
 use std::mem;
 
-/// What the items so far make, and the functions that the source defines.
+/// The resolved items so far, and the functions that the source defines.
 #[derive(Drop)]
 pub struct Items {
     pub place: Place,
@@ -34,11 +34,12 @@ pub struct Items {
     pub globals: Vec<GlobalFact>,
     pub tables: Vec<TableFact>,
     pub functions: Vec<Function>,
-    /// The most words that a function so far declares, its parameters not counted, up to 65,537.
+    /// The maximum number of words that a function so far declares, without its parameters; at most
+    /// 65,537.
     pub locals: u32,
 }
 
-// What is wrong with a global's or a table's name that is this already.
+// Notes the faults of a global's or a table's name with this meaning so far.
 fn check_outer(least: &mut Option<Fault>, found: Option<Found>, at: u32)
     ensures { least.new ≡ least_of least.old (outer_faults found at) }
 {
@@ -60,7 +61,7 @@ fn differ(gives: bool, other: bool) -> bool
     if gives { !other } else { other }
 }
 
-// What is wrong with a prototype or a definition of a name that is this already.
+// Notes the faults of a prototype or a definition of a name with this meaning so far.
 fn check_function(
     least: &mut Option<Fault>,
     defining: bool,
@@ -104,7 +105,7 @@ fn check_main(least: &mut Option<Fault>, name: &Name, params: usize)
     note_if(least, is_main && params != 0, name.at, Rule::Kind);
 }
 
-// Whether a name is nothing.
+// Whether a name has no meaning.
 fn is_missing(found: Option<Found>) -> bool
     ensures { result ≡ is_missing found }
 {
@@ -114,7 +115,7 @@ fn is_missing(found: Option<Found>) -> bool
     }
 }
 
-// Whether a name is a function that is defined already.
+// Whether a name is a function that is already defined.
 fn is_defined(found: Option<Found>) -> bool
     ensures { result ≡ is_defined found }
 {
@@ -229,7 +230,7 @@ impl Place {
         Ok(())
     }
 
-    // The parameters and the body of a definition, whose name is in scope already.
+    // The parameters and the body of a definition whose name is already in scope.
     fn function_body(&mut self, raw: &RawFunction) -> Result<Vec<Stmt>, AllocError>
         ensures tree { IfOk result (λ ss. stmt_trees ss.items ≡ stmts_of (params_after (unsized (spot_of self.old)) (map name_tree raw.now.params.items)) (raw_stmt_trees raw.now.body.items)) }
         ensures place { OnOk result (spot_of self.new ≡ left (spot_of self.old) (stmts_after (params_after (unsized (spot_of self.old)) (map name_tree raw.now.params.items)) (raw_stmt_trees raw.now.body.items))) }
@@ -265,7 +266,7 @@ fn define(definitions: &mut Names, item: &RawItem) -> Result<(), AllocError>
     }
 }
 
-/// The functions that a source defines.
+/// Returns the functions that a source defines.
 pub fn definitions(alloc: Global, raw: &[RawItem]) -> Result<Names, AllocError>
     ensures { IfOk result (λ ds. ds ≡ definitions (raw_item_trees raw.now)) }
 {
@@ -288,7 +289,7 @@ fn modelled_names(alloc: Global) -> Result<Names, AllocError>
 }
 
 impl Items {
-    /// No items, in a source with these definitions.
+    /// Returns no items, of a source with these definitions.
     pub fn new(alloc: Global, definitions: Names) -> Result<Items, AllocError>
         ensures sofar { IfOk result (λ w. sofar_of w ≡ at_start) }
         ensures definitions { IfOk result (λ w. w.definitions ≡ definitions) }
@@ -314,7 +315,7 @@ impl Items {
         })
     }
 
-    // What is wrong with a global's or a table's name.
+    // Notes the faults of a global's or a table's name.
     fn check_name(&mut self, name: &Name)
         ensures sofar { sofar_of self.new ≡ sofar_of self.old }
         ensures definitions { self.new.definitions ≡ self.old.definitions }
@@ -325,7 +326,7 @@ impl Items {
         check_outer(&mut self.place.least, found, name.at);
     }
 
-    // A global of so many words, each of which starts at `start`.
+    // A global of this many words, each with the initial value `start`.
     fn global(&mut self, name: &Name, array: bool, words: u32, start: u32) -> Result<(), AllocError>
         ensures sofar { OnOk result (sofar_of self.new ≡ with_global (sofar_of self.old) (name_tree name.now) array (record { words = words; start = start })) }
         ensures definitions { OnOk result (self.new.definitions ≡ self.old.definitions) }
@@ -425,7 +426,7 @@ impl Items {
         Ok(())
     }
 
-    /// One more item.
+    /// Resolves one more item.
     pub fn item(&mut self, raw: &RawItem) -> Result<(), AllocError>
         ensures sofar { OnOk result (sofar_of self.new ≡ item_after self.old.definitions (sofar_of self.old) (raw_item_tree raw.now)) }
         ensures definitions { OnOk result (self.new.definitions ≡ self.old.definitions) }
@@ -448,7 +449,7 @@ impl Items {
         }
     }
 
-    /// Items one after another.
+    /// Resolves items one after another.
     pub fn items(&mut self, raw: &[RawItem]) -> Result<(), AllocError>
         ensures sofar { OnOk result (sofar_of self.new ≡ items_after self.old.definitions (sofar_of self.old) (raw_item_trees raw.now)) }
         ensures definitions { OnOk result (self.new.definitions ≡ self.old.definitions) }

@@ -4,11 +4,11 @@
 // numbers in place of names, or the rule of scope or the limit that the source breaks. A name means
 // the latest declaration that is in scope at its place (specs/Names.antt). The rules
 // (specs/Expressions, Calls, Simples, Statements, Items) list the faults of each form of the tree,
-// and the least fault is reported (specs/Faults, Outcomes). `Resolver` reads a source item by item,
-// so that an item can be freed before the next is there, and gives the calls other numbers than
-// those of the tree's order. `c_scope` uses `resolve` and `c_hoist` uses `Resolver` after a source
-// was read into tokens and a tree. The rules are those of ISO/IEC 9899:2018, clauses 6.2.1,
-// 6.2.2, 6.5.2.2, 6.7 and 6.8, for the subset CapC.
+// and the least fault is reported (specs/Faults, Outcomes). `Resolver` takes a source item by item,
+// so an item can be freed before the next one is built, and numbers the calls differently from the
+// order of the tree. `c_scope` uses `resolve`, and `c_hoist` uses `Resolver`, after tokens and tree
+// of the source have been read. The rules are those of ISO/IEC 9899:2018, clauses 6.2.1, 6.2.2,
+// 6.5.2.2, 6.7 and 6.8, for the subset CapC.
 #![tactic(auto)]
 
 mod calls;

@@ -19,14 +19,14 @@ fn plus(total: u32, more: u32) -> u32
     }
 }
 
-/// The larger of two.
+/// Returns the larger of two.
 pub fn larger(a: u32, b: u32) -> u32
     ensures { result ≡ max a b }
 {
     if a < b { b } else { a }
 }
 
-/// The words of variables, up to 65,537.
+/// Returns the number of words of variables, up to 65,537.
 pub fn words(sizes: &[u32]) -> u32
     ensures { result ≡ capped (sum sizes.now) }
 {
@@ -37,7 +37,7 @@ pub fn words(sizes: &[u32]) -> u32
     total
 }
 
-/// The words of the variables after the parameters, up to 65,537.
+/// Returns the number of words of the variables after the parameters, up to 65,537.
 pub fn declared_words(sizes: &[u32], params: usize) -> u32
     ensures { result ≡ capped (sum (drop params sizes.now)) }
 {
@@ -48,7 +48,7 @@ pub fn declared_words(sizes: &[u32], params: usize) -> u32
     }
 }
 
-/// The words of globals, up to 65,537.
+/// Returns the number of words of globals, up to 65,537.
 pub fn global_words(globals: &[GlobalFact]) -> u32
     ensures { result ≡ capped (sum (map (λ g. g.words) globals.now)) }
 {
@@ -70,7 +70,7 @@ fn count(length: usize) -> u32
     }
 }
 
-/// The members of tables, up to 65,537.
+/// Returns the number of members of tables, up to 65,537.
 pub fn table_members(tables: &[TableFact]) -> u32
     ensures { result ≡ capped (sum (map length (map table_row tables.now))) }
 {
@@ -81,7 +81,7 @@ pub fn table_members(tables: &[TableFact]) -> u32
     total
 }
 
-/// The most parameters that a function has.
+/// Returns the maximum number of parameters of a function.
 pub fn most_params(functions: &[Function]) -> u32
     ensures { result ≡ most_params (map function_tree functions.now) }
 {

@@ -1,14 +1,14 @@
-// What a name is, and what it may be used for.
+// The meaning of a name, and its permitted uses.
 
 ghost use Rattle.std.specs.Prelude.{◌≡◌};
 ghost use Rattle.scope_rules.specs.Meanings.{is_scalar, is_array, is_table, is_callable, is_modelled, is_spawnable, is_member, is_void, takes, is_wrong_count, variable_in, variable_of, table_in, table_of, function_in, function_of, callee_of};
 
 use c_tree::ModelledCall;
 
-/// What a name is at a place (ISO/IEC 9899:2018, 6.2.1).
+/// The meaning of a name at a place (ISO/IEC 9899:2018, 6.2.1).
 #[derive(Clone, Copy)]
 pub enum Meaning {
-    /// A variable of the function, a parameter among them.
+    /// A variable of the function, or a parameter.
     Local {
         variable: u32,
         array: bool,
@@ -22,8 +22,8 @@ pub enum Meaning {
     Table {
         table: u32,
     },
-    /// A function by its number, as its latest prototype or definition has it, and whether it is defined
-    /// yet.
+    /// A function by its number, as its latest prototype or definition declares it, and whether it is
+    /// already defined.
     Function {
         function: u32,
         gives: bool,
@@ -35,7 +35,7 @@ pub enum Meaning {
     Spawn,
 }
 
-/// What a name is, and how many names were in scope before it.
+/// The meaning of a name, and the number of names that were in scope before it.
 #[derive(Clone, Copy)]
 pub struct Found {
     pub position: usize,
@@ -49,7 +49,7 @@ pub enum Variable {
     Global(u32),
 }
 
-/// What a call calls.
+/// The callee of a call.
 #[derive(Clone, Copy)]
 pub enum Callee {
     Function(u32),
@@ -58,7 +58,7 @@ pub enum Callee {
 }
 
 impl Meaning {
-    /// Whether it is a variable or a global of one word.
+    /// Returns whether it is a variable or a global of one word.
     pub fn is_scalar(self) -> bool
         ensures { result ≡ is_scalar self }
     {
@@ -71,7 +71,7 @@ impl Meaning {
         }
     }
 
-    /// Whether it is an array.
+    /// Returns whether it is an array.
     pub fn is_array(self) -> bool
         ensures { result ≡ is_array self }
     {
@@ -84,7 +84,7 @@ impl Meaning {
         }
     }
 
-    /// Whether it is a table.
+    /// Returns whether it is a table.
     pub fn is_table(self) -> bool
         ensures { result ≡ is_table self }
     {
@@ -98,7 +98,7 @@ impl Meaning {
         }
     }
 
-    /// Whether it can be called without an index.
+    /// Returns whether it can be called without an index.
     pub fn is_callable(self) -> bool
         ensures { result ≡ is_callable self }
     {
@@ -108,7 +108,7 @@ impl Meaning {
         }
     }
 
-    /// Whether it is a modelled call, whose name can't be declared.
+    /// Returns whether it is a modelled call, whose name can't be declared.
     pub fn is_modelled(self) -> bool
         ensures { result ≡ is_modelled self }
     {
@@ -121,7 +121,7 @@ impl Meaning {
         }
     }
 
-    /// Whether `spawn` can start it: a function with one parameter.
+    /// Returns whether `spawn` can start it: a function with one parameter.
     pub fn is_spawnable(self) -> bool
         ensures { result ≡ is_spawnable self }
     {
@@ -135,7 +135,7 @@ impl Meaning {
         }
     }
 
-    /// Whether it can be a table's member: an `int` function with one parameter.
+    /// Returns whether it can be a table's member: an `int` function with one parameter.
     pub fn is_member(self) -> bool
         ensures { result ≡ is_member self }
     {
@@ -149,7 +149,7 @@ impl Meaning {
         }
     }
 
-    /// Whether a call of it gives no result.
+    /// Returns whether a call of it gives no result.
     pub fn is_void(self) -> bool
         ensures { result ≡ is_void self }
     {
@@ -163,7 +163,7 @@ impl Meaning {
         }
     }
 
-    // How many arguments a call of it has.
+    // The number of arguments of a call of it.
     fn takes(self) -> Option<usize>
         ensures { result ≡ takes self }
     {
@@ -176,7 +176,7 @@ impl Meaning {
         }
     }
 
-    /// Whether `count` arguments are too few or too many for a call of it.
+    /// Returns whether `count` arguments are too few or too many for a call of it.
     pub fn is_wrong_count(self, count: usize) -> bool
         ensures { result ≡ is_wrong_count (takes self) count }
     {
@@ -187,7 +187,7 @@ impl Meaning {
     }
 }
 
-/// The variable or global that a name stands for.
+/// Returns the variable or global that a name stands for.
 pub fn variable_of(found: Option<Found>) -> Variable
     ensures { result ≡ variable_of found }
 {
@@ -208,7 +208,7 @@ pub fn variable_of(found: Option<Found>) -> Variable
     }
 }
 
-/// The table that a name stands for.
+/// Returns the table that a name stands for.
 pub fn table_of(found: Option<Found>) -> u32
     ensures { result ≡ table_of found }
 {
@@ -223,7 +223,7 @@ pub fn table_of(found: Option<Found>) -> u32
     }
 }
 
-/// The function that a name stands for.
+/// Returns the function that a name stands for.
 pub fn function_of(found: Option<Found>) -> u32
     ensures { result ≡ function_of found }
 {
@@ -238,7 +238,7 @@ pub fn function_of(found: Option<Found>) -> u32
     }
 }
 
-/// What a call of a name calls.
+/// Returns the callee of a call of a name.
 pub fn callee_of(found: Option<Found>) -> Callee
     ensures { result ≡ callee_of found }
 {

@@ -1,4 +1,4 @@
-// The names in scope, as a map from a name to what it is and a list of what each name hides.
+// The names in scope, as a map from a name to its meaning and a list of the meanings that declarations hid.
 
 ghost use Rattle.std.specs.Prelude.{◌≡◌, ◌<◌, ◌≤◌, ◌-◌, List, [], ◌∷◌, map, reverse, length, drop, IfOk, OnOk};
 ghost use Rattle.scope_rules.specs.Names.{Binding, find, binding_of, AreLinked, Finds, IsThere, Changes};
@@ -8,7 +8,7 @@ use std::alloc::{AllocError, Global};
 use std::collections::BTreeMap;
 use std::marker::Model;
 
-// A name that was declared, and what it was before.
+// A name that was declared, and its meaning before.
 #[derive(Drop)]
 pub struct Declared {
     text: Vec<u8>,
@@ -16,7 +16,7 @@ pub struct Declared {
     hidden: Option<Found>,
 }
 
-// Gives a name, which is there, the meaning that it had, if it had one.
+// Restores the earlier meaning of a name in the map, if it had one.
 fn restore(found: &mut BTreeMap<Vec<u8>, Found>, text: Vec<u8>, hidden: Option<Found>)
     requires { IsThere text.items found.old }
     ensures { Changes text.items found.old found.new hidden }
@@ -32,7 +32,7 @@ fn restore(found: &mut BTreeMap<Vec<u8>, Found>, text: Vec<u8>, hidden: Option<F
     }
 }
 
-/// The names in scope, the latest first. It owns their texts, so that the tree that they stand in can be freed.
+/// The names in scope, the latest first. It owns their texts, so the tree that contains them can be freed.
 #[derive(Drop)]
 pub struct Names {
     alloc: Global,
@@ -49,7 +49,7 @@ impl Model for Names {
 }
 
 impl Names {
-    /// No names.
+    /// Returns an empty list of names.
     pub fn new(alloc: Global) -> Names
         ensures { result ≡ [] }
     {
@@ -60,21 +60,21 @@ impl Names {
         }
     }
 
-    /// How many names there are.
+    /// Returns the number of names.
     pub fn len(&self) -> usize
         ensures { result ≡ length self.now }
     {
         self.declared.len()
     }
 
-    /// What a name is.
+    /// Returns the meaning of a name, if it is in scope.
     pub fn find(&self, text: &[u8]) -> Option<Found>
         ensures { result ≡ find text.now self.now }
     {
         self.found.get(text).copied()
     }
 
-    /// Adds a name, which hides what it was.
+    /// Declares a name, which hides its earlier meaning.
     pub fn declare(&mut self, text: &[u8], meaning: Meaning) -> Result<(), AllocError>
         ensures { OnOk result (self.new ≡ record { text = text.now; meaning = meaning } ∷ self.old) }
     {
@@ -99,7 +99,7 @@ impl Names {
         }
     }
 
-    /// These names and one more, which hides what it was.
+    /// Returns these names and one more, which hides its earlier meaning.
     pub fn with(mut self, text: &[u8], meaning: Meaning) -> Result<Names, AllocError>
         ensures { IfOk result (λ names. names ≡ record { text = text.now; meaning = meaning } ∷ self) }
     {
@@ -107,7 +107,7 @@ impl Names {
         Ok(self)
     }
 
-    // Takes the latest name away.
+    // Removes the latest name.
     fn forget(&mut self)
         requires { 0 < length self.old }
         ensures { self.new ≡ drop 1 self.old }
@@ -118,7 +118,7 @@ impl Names {
         }
     }
 
-    /// Takes names away until `count` are left.
+    /// Removes names until `count` are left.
     pub fn leave(&mut self, count: usize)
         ensures { self.new ≡ drop (length self.old - count) self.old }
     {

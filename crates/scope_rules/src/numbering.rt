@@ -1,11 +1,11 @@
-// Other numbers for the call sites of functions.
+// Renumbering the call sites of functions.
 ghost use Rattle.std.specs.Prelude.{◌≡◌, map, option_map};
 ghost use Rattle.c_tree.specs.Views.{call_tree, right_tree, simple_tree, stmt_tree, stmt_trees, function_tree};
 ghost use Rattle.scope_rules.specs.Numbered.{number_at, call_numbered, right_numbered, simple_numbered, stmt_numbered, stmts_numbered, function_numbered};
 
 use c_tree::{Call, ForParts, Function, RightSide, Simple, Stmt};
 
-/// Gives each call the number that stands for its own in the table.
+/// Replaces the number of each call by the one in the table.
 pub(crate) fn number_functions(functions: &mut [Function], numbers: &[u32])
     ensures { map function_tree functions.new ≡ map (function_numbered numbers.now) (map function_tree functions.old) }
 {
@@ -20,7 +20,7 @@ fn number_function(function: &mut Function, numbers: &[u32])
     number_stmts(&mut function.body, numbers);
 }
 
-// The number that stands for k.
+// The number in the table that replaces k.
 fn number_at(numbers: &[u32], k: u32) -> u32
     ensures { result ≡ number_at numbers.now k }
 {
@@ -90,7 +90,7 @@ fn number_returned(value: &mut Option<RightSide>, numbers: &[u32])
     }
 }
 
-// What stands in the parentheses of a `for`.
+// The parts in the parentheses of a `for`.
 fn number_parts(parts: &mut ForParts, numbers: &[u32])
     ensures init { map simple_tree parts.new.init.items ≡ map (simple_numbered numbers.now) (map simple_tree parts.old.init.items) }
     ensures condition { parts.new.condition ≡ parts.old.condition }

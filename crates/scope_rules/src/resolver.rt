@@ -29,7 +29,7 @@ use c_tree::{Function, GlobalFact, Program, RawItem, RawProgram, TableFact};
 use cap_word::Which;
 use std::alloc::{AllocError, Global};
 
-// The refusal of a fault.
+// The refusal for a fault.
 fn refusal(fault: Fault) -> ScopeError
     ensures { result ≡ refusal_by fault.rule fault.at }
 {
@@ -42,7 +42,7 @@ fn refusal(fault: Fault) -> ScopeError
     }
 }
 
-// The first limit of those that are exceeded.
+// The first of the exceeded limits.
 fn first_exceeded(
     functions: bool,
     sites: bool,
@@ -85,7 +85,7 @@ fn exceeded(items: &Items) -> Option<Which>
     first_exceeded(functions, sites, globals, tables, locals, params)
 }
 
-// What the items of a source make.
+// The items of a source, resolved.
 fn read_items(alloc: Global, raw: &[RawItem]) -> Result<Items, AllocError>
     ensures { IfOk result (λ w. HaveRead w (raw_item_trees raw.now) (raw_item_trees raw.now)) }
 {
@@ -94,7 +94,7 @@ fn read_items(alloc: Global, raw: &[RawItem]) -> Result<Items, AllocError>
     Ok(items)
 }
 
-// The parts of a program that keeps the rules.
+// The parts of a program that breaks no rule.
 #[derive(Drop)]
 struct Parts {
     functions: Vec<Function>,
@@ -103,7 +103,7 @@ struct Parts {
     main: u32,
 }
 
-// The parts of the program that a source is whose items these are, or a refusal of it.
+// The parts of the program of a source with these items, or its refusal.
 fn resolved_parts(items: Items) -> Result<Parts, ScopeError>
     requires { AreAllRead items }
     ensures resolved { (is : List RawItemTree) → HaveRead items is is → IfOk result (λ w. IsResolved is (tree_of w.functions.items w.globals.items w.tables.items w.main)) }
@@ -151,7 +151,7 @@ fn make_program(alloc: Global, parts: Parts) -> Result<Program, ScopeError>
     }
 }
 
-// The program that a source is, or a refusal of it.
+// The program of a source, or its refusal.
 fn decide(alloc: Global, raw: &RawProgram) -> Result<Program, ScopeError>
     ensures resolved { IfOk result (λ p. IsResolved (raw_program_tree raw.now) (program_tree p)) }
     ensures refused { IfErr result (λ e. IsRefused (raw_program_tree raw.now) e) }
@@ -165,14 +165,14 @@ fn decide(alloc: Global, raw: &RawProgram) -> Result<Program, ScopeError>
     }
 }
 
-/// The program that a source is, whose tree as it is read this is, and in which every call is whole.
+/// Returns the program of a source with this tree, in which every call is whole.
 ///
 /// # Errors
 ///
-/// The rule that is broken at the least place: `Unknown`, `Twice`, `Arity` or `Kind`, and at one place the first of these;
-/// `NoMain` where no rule is broken and `main` has no definition; `Limit` where `main` has one, with the first limit that
-/// is exceeded: 4,096 functions, 65,535 calls, 65,536 words of globals, 65,536 members of tables, 4,096 declared words of
-/// one function, 6 parameters; `Memory` where the program has no room.
+/// The rule that is broken at the least place: `Unknown`, `Twice`, `Arity` or `Kind`, and the first of these if several
+/// are broken there; `NoMain` if no rule is broken and `main` has no definition; `Limit` if `main` has one, with the
+/// first limit that is exceeded: 4,096 functions, 65,535 calls, 65,536 words of globals, 65,536 members of tables,
+/// 4,096 declared words of one function, 6 parameters; `Memory` if an allocation fails.
 pub fn resolve(alloc: Global, raw: &RawProgram) -> Result<Program, ScopeError>
     requires { AreCallsWhole (raw_program_tree raw.now) }
     ensures resolved { IfOk result (λ p. IsResolved (raw_program_tree raw.now) (program_tree p)) }
@@ -195,7 +195,7 @@ fn numbered(mut parts: Parts, numbers: &[u32]) -> Parts
     parts
 }
 
-/// A source that is read item by item, so that an item can be freed before the next is there.
+/// A source that is resolved item by item, so an item can be freed before the next one is built.
 #[derive(Drop)]
 pub struct Resolver {
     items: Items,
@@ -203,6 +203,10 @@ pub struct Resolver {
 
 impl Resolver {
     /// No item was read yet, of a source that defines the functions that these items define.
+    ///
+    /// # Errors
+    ///
+    /// Memory ran out.
     pub fn new(alloc: Global, raw: &[RawItem]) -> Result<Resolver, AllocError>
         ensures { IfOk result (λ r. HasRead r (raw_item_trees raw.now) []) }
     {
@@ -212,6 +216,10 @@ impl Resolver {
     }
 
     /// One more item was read.
+    ///
+    /// # Errors
+    ///
+    /// Memory ran out.
     pub fn item(&mut self, raw: &RawItem) -> Result<(), AllocError>
         ensures { OnOk result ((all read : List RawItemTree) → HasRead self.old all read → HasRead self.new all (read ++ raw_item_tree raw.now ∷ [])) }
     {
@@ -219,7 +227,7 @@ impl Resolver {
         Ok(())
     }
 
-    // The program that the source is, with these numbers of its calls, or a refusal of it.
+    // The program of the source with these numbers of its calls, or its refusal.
     fn decide(self, alloc: Global, numbers: &[u32]) -> Result<Program, ScopeError>
         requires { CanNumber self numbers.now }
         ensures resolved { (is : List RawItemTree) → HasRead self is is → IfOk result (λ p. IsResolvedBy numbers.now is (program_tree p)) }
@@ -231,8 +239,8 @@ impl Resolver {
         }
     }
 
-    /// The program that the source is, as `resolve` gives it, whose calls have these numbers, in the order of the tree: as many as it
-    /// has calls, each its own, and below their count.
+    /// Returns the program of the source, like `resolve`, with these numbers of its calls, in the order of the tree:
+    /// one for each call, all different, and below their count.
     ///
     /// # Errors
     ///

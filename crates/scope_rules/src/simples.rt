@@ -12,14 +12,14 @@ ghost use Rattle.scope_rules.specs.Simples.{declared_faults, declare_faults, siz
 
 use crate::expressions::{array, expr, scalar};
 use crate::faults::{Fault, Rule, note_if};
-use crate::held::{both, with_next};
+use crate::held::{both, boxed, with_next};
 use crate::meanings::{Found, Meaning, Variable};
 use crate::names::Names;
 use crate::places::Place;
 use c_tree::{Expr, Name, RawExpr, RawSimple, RightSide, Simple};
 use std::alloc::AllocError;
 
-/// What is wrong with the declaration of a name that is this already.
+/// Notes the faults of the declaration of a name with this meaning so far.
 pub fn check_declared(least: &mut Option<Fault>, found: Option<Found>, outer: usize, at: u32)
     ensures { least.new ≡ least_of least.old (declared_faults found outer at) }
 {
@@ -29,14 +29,14 @@ pub fn check_declared(least: &mut Option<Fault>, found: Option<Found>, outer: us
     }
 }
 
-/// What is wrong with the size of an array.
+/// Notes the faults of the size of an array.
 pub fn check_size(least: &mut Option<Fault>, name: &Name, words: u32)
     ensures { least.new ≡ least_of least.old (size_faults (name_tree name.now) words) }
 {
     note_if(least, words < 1 || 65_536 < words, name.at, Rule::Kind);
 }
 
-/// Puts a name into scope, unless it is a modelled call's.
+/// Puts a name into scope, unless it is that of a modelled call.
 pub fn bind(names: &mut Names, text: &[u8], meaning: Meaning) -> Result<(), AllocError>
     ensures { OnOk result (names.new ≡ bound names.old text.now meaning) }
 {
@@ -48,7 +48,7 @@ pub fn bind(names: &mut Names, text: &[u8], meaning: Meaning) -> Result<(), Allo
     names.declare(text, meaning)
 }
 
-/// A count as the number of what comes next, up to 65,537.
+/// Returns a count as the next number, up to 65,537.
 pub fn number(count: usize) -> u32
     ensures { result ≡ capped count }
 {
@@ -66,8 +66,8 @@ fn scalar_set(scalar: Variable, value: RightSide) -> Simple
 }
 
 // An assignment to a word of an array.
-fn element_set(array: Variable, index: Box<Expr>, value: RightSide) -> Simple
-    ensures { simple_tree result ≡ set_element array (expr_tree index.value) (right_tree value) }
+fn element_set(array: Variable, index: Box<Expr>, value: Box<RightSide>) -> Simple
+    ensures { simple_tree result ≡ set_element array (expr_tree index.value) (right_tree value.value) }
 {
     match array {
         Variable::Local(array) => Simple::SetLocalElement {
@@ -84,7 +84,7 @@ fn element_set(array: Variable, index: Box<Expr>, value: RightSide) -> Simple
 }
 
 impl Place {
-    // Declares a variable of so many words, and gives its number.
+    // Declares a variable of this many words, and returns its number.
     pub fn declare(&mut self, name: &Name, array: bool, words: u32) -> Result<u32, AllocError>
         ensures number { IfOk result (λ x. x ≡ next_variable (spot_of self.old)) }
         ensures place { OnOk result (spot_of self.new ≡ with_variable (spot_of self.old) (name_tree name.now) array words) }
@@ -100,7 +100,7 @@ impl Place {
         Ok(variable)
     }
 
-    // Declares a variable of one word, and gives what stands before it and its number.
+    // Declares a variable of one word, and returns its number with the value before it.
     fn then_declare<T: Drop>(&mut self, before: T, name: &Name) -> Result<(T, u32), AllocError>
         ensures before { IfOk result (λ p. p.0 ≡ before) }
         ensures number { IfOk result (λ p. p.1 ≡ next_variable (spot_of self.old)) }
@@ -110,7 +110,7 @@ impl Place {
         both(before, self.declare(name, false, 1))
     }
 
-    // What is wrong with a name that is declared here.
+    // Notes the faults of a name that is declared here.
     pub fn check_declare(&mut self, name: &Name)
         ensures place { spot_of self.new ≡ spot_of self.old }
         ensures faults { self.new.least ≡ least_of self.old.least (declare_faults (spot_of self.old) (name_tree name.now)) }
@@ -119,7 +119,7 @@ impl Place {
         check_declared(&mut self.least, found, self.outer, name.at);
     }
 
-    // A declaration of one name with its initialiser, in which the name isn't in scope.
+    // A declaration of one name with its initialiser, in which the name isn't in scope yet.
     fn declare_with(&mut self, name: &Name, initial: &RawExpr) -> Result<Simple, AllocError>
         ensures tree { IfOk result (λ s. simple_tree s ≡ simple_of (spot_of self.old) (RawDeclareWith (name_tree name.now) (raw_expr_tree initial.now))) }
         ensures place { OnOk result (spot_of self.new ≡ simple_after (spot_of self.old) (RawDeclareWith (name_tree name.now) (raw_expr_tree initial.now))) }
@@ -147,13 +147,14 @@ impl Place {
         let array = array(&self.names, &mut self.least, name);
         let index = expr(self.alloc, &self.names, &mut self.least, index)?;
         let index = Box::new(self.alloc, index)?;
-        match self.then_right(index, value) {
+        let (index, value) = self.then_right(index, value)?;
+        match both(index, boxed(self.alloc, Ok(value))) {
             Ok((index, value)) => Ok(element_set(array, index, value)),
             Err(error) => Err(error),
         }
     }
 
-    /// A declaration of one name, an assignment, or a call.
+    /// Resolves a declaration of one name, an assignment, or a call.
     pub fn simple(&mut self, raw: &RawSimple) -> Result<Simple, AllocError>
         ensures tree { IfOk result (λ s. simple_tree s ≡ simple_of (spot_of self.old) (raw_simple_tree raw.now)) }
         ensures place { OnOk result (spot_of self.new ≡ simple_after (spot_of self.old) (raw_simple_tree raw.now)) }
@@ -202,7 +203,7 @@ impl Place {
         }
     }
 
-    /// Declarations, assignments and calls one after another.
+    /// Resolves declarations, assignments and calls one after another.
     pub fn simples(&mut self, raw: &[RawSimple]) -> Result<Vec<Simple>, AllocError>
         ensures tree { IfOk result (λ ps. map simple_tree ps.items ≡ simples_of (spot_of self.old) (map raw_simple_tree raw.now)) }
         ensures place { OnOk result (spot_of self.new ≡ simples_after (spot_of self.old) (map raw_simple_tree raw.now)) }

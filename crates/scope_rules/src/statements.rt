@@ -16,7 +16,7 @@ use crate::places::Place;
 use c_tree::{Expr, ForParts, RawExpr, RawForParts, RawSimple, RawStmt, RightSide, Simple, Stmt};
 use std::alloc::AllocError;
 
-// What is wrong with the step of a `for` as such: it declares a name.
+// Notes the fault of a step of a `for` that declares a name.
 fn check_step(least: &mut Option<Fault>, raw: &RawSimple)
     ensures { least.new ≡ least_of least.old (step_kind (raw_simple_tree raw.now)) }
 {
@@ -65,7 +65,7 @@ impl Place {
         }
     }
 
-    // The step of a `for`, and what stands before it.
+    // The step of a `for`, with the value before it.
     fn then_step<T: Drop>(
         &mut self,
         before: T,
@@ -79,7 +79,7 @@ impl Place {
         both(before, self.step(raw))
     }
 
-    // What stands in the parentheses of a `for`.
+    // The parts in the parentheses of a `for`.
     fn for_parts(&mut self, raw: &RawForParts) -> Result<Box<ForParts>, AllocError>
         ensures init { IfOk result (λ p. map simple_tree p.value.init.items ≡ simples_of (spot_of self.old) (map raw_simple_tree raw.now.init.items)) }
         ensures condition { IfOk result (λ p. option_map expr_tree p.value.condition ≡ option_map (expr_of (simples_after (spot_of self.old) (map raw_simple_tree raw.now.init.items)).names) (option_map raw_expr_tree raw.now.condition)) }
@@ -105,7 +105,7 @@ impl Place {
         }
     }
 
-    // What a function that gives a result or not returns at `at`.
+    // The returned value at `at`, in a function that gives a result or not.
     fn returned(
         &mut self,
         gives: bool,
@@ -132,7 +132,8 @@ impl Place {
     }
 }
 
-/// Where a scope began: how many names stood outside the one around it, and how many stand outside it.
+/// The beginning of a scope: the number of names outside the enclosing scope, and the number outside
+/// this one.
 #[derive(Clone, Copy)]
 pub struct Scope {
     pub outer: usize,
@@ -140,7 +141,7 @@ pub struct Scope {
 }
 
 impl Place {
-    // Begins a scope.
+    // Enters a scope.
     pub fn enter(&mut self) -> Scope
         ensures outer { result.outer ≡ self.old.outer }
         ensures count { result.count ≡ length self.old.names }
@@ -153,7 +154,7 @@ impl Place {
         Scope { outer, count }
     }
 
-    // Ends a scope.
+    // Leaves a scope.
     pub fn leave(&mut self, scope: Scope)
         ensures place { spot_of self.new ≡ record (spot_of self.old) { names = drop (length self.old.names - scope.count) self.old.names; outer = scope.outer } }
         ensures faults { self.new.least ≡ self.old.least }
@@ -247,7 +248,7 @@ impl Place {
         both(condition, self.body(gives, loops, raw))
     }
 
-    // A body, which is a scope of its own.
+    // A body, which is a scope.
     #[cycle(statements)]
     fn body(&mut self, gives: bool, loops: bool, raw: &RawStmt) -> Result<Box<Stmt>, AllocError>
         ensures tree { IfOk result (λ s. stmt_tree s.value ≡ stmt_of (inside (spot_of self.old)) (raw_stmt_tree raw.now)) }
@@ -260,7 +261,7 @@ impl Place {
         stmt
     }
 
-    // A block, which is a scope of its own.
+    // A block, which is a scope.
     #[cycle(statements)]
     fn block(&mut self, gives: bool, loops: bool, raw: &[RawStmt]) -> Result<Vec<Stmt>, AllocError>
         ensures tree { IfOk result (λ ss. stmt_trees ss.items ≡ stmts_of (inside (spot_of self.old)) (raw_stmt_trees raw.now)) }
@@ -273,7 +274,8 @@ impl Place {
         stmts
     }
 
-    /// Statements one after another, in a function that gives a result or not and in a loop or not.
+    /// Resolves statements one after another, in a function that gives a result or not and in a loop
+    /// or not.
     #[cycle(statements)]
     pub fn stmts(
         &mut self,

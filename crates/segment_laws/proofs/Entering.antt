@@ -26,7 +26,8 @@ use Rattle.stack_certificate.specs.Templates.{prologue, begin}
 use Rattle.machine_world.specs.Areas.{Areas}
 use Rattle.machine_world.specs.Globals.{AreGlobals}
 use Rattle.machine_world.specs.InPlace.{Frame, frame_bytes, return_word, IsFrame, ReturnsInto, IsStack, low_below, HeadersName}
-use Rattle.machine_world.specs.Local.{Local, sp, tp, machine_of, local_move, local_step}
+use Rattle.stack_certificate.specs.Registers.{sp, tp}
+use Rattle.machine_world.specs.Local.{Local, machine_of, local_move, local_step}
 use Rattle.machine_world.specs.Places.{Checked, InPrologue, Empty, Fresh, Whole}
 use Rattle.machine_world.specs.Rests.{variable_word, AreFlatFrames}
 use Rattle.segment_laws.specs.Ways.{HasForm}

@@ -5,7 +5,8 @@ use Rattle.std.specs.List.{AllByRecursion}
 use Rattle.chunk_pool.specs.Pool.{Pool, chunk_of, word_of, end_of, payload_place_of, shape_of}
 use Rattle.rv_machine.specs.Registers.{read}
 use Rattle.machine_world.specs.InPlace.{Frame, word_in, return_word, IsFrame, IsAbove, IsStack, IsRunning, FramesAt, HeadersName, TpIsFront, HasFrames, chain_below, low_below}
-use Rattle.machine_world.specs.Local.{Core, ra, sp, tp, saved_sp}
+use Rattle.stack_certificate.specs.Registers.{ra, sp, tp}
+use Rattle.machine_world.specs.Local.{Core, saved_sp}
 use Rattle.machine_world.specs.Places.{Checked, Place, Row, NoFrame, Empty, Fresh, Linking, Whole, IsAt, row_of}
 use Rattle.segment_laws.specs.Kept.{KeepsChunks, KeepsStack}
 use Rattle.chunk_pool.proofs.ShapeLaws.{count-same, place_of-same, payload_place_of-same, end_of-same}

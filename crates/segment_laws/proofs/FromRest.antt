@@ -14,7 +14,8 @@ use Rattle.stack_certificate.specs.declared.sites.LinkKind.{LinkKind}
 use Rattle.certificate_rules.specs.Validity.{IsValid}
 use Rattle.machine_world.specs.Globals.{AreGlobals}
 use Rattle.machine_world.specs.InPlace.{Frame, IsStack, FramesAt, TpIsFront, HasFrames}
-use Rattle.machine_world.specs.Local.{Local, a0}
+use Rattle.stack_certificate.specs.Registers.{a0}
+use Rattle.machine_world.specs.Local.{Local}
 use Rattle.machine_world.specs.Places.{Checked, Place, InPrologue, IsAt, Whole, Empty, row_in}
 use Rattle.machine_world.specs.Rests.{IsResting, AtStart, AtCall, PastCall, ecall_word, IsPastCall, IsFlatStart, AreFlatFrames, AreFlatPast, StandsForFlat}
 use Rattle.segment_laws.specs.Calls.{CallFacts, EntryFacts}

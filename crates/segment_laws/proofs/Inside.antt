@@ -1,7 +1,6 @@
 -- A thread in a word of an operation, where its running frame is whole: what an instruction there needs, and what it leaves.
 use Rattle.std.proofs.Common.{◌≡◌, ℕ, ◌+◌, ◌*◌, ◌<◌, List, ◌∷◌, Option, Ok, refl, sym, ap, subst, ◌∙◌, arith}
 use Rattle.cap_word.specs.Word as word
-use Rattle.cap_word.specs.Word.{word_of}
 use Rattle.cap_word.specs.Runs.{Goes}
 use Rattle.chunk_pool.specs.Pool.{payload_place_of}
 use Rattle.rv_code.specs.declared.instructions.Instr.{Instr}
@@ -14,7 +13,8 @@ use Rattle.flat_code.specs.declared.operations.Op.{Op}
 use Rattle.flat_code.specs.Codes.{function_at, operation_at}
 use Rattle.stack_certificate.specs.Templates.{begin, size, kind_of}
 use Rattle.machine_world.specs.InPlace.{Frame, return_word, IsStack, FramesAt, TpIsFront, HasFrames, IsGoodAccess}
-use Rattle.machine_world.specs.Local.{Local, tp, machine_of, local_move, local_step}
+use Rattle.stack_certificate.specs.Registers.{tp}
+use Rattle.machine_world.specs.Local.{Local, machine_of, local_move, local_step}
 use Rattle.machine_world.specs.Places.{Checked, InOperation, Row, Whole, row_in, row_at, size_in}
 use Rattle.segment_laws.proofs.Facts.{IsOperationAt}
 use Rattle.segment_laws.proofs.Registers.{read-write_same, read-write_other, add-small, step-is, access-is, with_register, move-sets}

@@ -15,7 +15,8 @@ use Rattle.stack_certificate.specs.Templates.{begin, size, result_size, kind_of,
 use Rattle.machine_world.specs.Globals.{AreGlobals}
 use Rattle.machine_world.specs.InPlace.{Frame, return_word, FramesAt, TpIsFront}
 use Rattle.machine_world.specs.Local as local
-use Rattle.machine_world.specs.Local.{Core, Local, sp, tp, a0, with_result, passed}
+use Rattle.stack_certificate.specs.Registers.{sp, tp}
+use Rattle.machine_world.specs.Local.{Core, Local, with_result, passed}
 use Rattle.machine_world.specs.Places.{Checked, Place, InOperation, IsAt, Row, Whole, row_at, size_in}
 use Rattle.machine_world.specs.Rests.{IsResting, AtStart, AtCall, PastCall, IsAtCall, IsPastCall, AreFlatFrames, AreFlatPast}
 use Rattle.machine_world.proofs.FormLaws.{IsCore-passed}

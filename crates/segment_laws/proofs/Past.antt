@@ -17,7 +17,8 @@ use Rattle.stack_certificate.specs.declared.sites.LinkKind.{LinkKind}
 use Rattle.certificate_rules.specs.Validity.{IsValid}
 use Rattle.machine_world.specs.Globals.{AreGlobals}
 use Rattle.machine_world.specs.InPlace.{Frame, frame_bytes, return_word, IsRunning, IsStack, FramesAt, HeadersName, TpIsFront, HasFrames}
-use Rattle.machine_world.specs.Local.{Core, Local, sp, tp, a0}
+use Rattle.stack_certificate.specs.Registers.{sp, tp, a0}
+use Rattle.machine_world.specs.Local.{Core, Local}
 use Rattle.machine_world.specs.Places.{Checked, Place, InOperation, IsAt, Row, Whole, Linking, is_linking, row_in, row_at, size_in}
 use Rattle.machine_world.specs.Rests.{IsPastCall, AreFlatPast}
 use Rattle.segment_laws.specs.Asking.{Arrives}

@@ -7,6 +7,7 @@ use Rattle.c_tree.specs.Trees.{ProgramTree}
 use Rattle.chunk_pool.specs.Pool.{Pool, chunk_of, shape_of}
 use Rattle.flat_code.specs.Frames.{FlatFrame}
 use Rattle.flat_code.specs.declared.operations.Op.{Op}
+use Rattle.stack_certificate.specs.Registers.{a0}
 use Rattle.machine_world.specs.InPlace.{Frame, HasFrames}
 use Rattle.machine_world.specs.Keys.{standing}
 use Rattle.machine_world.specs.Local.{Core}
@@ -39,7 +40,7 @@ module _ (c : Checked) (pool after : Pool) (shape : shape_of after ≡ shape_of 
   call_stays core (frame ∷ below) op kept h = one op h
     where
       one : (op : Op) → HoldsCall c pool core frame op → HoldsCall c after core frame op
-      one (Op.Model site d n args) h = (h.0, arguments_stay core frame Rattle.machine_world.specs.Local.a0 args kept.0 h.1)
+      one (Op.Model site d n args) h = (h.0, arguments_stay core frame a0 args kept.0 h.1)
       one (Op.Spawn site d f s) h = (h.0, h.1, h.2 ∙ sym (variable_same frame s 0 kept.0), h.3)
       one (Op.Call site d g args) h = absurd h
       one (Op.CallTable site d t i s) h = absurd h

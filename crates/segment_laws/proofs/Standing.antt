@@ -2,7 +2,6 @@
 -- within an operation and at a return. What one instruction there needs, and what a store in the frame leaves.
 use Rattle.std.proofs.Common.{◌≡◌, ℕ, ◌+◌, ◌%◌, ◌^◌, ◌<◌, ◌≤◌, List, ◌∷◌, length, pos, Ok, refl, sym, ap, subst, ◌∙◌, arith, inl}
 use Rattle.cap_word.specs.Word as word
-use Rattle.cap_word.specs.Word.{word_of}
 use Rattle.cap_word.specs.Runs.{Goes}
 use Rattle.chunk_pool.specs.Pool.{Pool, with_word as with_pool_word, place_of, payload_place_of, end_of}
 use Rattle.chunk_pool.proofs.AddressLaws.{place_of-aligned, place_of-bounded}
@@ -14,7 +13,8 @@ use Rattle.rv_machine.specs.Step.{instruction_at}
 use Rattle.rv_machine.proofs.WordLaws.{read-below}
 use Rattle.machine_world.specs.Areas.{Areas, with_byte}
 use Rattle.machine_world.specs.InPlace.{Frame, frame_bytes, return_word, IsStack, FramesAt, HeadersName, TpIsFront, HasFrames, IsGoodAccess}
-use Rattle.machine_world.specs.Local.{Local, ra, sp, tp, machine_of, local_step}
+use Rattle.stack_certificate.specs.Registers.{ra, sp, tp}
+use Rattle.machine_world.specs.Local.{Local, machine_of, local_step}
 use Rattle.machine_world.specs.Places.{Checked, Place, IsAt, Row, NoFrame, Empty, Fresh, Linking, Whole, row_of, function_of, operation_of}
 use Rattle.segment_laws.specs.Ways.{HasForm}
 use Rattle.segment_laws.proofs.Facts.{CodeFacts, Fit-areas}

@@ -7,7 +7,8 @@ use Rattle.std.proofs.lemmas.List.Elements.{All-from_recursion}
 use Rattle.cap_word.specs.declared.faults.FaultKind.TheVariants.{Misaligned}
 use Rattle.rv_code.specs.declared.instructions.Instr.{Instr}
 use Rattle.rv_code.proofs.Inverse.{decoding-encoding}
-use Rattle.rv_machine.specs.Step.{code_start, code_word, decoded, fetched, instruction_at}
+use Rattle.stack_image.specs.Addresses.{code_start}
+use Rattle.rv_machine.specs.Step.{code_word, decoded, fetched, instruction_at}
 use Rattle.stack_image.specs.declared.images.Image.{Image}
 use Rattle.certificate_rules.specs.Ranges.{Stands}
 

@@ -15,7 +15,7 @@ use Rattle.machine_world.specs.Areas.{Areas}
 use Rattle.machine_world.specs.Globals.{AreGlobals}
 use Rattle.machine_world.specs.Held.{copies, copies_in}
 use Rattle.machine_world.specs.InPlace.{Frame, IsFrame, HasFrames}
-use Rattle.machine_world.specs.Local.{a0}
+use Rattle.stack_certificate.specs.Registers.{a0}
 use Rattle.machine_world.specs.Places.{Checked, InPrologue}
 use Rattle.machine_world.specs.Rests.{AtStart}
 use Rattle.machine_world.specs.Threads.{start_registers}

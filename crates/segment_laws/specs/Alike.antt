@@ -1,5 +1,5 @@
--- That a thread of the machine runs as a thread of flat code does, until it asks or stops: what the one comes to, the other
--- comes to, or the machine finds no free chunk first.
+-- A machine thread that runs as a thread of flat code does, until it asks or stops: both reach the same result, or the
+-- machine finds no free chunk first.
 use Rattle.std.specs.Prelude.{◌≡◌, ◌≢◌, ℕ, ◌+◌, ◌<◌, ◌≤◌, ◌⊎◌, List, [], ◌∷◌, length, Some, None}
 use Rattle.cap_word.specs.Calls.{Call, Question, Finish, spawn_of}
 use Rattle.cap_word.specs.Runs.{Goes, Asks, Stops, moves}
@@ -14,41 +14,42 @@ use Rattle.chunk_pool.specs.Pool.{Pool, taken_for}
 use Rattle.machine_world.specs.Globals.{AreGlobals}
 use Rattle.machine_world.specs.InPlace.{Frame, HasFrames}
 use Rattle.machine_world.specs.Local as local
-use Rattle.machine_world.specs.Local.{Core, Local, LocalMove, Ended, Trapped, NoRoom, Wrong, t1, a0, local_step, local_machine}
+use Rattle.stack_certificate.specs.Registers.{t1, a0}
+use Rattle.machine_world.specs.Local.{Core, Local, LocalMove, Ended, Trapped, NoRoom, Wrong, local_step, local_machine}
 use Rattle.machine_world.specs.Places.{Checked, InOperation, Whole, before_transfer, row_of}
 use Rattle.machine_world.specs.Rests.{IsResting, AtStart, AtCall, PastCall, ecall_word, IsAtCall, AreFlatFrames}
 use Rattle.segment_laws.specs.Simulation.{Simulates}
 use Rattle.segment_laws.specs.Ways.{HasForm, IsGoodState}
 use Rattle.stack_certificate.specs.declared.sites.LinkKind.{LinkKind}
 
--- ---- what the lowering of a source gives and the rules of a certificate don't
+-- ---- what follows from the lowering of a source, but not from the rules of a certificate
 
 -- each modelled call and each start of a thread is followed by an operation of its function
 abbrev pub FollowsAsks : FlatCode → Type 0
 FollowsAsks code = (f i word : ℕ) (op : Op) → f < length code.functions → operation_at code f i ≡ Some op → ecall_word op ≡ Some word → i + 1 < length (function_at code f).ops
 
--- the thread never reads a variable that wasn't set, nor stands at no operation, nor makes a call that there isn't
+-- the thread never reads a variable that isn't set, is never without an operation, and never makes an undefined call
 abbrev pub IsNeverLost : FlatCode → FlatThread → Type 0
 IsNeverLost code t = (n : ℕ) → moves (flat_machine code) n t ≢ Stops Lost
 
--- ---- where a thread runs on from
+-- ---- where a thread continues
 
--- a thread that rests, but at no ECALL, may run
+-- a thread that rests at no ECALL may run
 abbrev pub MayRun : (c : Checked) (pool : Pool) (core : Core) → IsResting c pool core → Type 0
 MayRun c pool core (AtStart f frames in_place) = Unit {0}
 MayRun c pool core (AtCall f i op word frames in_place) = ⊥
 MayRun c pool core (PastCall f i op word place frames in_place) = Unit {0}
 
--- the flat thread for which it rests, as it runs on: from its function's start, or with a0 as the result of its call
+-- the flat thread for which it rests, as it continues: from its function's start, or with a0 as the result of its call
 abbrev pub running_on : (c : Checked) (pool : Pool) (core : Core) → IsResting c pool core → FlatThread → FlatThread
 running_on c pool core (PastCall f i op word place frames in_place) t =
     flat_resume c.flat (record { frame = t.frame; below = t.below }) (record { result = read core.x a0; globals = t.globals })
 running_on c pool core _ t = t
 
--- ---- what both come to
+-- ---- what both reach
 
--- the question of a thread at the ECALL of an operation is that of the flat thread: the same modelled call, or a thread at
--- the entry of the function that is started, with the same argument, on a chunk for the site's need
+-- the question of a thread at the ECALL of an operation is that of the flat thread: the same modelled call, or a thread
+-- at the entry of the started function, with the same argument, on a chunk for the site's need
 abbrev pub AsksTheSame : Checked → Op → local.Question → Call → Type 0
 AsksTheSame c (Op.Model site d n args) question call = question ≡ local.Calls call
 AsksTheSame c (Op.Spawn site d g x) question call =
@@ -76,8 +77,7 @@ StopsAlike c at Wrong finish = ⊥
 
 -- ---- from the machine to the flat thread
 
--- the thread is in place at an operation whose site may be linked, t1 has the site's need, and nothing is taken for it: no
--- free chunk fits
+-- the thread is in place at an operation whose site may be linked, t1 has the site's need, and no free chunk fits it
 pub record FindsNoChunk (c : Checked) (l : Local) : Type 0 where
   pub function : ℕ
   pub operation : ℕ
@@ -91,8 +91,8 @@ pub record FindsNoChunk (c : Checked) (l : Local) : Type 0 where
   pub need_is : read l.core.x t1 ≡ need
   pub nothing : taken_for l.areas.pool need ≡ None
 
--- what a step of the machine leads to, the flat thread comes to; it finds no room only at a linked site for whose need
--- nothing is taken, and is never wrong
+-- the flat thread reaches what a step of the machine leads to; the step finds no chunk only at a linked site whose need
+-- no free chunk fits, and is never wrong
 abbrev pub IsStepAlike : Checked → FlatThread → Local → LocalMove → Type 0
 IsStepAlike c t at (Goes next) = Unit {0}
 IsStepAlike c t at (Asks question still) =
@@ -100,7 +100,7 @@ IsStepAlike c t at (Asks question still) =
 IsStepAlike c t at (Stops NoRoom) = FindsNoChunk c at
 IsStepAlike c t at (Stops end) = (n : ℕ) × (finish : Finish) × (moves (flat_machine c.flat) n t ≡ Stops (Finished finish)) × StopsAlike c at end finish
 
--- the function of the last of some frames, of which the first is of this function: the thread started with it
+-- the function of the last of some frames, the first of which is of this function: the thread started with it
 abbrev pub last_function : ℕ → List Frame → ℕ
 last_function f [] = f
 last_function f (frame ∷ frames) = last_function frame.function frames
@@ -112,7 +112,7 @@ last_flat f (flat ∷ flats) = last_flat flat.function flats
 abbrev pub first_of : FlatThread → ℕ
 first_of t = last_flat t.frame.function t.below
 
--- the thread stands at a call whose site may be linked, with its frame in the front chunk, and nothing is taken for the
+-- the thread is at a call whose site may be linked, with its frame in the front chunk, and no free chunk fits the
 -- site's need; it started with this function
 pub record IsCutOff (c : Checked) (started : ℕ) (l : Local) : Type 0 where
   pub function : ℕ
@@ -132,7 +132,7 @@ pub record IsCutOff (c : Checked) (started : ℕ) (l : Local) : Type 0 where
   pub started_is : last_function frame.function below ≡ started
   pub nothing : taken_for l.areas.pool need ≡ None
 
--- where a step of a thread that started with this function finds no room, it is cut off so
+-- if a step of a thread that started with this function finds no chunk, the thread is cut off in this way
 abbrev pub IsCutMove : Checked → ℕ → Local → LocalMove → Type 0
 IsCutMove c started l (Goes next) = Unit {0}
 IsCutMove c started l (Asks question still) = Unit {0}
@@ -148,15 +148,15 @@ pub record IsAlong (c : Checked) (code : List ℕ) (t : FlatThread) (at : Local)
 
 -- ---- from the flat thread to the machine
 
--- so many silent steps lead the machine from one state to another
+-- this number of silent steps leads the machine from one state to another
 abbrev pub Comes : List ℕ → ℕ → Local → Local → Type 0
 Comes code k l at = moves (local_machine code) k l ≡ Goes at
 
--- it comes to a LINK that finds no chunk
+-- it reaches a LINK for which no free chunk fits
 abbrev pub FindsNone : List ℕ → Local → Type 0
 FindsNone code l = (k : ℕ) × (at : Local) × Comes code k l at × (local_step code at ≡ Stops NoRoom)
 
--- what n steps of the flat thread come to, the machine comes to; n silent steps take at least as many of its own
+-- the machine reaches what n steps of the flat thread lead to; n silent steps take at least as many of its own
 abbrev pub ReachesAlike : Checked → List ℕ → Local → ℕ → FlatMove → Type 0
 ReachesAlike c code l n (Goes next) = (k : ℕ) × (at : Local) × (n ≤ k) × Comes code k l at × Simulates c at next
 ReachesAlike c code l n (Asks asked waiting) =

@@ -1,4 +1,4 @@
--- Around a segment: a thread past its ECALL, and a new thread.
+-- Before and after a segment: a thread past its ECALL, and a new thread.
 use Rattle.std.specs.Prelude.{◌≡◌, ◌≢◌, ℕ, List, [], ◌∷◌, Ok}
 use Rattle.chunk_pool.specs.Pool.{Pool, Taken}
 use Rattle.rv_code.specs.declared.instructions.Instr.{Instr}
@@ -10,7 +10,8 @@ use Rattle.flat_code.specs.declared.operations.Op.{Op}
 use Rattle.stack_certificate.specs.Certificates.{fact_at}
 use Rattle.machine_world.specs.Areas.{Areas}
 use Rattle.machine_world.specs.InPlace.{Frame}
-use Rattle.machine_world.specs.Local.{Core, Local, a0, with_header}
+use Rattle.stack_certificate.specs.Registers.{a0}
+use Rattle.machine_world.specs.Local.{Core, Local, with_header}
 use Rattle.machine_world.specs.Places.{Checked, Place}
 use Rattle.machine_world.specs.Rests.{IsResting, AtStart, AtCall, PastCall, IsPastCall}
 use Rattle.machine_world.specs.StandsFor.{StandsForFlatThread}
@@ -19,16 +20,16 @@ use Rattle.machine_world.specs.Threads.{start_core}
 use Rattle.segment_laws.specs.Ways.{HasForm}
 use Rattle.segment_laws.specs.Alike.{MayRun, running_on}
 
--- ---- past an ECALL
+-- ---- after an ECALL
 
--- a thread that went on from the ECALL of an operation rests just behind it, where no other ECALL stands
+-- a thread that has passed the ECALL of an operation rests just after it, where there is no other ECALL
 pub record IsPassed (c : Checked) (code : List ℕ) (pool : Pool) (core : Core) (f i : ℕ) (op : Op) (word : ℕ) : Type 0 where
   pub place : Place
   pub frames : List Frame
   pub past : IsPastCall c pool core f i op word place frames
   pub no_ecall : instruction_at code core.pc ≢ Ok Instr.Ecall
 
--- it rests there for the flat thread that waited, which runs on with a0 as the call's result
+-- it rests there for the flat thread that waited, which continues with a0 as the call's result
 pub record RestsBehind (c : Checked) (l : Local) (waiting : FlatWaiting) (globals : List (List ℕ)) : Type 0 where
   pub form : HasForm c l
   pub stands : StandsForFlatThread c l (waiting.frame ∷ waiting.below) globals

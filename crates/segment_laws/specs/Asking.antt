@@ -1,5 +1,5 @@
--- Operations that ask the world: the machine thread rests at their ECALL, asks the flat thread's call, and goes on with the
--- result that came.
+-- Operations that ask the world: the machine thread rests at their ECALL, asks the flat thread's call, and continues
+-- with the result.
 use Rattle.std.specs.Prelude.{◌≡◌, ℕ, ◌+◌, List, ◌∷◌, length, Option}
 use Rattle.cap_word.specs.Calls.{Call, Question, spawn_of}
 use Rattle.cap_word.specs.Runs.{Asks}
@@ -15,7 +15,7 @@ use Rattle.machine_world.specs.Rests.{IsAtCall}
 use Rattle.segment_laws.specs.Simulation.{During, Simulates}
 use Rattle.segment_laws.specs.Ways.{IsGoodState, Leads}
 
--- some good steps, maybe none, lead to a thread that stands for this flat thread
+-- some good steps, possibly none, lead to a thread that stands for this flat thread
 pub record Arrives (c : Checked) (code : List ℕ) (l : Local) (t : FlatThread) : Type 0 where
   pub steps : ℕ
   pub after : Local
@@ -33,7 +33,7 @@ pub record AtAsk (c : Checked) (code : List ℕ) (l : Local) (t : FlatThread) (o
   pub asks : local_step code at ≡ Asks question at
   pub areas : at.areas ≡ l.areas
 
--- the machine rests at the ECALL of the operation and asks the flat thread's call, with the globals as they stand
+-- the machine rests at the ECALL of the operation and asks the flat thread's call, with the same globals
 pub record AsksAlike (c : Checked) (code : List ℕ) (l : Local) (t : FlatThread) (site n : ℕ) (d : Option ℕ) (args : List ℕ) (q : Question) (w : FlatWaiting) (simulates : Simulates c l t) : Type 0 where
   pub call : Call
   pub question : q ≡ record { call = call; globals = t.globals }

@@ -1,4 +1,4 @@
--- Calls and returns: what the rules of a certificate give of them, and what their laws conclude.
+-- Calls and returns: what the rules of a certificate say of them, and the conclusions of their laws.
 use Rattle.std.specs.Prelude.{◌≡◌, ℕ, ◌+◌, ◌*◌, ◌%◌, ◌<◌, ◌≤◌, true, List, length, Some, None, Contains, slice_index}
 use Rattle.cap_word.specs.Calls.{Finish}
 use Rattle.cap_word.specs.Runs.{Stops}
@@ -24,7 +24,7 @@ pub record EntryFacts (c : Checked) (f : ℕ) : Type 0 where
   pub most : (function_at c.flat f).params ≤ 6
   pub parameter : (x : ℕ) → x < (function_at c.flat f).params → (x < length (function_at c.flat f).sizes) × (slice_index (function_at c.flat f).sizes x ≡ 1)
 
--- at a plain site the callee's bound lies below the caller's frame, and at a linked one it lies within the need
+-- at a plain site the callee's bound fits below the caller's frame, and at a linked one it is within the need
 pub record CallFacts (c : Checked) : Type 0 where
   pub entries : (f : ℕ) → f < length c.flat.functions → EntryFacts c f
   pub aligned : (f : ℕ) → f < length c.flat.functions → (fact_at c.certificate f).entry % 4 ≡ 0
@@ -37,7 +37,7 @@ pub record CallFacts (c : Checked) : Type 0 where
   -- a member of a table gives a result
   pub members_give : (t g : ℕ) → Contains (members_of c.flat t) g → (function_at c.flat g).gives ≡ true
 
--- the machine comes to stand for the thread in the function that was called, or finds no chunk for it
+-- the machine stands for the thread in the called function, or finds no chunk for it
 pub data CallsAlike (c : Checked) (code : List ℕ) (l : Local) (after : FlatThread) : Type 0 where
   Enters : (reaches : Reaches c code l after) → CallsAlike c code l after
   FindsNoRoom : (n : ℕ) (comes : ComesTo c code n l (Stops NoRoom)) → CallsAlike c code l after

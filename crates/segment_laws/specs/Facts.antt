@@ -1,4 +1,4 @@
--- What the rules of a certificate give of a program's code, in the forms in which one operation after another is followed.
+-- What the rules of a certificate say of a program's code, in the forms that the laws of single operations use.
 use Rattle.std.specs.Prelude.{◌≡◌, ℕ, ◌+◌, ◌*◌, ◌%◌, ◌<◌, ◌≤◌, List, length, slice_get, slice_index, sum, Some, Ok}
 use Rattle.rv_code.specs.declared.instructions.Instr.{Instr}
 use Rattle.rv_machine.specs.Step.{instruction_at}
@@ -7,11 +7,12 @@ use Rattle.flat_code.specs.Codes.{function_at, operation_at}
 use Rattle.flat_code.specs.WellFormed.{IsOperation, context_of}
 use Rattle.stack_certificate.specs.Certificates.{fact_at}
 use Rattle.stack_certificate.specs.Templates.{prologue, end_stub, row, setting, begin, size, kind_of}
+use Rattle.stack_image.specs.Addresses.{code_start}
 use Rattle.machine_world.specs.Globals.{global_widths}
 use Rattle.machine_world.specs.Places.{Checked}
 use Rattle.machine_world.specs.WellFormed.{member_entries}
 
--- where the words of the variables and the return address stand in a frame of function f
+-- the places of the variables' words and of the return address in a frame of function f
 pub record FrameFacts (c : Checked) (f : ℕ) : Type 0 where
   pub aligned : (fact_at c.certificate f).frame % 16 ≡ 0
   pub least : 16 ≤ (fact_at c.certificate f).frame
@@ -27,7 +28,7 @@ pub record FrameFacts (c : Checked) (f : ℕ) : Type 0 where
   pub ra_apart : (x j : ℕ) → x < length (function_at c.flat f).sizes → j < slice_index (function_at c.flat f).sizes x →
       slice_index (fact_at c.certificate f).places x + 4 * j ≡ (fact_at c.certificate f).ra → ⊥
 
--- operation i of function f is there: its words stand in the code, and its numbers are in range
+-- operation i of function f exists: its words are in the code, and its numbers are in range
 pub record IsOperationAt (c : Checked) (code : List ℕ) (f i : ℕ) (op : Op) : Type 0 where
   pub function : f < length c.flat.functions
   pub there : operation_at c.flat f i ≡ Some op
@@ -45,7 +46,7 @@ pub record CodeFacts (c : Checked) (code : List ℕ) : Type 0 where
   pub frame : (f : ℕ) → f < length c.flat.functions → FrameFacts c f
   pub prologue_fetch : (f w : ℕ) (instr : Instr) → f < length c.flat.functions → slice_get (prologue (fact_at c.certificate f) (function_at c.flat f).params) w ≡ Some instr →
       instruction_at code ((fact_at c.certificate f).entry + 4 * w) ≡ Ok instr
-  pub stub_fetch : (w : ℕ) (instr : Instr) → slice_get end_stub w ≡ Some instr → instruction_at code (4096 + 4 * w) ≡ Ok instr
+  pub stub_fetch : (w : ℕ) (instr : Instr) → slice_get end_stub w ≡ Some instr → instruction_at code (code_start + 4 * w) ≡ Ok instr
   -- an array that is zeroed has a word: the lowering of a source makes no other
   pub zeroed : (f i a : ℕ) → f < length c.flat.functions → operation_at c.flat f i ≡ Some (Op.Zero a) → 0 < slice_index (function_at c.flat f).sizes a
   pub globals_small : sum (global_widths c.flat) ≤ 65536

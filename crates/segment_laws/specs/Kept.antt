@@ -1,22 +1,23 @@
--- A thread whose chunks have the words that they had: it is in place as it was, and rests as it did.
+-- A thread whose chunks keep their words: it stays in place, and rests as before.
 use Rattle.std.specs.Prelude.{◌≡◌, ℕ, List}
 use Rattle.std.specs.List.{AllByRecursion}
 use Rattle.c_tree.specs.Trees.{ProgramTree}
 use Rattle.chunk_pool.specs.Pool.{Pool, chunk_of, shape_of}
 use Rattle.flat_code.specs.Frames.{FlatFrame}
 use Rattle.rv_machine.specs.Registers.{read}
-use Rattle.machine_world.specs.Local.{Core, ra, sp, tp}
+use Rattle.stack_certificate.specs.Registers.{ra, sp, tp}
+use Rattle.machine_world.specs.Local.{Core}
 use Rattle.machine_world.specs.Places.{Checked}
 use Rattle.machine_world.specs.Rests.{IsResting, StandsForFlat}
 use Rattle.machine_world.specs.StandsFor.{SourceThread, StandsFor}
 use Rattle.machine_world.specs.StandsForWorld.{IsPast}
 
--- a pool has another's shape, and each of these chunks has its words
+-- a pool has the shape of another, and each of these chunks has the same words
 pub record KeepsChunks (pool after : Pool) (chunks : List ℕ) : Type 0 where
   pub shape : shape_of after ≡ shape_of pool
   pub words : AllByRecursion (λ chunk. chunk_of after chunk ≡ chunk_of pool chunk) chunks
 
--- a thread stands where it stood, on the same chunks, with the same return address, stack and chunk pointers
+-- a thread is at the same pc, on the same chunks, with the same return address, stack and chunk pointers
 pub record KeepsStack (core after : Core) : Type 0 where
   pub pc : after.pc ≡ core.pc
   pub chain : after.chain ≡ core.chain

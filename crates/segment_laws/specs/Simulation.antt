@@ -1,4 +1,4 @@
--- When a machine thread stands for a flat thread between two operations, and within one.
+-- When a machine thread stands for a flat thread, between two operations and within one.
 use Rattle.std.specs.Prelude.{◌≡◌, ℕ, suc, ◌+◌, ◌*◌, List, ◌∷◌}
 use Rattle.chunk_pool.specs.Pool.{Pool, payload_place_of}
 use Rattle.rv_machine.specs.Registers.{read}
@@ -6,12 +6,13 @@ use Rattle.flat_code.specs.Frames.{FlatThread}
 use Rattle.stack_certificate.specs.Templates.{begin}
 use Rattle.machine_world.specs.Globals.{AreGlobals}
 use Rattle.machine_world.specs.InPlace.{Frame, frame_bytes, return_word, IsStack, HeadersName}
-use Rattle.machine_world.specs.Local.{Local, sp, tp}
+use Rattle.stack_certificate.specs.Registers.{sp, tp}
+use Rattle.machine_world.specs.Local.{Local}
 use Rattle.machine_world.specs.Places.{Checked}
 use Rattle.machine_world.specs.Rests.{HoldsVariables, IsShaped, AreFlatFrames}
 use Rattle.segment_laws.specs.Ways.{HasForm, Leads}
 
--- the chain that a frame's chunk is in front of
+-- the chain has this chunk in front
 pub record IsFront (chain : List ℕ) (chunk : ℕ) : Type 0 where
   pub rest : List ℕ
   pub is : chain ≡ chunk ∷ rest
@@ -23,7 +24,7 @@ pub record IsBody (c : Checked) (pool : Pool) (f i : ℕ) (frame : Frame) : Type
   pub bytes : frame.bytes ≡ frame_bytes c f
   pub returns : frame.returns ≡ return_word c pool f frame.chunk frame.low
 
--- the thread stands at word w of operation i of function f, with these frames
+-- the thread is at word w of operation i of function f, with these frames
 pub record Inside (c : Checked) (l : Local) (f i w : ℕ) (frame : Frame) (below : List Frame) : Type 0 where
   pub form : HasForm c l
   pub pc : l.core.pc ≡ begin c.flat c.certificate f i + 4 * w
@@ -34,7 +35,7 @@ pub record Inside (c : Checked) (l : Local) (f i w : ℕ) (frame : Frame) (below
   pub stack : IsStack c l.areas.pool l.core.chain frame below
   pub headers : HeadersName l.areas.pool l.core.chain
 
--- the machine thread stands at word w of the operation of a flat thread, which has set nothing yet
+-- the machine thread is at word w of the current operation of a flat thread, and has set nothing yet
 pub record During (c : Checked) (l : Local) (t : FlatThread) (w : ℕ) (frame : Frame) (below : List Frame) : Type 0 where
   pub inside : Inside c l t.frame.function t.frame.next w frame below
   pub shape : IsShaped c t.frame

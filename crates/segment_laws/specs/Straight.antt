@@ -1,4 +1,4 @@
--- Operations that stay in their frame and ask nothing, and the traps of theirs.
+-- Operations that stay in their frame and ask nothing, and their traps.
 use Rattle.std.specs.Prelude.{◌≡◌, ℕ, List, Some}
 use Rattle.cap_word.specs.Calls.{Finish}
 use Rattle.cap_word.specs.Runs.{Stops}
@@ -18,7 +18,7 @@ IsStraight (Op.Spawn site d f s) = ⊥
 IsStraight (Op.Return s) = ⊥
 IsStraight _ = Unit {0}
 
--- the machine comes to the same trap
+-- the machine reaches the same trap
 pub record TrapsAlike (c : Checked) (code : List ℕ) (l : Local) (t : FlatThread) (finish : Finish) : Type 0 where
   pub steps : ℕ
   pub comes : ComesTo c code steps l (Stops (Trapped TrapKind.Index))

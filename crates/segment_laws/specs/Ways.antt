@@ -7,11 +7,12 @@ use Rattle.machine_world.specs.Local.{Local, LocalMove, local_step, access_at}
 use Rattle.machine_world.specs.Places.{Checked, Place}
 use Rattle.machine_world.specs.WellFormed.{AreWellFormed, IsCore}
 
--- each chunk is in the thread's chain and the free list at most once, and no number that isn't below the count is
+-- each chunk occurs at most once in the thread's chain and the free lists together, and no number from the count on
+-- occurs
 pub record Owns (l : Local) : Type 0 where
   pub once : (chunk : ℕ) → copies_in chunk l ≤ (if nat_lt chunk l.areas.pool.count then 1 else 0)
 
--- areas and thread have their form
+-- areas and thread are well formed
 pub record HasForm (c : Checked) (l : Local) : Type 0 where
   pub areas : AreWellFormed c l.areas
   pub core : IsCore l.core
@@ -28,11 +29,11 @@ abbrev pub WayIn : Checked → List ℕ → ℕ → Local → Local → Type 0
 WayIn c code zero l after = l ≡ after
 WayIn c code (suc n) l after = IsGoodState c code l × ((next : Local) × (local_step code l ≡ Goes next) × WayIn c code n next after)
 
--- so many good steps lead from one state to another
+-- this number of good steps leads from one state to another
 pub record Leads (c : Checked) (code : List ℕ) (n : ℕ) (l after : Local) : Type 0 where
   pub way : WayIn c code n l after
 
--- good steps, and then a step with this outcome, from a good state
+-- good steps from a good state, followed by a step with this outcome
 pub record ComesTo (c : Checked) (code : List ℕ) (n : ℕ) (l : Local) (move : LocalMove) : Type 0 where
   pub at : Local
   pub leads : Leads c code n l at

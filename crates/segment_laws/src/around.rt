@@ -12,7 +12,8 @@ ghost use Rattle.machine_world.specs.Globals.{AreGlobals};
 ghost use Rattle.machine_world.specs.Held.{copies_in};
 ghost use Rattle.machine_world.specs.InPlace.{Frame};
 ghost use Rattle.machine_world.specs.Local as local;
-ghost use Rattle.machine_world.specs.Local.{Core, Local, a0, passed, local_step};
+ghost use Rattle.stack_certificate.specs.Registers.{a0};
+ghost use Rattle.machine_world.specs.Local.{Local, passed, local_step};
 ghost use Rattle.machine_world.specs.Rests.{IsResting, IsAtCall};
 ghost use Rattle.machine_world.specs.WellFormed.{AreWellFormed};
 ghost use Rattle.rv_code.specs.declared.instructions.Instr.{Instr};
@@ -26,8 +27,8 @@ ghost use Rattle.stack_certificate.specs.Certificates.{fact_at};
 ghost use Rattle.stack_certificate.specs.declared.certificates.Certificate.{Certificate};
 ghost use Rattle.stack_image.specs.declared.images.Image.{Image};
 
-/// The laws of chunks that a thread leaves alone: a step from a good state, or any number of steps through good states,
-/// leaves the words of each chunk that is neither in the thread's chain nor free. It does nothing.
+/// Laws: a step from a good state, or any number of steps through good states, keeps the words of each chunk that is
+/// neither in the thread's chain nor free.
 pub fn alone_laws()
     ensures step { (flat : FlatCode) (certificate : Certificate) (code : List ℕ) (l : Local) (chunk : ℕ) → IsWellFormed flat → HasForm (record { flat = flat; certificate = certificate }) l →
         IsGoodState (record { flat = flat; certificate = certificate }) code l → copies_in chunk l ≡ 0 → KeepsChunk chunk l (local_step code l) }
@@ -36,9 +37,9 @@ pub fn alone_laws()
         chunk_of at.areas.pool chunk ≡ chunk_of l.areas.pool chunk }
 {}
 
-/// The laws of a thread at an ECALL and past it. At the ECALL of an operation there stands one; a thread that rests where
-/// none stands may run; past the ECALL, with a result in a0 or none, the thread rests just behind it, where no other stands;
-/// and if it stood for a flat thread that waits, it stands for that one there. It does nothing.
+/// Laws of a thread at an ECALL and after it. At the ECALL of an operation the code has an ECALL. A thread that rests
+/// at no ECALL may run. After the ECALL, with or without a result in a0, the thread rests just after it, where there is
+/// no other ECALL; and if it stood for a flat thread that waits, it stands for that one there.
 pub fn passing_laws()
     ensures at_call { (flat : FlatCode) (image : Image) (certificate : Certificate) (l : Local) (f i word : ℕ) (op : Op) (frames : List Frame) → IsWellFormed flat → ZeroesSome flat → IsValid flat image certificate →
         IsAtCall (record { flat = flat; certificate = certificate }) l.areas.pool l.core f i op word frames → instruction_at image.code l.core.pc ≡ Ok Instr.Ecall }
@@ -51,9 +52,9 @@ pub fn passing_laws()
         RestsBehind (record { flat = flat; certificate = certificate }) (record { areas = at.areas; core = passed at.core result }) waiting asked.globals }
 {}
 
-/// The law of a new thread: on a chunk that was taken for at least the bound of a function, at its entry, with the
-/// function's arguments in the argument registers, it rests there for the flat thread that starts the function with these
-/// arguments. It does nothing.
+/// Law of a new thread: on a chunk that was taken for at least the bound of a function, at its entry, with the
+/// function's arguments in the argument registers, it rests there for the flat thread that starts the function with
+/// these arguments.
 pub fn starting_law()
     ensures { (flat : FlatCode) (image : Image) (certificate : Certificate) (areas : Areas) (taken : Taken) (need f argument : ℕ) (arguments : List ℕ) (globals : List (List ℕ)) → IsWellFormed flat → IsValid flat image certificate →
         AreWellFormed (record { flat = flat; certificate = certificate }) areas → taken_for areas.pool need ≡ Some taken → (fact_at certificate f).bound ≤ need → f < length flat.functions → argument < 2 ^ 32 →

@@ -10,11 +10,11 @@ ghost use Rattle.segment_laws.specs.Facts.{CodeFacts};
 ghost use Rattle.segment_laws.specs.Simulation.{Reaches, Simulates};
 ghost use Rattle.segment_laws.specs.Calls.{CallFacts, CallsAlike, EndsAlike};
 
-/// The laws of calls of functions and of returns, from a machine thread that stands for a flat thread. Where the flat
-/// thread enters a function, the machine comes by good steps to stand for it there, in the same chunk or in one that it
-/// linked, or it finds no chunk that fits the need. Where the flat thread returns to a caller, the machine comes by good
-/// steps to stand for it there, with the result stored, and the chunk that was linked given back. Where the flat thread
-/// ends, the machine thread does, with the same globals. It does nothing.
+/// Laws of calls of functions and of returns, from a machine thread that stands for a flat thread. If the flat thread
+/// enters a function, the machine reaches a state by good steps in which it stands for it there, in the same chunk or
+/// in one that it linked, or it finds no chunk that fits the need. If the flat thread returns to a caller, the machine
+/// reaches a state by good steps in which it stands for it there, with the result stored, and with a linked chunk given
+/// back. If the flat thread ends, the machine thread does, with the same globals.
 pub fn calling_laws()
     ensures calls { (c : Checked) (code : List ℕ) (l : Local) (t after : FlatThread) (site g : ℕ) (d : Option ℕ) (args : List ℕ) → CodeFacts c code → CallFacts c → Simulates c l t →
         standing c.flat t.frame ≡ Some (Op.Call site d g args) → flat_step c.flat t ≡ Goes after → CallsAlike c code l after }

@@ -7,7 +7,7 @@ ghost use Rattle.segment_laws.specs.Facts.{CodeFacts};
 ghost use Rattle.stack_certificate.specs.declared.certificates.Certificate.{Certificate};
 ghost use Rattle.stack_image.specs.declared.images.Image.{Image};
 
-/// A valid pair gives what the laws of one thread take of the code. It does nothing.
+/// Law: a valid pair has the facts on the code that the laws of one thread assume.
 pub fn facts_law()
     ensures { (code : FlatCode) (image : Image) (certificate : Certificate) → IsWellFormed code → ZeroesSome code → IsValid code image certificate →
         CodeFacts (record { flat = code; certificate = certificate }) image.code }

@@ -3,10 +3,9 @@ ghost use Rattle.std.specs.List.{AllByRecursion};
 ghost use Rattle.machine_world.specs.Threads.{Thread, first_with, replaced, without};
 ghost use Rattle.segment_laws.specs.Found.{at_place, threads_in, IsNumbered, IsOfRecord, KeepsRecords};
 
-/// The laws of threads that are read from records of a type `R`, each of which has a number of its own and is, at its place, a
-/// thread of that number. The thread of a number is found; a record that is written changes its thread alone; a record that is
-/// put at an empty place, with the next number, adds its thread at the end; and a record that goes away takes its thread with
-/// it. It does nothing: the law is the contract.
+/// Laws of threads that are read from records of a type `R`, each of which has a distinct number and is, at its place,
+/// a thread of that number. The thread of a number is found; writing a record changes only its thread; a record that is
+/// put at an empty place, with the next number, adds its thread at the end; and removing a record removes its thread.
 pub fn numbered_laws<R>()
     ensures found { (number_of : R → ℕ) (thread_in : ℕ → R → Thread) (slots : List (Option R)) (next place : ℕ) (r : R) → ((k : ℕ) (s : R) → (thread_in k s).number ≡ number_of s) → IsNumbered number_of slots next →
         at_place slots place ≡ Some r → first_with (number_of r) (threads_in number_of thread_in slots next) ≡ Some (thread_in place r) }

@@ -10,10 +10,10 @@ ghost use Rattle.segment_laws.specs.Facts.{CodeFacts};
 ghost use Rattle.segment_laws.specs.Simulation.{Simulates, Reaches};
 ghost use Rattle.segment_laws.specs.Straight.{IsStraight, TrapsAlike};
 
-/// The laws of operations that stay in their frame and ask nothing: constants, copies, the operators, zeroing, globals and
-/// elements, and jumps. From a machine thread that stands for a flat thread, each silent step of the flat thread is one or
-/// more good steps of the machine, after which it stands for what the step leads to; and where the flat thread traps, the
-/// machine comes to the same trap, by good steps. It does nothing.
+/// Laws of operations that stay in their frame and ask nothing: constants, copies, the operators, zeroing, globals and
+/// elements, and jumps. From a machine thread that stands for a flat thread, each silent step of the flat thread is one
+/// or more good steps of the machine, after which it stands for the result of the step; and if the flat thread traps,
+/// the machine reaches the same trap by good steps.
 pub fn straight_laws()
     ensures steps { (c : Checked) (code : List ℕ) (l : Local) (t after : FlatThread) (op : Op) → CodeFacts c code → Simulates c l t →
         standing c.flat t.frame ≡ Some op → IsStraight op → flat_step c.flat t ≡ Goes after → Reaches c code l after }

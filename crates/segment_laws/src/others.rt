@@ -7,10 +7,10 @@ ghost use Rattle.machine_world.specs.Local.{with_header};
 ghost use Rattle.machine_world.specs.Threads.{Thread, World, replaced, thread_of, without};
 ghost use Rattle.segment_laws.specs.Silent.{local_in};
 
-/// The laws of the other threads. Where a segment of one leaves the chunks that are neither its own nor free, and where a
-/// chunk is taken for a new one, the chunks of each other thread have their words. Of two threads of one number that are
-/// written one after the other the last is there; one that is written and goes is gone; and one that is written stands where
-/// it stood beside a thread that joins the end. It does nothing.
+/// Laws of the other threads. If a segment of one thread keeps the chunks that are neither its own nor free, and if a
+/// chunk is taken for a new thread, the chunks of each other thread keep their words. Of two threads with one number
+/// that are written one after the other, the last is found; one that is written and removed is gone; and one that is
+/// written keeps its place when another thread joins at the end.
 pub fn others_laws()
     ensures segment { (w : World) (number other : ℕ) (t o : Thread) (after : Pool) → IsCounted w → thread_of w number ≡ Some t → thread_of w other ≡ Some o → other ≢ number →
         ((chunk : ℕ) → copies_in chunk (local_in w t) ≡ 0 → chunk_of after chunk ≡ chunk_of w.areas.pool chunk) → AllByRecursion (λ chunk. chunk_of after chunk ≡ chunk_of w.areas.pool chunk) o.core.chain }

@@ -8,15 +8,16 @@ ghost use Rattle.flat_code.specs.declared.operations.Op.{Op};
 ghost use Rattle.stack_certificate.specs.Certificates.{fact_at, need_of};
 ghost use Rattle.stack_certificate.specs.Templates.{kind_of};
 ghost use Rattle.machine_world.specs.InPlace.{Frame};
-ghost use Rattle.machine_world.specs.Local.{Local, a0};
+ghost use Rattle.stack_certificate.specs.Registers.{a0};
+ghost use Rattle.machine_world.specs.Local.{Local};
 ghost use Rattle.machine_world.specs.Places.{Checked};
 ghost use Rattle.segment_laws.specs.Asking.{Arrives, AsksAlike, StartsAlike};
 ghost use Rattle.segment_laws.specs.Facts.{CodeFacts};
 ghost use Rattle.segment_laws.specs.Simulation.{During, Simulates};
 
-/// The laws of operations that ask the world: where the flat thread asks a modelled call or a new thread, the machine comes
-/// by good steps to rest at that operation's ECALL and asks the same; and just behind the ECALL, with the result in a0, it
-/// comes by good steps, or stands already, to where the flat thread has that result. It does nothing.
+/// Laws of operations that ask the world: if the flat thread asks a modelled call or a new thread, the machine reaches
+/// rest at that operation's ECALL by good steps and asks the same; and just after the ECALL, with the result in a0, it
+/// stands, at once or after good steps, for the flat thread with that result.
 pub fn asking_laws()
     ensures calls { (c : Checked) (code : List ℕ) (l : Local) (t : FlatThread) (site n : ℕ) (d : Option ℕ) (args : List ℕ) (q : Question) (w : FlatWaiting) →
         CodeFacts c code → (simulates : Simulates c l t) → standing c.flat t.frame ≡ Some (Op.Model site d n args) → flat_step c.flat t ≡ Asks q w →

@@ -3,7 +3,8 @@ ghost use Rattle.certificate_rules.specs.Validity.{IsValid};
 ghost use Rattle.flat_code.specs.Codes.{FlatCode, operation_at, result_place};
 ghost use Rattle.flat_code.specs.Frames.{FlatThread, with_result};
 ghost use Rattle.flat_code.specs.declared.operations.Op.{Op};
-ghost use Rattle.machine_world.specs.Local.{Local, Question, a0};
+ghost use Rattle.stack_certificate.specs.Registers.{a0};
+ghost use Rattle.machine_world.specs.Local.{Local, Question};
 ghost use Rattle.machine_world.specs.InPlace.{Frame};
 ghost use Rattle.machine_world.specs.Places.{Checked, Place, IsAt};
 ghost use Rattle.machine_world.specs.Globals.{AreGlobals};
@@ -16,9 +17,9 @@ ghost use Rattle.segment_laws.specs.Asking.{AtAsk, Arrives};
 ghost use Rattle.stack_certificate.specs.declared.certificates.Certificate.{Certificate};
 ghost use Rattle.stack_image.specs.declared.images.Image.{Image};
 
-/// The laws of rest: a machine thread that came to the ECALL at which a flat thread asks stands for it there; just behind
-/// the ECALL, with the result in a0, it comes by good steps, or stands already, to where the flat thread has that result, if
-/// another operation follows; and in code with a valid certificate each pc has one place at most. It does nothing.
+/// Laws of rest: a machine thread that has reached the ECALL at which a flat thread asks stands for it there. Just
+/// after the ECALL, with the result in a0, it stands, at once or after good steps, for the flat thread with that
+/// result, if another operation follows. In code with a valid certificate each pc has at most one place.
 pub fn rest_laws()
     ensures asks { (c : Checked) (code : List ℕ) (l : Local) (t : FlatThread) (op : Op) (word : ℕ) (question : Question) (frame : Frame) (below : List Frame) →
         (at : AtAsk c code l t op word question frame below) → StandsForFlatThread c at.at (t.frame ∷ t.below) t.globals }

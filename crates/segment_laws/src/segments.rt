@@ -11,9 +11,10 @@ ghost use Rattle.segment_laws.specs.Alike.{FollowsAsks, IsNeverLost, MayRun, run
 ghost use Rattle.stack_certificate.specs.declared.certificates.Certificate.{Certificate};
 ghost use Rattle.stack_image.specs.declared.images.Image.{Image};
 
-/// From a machine thread that rests, at no ECALL, and stands for a thread of flat code, machine and flat code run alike up to
-/// the next question, trap or end, in both directions: each state on the way is in place with a good access, no step is
-/// wrong, and the machine is cut off only at a LINK where no free chunk fits. The code is that of a valid pair. It does nothing.
+/// Law: from a machine thread that rests, at no ECALL, and stands for a thread of flat code, machine and flat code run
+/// alike up to the next question, trap or end, in both directions. Each state on the way is in place with a good
+/// access, no step is wrong, and the machine is cut off only at a LINK for which no free chunk fits. The code is that
+/// of a valid pair.
 pub fn segment_law()
     ensures { (flat : FlatCode) (image : Image) (certificate : Certificate) (l : Local) (t : FlatThread) → IsWellFormed flat → ZeroesSome flat → FollowsAsks flat → IsValid flat image certificate →
         HasForm (record { flat = flat; certificate = certificate }) l → (stands : StandsForFlatThread (record { flat = flat; certificate = certificate }) l (t.frame ∷ t.below) t.globals) →

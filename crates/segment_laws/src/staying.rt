@@ -7,9 +7,9 @@ ghost use Rattle.machine_world.specs.Rests.{IsResting};
 ghost use Rattle.machine_world.specs.StandsForWorld.{IsPast};
 ghost use Rattle.segment_laws.specs.Kept.{KeepsChunks, KeepsStack, RestsOn};
 
-/// The laws of a thread whose chunks have the words that they had. It is in place with the same frames, also with other
-/// registers than those of its stack. If it rests it rests as before, and stands for each thread of source and of flat code
-/// for which it stood; just past an ECALL also with other registers than those of its stack, as with a result. It does nothing.
+/// Laws of a thread whose chunks keep their words. It stays in place with the same frames, even if registers other than
+/// those of its stack change. If it rests, it rests as before, and stands for each thread of source and of flat code
+/// for which it stood; just after an ECALL, also if registers other than those of its stack change, as by a result.
 pub fn staying_laws()
     ensures frames { (c : Checked) (pool after : Pool) (core core_now : Core) (place : Place) (frames : List Frame) → KeepsChunks pool after core.chain → KeepsStack core core_now →
         HasFrames c pool core place frames → HasFrames c after core_now place frames }

@@ -9,9 +9,9 @@ ghost use Rattle.machine_world.specs.Threads as world;
 ghost use Rattle.segment_laws.specs.Ways.{Leads};
 ghost use Rattle.segment_laws.specs.Silent.{GoesOn, local_in, after_silent};
 
-/// The laws of the world's steps by those of its running thread. Good steps of the thread, as many as the fuel allows, are
-/// silent steps of the world, which change that thread, the areas, clock and cost alone; the next step is what the thread's
-/// next step makes of the world then, or the stop by fuel. Silent steps add up, and are steps of a run. It does nothing.
+/// Laws of the world's steps by those of its running thread. Good steps of the thread, as many as the fuel allows, are
+/// silent steps of the world, which change only that thread, the areas, clock and cost. The next step is what the
+/// thread's next step leads to in that world, or the stop by fuel. Silent steps add up, and are steps of a run.
 pub fn step_laws()
     ensures goes_on { (c : Checked) (s : Setting) (w : World) (thread : Thread) (at : Local) (n : ℕ) → IsCounted w → w.running ≡ Some thread.number → thread_of w thread.number ≡ Some thread → w.cost + n ≤ s.fuel →
         Leads c s.code n (local_in w thread) at → GoesOn s n w (after_silent w thread at n) }

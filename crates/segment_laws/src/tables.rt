@@ -12,9 +12,9 @@ ghost use Rattle.segment_laws.specs.Facts.{CodeFacts};
 ghost use Rattle.segment_laws.specs.Simulation.{Simulates};
 ghost use Rattle.segment_laws.specs.Tables.{TableTrapsAlike};
 
-/// The laws of calls through a table, from a machine thread that stands for a flat thread. Where the flat thread enters a
-/// member of the table, the machine comes by good steps to stand for it there, as at a call of a function; and where the
-/// index is out of range, it comes by good steps to the same trap. It does nothing.
+/// Laws of calls through a table, from a machine thread that stands for a flat thread. If the flat thread enters a
+/// member of the table, the machine reaches a state by good steps in which it stands for it there, as at a call of a
+/// function. If the index is out of range, it reaches the same trap by good steps.
 pub fn table_laws()
     ensures calls { (c : Checked) (code : List ℕ) (l : Local) (t after : FlatThread) (site table i x : ℕ) (d : Option ℕ) → CodeFacts c code → CallFacts c → IsWellFormed c.flat → Simulates c l t →
         standing c.flat t.frame ≡ Some (Op.CallTable site d table i x) → flat_step c.flat t ≡ Goes after → CallsAlike c code l after }

@@ -5,7 +5,8 @@ use Rattle.std.proofs.lemmas.Bool.{cond-true, cond-false, le-ltb, eq-eqb}
 use Rattle.cap_word.specs.declared.faults.FaultKind.TheVariants.{Misaligned}
 use Rattle.rv_code.specs.declared.instructions.Instr.{Instr}
 use Rattle.rv_code.specs.Decoding.{decoding}
-use Rattle.rv_machine.specs.Step.{code_start, code_word, decoded, fetched, instruction_at}
+use Rattle.stack_image.specs.Addresses.{code_start}
+use Rattle.rv_machine.specs.Step.{code_word, decoded, fetched, instruction_at}
 
 pub fetched_at : (code : List ℕ) (pc : ℕ) (found : Option ℕ) → pc % 4 ≡ 0 → 4096 ≤ pc → slice_get code ((pc - 4096) / 4) ≡ found → instruction_at code pc ≡ fetched found
 unfolding instruction_at

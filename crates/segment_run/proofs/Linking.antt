@@ -1,17 +1,17 @@
 -- LINK, UNLINK and END as the code does them.
 use Rattle.std.proofs.Common.{◌≡◌, ◌≢◌, ℕ, zero, suc, ◌+◌, ◌-◌, ◌<◌, ◌≤◌, Bool, List, ◌∷◌, set, Option, Some, None, refl, sym, ap, subst, ◌∙◌, arith, cond}
-use Rattle.std.specs.Prelude.{nat_eq}
 use Rattle.std.proofs.lemmas.Bool.{eq-eqb}
 use Rattle.cap_word.specs.Word as word
 use Rattle.cap_word.specs.Runs.{Goes, Stops}
-use Rattle.chunk_pool.specs.Pool.{Pool, Taken, taken_for, after_give, shape_of, word_of, place_of, bytes_of, end_of, payload_place_of, chunk_at, IsPool, IsFree, IsHeld}
+use Rattle.chunk_pool.specs.Pool.{Pool, Taken, taken_for, after_give, shape_of, word_of, end_of, payload_place_of, chunk_at, IsPool, IsFree, IsHeld}
 use Rattle.chunk_pool.proofs.AddressLaws.{chunk_at-some}
 use Rattle.chunk_pool.proofs.PoolLaws.{KeepsOthers-after_give}
 use Rattle.rv_machine.specs.Registers.{read}
 use Rattle.machine_world.specs.Areas.{Areas}
 use Rattle.machine_world.specs.Held.{copies}
 use Rattle.machine_world.specs.InPlace.{HeadersName, TpIsFront}
-use Rattle.machine_world.specs.Local.{Local, Wrong, tp, t1, with_header, saved_tp, saved_sp, linked, linked_on, unlinked, unlinked_on, begins_at, chunk_with_payload}
+use Rattle.stack_certificate.specs.Registers.{tp, t1}
+use Rattle.machine_world.specs.Local.{Local, Wrong, with_header, saved_tp, linked, linked_on, unlinked, unlinked_on, begins_at, chunk_with_payload}
 use Rattle.machine_world.proofs.LinkLaws.{saved_tp-with_header}
 use Rattle.segment_laws.specs.Ways.{Owns}
 use Rattle.segment_laws.proofs.Stacks.{word_of-other}

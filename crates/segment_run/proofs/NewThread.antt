@@ -17,7 +17,8 @@ use Rattle.machine_meaning.proofs.Formed.{formed}
 use Rattle.machine_meaning.proofs.Zeroes.{program_zeroes}
 use Rattle.machine_world.specs.Areas.{Areas}
 use Rattle.machine_world.specs.Globals.{AreGlobals}
-use Rattle.machine_world.specs.Local.{Core, Local, a0, with_header}
+use Rattle.stack_certificate.specs.Registers.{a0}
+use Rattle.machine_world.specs.Local.{Core, Local, with_header}
 use Rattle.machine_world.specs.Places.{Checked}
 use Rattle.machine_world.specs.Rests.{IsResting, AtStart, AtCall, PastCall}
 use Rattle.machine_world.specs.StandsFor.{Starts, StandsForThread}

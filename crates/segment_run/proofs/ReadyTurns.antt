@@ -19,7 +19,8 @@ use Rattle.rv_machine.specs.Bytes.{Nothing, Word, word_at, word_is_writable, wit
 use Rattle.rv_machine.specs.Registers.{read, write}
 use Rattle.rv_machine.specs.Rows as rows
 use Rattle.rv_machine.specs.Rows.{Machine, Outcome, next, passes, sets, jumps, loads, found, word_loaded, word_stored, stores}
-use Rattle.rv_machine.specs.Step.{code_start, code_word, decoded, fetched, instruction_at, started, outcome}
+use Rattle.stack_image.specs.Addresses.{code_start}
+use Rattle.rv_machine.specs.Step.{code_word, decoded, fetched, instruction_at, started, outcome}
 use Rattle.segment_run.specs.ReadyTurns.{IsReadyIn, machine_at, GoesOn, WentOn}
 use Rattle.segment_run.specs.Safe.{IsSafeMove, StaysSafe}
 use Rattle.segment_run.specs.Turns.{thread_of, IsUnderWay}

@@ -15,7 +15,8 @@ use Rattle.rv_code.specs.declared.instructions.Instr.{Instr}
 use Rattle.rv_machine.specs.Registers.{read}
 use Rattle.rv_machine.specs.Step.{instruction_at}
 use Rattle.machine_world.specs.Areas.{Areas}
-use Rattle.machine_world.specs.Local.{Core, Local, a0}
+use Rattle.stack_certificate.specs.Registers.{a0}
+use Rattle.machine_world.specs.Local.{Core, Local}
 use Rattle.machine_world.specs.Places.{Checked}
 use Rattle.machine_world.specs.Rests.{IsResting, AtStart, AtCall, PastCall}
 use Rattle.machine_world.specs.StandsFor.{SourceThread, StandsForThread, going_on}

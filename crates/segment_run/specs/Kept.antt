@@ -1,4 +1,4 @@
--- How the areas are kept: the pool, and a vector of words each for the globals and the tables.
+-- How the areas are kept: the pool, and a vector of words for the globals and one for the tables.
 use Rattle.std.specs.Prelude.{◌≤◌, length}
 use Rattle.chunk_pool.specs.Pool.{IsPool}
 use Rattle.machine_world.specs.Areas as world
@@ -8,7 +8,7 @@ use Rattle.segment_run.specs.declared.areas.Areas.TheInside.{Inside}
 abbrev pub areas_of : Inside → world.Areas
 areas_of a = record { pool = a.pool; globals = a.globals.items; tables = a.tables.items }
 
--- at most 65,536 global words and as many table words, over a sound pool
+-- at most 65,536 global words and at most 65,536 table words, and the invariant of the pool
 pub record AreKept (areas : world.Areas) : Type 0 where
   pub pool : IsPool areas.pool
   pub globals : length areas.globals ≤ 65536

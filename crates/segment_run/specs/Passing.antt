@@ -1,4 +1,4 @@
--- A thread at the ECALL of a call, and behind it once it retired.
+-- A thread at the ECALL of a call, and after it once it has retired.
 use Rattle.std.specs.Prelude.{◌≢◌, ℕ, List, Ok}
 use Rattle.c_mean.specs.Frames.{Waiting}
 use Rattle.chunk_pool.specs.Pool.{Pool}
@@ -11,13 +11,13 @@ use Rattle.machine_world.specs.Rests.{IsResting, AtStart, AtCall, PastCall}
 use Rattle.machine_world.specs.StandsFor.{Waits, StandsForThread}
 use Rattle.machine_world.specs.StandsForWorld.{IsPast}
 
--- at the ECALL, which is still to do
+-- at the ECALL, which hasn't retired
 abbrev pub IsBefore : (c : Checked) (pool : Pool) (core : Core) → IsResting c pool core → Type 0
 IsBefore c pool core (AtStart f frames in_place) = ⊥
 IsBefore c pool core (AtCall f i op word frames in_place) = Unit {0}
 IsBefore c pool core (PastCall f i op word place frames in_place) = ⊥
 
--- at or just behind an ECALL
+-- at or just after an ECALL
 abbrev pub IsAround : (c : Checked) (pool : Pool) (core : Core) → IsResting c pool core → Type 0
 IsAround c pool core (AtStart f frames in_place) = ⊥
 IsAround c pool core (AtCall f i op word frames in_place) = Unit {0}
@@ -27,7 +27,7 @@ pub record RestsAround (c : Checked) (pool : Pool) (core : Core) : Type 0 where
   pub rests : IsResting c pool core
   pub around : IsAround c pool core rests
 
--- before the ECALL, and behind it, where no other one stands
+-- before the ECALL, and after it, where there is no other one
 pub record RestsBefore (c : Checked) (l : Local) : Type 0 where
   pub rests : IsResting c l.areas.pool l.core
   pub before : IsBefore c l.areas.pool l.core rests

@@ -1,4 +1,4 @@
--- A run by ready operations under way.
+-- A run by ready operations in progress.
 use Rattle.std.specs.Prelude.{ℕ, List, length}
 use Rattle.decoded_code.specs.Ready.{place_at, AreReady}
 use Rattle.decoded_code.specs.declared.ready.Ready.{Ready}
@@ -10,7 +10,7 @@ use Rattle.segment_run.specs.Safe.{StaysSafe}
 use Rattle.segment_run.specs.Turns.{thread_of, IsUnderWay}
 use Rattle.segment_run.specs.declared.running.Thread.{Thread}
 
--- what a run is of: a program and its code, the thread and where it started, and its fuel
+-- what a run depends on: a program and its code, the thread and where it started, and its fuel
 pub record Run : Type 0 where
   pub checked : Checked
   pub code : List ℕ
@@ -18,7 +18,7 @@ pub record Run : Type 0 where
   pub start : Local
   pub fuel : ℕ
 
--- a thread that never comes to a fault has come to an index of the code, with these registers and areas
+-- a thread that never faults has reached an index of the code, with these registers and areas
 pub record IsIn (run : Run) (ready : List Ready) (areas : Areas) (file : List ℕ) (at left : ℕ) : Type 0 where
   pub formed : IsWellFormed run.checked.flat
   pub safe : StaysSafe run.checked run.code run.start

@@ -1,4 +1,4 @@
--- What never comes of a thread of an accepted program, and where it asks.
+-- What never happens to a thread of an accepted program, and where it asks.
 use Rattle.std.specs.Prelude.{◌≡◌, ℕ, ◌<◌, List, length, Option}
 use Rattle.cap_word.specs.Runs.{Goes, Asks, Stops, moves}
 use Rattle.flat_code.specs.declared.operations.Op.{Op}
@@ -19,15 +19,14 @@ pub record RestsAtCall (c : Checked) (l : Local) (op : Op) : Type 0 where
   pub frames : List Frame
   pub at : IsAtCall c l.areas.pool l.core function operation op word frames
 
--- it asks where an operation asks: a modelled call, or a spawn of a function, whose entry and need it tells
+-- it asks at an operation that asks: a modelled call, or a spawn of a function with its entry and need
 abbrev pub AsksAt : Checked → Local → Question → Type 0
 AsksAt c l (Calls call) = (site n : ℕ) × (d : Option ℕ) × (args : List ℕ) × RestsAtCall c l (Op.Model site d n args)
 AsksAt c l (Starts entry argument need) =
     (site f x : ℕ) × (d : Option ℕ) × (f < length c.flat.functions) × RestsAtCall c l (Op.Spawn site d f x)
     × (entry ≡ (fact_at c.certificate f).entry) × (need ≡ need_of (kind_of c.certificate (Op.Spawn site d f x)))
 
--- what holds of its step: it isn't wrong, it asks as said, and it finds no room only at a linked
--- site for whose need nothing is taken
+-- its step isn't wrong, asks as above, and finds no chunk only at a linked site whose need no free chunk fits
 abbrev pub IsSafeMove : Checked → Local → LocalMove → Type 0
 IsSafeMove c l (Goes after) = Unit {0}
 IsSafeMove c l (Asks question waiting) = AsksAt c l question
@@ -40,6 +39,6 @@ pub record IsSafe (c : Checked) (code : List ℕ) (l : Local) : Type 0 where
   pub good : IsGoodState c code l
   pub move : IsSafeMove c l (local_step code l)
 
--- so it is wherever silent steps lead
+-- this holds wherever silent steps lead
 pub record StaysSafe (c : Checked) (code : List ℕ) (l : Local) : Type 0 where
   pub safe : (n : ℕ) (after : Local) → moves (local_machine code) n l ≡ Goes after → IsSafe c code after

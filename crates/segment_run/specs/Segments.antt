@@ -1,5 +1,5 @@
--- What the answer of a segment says of the machine: good steps of the thread, one instruction each, and at their end the
--- step that the answer tells.
+-- What the answer of a segment says of the machine: good steps of the thread, one instruction each, followed by the
+-- step that the answer names.
 use Rattle.std.specs.Prelude.{◌≡◌, ℕ, ◌+◌, ◌<◌, List, [], length, Option}
 use Rattle.cap_word.specs.Calls.{Blocking, Immediate}
 use Rattle.cap_word.specs.Runs.{Asks, Stops}
@@ -10,7 +10,8 @@ use Rattle.flat_code.specs.declared.operations.Op.{Op}
 use Rattle.stack_certificate.specs.Certificates.{fact_at, need_of}
 use Rattle.stack_certificate.specs.Templates.{kind_of}
 use Rattle.machine_world.specs.Held.{copies_in}
-use Rattle.machine_world.specs.Local.{Local, Question, Calls, Starts, Ended, Trapped, NoRoom, t1, local_step}
+use Rattle.stack_certificate.specs.Registers.{t1}
+use Rattle.machine_world.specs.Local.{Local, Question, Calls, Starts, Ended, Trapped, NoRoom, local_step}
 use Rattle.machine_world.specs.Places.{Checked}
 use Rattle.segment_laws.specs.Ways.{IsGoodState, Leads}
 use Rattle.segment_run.specs.Contexts.{IsOwned}
@@ -40,8 +41,8 @@ abbrev pub IsAtAsk : Checked → List ℕ → Local → Ask → Type 0
 IsAtAsk c code l (Ask.Spawn function argument) = IsAtSpawn c code l function argument
 IsAtAsk c code l ask = IsAtModel c code l (Calls (Immediate ask))
 
--- what an answer says of the thread to which the steps led, with so much fuel left, and of the thread and the fuel after
--- the call. At all answers but an end nothing more retires, and nothing has changed.
+-- what an answer says of the thread to which the steps led, with this fuel left, and of the thread and the fuel after
+-- the call. For every answer except an end, nothing more retires, and nothing has changed.
 abbrev pub IsEnd : Checked → List ℕ → Segment → Local → ℕ → Local → ℕ → Type 0
 IsEnd c code (answer.Blocks block) at left after left_after =
     (0 < left) × IsAtModel c code at (Calls (Blocking block)) × (after ≡ at) × (left_after ≡ left)
@@ -54,8 +55,8 @@ IsEnd c code answer.NoChunk at left after left_after =
     (0 < left) × (local_step code at ≡ Stops NoRoom) × FitsNone at.areas.pool (read at.core.x t1) × (after ≡ at) × (left_after ≡ left)
 IsEnd c code answer.OutOfFuel at left after left_after = (left ≡ 0) × (after ≡ at) × (left_after ≡ 0)
 
--- a segment from one thread and fuel to another: so many instructions went on, each from a good state, to a good state at
--- which the answer comes
+-- a segment from one thread and fuel to another: a number of instructions, each from a good state, up to the good state
+-- of the answer
 pub record IsSegment (c : Checked) (code : List ℕ) (segment : Segment) (before : Local) (left : ℕ) (after : Local) (left_after : ℕ) : Type 0 where
   pub steps : ℕ
   pub spare : ℕ
@@ -65,8 +66,8 @@ pub record IsSegment (c : Checked) (code : List ℕ) (segment : Segment) (before
   pub good : IsGoodState c code at
   pub end : IsEnd c code segment at spare after left_after
 
--- the pool has its shape; no chunk that was neither in the chain nor free has changed; the chain and the free list have the same chunks as before,
--- and those of the chain are held and all different
+-- the pool has the same shape; no chunk that was neither in the chain nor free has changed; chain and free lists
+-- together have the same chunks as before, and those of the chain are held and distinct
 pub record KeepsChunks (before after : Local) : Type 0 where
   pub shape : shape_of after.areas.pool ≡ shape_of before.areas.pool
   pub others : (chunk : ℕ) → copies_in chunk before ≡ 0 → chunk_of after.areas.pool chunk ≡ chunk_of before.areas.pool chunk

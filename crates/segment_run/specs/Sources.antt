@@ -1,4 +1,4 @@
--- What the answer of a segment says of the source thread that the context stood for.
+-- What the answer of a segment says of the source thread for which the context stood.
 use Rattle.std.specs.Prelude.{◌≡◌, ℕ, List, Option, Some, None}
 use Rattle.cap_word.specs.Calls.{Call, Blocking, Immediate}
 use Rattle.cap_word.specs.Runs.{Asks, Stops, moves}
@@ -28,7 +28,7 @@ pub record StopsNext (c : Checked) (program : ProgramTree) (running : Running) (
   pub stops : moves (source_machine program) steps running ≡ Stops (record { trap = trap; globals = globals })
   pub globals_are : AreGlobals c.flat globals after.areas.globals
 
--- an answer comes where the source thread's next call or stop is just that; where fuel or chunks ran out, nothing is said
+-- an answer is the source thread's next call or stop; if fuel or chunks ran out, nothing is said
 abbrev pub IsSourceAnswer : Checked → ProgramTree → Running → Segment → Local → Type 0
 IsSourceAnswer c program running (answer.Blocks block) after = CallsNext c program running (Blocking block) after
 IsSourceAnswer c program running (answer.Asks ask) after = CallsNext c program running (Immediate ask) after

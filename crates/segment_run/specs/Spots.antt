@@ -1,4 +1,4 @@
--- Spots of the map as the code finds them.
+-- Spots of the map in the code.
 use Rattle.std.specs.Prelude.{◌≡◌, ℕ, ◌+◌, ◌*◌, ◌/◌, ◌<◌, ◌≤◌, length, slice_index, slice_set}
 use Rattle.chunk_pool.specs.Pool.{word_of, with_word, place_of, bytes_of}
 use Rattle.machine_world.specs.Areas as world
@@ -11,13 +11,13 @@ world_spot (InGlobals offset) = world.InGlobals offset
 world_spot (InTables offset) = world.InTables offset
 world_spot (InPayload chunk offset) = world.InPayload chunk offset
 
--- the spot has a word of the areas
+-- the spot is one of a word of the areas
 abbrev pub IsSpotOf : world.Areas → Spot → Type 0
 IsSpotOf areas (InGlobals offset) = offset < 4 * length areas.globals
 IsSpotOf areas (InTables offset) = offset < 4 * length areas.tables
 IsSpotOf areas (InPayload chunk offset) = (16 ≤ offset) × (chunk < areas.pool.count) × (offset < bytes_of areas.pool chunk)
 
--- and it is that of an address
+-- and it is the spot of an address
 abbrev pub IsPlaceOf : world.Areas → ℕ → Spot → Type 0
 IsPlaceOf areas address (InGlobals offset) = address ≡ globals_place + offset
 IsPlaceOf areas address (InTables offset) = address ≡ tables_place + offset
@@ -27,7 +27,7 @@ pub record IsOn (areas : world.Areas) (address : ℕ) (spot : Spot) : Type 0 whe
   pub of : IsSpotOf areas spot
   pub place : IsPlaceOf areas address spot
 
--- the word there, and the areas with another one there
+-- the word there, and the areas after it is written
 abbrev pub word_on : world.Areas → Spot → ℕ
 word_on areas (InGlobals offset) = slice_index areas.globals (offset / 4)
 word_on areas (InTables offset) = slice_index areas.tables (offset / 4)

@@ -7,7 +7,7 @@ use Rattle.machine_world.specs.Threads.{start_core}
 use Rattle.segment_run.specs.Contexts.{core_of}
 use Rattle.segment_run.specs.declared.contexts.Context.{Context}
 
--- what came of a start, where the machine world takes this chunk, or none, for the new thread
+-- the result of a start, if the machine world takes this chunk, or none, for the new thread
 abbrev pub IsStarted : Option Taken → ℕ → ℕ → Option Context → Areas → Areas → Type 0
 IsStarted None entry argument None before after = after ≡ before
 IsStarted (Some taken) entry argument (Some context) before after =

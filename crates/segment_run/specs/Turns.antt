@@ -1,4 +1,4 @@
--- What the code tells of one instruction of a thread.
+-- What the code returns for one instruction of a thread.
 use Rattle.std.specs.Prelude.{◌≡◌, ℕ, ◌+◌, ◌<◌, List, [], ◌∷◌, Bool, true, false}
 use Rattle.cap_word.specs.Calls.{Call, Blocking, Immediate}
 use Rattle.cap_word.specs.Runs as runs
@@ -8,7 +8,8 @@ use Rattle.rv_machine.specs.Registers.{read}
 use Rattle.machine_world.specs.Areas.{Areas}
 use Rattle.machine_world.specs.Held.{copies_in}
 use Rattle.machine_world.specs.WellFormed.{AreWellFormed}
-use Rattle.machine_world.specs.Local.{Local, Calls, Ended, Trapped, NoRoom, t1, linked, local_step, system_call}
+use Rattle.stack_certificate.specs.Registers.{t1}
+use Rattle.machine_world.specs.Local.{Local, Calls, Ended, Trapped, NoRoom, linked, local_step, system_call}
 use Rattle.machine_world.specs.Places.{Checked}
 use Rattle.segment_laws.specs.Ways.{HasForm, Leads}
 use Rattle.segment_run.specs.Contexts.{chain_from}
@@ -27,7 +28,7 @@ abbrev pub turn_of : Call → Turn
 turn_of (Blocking block) = Blocks block
 turn_of (Immediate ask) = Asks ask
 
--- what an instruction came to is the step of the machine world
+-- the outcome of an instruction is the step of the machine world
 abbrev pub IsTurn : Checked → List ℕ → Local → Turn → Local → Type 0
 IsTurn c code before Goes after = local_step code before ≡ runs.Goes after
 IsTurn c code before (Blocks block) after = IsAtModel c code before (Calls (Blocking block)) × (after ≡ before)
@@ -36,20 +37,20 @@ IsTurn c code before Ends after = (local_step code before ≡ Stops (Ended after
 IsTurn c code before (Traps kind) after = (local_step code before ≡ Stops (Trapped kind)) × (after ≡ before)
 IsTurn c code before NoChunkFree after = (local_step code before ≡ Stops NoRoom) × FitsNone before.areas.pool (read before.core.x t1) × (after ≡ before)
 
--- a LINK, where a free chunk fits the need and where none does
+-- a LINK, if a free chunk fits the need, and if none does
 abbrev pub IsLink : Bool → Local → Local → Type 0
 IsLink true before after = linked before ≡ runs.Goes after
 IsLink false before after = (linked before ≡ Stops NoRoom) × FitsNone before.areas.pool (read before.core.x t1) × (after ≡ before)
 
--- what a thread keeps along its steps, to its end: the form of the areas, its chunks and the free ones together, and the
--- words of all others
+-- what a thread keeps along its steps, up to its end: the form of the areas, its chunks and the free ones together, and
+-- the words of all other chunks
 pub record KeepsCounts (c : Checked) (before after : Local) : Type 0 where
   pub areas : AreWellFormed c after.areas
   pub shape : shape_of after.areas.pool ≡ shape_of before.areas.pool
   pub copies : (chunk : ℕ) → copies_in chunk after ≡ copies_in chunk before
   pub others : (chunk : ℕ) → copies_in chunk before ≡ 0 → chunk_of after.areas.pool chunk ≡ chunk_of before.areas.pool chunk
 
--- a thread under way: from its start so many good steps, each of which keeps its form and its chunks
+-- a running thread: good steps from its start, each of which keeps its form and its chunks
 pub record IsUnderWay (c : Checked) (code : List ℕ) (start : Local) (left : ℕ) (now : Local) (left_now : ℕ) : Type 0 where
   pub steps : ℕ
   pub fuel : steps + left_now ≡ left

@@ -10,14 +10,14 @@ use Rattle.machine_world.specs.Places.{Checked, Place, InOperation, IsAt}
 use Rattle.machine_world.specs.Rests.{IsAtCall, IsPastCall}
 use Rattle.segment_run.specs.declared.walking.Frame.{Frame as ReadFrame}
 
--- an address stands among the words of a call of function f, of that site
+-- an address is among the words of a call of function f at that site
 pub record IsInCall (c : Checked) (address f site : ℕ) : Type 0 where
   pub operation : ℕ
   pub word : ℕ
   pub at : IsAt c address (InOperation f operation word)
   pub site_is : site_in (operation_at c.flat f operation) ≡ Some site
 
--- what is read of a frame is of that one, which lies in place above the others
+-- the data that was read is that of this frame, which is in place above the others
 pub record IsReadOf (c : Checked) (pool : Pool) (frame : ReadFrame) (chain : List ℕ) (at : Frame) (below : List Frame) : Type 0 where
   pub function : at.function ≡ frame.function
   pub low : at.low ≡ frame.low
@@ -28,16 +28,16 @@ pub record IsReadOf (c : Checked) (pool : Pool) (frame : ReadFrame) (chain : Lis
   pub front : slice_get chain 0 ≡ Some at.chunk
   pub headers : HeadersName pool chain
 
--- it is of some frame
+-- it is that of some frame
 abbrev pub IsRead : Checked → Pool → ReadFrame → Type 0
 IsRead c pool frame = (chain : List ℕ) × (at : Frame) × (below : List Frame) × IsReadOf c pool frame chain at below
 
--- a thread rests at or behind the ECALL of operation i of function f with these frames
+-- a thread rests at or just after the ECALL of operation i of function f with these frames
 abbrev pub IsAround : (c : Checked) (pool : Pool) (core : Core) (f i : ℕ) (frames : List Frame) → Type 0
 IsAround c pool core f i frames = ((op : Op) × (word : ℕ) × IsAtCall c pool core f i op word frames)
     ⊎ ((op : Op) × (word : ℕ) × (place : Place) × IsPastCall c pool core f i op word place frames)
 
--- so many sites of its key are read, and the frame from which the others are
+-- this number of sites of its key has been read, and the others follow from this frame
 pub record IsWalked (c : Checked) (pool : Pool) (key : List ℕ) (frame : ReadFrame) (sites : List ℕ) (count : ℕ) : Type 0 where
   pub chain : List ℕ
   pub at : Frame
@@ -45,6 +45,6 @@ pub record IsWalked (c : Checked) (pool : Pool) (key : List ℕ) (frame : ReadFr
   pub is_read : IsReadOf c pool frame chain at below
   pub key_is : key ≡ take count sites ++ take (8 - count) (sites_of c below)
 
--- so it is of the key of each call around which the thread rests
+-- this holds of the key of each call at which the thread rests
 abbrev pub AreWalked : Checked → Pool → Core → ReadFrame → List ℕ → ℕ → Type 0
 AreWalked c pool core frame sites count = (f i : ℕ) (frames : List Frame) → IsAround c pool core f i frames → IsWalked c pool (key_of c f i frames) frame sites count

@@ -16,13 +16,13 @@ const TABLES: u32 = 0x2000_0000;
 
 const CHUNKS: u32 = 0x8000_0000;
 
-// The bytes of a chunk's header.
+// The size of a chunk's header in bytes.
 const HEADER: u32 = 16;
 
-/// The memory of the threads: the pool of chunks, the global words and the table words, of each at most 65,536.
+/// The memory of the threads: the pool of chunks, at most 65,536 global words, and at most 65,536 table words.
 ///
-/// As memory by bytes, the globals stand from 0x10000000 and the tables from 0x20000000; a chunk's payload stands behind
-/// its header. Tables can't be written. Every other byte, and so every header, is neither readable nor writable.
+/// As memory by bytes, the globals begin at 0x10000000 and the tables at 0x20000000; a chunk's payload follows its
+/// header. Tables can't be written. Every other byte, and so every header, is neither readable nor writable.
 #[derive(Drop)]
 pub struct Areas {
     pub(crate) pool: ChunkPool,
@@ -44,7 +44,11 @@ impl Model for Areas {
 impl Areas {
     ghost use Rattle.segment_run.specs.Kept.{AreKept};
 
-    /// The areas of that pool and of copies of an image's global and table words. A want of memory drops the pool.
+    /// Returns the areas of that pool with copies of an image's global and table words.
+    ///
+    /// # Errors
+    ///
+    /// `AllocError` if an allocation fails; the pool is dropped then.
     pub fn new(alloc: Global, image: &Image, pool: ChunkPool) -> Result<Areas, AllocError>
         requires globals { length image.now.globals ≤ 65536 }
         requires tables { length image.now.tables ≤ 65536 }
@@ -59,14 +63,14 @@ impl Areas {
         })
     }
 
-    /// The pool of chunks.
+    /// Returns the pool of chunks.
     pub fn pool(&self) -> &ChunkPool
         ensures { result.now ≡ self.now.pool }
     {
         &self.pool
     }
 
-    // What all areas keep.
+    // Shows the invariant of all areas.
     pub(crate) fn are_kept(&self)
         ensures { AreKept self.now }
     {
@@ -74,7 +78,7 @@ impl Areas {
     }
 }
 
-// A copy of these words.
+// Returns a copy of these words.
 fn copied(alloc: Global, words: &[u32]) -> Result<Vec<u32>, AllocError>
     ensures items { IfOk result (λ copy. copy.items ≡ words.now) }
     ensures words { IfOk result (λ copy. AreWords copy.items) }
@@ -82,7 +86,7 @@ fn copied(alloc: Global, words: &[u32]) -> Result<Vec<u32>, AllocError>
     Vec::from_slice(alloc, words)
 }
 
-// Where a byte of the map lies: so many bytes from the start of the globals, of the tables, or of a chunk.
+// The place of a byte in the map: its offset in bytes from the start of the globals, of the tables, or of a chunk.
 #[derive(Clone, Copy)]
 enum Spot {
     InGlobals { offset: u32 },
@@ -93,7 +97,7 @@ enum Spot {
 impl Spot {
     ghost use Rattle.segment_run.specs.Spots.{world_spot};
 
-    // Whether a byte there may be written.
+    // Checks whether a byte there may be written.
     fn is_writable(self) -> bool
         ensures { result ≡ is_writable_on (Some (world_spot self)) }
     {
@@ -111,7 +115,7 @@ impl Areas {
     ghost use Rattle.segment_run.specs.Kept.{AreKept};
     ghost use Rattle.segment_run.specs.Spots.{world_spot, IsOn, word_on, with_word_on};
 
-    // The spot of an address, if it is on the map.
+    // Returns the spot of an address, if it is on the map.
     fn spot(&self, address: u32) -> Option<Spot>
         ensures spot { option_map world_spot result ≡ spot_of self.now address }
         ensures on { IfSome result (IsOn self.now address) }
@@ -138,7 +142,7 @@ impl Areas {
         }
     }
 
-    // The spot of an address from the first chunk on.
+    // Returns the spot of an address from the first chunk on.
     fn payload_spot(&self, address: u32) -> Option<Spot>
         requires { 0x8000_0000 ≤ address }
         ensures spot { option_map world_spot result ≡ spot_of self.now address }
@@ -157,8 +161,8 @@ impl Areas {
         }
     }
 
-    // The spot of an address that is on the map. Inlined where a word is read or written: that needs no chunk's number, so
-    // the compiler leaves out the search for it.
+    // Returns the spot of an address that is on the map. It is inlined where a word is read or written: those don't
+    // need the chunk's number, so the compiler removes the search for it.
     #[inline(always)]
     fn spot_on(&self, address: u32) -> Spot
         requires { (spot : world.Spot) × (spot_of self.now address ≡ Some spot) }
@@ -183,7 +187,7 @@ impl Areas {
         }
     }
 
-    // The chunk of an address from the first chunk on that is on the map.
+    // Returns the chunk of an address that is on the map, from the first chunk on.
     #[inline(always)]
     fn chunk_with(&self, address: u32) -> u32
         requires high { 0x8000_0000 ≤ address }
@@ -197,7 +201,7 @@ impl Areas {
         }
     }
 
-    // The word at the spot of an address.
+    // Returns the word at the spot of an address.
     #[inline(always)]
     fn word_on(&self, spot: Spot, address: u32) -> u32
         requires { IsOn self.now address spot }
@@ -230,7 +234,7 @@ impl Areas {
     ghost use Rattle.rv_machine.specs.Bytes.{with_word, word_is_writable};
     ghost use Rattle.rv_machine.specs.Rows.{word_loaded};
 
-    // The word at an address from which one can be loaded.
+    // Returns the word at an address from which it can be loaded.
     #[inline(always)]
     pub(crate) fn read_word(&self, address: u32) -> u32
         requires { (word : ℕ) × (word_loaded (byte_at self.now) address ≡ Ok word) }
@@ -240,7 +244,7 @@ impl Areas {
         self.word_on(spot, address)
     }
 
-    // Writes a word at an address at which one can be stored.
+    // Writes a word at an address to which it can be stored.
     #[inline(always)]
     pub(crate) fn put_word(&mut self, address: u32, word: u32)
         requires aligned { address % 4 ≡ 0 }
@@ -252,7 +256,7 @@ impl Areas {
     }
 }
 
-// The word with that byte in the place k of its four bytes.
+// Returns the word with byte k of its four bytes replaced.
 fn put_byte(word: u32, k: u32, byte: u8) -> u32
     requires { k < 4 }
     ensures { result ≡ word_with word k byte }

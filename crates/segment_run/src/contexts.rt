@@ -12,24 +12,29 @@ ghost use Rattle.segment_run.specs.Passing.{RestsBefore, RestsBehind, WaitsBefor
 
 use crate::registers::A0;
 
-/// How many instructions may still be retired.
+/// The number of instructions that may still retire.
 #[derive(Clone, Copy)]
 pub struct Fuel {
+    /// The number of instructions that may still retire.
     pub left: u64,
 }
 
-/// A thread between two segments: the place of its next instruction, its registers by number, the innermost of its chunks
-/// and how many it holds. The headers of its chunks name the others.
+/// A thread between two segments: its pc, its registers by number, its innermost chunk, and the number of its chunks.
+/// The headers of its chunks name the others.
 #[derive(Clone, Copy)]
 pub struct Context {
+    /// The address of the next instruction.
     pub pc: u32,
+    /// The values of the registers, by number.
     pub x: [u32; 32],
+    /// The innermost chunk.
     pub chunk: u32,
+    /// The number of chunks that it holds.
     pub depth: u32,
 }
 
-/// One instruction retires: pc goes on to the next and the fuel falls by one. At the ECALL of a call of the thread package
-/// this passes the call. pc is below 2^32 - 4, and some fuel is left.
+/// Retires one instruction: pc advances to the next, and the fuel decreases by one. At the ECALL of a call of the
+/// thread package, this passes the call. pc is below 2^32 - 4, and some fuel is left.
 pub fn retire(context: &mut Context, fuel: &mut Fuel)
     requires pc { context.old.pc < 2 ^ 32 - 4 }
     requires fuel { 0 < fuel.old.left }
@@ -45,7 +50,7 @@ pub fn retire(context: &mut Context, fuel: &mut Fuel)
     fuel.left -= 1;
 }
 
-/// Sets register a0. Just behind an ECALL this is the call's result.
+/// Sets register a0. Just after an ECALL this is the call's result.
 pub fn reply(context: &mut Context, value: u32)
     ensures result { context.new ≡ record context.old { x = write context.old.x 10 value } }
     ensures rests { (accepted : Accepted) (areas : Areas) → RestsBehind (checked_of accepted) (code_of accepted) (local_of areas context.old) → RestsBehind (checked_of accepted) (code_of accepted) (local_of areas context.new) }
@@ -56,7 +61,7 @@ pub fn reply(context: &mut Context, value: u32)
     context.x[A0] = value;
 }
 
-// What the registers of all contexts keep.
+// Shows that the registers of every context are words.
 pub(crate) fn are_registers(context: &Context)
     ensures pc { context.now.pc < 2 ^ 32 }
     ensures count { length context.now.x ≡ 32 }
@@ -67,7 +72,7 @@ pub(crate) fn are_registers(context: &Context)
     are_words(&context.x);
 }
 
-// These are words.
+// Shows that values of type `u32` are words.
 fn are_words(values: &[u32])
     ensures { AreWords values.now }
 {

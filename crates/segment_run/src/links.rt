@@ -12,11 +12,11 @@ use crate::running::Thread;
 use cap_word::add;
 use chunk_pool::ChunkPool;
 
-// The bytes of a chunk's header.
+// The size of a chunk's header in bytes.
 const HEADER: u32 = 16;
 
-// LINK: takes a chunk for the need in t1, saves tp and sp in its header, and goes on with tp at its payload and sp at its
-// end. Answers whether a free chunk fits; where none does, nothing changes.
+// LINK: takes a chunk for the need in t1, saves tp and sp in its header, and continues with tp at its payload and sp at
+// its end. Returns whether a free chunk fits; if none does, nothing changes.
 pub(crate) fn link(areas: &mut Areas, thread: &mut Thread) -> bool
     requires owns { Owns (thread_of areas.old thread.old) }
     requires front { TpIsFront areas.old.pool (thread_of areas.old thread.old).core (thread_of areas.old thread.old).core.chain }
@@ -36,7 +36,7 @@ pub(crate) fn link(areas: &mut Areas, thread: &mut Thread) -> bool
     true
 }
 
-// UNLINK: tp and sp come back from the header of the innermost chunk, which goes back to the pool.
+// UNLINK: restores tp and sp from the header of the innermost chunk, and gives that chunk back to the pool.
 pub(crate) fn unlink(areas: &mut Areas, thread: &mut Thread)
     requires owns { Owns (thread_of areas.old thread.old) }
     requires front { TpIsFront areas.old.pool (thread_of areas.old thread.old).core (thread_of areas.old thread.old).core.chain }
@@ -54,7 +54,7 @@ pub(crate) fn unlink(areas: &mut Areas, thread: &mut Thread)
     thread.depth -= 1;
 }
 
-// END: the last chunk goes back to the pool.
+// END: gives the last chunk back to the pool.
 pub(crate) fn end(areas: &mut Areas, thread: &mut Thread)
     requires owns { Owns (thread_of areas.old thread.old) }
     requires last { thread.old.depth ≡ 1 }
@@ -65,7 +65,7 @@ pub(crate) fn end(areas: &mut Areas, thread: &mut Thread)
     thread.depth = 0;
 }
 
-// The chunk that has an address, or another one where none has.
+// Returns the chunk of an address, or `other` if no chunk has it.
 fn chunk_or(pool: &ChunkPool, address: u32, other: u32) -> u32
     ensures { (chunk : ℕ) → chunk_at pool.now address ≡ Some chunk → result ≡ chunk }
 {

@@ -1,26 +1,16 @@
-// What an accepted program holds at a number or an address.
+// Look-ups in an accepted program by number or address.
 
 ghost use Rattle.std.specs.Prelude.{◌≡◌, ℕ, ◌<◌, length};
 ghost use Rattle.certificate_rules.specs.Validity.{IsValid};
 ghost use Rattle.flat_code.specs.Codes as codes;
 ghost use Rattle.flat_code.specs.ProgramView.{program_code};
-ghost use Rattle.stack_certificate.specs.Certificates.{fact_at};
 ghost use Rattle.segment_run.specs.Contexts.{checked_of};
 ghost use Rattle.segment_run.specs.Lookups.{HasEntry};
 
 use accepted_pairs::Accepted;
 use flat_code::{FlatFunction, FlatProgram, Op};
-use stack_certificate::{Certificate, FunctionFact};
 
-// What the certificate says of a function.
-pub(crate) fn fact_of(certificate: &Certificate, function: u32) -> &FunctionFact
-    requires { function < length certificate.now.functions }
-    ensures { result.now ≡ fact_at certificate.now function }
-{
-    &certificate.functions.as_slice()[function as usize]
-}
-
-// A function of the program.
+// Returns a function of the program.
 pub(crate) fn function_of(flat: &FlatProgram, function: u32) -> &FlatFunction
     requires { function < length (program_code flat.now).functions }
     ensures { result.now ≡ codes.function_at (program_code flat.now) function }
@@ -28,7 +18,7 @@ pub(crate) fn function_of(flat: &FlatProgram, function: u32) -> &FlatFunction
     &flat.functions()[function as usize]
 }
 
-// The function that begins at an address: every function has words.
+// Returns the function that begins at an address. Each function has at least one word, so there is only one.
 pub(crate) fn function_with_entry(accepted: &Accepted, entry: u32) -> u32
     requires valid { IsValid (checked_of accepted.now).flat accepted.now.image accepted.now.certificate }
     requires there { (f : ℕ) × HasEntry accepted.now.certificate entry f }
@@ -37,7 +27,7 @@ pub(crate) fn function_with_entry(accepted: &Accepted, entry: u32) -> u32
     accepted.function_at(entry)
 }
 
-// The site of an operation, where it is a call.
+// Returns the site of an operation, if it is a call.
 pub(crate) fn site_of(op: &Op) -> Option<u32>
     ensures { result ≡ codes.site_of op.now }
 {

@@ -1,4 +1,4 @@
-// Where an address stands in the code.
+// The place of an address in the code.
 ghost use Rattle.std.specs.Prelude.{◌≡◌, ℕ};
 ghost use Rattle.c_lower.specs.ProgramCode.{lowered};
 ghost use Rattle.accepted_pairs.specs.Accepting.{accepted_tree};
@@ -7,8 +7,9 @@ ghost use Rattle.machine_world.specs.Places.{InOperation, IsAt};
 ghost use Rattle.segment_run.specs.Contexts.{checked_of};
 ghost use Rattle.segment_run.specs.Walking.{IsInCall};
 
-use crate::lookups::{fact_of, function_of, site_of};
+use crate::lookups::{function_of, site_of};
 use accepted_pairs::Accepted;
+use stack_certificate::fact_of;
 
 // A call in the code: its function and the number of its site.
 #[derive(Clone, Copy)]
@@ -17,7 +18,7 @@ pub(crate) struct CallPlace {
     pub(crate) site: u32,
 }
 
-// The call among whose words an address stands.
+// Returns the call whose words contain an address.
 pub(crate) fn call_at(accepted: &Accepted, address: u32) -> CallPlace
     requires valid { IsValid (lowered (accepted_tree accepted.now)) accepted.now.image accepted.now.certificate }
     requires there { (f : ℕ) × (site : ℕ) × IsInCall (checked_of accepted.now) address f site }
@@ -33,7 +34,7 @@ pub(crate) fn call_at(accepted: &Accepted, address: u32) -> CallPlace
     }
 }
 
-// The operation of a function among whose words an address stands, by halving.
+// Returns the operation of a function whose words contain an address, by binary search.
 fn operation_with(accepted: &Accepted, function: u32, address: u32) -> u32
     requires valid { IsValid (lowered (accepted_tree accepted.now)) accepted.now.image accepted.now.certificate }
     requires there { (i : ℕ) × (word : ℕ) × IsAt (checked_of accepted.now) address (InOperation function i word) }

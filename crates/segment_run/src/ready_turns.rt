@@ -5,6 +5,7 @@ ghost use Rattle.flat_code.specs.WellFormed.{IsWellFormed};
 ghost use Rattle.rv_code.specs.declared.instructions.Instr.{Instr};
 ghost use Rattle.rv_machine.specs.Registers.{read};
 ghost use Rattle.rv_machine.specs.Step.{instruction_at};
+ghost use Rattle.stack_image.specs.Addresses.{code_start};
 ghost use Rattle.segment_laws.specs.Ways.{HasForm};
 ghost use Rattle.segment_run.specs.Contexts.{checked_of, code_of};
 ghost use Rattle.segment_run.specs.ReadyTurns.{machine_at, HasRegisters, IsReadyIn, IsKindAt, GoesOn, WentOn};
@@ -19,29 +20,27 @@ use accepted_pairs::Accepted;
 use cap_word::add;
 use decoded_code::{Action, Kind, Ready};
 use rv_machine::Regs;
+use stack_image::CODE_START;
 
-// The first byte of the code.
-const CODE_START: u32 = 0x1000;
-
-// The most operations that one turn does.
+// The maximum number of operations in one turn.
 const MOST: u64 = 3;
 
-// How far a thread came by ready operations: its registers, and the fuel that is left.
+// How far a thread came by ready operations: its registers, and the remaining fuel.
 #[derive(Clone, Copy)]
 pub(crate) struct Progress {
     pub(crate) regs: Regs,
     pub(crate) left: u64,
 }
 
-// Where a run by ready operations stands: at the operation of an index, with so much fuel left.
+// The state of a run by ready operations: the index of the next operation, and the remaining fuel.
 #[derive(Clone, Copy)]
 struct Stand {
     at: usize,
     left: u64,
 }
 
-// Runs a thread that never comes to a fault up to the next instruction that isn't ready, or until the fuel is used up. Its
-// registers and the fuel are its own meanwhile, so that the compiler keeps the index and the fuel out of memory.
+// Runs a thread that never faults up to the next instruction that isn't ready, or until the fuel is used up. It has
+// local copies of the registers and the fuel, so that the compiler keeps the index and the fuel out of memory.
 pub(crate) fn run_ready(
     accepted: &Accepted,
     areas: &mut Areas,
@@ -64,7 +63,7 @@ pub(crate) fn run_ready(
     stopped_at(last, &file)
 }
 
-// Goes on by groups, as long as fuel for the largest is left.
+// Runs groups of operations, as long as fuel for the largest group is left.
 fn run_groups(ready: &[Ready], start: Stand, areas: &mut Areas, file: &mut RegisterFile) -> Stand
     requires { (run : Run) × IsIn run ready.now areas.old file.old start.at start.left }
     ensures { (run : Run) → IsIn run ready.now areas.old file.old start.at start.left → IsIn run ready.now areas.new file.new result.at result.left }
@@ -84,7 +83,7 @@ fn run_groups(ready: &[Ready], start: Stand, areas: &mut Areas, file: &mut Regis
     stand
 }
 
-// Goes on by one operation at a time.
+// Runs one operation at a time.
 fn run_singly(ready: &[Ready], start: Stand, areas: &mut Areas, file: &mut RegisterFile) -> Stand
     requires { (run : Run) × IsIn run ready.now areas.old file.old start.at start.left }
     ensures { (run : Run) → IsIn run ready.now areas.old file.old start.at start.left → IsIn run ready.now areas.new file.new result.at result.left }
@@ -105,10 +104,10 @@ fn run_singly(ready: &[Ready], start: Stand, areas: &mut Areas, file: &mut Regis
     stand
 }
 
-// Does the operation of an index and, where a group begins there, the others of the group. It answers where the thread stands
-// then, with the fuel that was left before the last of them: the loop takes that one for every kind. None where only the
-// machine's step does the first, and then nothing has changed. Each kind has an arm of its own, so that the compiler makes one
-// jump of it.
+// Executes the operation at an index and, if a group begins there, the others of the group. Returns the next index,
+// with the fuel that was left before the last of them: the loop subtracts one instruction for every kind. Returns
+// `None` if only the machine's step can execute the first; then nothing has changed. Each kind has its own arm, so that
+// the compiler makes one jump of it.
 #[inline(always)]
 fn turns(ready: &[Ready], stand: Stand, areas: &mut Areas, file: &mut RegisterFile) -> Option<Stand>
     requires run { (run : Run) × IsIn run ready.now areas.old file.old stand.at stand.left }
@@ -168,7 +167,7 @@ fn turns(ready: &[Ready], stand: Stand, areas: &mut Areas, file: &mut RegisterFi
     }
 }
 
-// Does the operation of an index, of a known kind. It answers as `turns` does.
+// Executes the operation at an index, of a known kind. Returns as `turns` does.
 #[inline(always)]
 fn one(
     kind: Kind,
@@ -196,7 +195,7 @@ fn one(
     }
 }
 
-// Does the operation of an index and the one behind it, of known kinds. It answers as `turns` does.
+// Executes the operation at an index and the next one, of known kinds. Returns as `turns` does.
 #[inline(always)]
 fn pair(
     first: Kind,
@@ -233,7 +232,7 @@ fn pair(
     }
 }
 
-// Does the operation of an index and the two behind it, of known kinds. It answers as `turns` does.
+// Executes the operation at an index and the next two, of known kinds. Returns as `turns` does.
 #[inline(always)]
 fn triple(
     first: Kind,
@@ -275,8 +274,8 @@ fn triple(
     }
 }
 
-// Does the operation of an index as one of a kind. It answers the index of the next, or None where only the machine's step
-// does it, and then nothing has changed.
+// Executes the operation at an index as one of a kind. Returns the index of the next operation, or `None` if only the
+// machine's step can execute it; then nothing has changed.
 #[inline(always)]
 fn turn_at(
     kind: Kind,
@@ -294,7 +293,7 @@ fn turn_at(
     turn_in(kind, operation_at(ready, at), ready, at, areas, file)
 }
 
-// The same of an operation that is at hand.
+// Does the same for an operation that is given.
 #[inline(always)]
 fn turn_in(
     kind: Kind,
@@ -317,7 +316,7 @@ fn turn_in(
     turn(kind, op, a, b, at, areas, file)
 }
 
-// Where a thread stands at an index of the code.
+// Returns the progress of a thread that stops at an index of the code.
 fn stopped_at(stand: Stand, file: &RegisterFile) -> Progress
     requires { place_at stand.at < 2 ^ 32 }
     ensures { result ≡ record { regs = record { pc = place_at stand.at; x = file.now }; left = stand.left } }
@@ -331,7 +330,7 @@ fn stopped_at(stand: Stand, file: &RegisterFile) -> Progress
     }
 }
 
-// The index of the instruction at pc.
+// Returns the index of the instruction at pc.
 #[tactic(auto, unfolding(rv_machine::specs::Step::instruction_at))]
 fn index_at(pc: u32) -> usize
     requires { (words : List ℕ) × (instr : Instr) × (instruction_at words pc ≡ Ok instr) }
@@ -340,7 +339,7 @@ fn index_at(pc: u32) -> usize
     ((pc - CODE_START) / 4) as usize
 }
 
-// The ready operation of an index.
+// Returns the ready operation at an index.
 #[inline(always)]
 fn operation_at(ready: &[Ready], at: usize) -> &Ready
     requires there { (words : List ℕ) × (instr : Instr) × AreReady words (length words) ready.now × (instruction_at words (place_at at) ≡ Ok instr) }
@@ -351,8 +350,8 @@ fn operation_at(ready: &[Ready], at: usize) -> &Ready
     &ready[at]
 }
 
-// Does the ready operation of an index as one of a kind, and answers the index of the next; None where only the machine's
-// step does it, and then nothing has changed.
+// Executes the ready operation at an index as one of a kind, and returns the index of the next operation, or `None` if
+// only the machine's step can execute it; then nothing has changed.
 #[inline(always)]
 fn turn(
     kind: Kind,
@@ -403,7 +402,7 @@ fn turn(
     }
 }
 
-// The place behind the word of an index.
+// Returns the address after the word at an index.
 #[inline(always)]
 fn place_behind(at: usize) -> u32
     requires { place_at at < 2 ^ 32 }
@@ -412,15 +411,15 @@ fn place_behind(at: usize) -> u32
     add(CODE_START + 4 * at as u32, 4)
 }
 
-// The index of the word at a place whose bit 0 doesn't count.
+// Returns the index of the word at an address, ignoring bit 0.
 #[inline(always)]
 fn index_near(place: u32) -> usize
-    ensures { even place % 4 ≡ 0 → 4096 ≤ even place → place_at result ≡ even place }
+    ensures { even place % 4 ≡ 0 → code_start ≤ even place → place_at result ≡ even place }
 {
     (place.wrapping_sub(CODE_START) / 4) as usize
 }
 
-// The index to which a branch leads.
+// Returns the index to which a branch leads.
 #[inline(always)]
 fn branch_to(taken: bool, to: u32, at: usize) -> usize
     requires { place_at at < 2 ^ 32 }

@@ -3,8 +3,8 @@ ghost use Rattle.rv_machine.specs.Registers as file;
 
 use std::marker::Model;
 
-// The registers of a thread that runs, as contracts see them: the list of their values by number. What stands at 0 is
-// kept aside, and 0 stands there meanwhile, so that register 0 is read as all others are.
+// The registers of a running thread; contracts see them as the list of their values by number. The value at index 0 is
+// kept aside and replaced by 0 meanwhile, so that register 0 can be read like all others.
 #[derive(Drop)]
 pub(crate) struct RegisterFile {
     x: [u32; 32],
@@ -22,7 +22,7 @@ impl Model for RegisterFile {
 }
 
 impl RegisterFile {
-    // The registers of these values.
+    // Returns the registers with these values.
     pub(crate) fn new(values: [u32; 32]) -> RegisterFile
         ensures { result ≡ values }
     {
@@ -32,7 +32,7 @@ impl RegisterFile {
         RegisterFile { x, first }
     }
 
-    // The value of a register.
+    // Returns the value of a register.
     #[inline(always)]
     pub(crate) fn read(&self, register: u8) -> u32
         requires { register < 32 }
@@ -41,7 +41,7 @@ impl RegisterFile {
         self.x[register as usize]
     }
 
-    // Gives a register but 0 a value.
+    // Sets the value of a register other than 0.
     #[inline(always)]
     pub(crate) fn write(&mut self, register: u8, value: u32)
         requires some { 0 < register }
@@ -51,7 +51,7 @@ impl RegisterFile {
         self.x[register as usize] = value;
     }
 
-    // The values of the registers.
+    // Returns the values of the registers.
     pub(crate) fn values(&self) -> [u32; 32]
         ensures { result ≡ self.now }
     {

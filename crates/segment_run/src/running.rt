@@ -20,11 +20,9 @@ use accepted_pairs::Accepted;
 use cap_word::{Ask, Block, ModelledCall, SPAWN_NUMBER, TrapKind};
 use rv_code::Instr;
 use rv_machine::{Regs, StepResult, step_of};
+use stack_image::CODE_START;
 
-// The first byte of the code.
-const CODE_START: u32 = 0x1000;
-
-// A thread that runs: its registers, the innermost of its chunks and how many it holds.
+// A running thread: its registers, its innermost chunk, and the number of its chunks.
 #[derive(Clone, Copy)]
 pub(crate) struct Thread {
     pub(crate) regs: Regs,
@@ -32,7 +30,7 @@ pub(crate) struct Thread {
     pub(crate) depth: u32,
 }
 
-// What one instruction of a thread comes to.
+// The outcome of one instruction of a thread.
 #[derive(Clone, Copy)]
 pub(crate) enum Turn {
     Goes,
@@ -43,8 +41,8 @@ pub(crate) enum Turn {
     NoRoom,
 }
 
-// How far a thread came without a call: its registers, the fuel that is left, and the number of the call at whose ECALL it
-// stands; None where no fuel is left.
+// How far a thread came before a call: its registers, the remaining fuel, and the number of that call, or `None` if no
+// fuel is left.
 #[derive(Clone, Copy)]
 pub(crate) struct Pause {
     pub(crate) regs: Regs,
@@ -52,8 +50,8 @@ pub(crate) struct Pause {
     pub(crate) call: Option<u32>,
 }
 
-// Runs a thread that never comes to a fault up to its next ECALL, or until the fuel is used up. The registers and the fuel
-// are its own meanwhile, so that the compiler keeps pc and the fuel out of memory.
+// Runs a thread that never faults up to its next ECALL, or until the fuel is used up. It has local copies of the
+// registers and the fuel, so that the compiler keeps pc and the fuel out of memory.
 pub(crate) fn run_to_call(
     accepted: &Accepted,
     areas: &mut Areas,
@@ -106,7 +104,7 @@ pub(crate) fn run_to_call(
     }
 }
 
-// The instruction that stands at pc, in code of which each word was decoded before.
+// Returns the instruction at pc, from code whose words were all decoded before.
 #[tactic(auto, unfolding(rv_machine::specs::Step::instruction_at))]
 fn fetch(instrs: &[Option<Instr>], pc: u32) -> Instr
     requires there { (words : List ℕ) × (instr : Instr) × (instrs.now ≡ map decoding words) × (instruction_at words pc ≡ Ok instr) }
@@ -118,7 +116,7 @@ fn fetch(instrs: &[Option<Instr>], pc: u32) -> Instr
     }
 }
 
-// The call of a number, at an ECALL.
+// Makes the call of a number, at an ECALL.
 pub(crate) fn call(accepted: &Accepted, areas: &mut Areas, thread: &mut Thread, number: u32) -> Turn
     requires valid { IsValid (checked_of accepted.now).flat accepted.now.image accepted.now.certificate }
     requires form { HasForm (checked_of accepted.now) (thread_of areas.old thread.old) }
@@ -158,7 +156,7 @@ pub(crate) fn call(accepted: &Accepted, areas: &mut Areas, thread: &mut Thread, 
     }
 }
 
-// A call of the thread package but SPAWN, with what stands in a0 and a1.
+// Returns a call of the thread package other than SPAWN, with the values of a0 and a1.
 fn package_call(call: ModelledCall, a: u32, b: u32) -> Turn
     ensures { result ≡ turn_of (call_with call a b) }
 {
@@ -202,7 +200,7 @@ fn package_call(call: ModelledCall, a: u32, b: u32) -> Turn
     }
 }
 
-// The kind of a trap by its number.
+// Returns the kind of a trap by its number.
 fn trap_kind(number: u32) -> TrapKind
     requires { (number ≡ 1) ⊎ (number ≡ 2) }
     ensures { trapped number ≡ Stops (Trapped result) }

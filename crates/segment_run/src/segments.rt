@@ -18,27 +18,27 @@ use accepted_pairs::Accepted;
 use cap_word::{Ask, Block, TrapKind};
 use rv_machine::Regs;
 
-/// How far a segment came.
+/// The answer of a segment: where its thread is.
 #[derive(Clone, Copy, PartialEq, Eq)]
 pub enum Segment {
-    /// The thread stands at the ECALL of a call that blocks.
+    /// The thread is at the ECALL of a call that blocks.
     Blocks { block: Block },
-    /// It stands at the ECALL of a call that is answered at once.
+    /// It is at the ECALL of a call that is answered at once.
     Asks { ask: Ask },
-    /// It has ended, and its last chunk is given back.
+    /// It has ended, and its last chunk has been given back.
     Ends,
-    /// It stands at a trap of the source: an index of an array or of a table that is out of range.
+    /// It is at a trap of the source: an index of an array or of a table is out of range.
     Traps { kind: TrapKind },
     /// It needs a chunk, and no free chunk fits its need.
     NoChunk,
-    /// An instruction is still to do, and no fuel is left.
+    /// No fuel is left for the next instruction.
     OutOfFuel,
 }
 
-/// Runs a thread that rests and doesn't stand at an ECALL, until it stands at one of a call of the thread package, has
-/// ended, or can't go on.
+/// Runs a thread that rests and isn't at an ECALL, until it is at the ECALL of a call of the thread package, has ended,
+/// or can't continue.
 ///
-/// It is one function in every program, so that the compiler gives its loop the registers of the processor, whoever calls it.
+/// It is never inlined, so that its loop has all registers of the processor in every program.
 #[inline(never)]
 pub fn run_segment(
     accepted: &Accepted,
@@ -49,13 +49,13 @@ pub fn run_segment(
     requires areas { AreOf accepted.now areas.old }
     requires ready { IsReady (checked_of accepted.now) (code_of accepted.now) (local_of areas.old context.old) }
 
-    // The thread makes the machine's steps, from good state to good state, up to the answer, and the fuel falls by those
-    // that retire.
+    // The thread makes the machine's steps, from good state to good state, up to the answer, and the fuel decreases by
+    // those that retire.
     ensures machine { IsSegment (checked_of accepted.now) (code_of accepted.now) result (local_of areas.old context.old) fuel.old.left (local_of areas.new context.new) fuel.new.left }
     ensures chunks { KeepsChunks (local_of areas.old context.old) (local_of areas.new context.new) }
     ensures areas { AreOf accepted.now areas.new }
 
-    // For every source thread and globals that it stood for, the answer is that thread's next call or stop.
+    // For every source thread and globals for which it stood, the answer is that thread's next call or stop.
     ensures source { (thread : SourceThread) (globals : List (List ℕ)) →
         StandsForThread (checked_of accepted.now) (accepted_tree accepted.now) (local_of areas.old context.old) thread globals →
         IsSourceAnswer (checked_of accepted.now) (accepted_tree accepted.now) (going_on thread (read context.old.x 10) globals) result (local_of areas.new context.new) }
@@ -81,7 +81,7 @@ pub fn run_segment(
     segment
 }
 
-// What holds of each accepted program.
+// Shows the properties of every accepted program.
 pub(crate) fn are_sound(accepted: &Accepted)
     ensures valid { IsValid (checked_of accepted.now).flat accepted.now.image accepted.now.certificate }
     ensures formed { IsWellFormed (checked_of accepted.now).flat }
@@ -89,7 +89,7 @@ pub(crate) fn are_sound(accepted: &Accepted)
     accepted.is_valid();
 }
 
-// The same, of a thread whose registers stand together.
+// Does the same for a thread with its registers in one value.
 fn run_turns(
     accepted: &Accepted,
     areas: &mut Areas,

@@ -2,8 +2,8 @@ ghost use Rattle.std.specs.Prelude.{◌≡◌, ◌%◌, ◌≤◌, length};
 
 use accepted_pairs::Accepted;
 
-/// The laws of the sizes of an accepted program's areas: so many words of globals and of tables as `Areas` takes, and chunks
-/// as a pool may have. It does nothing.
+/// Laws of the sizes of an accepted program's areas: the numbers of global and table words are in the range of `Areas`,
+/// and the chunk size is one that a pool may have. No effect at run time.
 pub fn sizes_law(accepted: &Accepted)
     ensures globals { length accepted.now.image.globals ≤ 65536 }
     ensures tables { length accepted.now.image.tables ≤ 65536 }

@@ -10,18 +10,19 @@ ghost use Rattle.segment_run.specs.Starting.{IsStarted, first_arguments};
 
 use crate::areas::Areas;
 use crate::contexts::Context;
-use crate::lookups::fact_of;
 use crate::registers::{A0, RA, SP, TP};
 use accepted_pairs::Accepted;
+use stack_certificate::fact_of;
+use stack_image::CODE_START;
 
-// The address to which the last frame of a thread returns.
-const END_STUB: u32 = 0x1000;
+// The address of the end stub, with which the code begins and to which the last frame of a thread returns.
+pub(crate) const END_STUB: u32 = CODE_START;
 
-// The bytes of a chunk's header.
+// The size of a chunk's header in bytes.
 const HEADER: u32 = 16;
 
-/// A new thread at the start of a function, with an argument in a0, on a chunk for the function's bound; None exactly where
-/// no free chunk fits that, and then nothing changes. The function is one of the certificate's.
+/// Starts a new thread at the beginning of a function, with an argument in a0, on a chunk for the function's bound.
+/// Returns `None` exactly if no free chunk fits that; then nothing changes. The function is one of the certificate's.
 pub fn start(
     accepted: &Accepted,
     areas: &mut Areas,

@@ -10,22 +10,22 @@ ghost use Rattle.machine_world.specs.Places.{Place};
 ghost use Rattle.machine_world.specs.Rests.{IsResting, IsAtCall, IsPastCall};
 ghost use Rattle.machine_world.specs.StandsFor.{Waits, StandsFor};
 ghost use Rattle.rv_machine.specs.Step.{instruction_at};
+ghost use Rattle.stack_image.specs.Addresses.{code_start};
 ghost use Rattle.segment_run.specs.Contexts.{checked_of, core_of};
 ghost use Rattle.segment_run.specs.Passing.{RestsAround};
 ghost use Rattle.segment_run.specs.Walking.{IsRead, IsReadOf};
 
 use crate::contexts::Context;
-use crate::lookups::fact_of;
 use crate::places::call_at;
 use crate::registers::SP;
 use crate::segments::are_sound;
+use crate::starting::END_STUB;
 use accepted_pairs::Accepted;
 use cap_word::SiteKey;
 use chunk_pool::ChunkPool;
 use rv_code::{Instr, decode};
-
-// The address to which the last frame of a thread returns.
-const END_STUB: u32 = 0x1000;
+use stack_certificate::fact_of;
+use stack_image::CODE_START;
 
 // A frame in place: its function, its lowest address and its chunk.
 #[derive(Clone, Copy)]
@@ -35,8 +35,8 @@ struct Frame {
     chunk: u32,
 }
 
-/// The key of a thread that rests at or just behind the ECALL of a call that blocks: the call's site, and then those of the
-/// up to seven innermost calls below, innermost first. The frames are read where they lie, across chunks.
+/// Returns the key of a thread that rests at or just after the ECALL of a call that blocks: the call's site, followed
+/// by those of up to seven innermost calls below, innermost first. It reads the frames in place, across chunks.
 pub fn walk(accepted: &Accepted, pool: &ChunkPool, context: &Context) -> SiteKey
     requires { RestsAround (checked_of accepted.now) pool.now (core_of pool.now context.now) }
     ensures at { (f i word : ℕ) (op : Op) (frames : List world.Frame) →
@@ -46,7 +46,7 @@ pub fn walk(accepted: &Accepted, pool: &ChunkPool, context: &Context) -> SiteKey
         IsPastCall (checked_of accepted.now) pool.now (core_of pool.now context.now) f i op word place frames →
         result ≡ key_of (checked_of accepted.now) f i frames }
 
-    // For every source thread that the context stands for, this is its key.
+    // For every source thread for which the context stands, this is its key.
     ensures source { (rests : IsResting (checked_of accepted.now) pool.now (core_of pool.now context.now)) (waiting : source.Waiting) →
         StandsFor (checked_of accepted.now) (accepted_tree accepted.now) pool.now (core_of pool.now context.now) rests (Waits waiting) →
         result ≡ source.key_of waiting }
@@ -73,7 +73,7 @@ pub fn walk(accepted: &Accepted, pool: &ChunkPool, context: &Context) -> SiteKey
     SiteKey::new(&sites)
 }
 
-// The place of the ECALL at or just behind which a thread rests.
+// Returns the address of the ECALL at or just after which a thread rests.
 fn ecall_of(accepted: &Accepted, pool: &ChunkPool, context: &Context) -> u32
     requires { RestsAround (checked_of accepted.now) pool.now (core_of pool.now context.now) }
     ensures at { (f i word : ℕ) (op : Op) (frames : List world.Frame) →
@@ -88,13 +88,13 @@ fn ecall_of(accepted: &Accepted, pool: &ChunkPool, context: &Context) -> u32
     }
 }
 
-// Whether an ECALL stands at a place of a word.
+// Checks whether the word at an address is an ECALL.
 fn is_ecall(code: &[u32], pc: u32) -> bool
     requires aligned { pc % 4 ≡ 0 }
-    requires low { 4096 ≤ pc }
+    requires low { code_start ≤ pc }
     ensures { IsTrue result ↔ (instruction_at code.now pc ≡ Ok Instr.Ecall) }
 {
-    let Some(word) = code.get(((pc - END_STUB) / 4) as usize) else {
+    let Some(word) = code.get(((pc - CODE_START) / 4) as usize) else {
         return false;
     };
     let Some(instr) = decode(*word) else {
@@ -103,14 +103,14 @@ fn is_ecall(code: &[u32], pc: u32) -> bool
     is_call(instr)
 }
 
-// Whether the instruction is ECALL.
+// Checks whether the instruction is an ECALL.
 fn is_call(instr: Instr) -> bool
     ensures { IsTrue result ↔ (instr ≡ Instr.Ecall) }
 {
     matches!(instr, Instr::Ecall)
 }
 
-// The address to which a frame returns, in its chunk's payload.
+// Returns the return address of a frame, from its chunk's payload.
 fn return_of(accepted: &Accepted, pool: &ChunkPool, frame: Frame) -> u32
     requires valid { IsValid (lowered (accepted_tree accepted.now)) accepted.now.image accepted.now.certificate }
     requires there { IsRead (checked_of accepted.now) pool.now frame }
@@ -123,7 +123,8 @@ fn return_of(accepted: &Accepted, pool: &ChunkPool, frame: Frame) -> u32
     payload[(offset / 4 - 4) as usize]
 }
 
-// The frame below a frame, of that function: where the frame ends, or, below the first of a chunk, at the saved sp.
+// Returns the frame below a frame, of that function: it begins where the frame ends, or, below the first frame of a
+// chunk, at the saved sp.
 fn frame_below(accepted: &Accepted, pool: &ChunkPool, frame: Frame, function: u32) -> Frame
     requires valid { IsValid (lowered (accepted_tree accepted.now)) accepted.now.image accepted.now.certificate }
     requires there { (chain : List ℕ) × (at : world.Frame) × (next : world.Frame) × (below : List world.Frame) × IsReadOf (checked_of accepted.now) pool.now frame chain at (next ∷ below) }

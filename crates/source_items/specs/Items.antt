@@ -1,4 +1,5 @@
--- What a frame has still to do: the items of its stack as those of the source, and what holds of each.
+-- What a frame has still to do: the items of its stack as those of the source, and the conditions on
+-- each.
 use Rattle.std.specs.Prelude.{◌≡◌, ℕ, ◌<◌, Bool, true, false, List, [], ◌∷◌, length, slice_index_or, Option, Some, None}
 use Rattle.std.specs.List.{AllByRecursion}
 use Rattle.c_tree.specs.Trees.{ExprTree, Number, SimpleTree, DeclareScalar, StmtTree, Do, Empty, Block, If, IfElse, While, For, Break, Continue, Return}
@@ -12,7 +13,7 @@ use Rattle.source_items.specs.declared.items.Part.TheVariants as part
 
 -- ---- parts of statements
 
--- a statement that is done whole
+-- a statement that is one item
 abbrev pub whole_item : StmtTree → todo.Item
 whole_item (Do s) = todo.Simply s
 whole_item Empty = todo.Enter
@@ -31,7 +32,7 @@ loop_of (While c s) = WhileLoop c s
 loop_of (For init c step s) = ForLoop c step s
 loop_of _ = WhileLoop (Number 0) Empty
 
--- the parts of a `for`'s start
+-- the first part of a `for`
 abbrev pub start_of : StmtTree → List SimpleTree
 start_of (For init c step s) = init
 start_of _ = []
@@ -83,13 +84,13 @@ stacked (item ∷ items) rest = stacked items (item_of item ∷ rest)
 abbrev pub to_do : List Item → List todo.Item
 to_do items = stacked items []
 
--- what is still to do from the first step on: marks of turns before it are no step
+-- what is still to do from the first step on: marks of turns before it aren't steps
 abbrev pub entered : List todo.Item → List todo.Item
 entered [] = []
 entered (todo.Enter ∷ rest) = entered rest
 entered (item ∷ rest) = item ∷ rest
 
--- ---- what holds of each item
+-- ---- the conditions on each item
 
 -- the statement has that part
 abbrev pub IsWhole : StmtTree → Type 0
@@ -121,7 +122,7 @@ HasPart part.Enter s = Unit {0}
 HasPart part.Step s = IsGiven (step_of s)
 HasPart part.Back s = IsLoop s
 
--- the statement is well scoped in its function, whatever stands around it
+-- the statement is well scoped in its function, whatever surrounds it
 pub record IsScoped (c : Context) (s : StmtTree) : Type 0 where
   pub loop : Bool
   pub scope : List ℕ
@@ -134,7 +135,7 @@ pub record IsItem (c : Context) (item : Item) : Type 0 where
 abbrev pub AreItems : Context → List Item → Type 0
 AreItems c items = AllByRecursion (IsItem c) items
 
--- a stack from which what stood before the end of a loop's turn was taken, with its jump back
+-- a stack after the removal of everything up to and including the jump back of a loop's turn
 pub record IsTaken (c : Context) (old new : List Item) (loop : StmtTree) : Type 0 where
   pub is_loop : IsLoop loop
   pub scoped : IsScoped c loop
@@ -142,7 +143,7 @@ pub record IsTaken (c : Context) (old new : List Item) (loop : StmtTree) : Type 
   pub skipped : todo.after_skip 0 (to_do old) ≡ todo.skipped (loop_of loop) (to_do new)
   pub fits : AreItems c new
 
--- the same on the way, where so many turns have been begun and not ended
+-- the same during the removal, when this number of turns has begun and not ended
 pub record IsPassing (c : Context) (old now : List Item) (begun : ℕ) : Type 0 where
   pub leave : todo.after_leave begun (to_do now) ≡ todo.after_leave 0 (to_do old)
   pub skip : todo.after_skip begun (to_do now) ≡ todo.after_skip 0 (to_do old)

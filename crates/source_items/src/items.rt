@@ -13,16 +13,16 @@ ghost use Rattle.source_items.specs.Items.{AreItems, HasPart, IsItem, IsLoop, Is
 use c_tree::{Expr, Simple, Stmt};
 use std::alloc::AllocError;
 
-/// Which part of a statement is to be done.
+/// The part of a statement that is to be done.
 #[derive(Clone, Copy, PartialEq, Eq)]
 pub enum Part {
     /// All of it: a declaration, an assignment or a call; the test of a branch or of a `while`; a jump or a `return`.
     Whole,
-    /// The part of this number of a `for`'s start.
+    /// The part with this number of the first part of a `for`.
     Start(usize),
     /// The test of a `for`'s condition.
     Test,
-    /// A turn of a `for` without a condition begins here; it is no step.
+    /// A turn of a `for` without a condition begins here; it isn't a step.
     Enter,
     /// The step of a `for`.
     Step,
@@ -37,7 +37,7 @@ pub struct Item<'a> {
     pub stmt: &'a Stmt,
 }
 
-/// A part of a statement is to be done next.
+/// Pushes a part of a statement.
 fn push<'a>(items: &mut Vec<Item<'a>>, part: Part, stmt: &'a Stmt) -> Result<(), AllocError>
     ensures next { OnOk result (to_do items.new.items ≡ part_item part (stmt_tree stmt.now) ∷ to_do items.old.items) }
     ensures fits { (c : Context) → AreItems c items.old.items → HasPart part (stmt_tree stmt.now) → IsScoped c (stmt_tree stmt.now) → OnOk result (AreItems c items.new.items) }
@@ -46,7 +46,7 @@ fn push<'a>(items: &mut Vec<Item<'a>>, part: Part, stmt: &'a Stmt) -> Result<(),
     Ok(())
 }
 
-/// A statement is to be done next.
+/// Pushes a statement, which is to be done next.
 #[cycle(before)]
 #[inline(always)]
 pub fn push_stmt<'a>(items: &mut Vec<Item<'a>>, stmt: &'a Stmt) -> Result<(), AllocError>
@@ -78,7 +78,7 @@ pub fn push_stmt<'a>(items: &mut Vec<Item<'a>>, stmt: &'a Stmt) -> Result<(), Al
     }
 }
 
-/// Statements are to be done next, one after another.
+/// Pushes statements, which are to be done next, in order.
 #[cycle(before)]
 #[inline(never)]
 pub fn push_stmts<'a>(items: &mut Vec<Item<'a>>, stmts: &'a [Stmt]) -> Result<(), AllocError>
@@ -93,7 +93,7 @@ pub fn push_stmts<'a>(items: &mut Vec<Item<'a>>, stmts: &'a [Stmt]) -> Result<()
     Ok(())
 }
 
-/// The parts of a `for`'s start are to be done next, one after another.
+/// Pushes the first part of a `for`.
 fn push_start<'a>(
     items: &mut Vec<Item<'a>>,
     stmt: &'a Stmt,
@@ -111,7 +111,7 @@ fn push_start<'a>(
     Ok(())
 }
 
-/// The end of a loop's turn is to be done next: the step of a `for`, if it has one, and the jump back.
+/// Pushes the end of a loop's turn: the step of a `for`, if it has one, and the jump back.
 #[inline(always)]
 fn push_end<'a>(items: &mut Vec<Item<'a>>, stmt: &'a Stmt) -> Result<(), AllocError>
     ensures next { OnOk result (to_do items.new.items ≡ todo.step_item (parts.step_of (stmt_tree stmt.now)) ++ todo.Back (loop_of (stmt_tree stmt.now)) ∷ to_do items.old.items) }
@@ -124,7 +124,7 @@ fn push_end<'a>(items: &mut Vec<Item<'a>>, stmt: &'a Stmt) -> Result<(), AllocEr
     }
 }
 
-/// The body of a loop is to be done next, and then the end of its turn.
+/// Pushes the body of a loop and the end of its turn.
 #[inline(always)]
 pub fn push_body<'a>(items: &mut Vec<Item<'a>>, stmt: &'a Stmt) -> Result<(), AllocError>
     ensures next { OnOk result (to_do items.new.items ≡ todo.body_before (loop_of (stmt_tree stmt.now)) (to_do items.old.items)) }
@@ -137,7 +137,7 @@ pub fn push_body<'a>(items: &mut Vec<Item<'a>>, stmt: &'a Stmt) -> Result<(), Al
     }
 }
 
-/// A turn of a loop is to be done next.
+/// Pushes a turn of a loop.
 pub fn push_turn<'a>(items: &mut Vec<Item<'a>>, stmt: &'a Stmt) -> Result<(), AllocError>
     requires { IsLoop (stmt_tree stmt.now) }
     ensures next { OnOk result (to_do items.new.items ≡ todo.turn_before (loop_of (stmt_tree stmt.now)) (to_do items.old.items)) }
@@ -156,8 +156,8 @@ pub fn push_turn<'a>(items: &mut Vec<Item<'a>>, stmt: &'a Stmt) -> Result<(), Al
     }
 }
 
-/// Takes what is still to do up to and with the jump back of the innermost loop, and answers that loop. Loops without a
-/// condition that aren't entered yet are passed over.
+/// Removes the items up to and including the jump back of the innermost loop, and returns that loop. Loops without a
+/// condition that haven't been entered yet are skipped.
 fn take_to_back<'a>(items: &mut Vec<Item<'a>>) -> Option<&'a Stmt>
     ensures { (c : Context) → AreItems c items.old.items → MatchOption result
         ((todo.after_leave 0 (to_do items.old.items) ≡ []) × (todo.after_skip 0 (to_do items.old.items) ≡ []) × (items.new.items ≡ []))
@@ -182,14 +182,14 @@ fn take_to_back<'a>(items: &mut Vec<Item<'a>>) -> Option<&'a Stmt>
     None
 }
 
-/// `break`: what follows the innermost loop is to be done next.
+/// Executes a `break`: what follows the innermost loop is to be done next.
 pub fn leave(items: &mut Vec<Item>)
     ensures { (c : Context) → AreItems c items.old.items → (to_do items.new.items ≡ todo.after_leave 0 (to_do items.old.items)) × AreItems c items.new.items }
 {
     let _stmt = take_to_back(items);
 }
 
-/// `continue`: of a `while` the next turn is to be done next, of a `for` its step and the jump back.
+/// Executes a `continue`: the next turn of a `while`, or the step and the jump back of a `for`, is to be done next.
 pub fn skip(items: &mut Vec<Item>) -> Result<(), AllocError>
     ensures { (c : Context) → AreItems c items.old.items → OnOk result ((to_do items.new.items ≡ todo.after_skip 0 (to_do items.old.items)) × AreItems c items.new.items) }
 {
@@ -205,7 +205,7 @@ pub fn skip(items: &mut Vec<Item>) -> Result<(), AllocError>
     }
 }
 
-/// Takes the next item; marks of turns before it are passed over.
+/// Removes the next item and returns it; marks of turns before it are skipped.
 #[inline(always)]
 pub fn take_item<'a>(items: &mut Vec<Item<'a>>) -> Option<Item<'a>>
     ensures { (c : Context) → AreItems c items.old.items → MatchOption result
@@ -225,7 +225,8 @@ pub fn take_item<'a>(items: &mut Vec<Item<'a>>) -> Option<Item<'a>>
     }
 }
 
-/// Takes the next item after a mark of a turn. Few loops have marks, so this stays out of `take_item`'s callers.
+/// Removes the next item after a mark of a turn. Few loops have marks, so this isn't inlined into the callers of
+/// `take_item`.
 #[inline(never)]
 fn take_entered<'a>(items: &mut Vec<Item<'a>>) -> Option<Item<'a>>
     ensures { (c : Context) → AreItems c items.old.items → MatchOption result
@@ -245,7 +246,7 @@ fn take_entered<'a>(items: &mut Vec<Item<'a>>) -> Option<Item<'a>>
     None
 }
 
-/// Whether a statement is a `for`.
+/// Returns whether a statement is a `for`.
 fn is_for(stmt: &Stmt) -> bool
     ensures { result ≡ parts.is_for (stmt_tree stmt.now) }
 {
@@ -263,7 +264,7 @@ fn is_for(stmt: &Stmt) -> bool
     }
 }
 
-/// The body of a loop.
+/// Returns the body of a loop.
 fn body_of(stmt: &Stmt) -> Option<&Stmt>
     ensures { option_map (λ s. stmt_tree s.now) result ≡ parts.body_of (stmt_tree stmt.now) }
 {
@@ -281,7 +282,7 @@ fn body_of(stmt: &Stmt) -> Option<&Stmt>
     }
 }
 
-/// The condition of a `for`.
+/// Returns the condition of a `for`.
 pub fn condition_of(stmt: &Stmt) -> Option<&Expr>
     ensures { option_map (λ e. expr_tree e.now) result ≡ parts.condition_of (stmt_tree stmt.now) }
 {
@@ -299,7 +300,7 @@ pub fn condition_of(stmt: &Stmt) -> Option<&Expr>
     }
 }
 
-/// A part of a `for`'s start, by its number.
+/// Returns a declaration or assignment of the first part of a `for`, by its number.
 pub fn start_of(stmt: &Stmt, number: usize) -> Option<&Simple>
     ensures { option_map (λ s. simple_tree s.now) result ≡ slice_get (parts.start_of (stmt_tree stmt.now)) number }
 {
@@ -317,7 +318,7 @@ pub fn start_of(stmt: &Stmt, number: usize) -> Option<&Simple>
     }
 }
 
-/// The step of a `for`.
+/// Returns the step of a `for`.
 pub fn step_of(stmt: &Stmt) -> Option<&Simple>
     ensures { option_map (λ s. simple_tree s.now) result ≡ parts.step_of (stmt_tree stmt.now) }
 {

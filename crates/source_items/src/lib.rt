@@ -1,13 +1,14 @@
 // The parts of a source thread's step: the values of expressions, and what a frame has still to do.
 //
-// In: an expression with the words of names and globals; or statements to be done and a stack to
-// put them on. Out: the value or its first trap (`evaluate`; `short_value` reads an expression of
-// few parts, and `composed` one for which that returns nothing); the stack with the statement's
-// items on it (`push_stmt`, `push_body`, `push_turn`), without what a jump skips (`leave`, `skip`),
-// or without its next item (`take_item`). An item is a part of a statement (`Item`), and a stack of
-// them is the list of `c_mean`'s ToDo, the next item on top (specs/Items.antt). Names have places
-// of their own among the words (`Rows`). `source_runs`, the interpreter of threads, uses these
-// calls. The rules are those of ISO/IEC 9899:2018, 6.5 and 6.8, for the subset CapC.
+// In: an expression with the words of names and globals; or statements, and a stack of items to
+// push them on. Out: the value or its first trap (`evaluate`; `short_value` evaluates an expression
+// of few parts, and `composed` one for which that returns `None`); the stack with the statement's
+// items on it (`push_stmt`, `push_body`, `push_turn`), without the items that a jump skips
+// (`leave`, `skip`), or without its next item (`take_item`). An item is a part of a statement
+// (`Item`), and a stack of items is the list of `c_mean`'s ToDo, the next item on top
+// (specs/Items.antt). The words of all names are in one list (`Rows`). `source_runs`, the
+// interpreter of threads, uses these calls. The rules are those of ISO/IEC 9899:2018, 6.5 and 6.8,
+// for the subset CapC.
 #![tactic(auto)]
 
 mod items;

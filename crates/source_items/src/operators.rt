@@ -1,18 +1,18 @@
-// What the operators compute.
+// The values of operators.
 ghost use Rattle.std.specs.Prelude.{◌≡◌};
 ghost use Rattle.c_mean.specs.Operators.{unary_value, binary_value};
 ghost use Rattle.cap_word.specs.Word as word;
 
 use c_tree::{BinaryOperator, UnaryOperator};
 
-/// The signed reading of a word.
+/// Returns a word as a signed number.
 fn signed(a: u32) -> i32
     ensures { result ≡ word.signed a }
 {
     a.cast_signed()
 }
 
-/// 1 where the test holds, and 0 where it doesn't.
+/// Returns 1 if the test holds, and 0 otherwise.
 #[tactic(auto, unfolding(cap_word::specs::Word::flag))]
 fn flag(test: bool) -> u32
     ensures { result ≡ word.flag test }
@@ -20,7 +20,7 @@ fn flag(test: bool) -> u32
     u32::from(test)
 }
 
-/// The value of an operator before its operand.
+/// Returns the value of a unary operator.
 pub(crate) fn unary(operator: UnaryOperator, a: u32) -> u32
     ensures { result ≡ unary_value operator a }
 {
@@ -32,7 +32,7 @@ pub(crate) fn unary(operator: UnaryOperator, a: u32) -> u32
     }
 }
 
-/// The value of an operator between two operands.
+/// Returns the value of a binary operator.
 #[inline(always)]
 pub(crate) fn binary(operator: BinaryOperator, a: u32, b: u32) -> u32
     ensures { result ≡ binary_value operator a b }

@@ -1,11 +1,12 @@
-// Names by their numbers, each with its words, which stand one name after another.
+// Names by their numbers, with their words in one list.
 
 ghost use Rattle.std.specs.Prelude.{◌≡◌, ◌<◌, length, slice_index, nat_lt};
 ghost use Rattle.cap_word.specs.Rows.{width, word_at};
 ghost use Rattle.c_mean.specs.Values.{in_range};
 ghost use Rattle.source_items.specs.Rows.{IsRows, or_index, rows_in};
 
-/// The words of names: how many words each name has, where its words start, and the words of all.
+/// The words of names: the number of words of each name, the index of its first word, and the words
+/// of all.
 #[derive(Clone, Copy)]
 pub struct Rows<'a> {
     pub widths: &'a [u32],
@@ -13,7 +14,7 @@ pub struct Rows<'a> {
     pub words: &'a [u32],
 }
 
-/// The word of a scalar.
+/// Returns the word of a scalar.
 pub(crate) fn word_of(rows: &Rows, x: u32) -> u32
     requires rows { IsRows rows.now }
     requires there { x < length rows.now.widths.now }
@@ -23,7 +24,8 @@ pub(crate) fn word_of(rows: &Rows, x: u32) -> u32
     rows.words[rows.starts[x as usize] as usize]
 }
 
-/// The word of an array at an index, read unsigned, or `None` where it isn't below the array's size.
+/// Returns the word of an array at an unsigned index, or `None` if the index isn't below the array's
+/// size.
 pub(crate) fn element_of(rows: &Rows, a: u32, index: u32) -> Option<u32>
     requires rows { IsRows rows.now }
     requires there { a < length rows.now.widths.now }

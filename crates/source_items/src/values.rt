@@ -12,7 +12,7 @@ use crate::rows::{Rows, element_of, word_of};
 use c_tree::{Expr, Infix};
 use cap_word::TrapKind;
 
-/// What the left operand decides alone: `&&` where it is 0, and `||` where it isn't.
+/// Returns the value that the left operand alone determines: of `&&` if it is 0, and of `||` if it isn't.
 fn decided(operator: Infix, left: u32) -> Option<u32>
     ensures { MatchOption result (IsOpen operator left) (IsDecided operator left) }
 {
@@ -23,7 +23,7 @@ fn decided(operator: Infix, left: u32) -> Option<u32>
     }
 }
 
-/// The value of two operands.
+/// Returns the value of an operator on two operands.
 #[inline(always)]
 fn joined(operator: Infix, left: u32, right: u32) -> u32
     ensures { joined_value operator (Ok left) (Ok right) ≡ Ok result }
@@ -36,7 +36,8 @@ fn joined(operator: Infix, left: u32, right: u32) -> u32
     }
 }
 
-/// The value of an expression over these names and globals, or its first trap. It recurses as deep as the expression nests.
+/// Returns the value of an expression over these names and globals, or its first trap. It recurses as deep as the
+/// expression nests.
 #[inline(always)]
 pub fn evaluate(names: &Rows, globals: &Rows, expr: &Expr) -> Result<u32, TrapKind>
     requires names { IsRows names.now }
@@ -50,8 +51,8 @@ pub fn evaluate(names: &Rows, globals: &Rows, expr: &Expr) -> Result<u32, TrapKi
     }
 }
 
-/// The value of an expression of at most two operators on numbers and names, or `None` for any other form. It makes no call,
-/// so that a caller that tries it before `composed` keeps the rows in registers.
+/// Returns the value of an expression of at most two operators on numbers and names, or `None` for any other form. It
+/// makes no call, so a caller that tries it before `composed` keeps the rows in registers.
 #[inline(always)]
 pub fn short_value(names: &Rows, globals: &Rows, expr: &Expr) -> Option<u32>
     requires names { IsRows names.now }
@@ -73,7 +74,7 @@ pub fn short_value(names: &Rows, globals: &Rows, expr: &Expr) -> Option<u32>
     }
 }
 
-/// The value of an operator between two numbers or names, or of one of them; `None` for any other form.
+/// Returns the value of a binary operator on numbers or names, or of one of them; `None` for any other form.
 #[inline(always)]
 fn pair(names: &Rows, globals: &Rows, expr: &Expr) -> Option<u32>
     requires names { IsRows names.now }
@@ -95,7 +96,7 @@ fn pair(names: &Rows, globals: &Rows, expr: &Expr) -> Option<u32>
     }
 }
 
-/// `short_value`, as a call.
+/// Calls `short_value` without inlining it.
 #[inline(never)]
 fn short_chain(names: &Rows, globals: &Rows, expr: &Expr) -> Option<u32>
     requires names { IsRows names.now }
@@ -106,7 +107,7 @@ fn short_chain(names: &Rows, globals: &Rows, expr: &Expr) -> Option<u32>
     short_value(names, globals, expr)
 }
 
-/// The expression within one pair of parentheses, or the expression itself where there are none.
+/// Returns the expression in one pair of parentheses, or the expression itself if it has none.
 #[inline(always)]
 fn inside(expr: &Expr) -> &Expr
     ensures same { (names globals : List (List ℕ)) → value names globals (expr_tree result.now) ≡ value names globals (expr_tree expr.now) }
@@ -118,7 +119,7 @@ fn inside(expr: &Expr) -> &Expr
     }
 }
 
-/// The value of a number or a name, or `None` for any other form.
+/// Returns the value of a number or a name, or `None` for any other form.
 #[inline(always)]
 fn single(names: &Rows, globals: &Rows, expr: &Expr) -> Option<u32>
     requires names { IsRows names.now }
@@ -134,7 +135,7 @@ fn single(names: &Rows, globals: &Rows, expr: &Expr) -> Option<u32>
     }
 }
 
-/// The value of an expression, or `None` if an index is out of range. A number or a name takes no call.
+/// Returns the value of an expression, or `None` if an index is out of range. A number or a name needs no call.
 #[cycle(operand)]
 #[inline(always)]
 fn operand(names: &Rows, globals: &Rows, expr: &Expr) -> Option<u32>
@@ -155,7 +156,7 @@ fn operand(names: &Rows, globals: &Rows, expr: &Expr) -> Option<u32>
     }
 }
 
-/// The value of an expression of any form, or `None` if an index is out of range.
+/// Returns the value of an expression of any form, or `None` if an index is out of range.
 #[cycle(operand)]
 #[inline(never)]
 pub fn composed(names: &Rows, globals: &Rows, expr: &Expr) -> Option<u32>

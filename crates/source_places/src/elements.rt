@@ -1,30 +1,30 @@
 use c_lex::{Keyword, Mark, Token, TokenKind};
 use std::alloc::{AllocError, Global};
 
-/// A name with an index behind it, or the declaration of an array.
+/// A name followed by an index, or the declaration of an array.
 #[derive(Clone, Copy)]
 pub(crate) struct Element {
     /// The place of the name.
     pub(crate) at: u32,
-    /// How many words it is declared with, where this is its declaration.
+    /// The declared number of words, if this is the declaration.
     pub(crate) declared: Option<u32>,
     /// Whether a value is assigned to it.
     pub(crate) is_assigned: bool,
 }
 
-/// What the tokens before tell of the next one.
+/// What the tokens so far say of the next one.
 #[derive(Clone, Copy)]
 struct Before {
-    /// A declaration is under way.
+    /// A declaration is in progress.
     declares: bool,
-    /// How many parentheses and brackets are open in it.
+    /// The number of open parentheses and brackets in it.
     depth: u32,
     /// The next name is declared.
     is_next: bool,
 }
 
 impl Before {
-    /// What is told with this token too.
+    /// Returns the state after this token.
     fn with(self, kind: TokenKind) -> Before {
         match kind {
             TokenKind::Keyword(Keyword::Int) => Before {
@@ -60,7 +60,7 @@ impl Before {
     }
 }
 
-/// The elements of arrays, and the declarations of arrays, between two places of a source with these tokens.
+/// Returns the elements and declarations of arrays between two places of a source with these tokens.
 pub(crate) fn elements_of(
     alloc: Global,
     tokens: &[Token],
@@ -95,7 +95,7 @@ pub(crate) fn elements_of(
     Ok(elements)
 }
 
-/// Whether the token of that number is `[`.
+/// Checks whether the token of that number is `[`.
 fn is_bracket(tokens: &[Token], number: usize) -> bool {
     match tokens.get(number) {
         Some(token) => token.kind == TokenKind::Mark(Mark::LeftBracket),
@@ -103,7 +103,7 @@ fn is_bracket(tokens: &[Token], number: usize) -> bool {
     }
 }
 
-/// Whether `=` stands behind the index of the element whose name stands at that place.
+/// Checks whether `=` follows the index of the element whose name is at that place.
 fn is_assigned(tokens: &[Token], at: u32) -> bool {
     let mut depth: u32 = 0;
     let mut is_behind = false;
@@ -125,7 +125,7 @@ fn is_assigned(tokens: &[Token], at: u32) -> bool {
     false
 }
 
-/// The value of the token of that number, where it is a number.
+/// Returns the value of the token of that number, if it is a number.
 fn number_at(tokens: &[Token], number: usize) -> Option<u32> {
     match tokens.get(number)?.kind {
         TokenKind::Number { value } => Some(value),

@@ -5,11 +5,12 @@ use c_lex::{LexError, Mark, Token, TokenKind, lex};
 use c_parse::{ParseError, parse_nested};
 use c_tree::{RawItem, RawProgram, RawTable};
 use call_places::places_of_calls;
+use cap_word::ModelledCall;
 use report_figures::{Position, position_of};
 use report_text::Text;
 use std::alloc::{AllocError, Global};
 
-/// A source, and where its calls and functions stand.
+/// A source, and the places of its calls and functions.
 #[derive(Drop)]
 pub struct Places<'a> {
     /// The name of its file.
@@ -19,52 +20,59 @@ pub struct Places<'a> {
     names: Names,
 }
 
-/// Why there are no places.
+/// Why a source has no places.
 #[derive(Clone, Copy)]
 pub enum PlacesError {
-    /// The bytes are no source.
+    /// The bytes aren't a source.
     Source,
-    /// There is no memory for its tokens, its tree or the places.
+    /// Out of memory.
     Memory,
 }
 
-/// Where names of a source stand.
+/// The places of a source's names.
 #[derive(Drop)]
 struct Names {
     /// The place of each call's name, by the number of its site.
     calls: Vec<u32>,
-    /// The places of the names of the functions that are defined, by their numbers: rising.
+    /// The places of the names of the functions that are defined, by number, increasing.
     functions: Vec<u32>,
-    /// The places of the names of the globals that are declared, arrays and others, by their numbers.
+    /// The places of the names of the globals that are declared, arrays and others, by number.
     globals: Vec<u32>,
-    /// The tables of functions, by their numbers.
+    /// The tables of functions, by number.
     tables: Vec<TableNames>,
 }
 
-/// Where the name of a table and those of its members stand.
+/// The places of the names of a table and its members.
 #[derive(Drop)]
 struct TableNames {
     name: u32,
     members: Vec<u32>,
 }
 
-/// An array of a function: a global one by its number, or those of its local ones that have so many words.
+/// An array of a function: a global one by its number, or its local ones with a given number of words.
 #[derive(Clone, Copy)]
 pub enum Array {
+    /// A global array, by its number.
     Global(u32),
+    /// The local arrays with this number of words.
     Local(u32),
 }
 
 /// An element of an array, which is read or assigned to.
 #[derive(Clone, Copy)]
 pub struct Access {
+    /// The array of the element.
     pub array: Array,
+    /// Whether a value is assigned to the element.
     pub assigns: bool,
 }
 
 impl<'a> Places<'a> {
-    /// The places of the source of these bytes, in the file of that name. `Source` comes where it is none, and `Memory` where there is
-    /// none for its tokens, its tree or the places.
+    /// Returns the places of the source of these bytes, in the file of that name.
+    ///
+    /// # Errors
+    ///
+    /// `Source` if the bytes aren't a source, `Memory` if an allocation fails.
     pub fn read(alloc: Global, file: &'a str, source: Vec<u8>) -> Result<Places<'a>, PlacesError> {
         if source.len() > MOST_BYTES {
             return Err(PlacesError::Source);
@@ -84,7 +92,7 @@ impl<'a> Places<'a> {
         }
     }
 
-    /// For each site, whether its call has that name.
+    /// Returns for each site whether its call has that name.
     pub fn sites_of(&self, alloc: Global, name: &[u8]) -> Result<Vec<bool>, AllocError> {
         let mut sites = Vec::new(alloc);
         for at in self.names.calls.as_slice() {
@@ -93,7 +101,7 @@ impl<'a> Places<'a> {
         Ok(sites)
     }
 
-    /// For each site, whether its call is one at which a thread waits.
+    /// Returns for each site whether its call is one at which a thread waits.
     pub fn waiting_sites(&self, alloc: Global) -> Result<Vec<bool>, AllocError> {
         let mut sites = Vec::new(alloc);
         for at in self.names.calls.as_slice() {
@@ -102,7 +110,7 @@ impl<'a> Places<'a> {
         Ok(sites)
     }
 
-    /// Appends where a site stands, what is called there and in which function: `server.c:12:5 accept in worker`.
+    /// Appends the place of a site with its callee and its function: `server.c:12:5 accept in worker`.
     pub fn put_site(&self, text: &mut Text, site: u32) {
         match self.call(site) {
             Some(at) => {
@@ -113,8 +121,7 @@ impl<'a> Places<'a> {
         }
     }
 
-    /// Appends the same with the whole text of the call: `server.c:12:5 take(1, n) in worker`. Of a long one the beginning stands
-    /// there.
+    /// Appends the same with the whole text of the call: `server.c:12:5 take(1, n) in worker`. A long text is cut off.
     pub fn put_site_text(&self, text: &mut Text, site: u32) {
         match self.call(site) {
             Some(at) => {
@@ -126,21 +133,21 @@ impl<'a> Places<'a> {
         }
     }
 
-    /// Appends the text of a site's call, as `put_site_text` has it; nothing where there is no such site.
+    /// Appends the text of a site's call as `put_site_text` does, or nothing if there is no such site.
     pub fn put_call(&self, text: &mut Text, site: u32) {
         if let Some(at) = self.call(site) {
             put_call_text(text, self.source.as_slice(), self.tokens.as_slice(), at)
         }
     }
 
-    /// Appends the name of a site's call; nothing where there is no such site.
+    /// Appends the name of a site's call, or nothing if there is no such site.
     pub fn put_call_name(&self, text: &mut Text, site: u32) {
         if let Some(at) = self.call(site) {
             text.bytes(self.name_at(at))
         }
     }
 
-    /// Appends the line and the column of a site whose call led to the one before: ` < 12:5`.
+    /// Appends the line and the column of a site whose call led to the previous one: ` < 12:5`.
     pub fn put_line_below(&self, text: &mut Text, site: u32) {
         match self.call(site) {
             Some(at) => {
@@ -167,7 +174,7 @@ impl<'a> Places<'a> {
         }
     }
 
-    /// The number of the function in which a site stands.
+    /// Returns the number of the function that contains a site.
     pub fn caller(&self, site: u32) -> Option<u32> {
         let at = self.call(site)?;
         let mut found = None;
@@ -181,7 +188,8 @@ impl<'a> Places<'a> {
         found
     }
 
-    /// The numbers of the functions that a site may call: of the one that it names, or of the members of the table that it names.
+    /// Returns the numbers of the functions that a site may call: the one that it names, or the members of the table
+    /// that it names.
     pub fn callees(&self, alloc: Global, site: u32) -> Result<Vec<u32>, AllocError> {
         let mut callees = Vec::new(alloc);
         if let Some(at) = self.call(site) {
@@ -191,7 +199,7 @@ impl<'a> Places<'a> {
         Ok(callees)
     }
 
-    /// Adds the number of the function of the name at that place, if there is one.
+    /// Adds the number of the function with the name at that place, if there is one.
     fn add_named(&self, callees: &mut Vec<u32>, at: u32) -> Result<(), AllocError> {
         let name = self.name_at(at);
         let mut number: u32 = 0;
@@ -204,7 +212,7 @@ impl<'a> Places<'a> {
         Ok(())
     }
 
-    /// Adds the numbers of the members of the table of the name at that place, if there is one.
+    /// Adds the numbers of the members of the table with the name at that place, if there is one.
     fn add_members(&self, callees: &mut Vec<u32>, at: u32) -> Result<(), AllocError> {
         for table in self.names.tables.as_slice() {
             if self.name_at(table.name) == self.name_at(at) {
@@ -214,7 +222,7 @@ impl<'a> Places<'a> {
         Ok(())
     }
 
-    /// Adds the numbers of the functions of the names at these places.
+    /// Adds the numbers of the functions with the names at these places.
     fn add_all(&self, callees: &mut Vec<u32>, members: &[u32]) -> Result<(), AllocError> {
         for member in members {
             self.add_named(callees, *member)?;
@@ -222,8 +230,8 @@ impl<'a> Places<'a> {
         Ok(())
     }
 
-    /// Appends where a function has such elements of an array, as far as the text alone tells: up to four places, and how many more
-    /// there are. Nothing where there is none.
+    /// Appends the places at which a function has such elements of an array, as far as the text alone determines them:
+    /// up to four, and the number of others. Appends nothing if there are none.
     pub fn put_elements(&self, alloc: Global, text: &mut Text, function: u32, access: Access) {
         let number = function as usize;
         let from = self.function(number);
@@ -251,7 +259,7 @@ impl<'a> Places<'a> {
         }
     }
 
-    /// Whether the name at that place is that of an array, in a function with these elements and declarations.
+    /// Checks whether the name at that place is that of an array, in a function with these elements and declarations.
     fn is_of(&self, array: Array, at: u32, elements: &[Element]) -> bool {
         match array {
             Array::Global(number) => match self.names.globals.as_slice().get(number as usize) {
@@ -262,7 +270,7 @@ impl<'a> Places<'a> {
         }
     }
 
-    /// Whether the name at that place is one that is declared as an array of so many words.
+    /// Checks whether the name at that place is declared as an array of this number of words.
     fn is_declared(&self, at: u32, words: u32, elements: &[Element]) -> bool {
         for element in elements {
             if element.declared == Some(words) && self.name_at(element.at) == self.name_at(at) {
@@ -278,12 +286,12 @@ impl<'a> Places<'a> {
         text.bytes(self.name_at(at))
     }
 
-    /// The place of the name of the call of a site.
+    /// Returns the place of the name of a site's call.
     fn call(&self, site: u32) -> Option<u32> {
         self.names.calls.as_slice().get(site as usize).copied()
     }
 
-    /// Where the function of that number begins; behind all places where there is none.
+    /// Returns the place at which the function of that number begins, or one after all places if there is none.
     fn function(&self, number: usize) -> u32 {
         match self.names.functions.as_slice().get(number) {
             Some(at) => *at,
@@ -291,7 +299,7 @@ impl<'a> Places<'a> {
         }
     }
 
-    /// Appends in which function a place stands.
+    /// Appends the function that contains a place.
     fn put_inside(&self, text: &mut Text, at: u32) {
         if let Some(function) = function_at(self.names.functions.as_slice(), at) {
             text.words(" in ");
@@ -299,7 +307,7 @@ impl<'a> Places<'a> {
         }
     }
 
-    /// Appends a place, and a blank: `server.c:12:5 `.
+    /// Appends a place and a space: `server.c:12:5 `.
     fn put_place(&self, text: &mut Text, at: u32) {
         self.put_line(text, at);
         text.words(" ")
@@ -312,14 +320,14 @@ impl<'a> Places<'a> {
         text.form(":$:$", &[line as u64, column as u64])
     }
 
-    /// The line and the column of a place.
+    /// Returns the line and the column of a place.
     fn position(&self, at: u32) -> Position {
         let source = self.source.as_slice();
         let text = &source[..source.len().min(MOST_BYTES)];
         position_of(text, (at as usize).min(text.len()))
     }
 
-    /// The name that begins at a place.
+    /// Returns the name that begins at a place.
     fn name_at(&self, at: u32) -> &[u8] {
         let rest = rest_of(self.source.as_slice(), at);
         let mut length: usize = 0;
@@ -333,29 +341,26 @@ impl<'a> Places<'a> {
     }
 }
 
-/// The calls at which threads wait.
-const WAITING: [&[u8]; 6] = [b"accept", b"wait", b"sleep", b"yield", b"take", b"waitfor"];
-
 /// Whether a thread waits at the call of that name.
 fn is_waiting_call(name: &[u8]) -> bool {
-    for call in WAITING {
-        if call == name {
+    for call in &ModelledCall::ALL {
+        if call.blocks() && call.name().as_bytes() == name {
             return true;
         }
     }
     false
 }
 
-/// The most bytes of a source.
+/// The maximum size of a source in bytes.
 const MOST_BYTES: usize = 1_048_576;
 
-/// The most places that are shown for one access.
+/// The maximum number of places that are shown for one access.
 const SHOWN: u64 = 4;
 
-/// The most bytes of a call that are shown.
+/// The maximum number of bytes of a call that are shown.
 const CALL_BYTES: usize = 60;
 
-/// Where the names of a source with these tokens stand.
+/// Returns the places of the names of a source with these tokens.
 fn names_in(alloc: Global, source: &[u8], tokens: &[Token]) -> Result<Names, PlacesError>
     requires { length source.now ≤ 1048576 }
 {
@@ -373,7 +378,7 @@ fn names_in(alloc: Global, source: &[u8], tokens: &[Token]) -> Result<Names, Pla
     }
 }
 
-/// Where the names of a source stand that is read.
+/// Returns the places of the names of a parsed source.
 fn names_of(alloc: Global, raw: &RawProgram) -> Result<Names, AllocError> {
     match places_of_calls(alloc, raw) {
         Ok(calls) => {
@@ -392,7 +397,7 @@ fn names_of(alloc: Global, raw: &RawProgram) -> Result<Names, AllocError> {
     }
 }
 
-/// Adds where the names of functions, globals and tables stand.
+/// Adds the places of the names of functions, globals and tables.
 fn add_items(alloc: Global, names: &mut Names, items: &[RawItem]) -> Result<(), AllocError> {
     for item in items {
         match item {
@@ -406,7 +411,7 @@ fn add_items(alloc: Global, names: &mut Names, items: &[RawItem]) -> Result<(), 
     Ok(())
 }
 
-/// Where the names of a table stand.
+/// Returns the places of the names of a table.
 fn table_names(alloc: Global, table: &RawTable) -> Result<TableNames, AllocError> {
     let mut members = Vec::new(alloc);
     for member in &table.members {
@@ -418,7 +423,7 @@ fn table_names(alloc: Global, table: &RawTable) -> Result<TableNames, AllocError
     })
 }
 
-/// Appends the text of the call whose name stands at that place, with one blank for each white space in it.
+/// Appends the text of the call whose name is at that place, with one space for each white space in it.
 fn put_call_text(text: &mut Text, source: &[u8], tokens: &[Token], at: u32) {
     let rest = rest_of(source, at);
     let length = end_of_call(tokens, at).saturating_sub(at) as usize;
@@ -436,7 +441,7 @@ fn put_call_text(text: &mut Text, source: &[u8], tokens: &[Token], at: u32) {
     text.words(if shown < length { " .." } else { "" })
 }
 
-/// The place behind the parenthesis that closes the call whose name stands at that place.
+/// Returns the place after the parenthesis that closes the call whose name is at that place.
 fn end_of_call(tokens: &[Token], at: u32) -> u32 {
     let mut depth: u32 = 0;
     for token in tokens {
@@ -456,7 +461,8 @@ fn end_of_call(tokens: &[Token], at: u32) -> u32 {
     at
 }
 
-/// The last of these places that isn't behind that place: of the function in which it stands.
+/// Returns the index of the last of these places that isn't after that place: the number of the function that contains
+/// it.
 fn function_at(functions: &[u32], at: u32) -> Option<u32> {
     let mut found = None;
     for function in functions {
@@ -467,7 +473,7 @@ fn function_at(functions: &[u32], at: u32) -> Option<u32> {
     found
 }
 
-/// The bytes from a place on.
+/// Returns the bytes from a place on.
 fn rest_of(source: &[u8], at: u32) -> &[u8] {
     let from = (at as usize).min(source.len());
     &source[from..]

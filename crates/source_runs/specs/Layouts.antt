@@ -1,4 +1,4 @@
--- Where the words of a program's names stand, as an interpreter keeps it.
+-- The places of the words of a program's names in an interpreter.
 use Rattle.std.specs.Prelude.{◌≡◌, ◌^◌, ℕ, ◌<◌, List, [], ◌∷◌, map, sum}
 use Rattle.c_tree.specs.ProgramView.{program_tree}
 use Rattle.c_tree.specs.Trees.{FunctionTree, ProgramTree}
@@ -20,7 +20,7 @@ AreLayouts [] (layout ∷ layouts) = ⊥
 AreLayouts (f ∷ fs) [] = ⊥
 AreLayouts (f ∷ fs) (layout ∷ layouts) = IsLayout f.sizes layout × AreLayouts fs layouts
 
--- each function's names have few enough words
+-- the number of words of each function's names is within the limit
 abbrev pub AreSmall : List FunctionTree → Type 0
 AreSmall [] = Unit {0}
 AreSmall (f ∷ fs) = (sum f.sizes < 2 ^ 32) × AreSmall fs
@@ -46,7 +46,7 @@ params_at tree f = (signature_at (map signature_of tree.functions) f).params
 abbrev pub context_at : ProgramTree → ℕ → Context
 context_at tree f = context_of tree (function_at tree f)
 
--- what is named is so in some scope
+-- it holds in some scope
 pub record InSomeScope (P : List ℕ → Type 0) : Type 0 where
   pub scope : List ℕ
   pub scoped : P scope

@@ -1,4 +1,4 @@
--- What a step and a run of the interpreter come to, by the steps of the source.
+-- The outcomes of a step and of a run of the interpreter, by the steps of the source.
 use Rattle.std.specs.Borrow.{Bor}
 use Rattle.std.specs.Prelude.{◌≡◌, ℕ, suc, ◌-◌, ◌<◌, List, length, Option, Some, None, Result, Ok, Err}
 use Rattle.cap_word.specs.Calls.{Call, Blocking, Immediate}
@@ -31,14 +31,14 @@ ends tree words = Stops (record { trap = None; globals = globals_of tree words }
 abbrev pub traps : ProgramTree → List ℕ → TrapKind → SourceMove
 traps tree words trap = Stops (record { trap = Some trap; globals = globals_of tree words })
 
--- a function that is to be started is there, and takes the argument
+-- a function that is to be started exists, and takes the argument
 abbrev pub IsAskThere : ProgramTree → Ask → Type 0
 IsAskThere tree (Ask.Put value) = Unit {0}
 IsAskThere tree (Ask.Spawn function argument) = (function < length tree.functions) × (params_at tree function ≡ 1)
 IsAskThere tree (Ask.Give resource amount) = Unit {0}
 IsAskThere tree Ask.SelfNumber = Unit {0}
 
--- a step has led to this, with this thread and these words of the globals after it; want of memory says nothing
+-- a step has led to this, with this thread and these words of the globals after it; out of memory says nothing
 abbrev pub HasStepped : ProgramTree → SourceMove → Thread → List ℕ → Result Move Halt → Type 0
 HasStepped tree made thread words (Ok move.Goes) = (made ≡ Goes (running_of tree thread words)) × IsThread tree thread words
 HasStepped tree made thread words (Ok (move.Asks ask)) = (made ≡ asks tree thread words (Immediate ask)) × IsThread tree thread words × IsAskThere tree ask
@@ -47,24 +47,24 @@ HasStepped tree made thread words (Ok move.Ends) = (made ≡ ends tree words) ×
 HasStepped tree made thread words (Err (halt.Trap trap)) = made ≡ traps tree words trap
 HasStepped tree made thread words (Err halt.Memory) = Unit {0}
 
--- a trap is that of the source; want of memory says nothing
+-- a trap is that of the source; out of memory says nothing
 abbrev pub HasHalted : {A : Type 0} → Result A TrapKind → Halt → Type 0
 HasHalted made (halt.Trap trap) = made ≡ Err trap
 HasHalted made halt.Memory = Unit {0}
 
--- what is asked is this call
+-- the request is this call
 abbrev pub IsCalling : Move → Option Call → Type 0
 IsCalling move.Goes call = ⊥
 IsCalling (move.Asks ask) call = call ≡ Some (Immediate ask)
 IsCalling (move.Blocks block) call = call ≡ Some (Blocking block)
 IsCalling move.Ends call = ⊥
 
--- the second side of a branch, empty where there is none
+-- the second side of a branch, empty if there is none
 abbrev pub else_tree : Option (Bor Stmt) → StmtTree
 else_tree None = Empty
 else_tree (Some stmt) = stmt_tree stmt.now
 
--- so many steps lead to this, of which only the last isn't silent
+-- this number of steps, of which only the last isn't silent, leads to this
 pub record LeadsTo (tree : ProgramTree) (start : Running) (steps : ℕ) (made : SourceMove) : Type 0 where
   pub before : ℕ
   pub here : Running
@@ -72,7 +72,7 @@ pub record LeadsTo (tree : ProgramTree) (start : Running) (steps : ℕ) (made : 
   pub last : source_step tree here ≡ made
   pub steps_is : steps ≡ suc before
 
--- a run by at most so many steps, of which so many are left, has come to this
+-- a run by at most this number of steps, of which this number is left, has stopped like this
 abbrev pub HasCome : ProgramTree → (old : Thread) (old_words : List ℕ) (most left : ℕ) (new : Thread) (words : List ℕ) → Coming → Type 0
 HasCome tree old old_words most left new words (coming.Asks ask) =
     LeadsTo tree (running_of tree old old_words) (most - left) (asks tree new words (Immediate ask)) × IsThread tree new words × IsAskThere tree ask

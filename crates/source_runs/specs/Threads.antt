@@ -16,7 +16,7 @@ use Rattle.source_runs.specs.declared.frames.Place.TheVariants as place
 use Rattle.source_runs.specs.declared.frames.Thread.{Thread}
 use Rattle.source_runs.specs.declared.frames.WaitingFrame.{WaitingFrame}
 
--- ---- what they stand for
+-- ---- the source threads for which they stand
 
 abbrev pub place_of : Place → source.Place
 place_of place.Nowhere = source.Nowhere
@@ -26,7 +26,7 @@ place_of (place.LocalElement a i) = source.InLocalElement a i
 place_of (place.GlobalElement a i) = source.InGlobalElement a i
 place_of place.Returned = source.Returned
 
--- what a frame has still to do: its items, or the one thing that has come before them
+-- what a frame has still to do: its items, or the one thing that comes before them
 abbrev pub to_do_by : Next → List todo.Item → List todo.Item
 to_do_by next.Items items = items
 to_do_by (next.GiveBack word) items = todo.GiveBackWord word ∷ []
@@ -60,9 +60,9 @@ waiting_of tree thread = record {
   below = below_of tree thread;
 }
 
--- ---- what holds of them
+-- ---- the conditions on them
 
--- a place is there, and has one word where it has no index
+-- a place exists, and has one word if it has no index
 abbrev pub IsPlace : ProgramTree → ℕ → Place → Type 0
 IsPlace tree f place.Nowhere = Unit {0}
 IsPlace tree f (place.Local x) = (x < length (function_at tree f).sizes) × (slice_index (function_at tree f).sizes x ≡ 1)
@@ -80,7 +80,7 @@ pub record IsWaitingFrame (tree : ProgramTree) (waiting : WaitingFrame) : Type 0
   pub frame : IsFrame tree waiting.frame
   pub place : IsPlace tree waiting.frame.function waiting.place
 
--- there are as many words as the globals have
+-- the number of words is that of the globals
 abbrev pub IsFull : ProgramTree → List ℕ → Type 0
 IsFull tree words = length words ≡ sum (widths_of tree.globals)
 

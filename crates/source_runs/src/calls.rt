@@ -25,7 +25,7 @@ use source_items::{Rows, evaluate};
 use std::alloc::AllocError;
 use std::mem;
 
-/// A modelled call, whose arguments come from left to right.
+/// Evaluates a modelled call; its arguments are evaluated from left to right.
 fn modelled(
     names: &Rows,
     globals: &Rows,
@@ -71,7 +71,7 @@ fn modelled(
     }
 }
 
-/// The value of the only argument.
+/// Returns the value of the only argument.
 fn one(names: &Rows, globals: &Rows, arguments: &[Expr]) -> Result<u32, TrapKind>
     requires names { IsRows names.now }
     requires globals { IsRows globals.now }
@@ -84,7 +84,7 @@ fn one(names: &Rows, globals: &Rows, arguments: &[Expr]) -> Result<u32, TrapKind
     evaluate(names, globals, &arguments[0])
 }
 
-/// The values of both arguments, the first one first.
+/// Returns the values of both arguments, the first one first.
 fn two(names: &Rows, globals: &Rows, arguments: &[Expr]) -> Result<(u32, u32), TrapKind>
     requires names { IsRows names.now }
     requires globals { IsRows globals.now }
@@ -100,7 +100,7 @@ fn two(names: &Rows, globals: &Rows, arguments: &[Expr]) -> Result<(u32, u32), T
 }
 
 impl<'a> Interpreter<'a> {
-    /// The value of an expression in the running frame.
+    /// Returns the value of an expression in the running frame.
     #[inline(always)]
     pub(crate) fn value(
         &self,
@@ -120,7 +120,8 @@ impl<'a> Interpreter<'a> {
         }
     }
 
-    /// A call whose result goes to a place. Arguments come from left to right, and a table's index before its argument.
+    /// Executes a call whose result goes to a place. Arguments are evaluated from left to right, and a table's index
+    /// before its argument.
     pub(crate) fn call(
         &self,
         thread: &mut Thread<'a>,
@@ -186,7 +187,7 @@ impl<'a> Interpreter<'a> {
         }
     }
 
-    /// A modelled call of the running frame.
+    /// Executes a modelled call of the running frame.
     fn asked(
         &self,
         thread: &Thread<'a>,
@@ -208,7 +209,7 @@ impl<'a> Interpreter<'a> {
         modelled(&names, &globals, call, arguments)
     }
 
-    /// The values of a call's arguments, in memory for all words of the function's frame.
+    /// Returns the values of a call's arguments, in memory for all words of the function's frame.
     fn arguments(
         &self,
         thread: &Thread<'a>,
@@ -234,7 +235,7 @@ impl<'a> Interpreter<'a> {
         Ok(words)
     }
 
-    /// One argument of a function.
+    /// Evaluates one argument of a function.
     fn one_word(
         &self,
         spare: &mut Spare<'a>,
@@ -250,7 +251,7 @@ impl<'a> Interpreter<'a> {
         Ok(words)
     }
 
-    /// A function is called: a frame is pushed, and the running one waits at a site for a result that goes to a place.
+    /// Calls a function: pushes its frame; the running frame waits at a site for a result that goes to a place.
     #[inline(always)]
     fn enter(
         &self,

@@ -1,6 +1,7 @@
 // The words of expressions in the running frame.
 //
-// Most expressions are short. Their word is computed without a call and without the rows in memory.
+// Most expressions are short: their value is computed without a call, and without keeping the rows
+// in memory.
 ghost use Rattle.std.specs.Prelude.{◌≡◌, ◌<◌, Ok, IfSome, length, sum};
 ghost use Rattle.c_tree.specs.Views.{expr_tree};
 ghost use Rattle.c_mean.specs.Layout.{IsInRange, rows_of, widths_of};
@@ -15,7 +16,8 @@ use c_tree::Expr;
 use source_items::{composed, short_value};
 
 impl<'a> Interpreter<'a> {
-    /// The value of an expression in the running frame, or `None` if an index is out of range.
+    /// Returns the value of an expression in the running frame, or `None` if an index is out of
+    /// range.
     #[inline(never)]
     pub(crate) fn word(&self, thread: &Thread<'a>, globals: &Vec<u32>, expr: &Expr) -> Option<u32>
         requires ready { IsReady self.now }
@@ -30,7 +32,7 @@ impl<'a> Interpreter<'a> {
         }
     }
 
-    /// The value of a short expression, or `None` for any other form.
+    /// Returns the value of a short expression, or `None` for any other form.
     #[inline(always)]
     fn short_word(&self, thread: &Thread<'a>, globals: &Vec<u32>, expr: &Expr) -> Option<u32>
         requires ready { IsReady self.now }
@@ -44,7 +46,7 @@ impl<'a> Interpreter<'a> {
         short_value(&names, &globals, expr)
     }
 
-    /// The value of an expression of any form, or `None` if an index is out of range.
+    /// Returns the value of an expression of any form, or `None` if an index is out of range.
     #[inline(never)]
     fn long_word(&self, thread: &Thread<'a>, globals: &Vec<u32>, expr: &Expr) -> Option<u32>
         requires ready { IsReady self.now }

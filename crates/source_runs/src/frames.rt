@@ -6,7 +6,7 @@ use cap_word::{SiteKey, TrapKind};
 use source_items::Item;
 use std::alloc::AllocError;
 
-/// Where a result goes: nowhere, to a name, to an element whose index is already a number, or back to the caller.
+/// The destination of a result: none, a name, an element whose index has been evaluated, or the caller.
 #[derive(Clone, Copy)]
 pub(crate) enum Place {
     Nowhere,
@@ -22,13 +22,13 @@ pub(crate) enum Place {
 pub(crate) enum Next {
     /// Its items, one after another.
     Items,
-    /// It gives back a word, and nothing else: the result of the call that it returns.
+    /// It returns this word, the result of the call in its `return`, and has nothing else to do.
     GiveBack(u32),
-    /// It traps: a result that came can't be stored.
+    /// It traps: a result that arrived can't be stored.
     Fail(TrapKind),
 }
 
-/// A function, the words of its names, and what it has still to do.
+/// A frame: a function, the words of its names, and what it has still to do.
 #[derive(Drop)]
 pub(crate) struct Frame<'a> {
     pub(crate) function: u32,
@@ -45,8 +45,8 @@ pub(crate) struct WaitingFrame<'a> {
     pub(crate) place: Place,
 }
 
-/// A thread of a source: the frame that runs, or waits at a modelled call, and the frames below it, the innermost last. A
-/// frame at a modelled call waits at `site` for a result that goes to `place`.
+/// A thread of a source: the frame that runs, or waits at a modelled call, and the frames below it, the innermost last.
+/// A frame at a modelled call waits at `site` for a result that goes to `place`.
 #[derive(Drop)]
 pub struct Thread<'a> {
     pub(crate) front: Frame<'a>,
@@ -60,7 +60,8 @@ impl<'a> Thread<'a> {
     ghost use Rattle.c_tree.specs.Trees.{ProgramTree};
     ghost use Rattle.source_runs.specs.Threads.{waiting_of};
 
-    /// The key of a thread at a modelled call: its site, and then those of the up to seven innermost calls, innermost first.
+    /// Returns the key of a thread at a modelled call: the site of that call, followed by those of up to seven
+    /// innermost calls, innermost first.
     pub fn key(&self) -> SiteKey
         ensures { (tree : ProgramTree) → result ≡ key_of (waiting_of tree self.now) }
     {
@@ -77,7 +78,7 @@ impl<'a> Thread<'a> {
     }
 }
 
-/// One element more.
+/// Appends one element.
 pub(crate) fn push<T: Drop>(list: &mut Vec<T>, element: T) -> Result<(), AllocError>
     ensures { OnOk result (list.new.items ≡ list.old.items ++ element ∷ []) }
 {

@@ -1,14 +1,14 @@
-// Why a step doesn't lead on.
+// Why a step has no successor.
 
 use cap_word::TrapKind;
 use std::alloc::AllocError;
 
-/// Why a step doesn't lead on.
+/// Why a step has no successor.
 #[derive(Clone, Copy)]
 pub(crate) enum Halt {
-    /// The thread does what it may not do.
+    /// The thread traps.
     Trap(TrapKind),
-    /// There was no memory.
+    /// An allocation failed.
     Memory,
 }
 

@@ -1,4 +1,4 @@
-// The interpreter: threads are started, run up to what they ask next, and go on with the answer.
+// The interpreter: it starts threads, runs them to their next request, and resumes them with the answer.
 ghost use Rattle.std.specs.Prelude.{◌≡◌, ◌∷◌, [], ℕ, ◌<◌, ◌≤◌, List, Option, None, Some, IfOk, length, option_to_list, sum};
 ghost use Rattle.c_tree.specs.ProgramView.{program_tree};
 ghost use Rattle.c_mean.specs.Frames.{pushed};
@@ -17,22 +17,22 @@ use cap_word::{Ask, Block, TrapKind};
 use source_items::push_stmts;
 use std::alloc::{AllocError, Global};
 
-/// What a thread comes to.
+/// Where a run of a thread stops.
 #[derive(Clone, Copy)]
 pub enum Coming {
     /// A modelled call that is answered at once.
     Asks(Ask),
-    /// A modelled call that blocks, if it is no trap.
+    /// A modelled call that blocks, unless it is a trap.
     Blocks(Block),
     /// Its end.
     Ends,
     /// A trap by an index or a table.
     Traps(TrapKind),
-    /// Nothing within the steps that it may take.
+    /// The maximum number of steps, without any of these.
     OutOfSteps,
 }
 
-/// What a step leads to where there is no trap.
+/// The outcome of a step without a trap.
 #[derive(Clone, Copy)]
 pub(crate) enum Move {
     Goes,
@@ -41,7 +41,7 @@ pub(crate) enum Move {
     Ends,
 }
 
-/// A program, ready to be run: where the words of its names stand.
+/// A program, prepared for running: with the places of its names' words.
 #[derive(Drop)]
 pub struct Interpreter<'a> {
     pub(crate) alloc: Global,
@@ -52,7 +52,7 @@ pub struct Interpreter<'a> {
 }
 
 impl<'a> Interpreter<'a> {
-    /// An interpreter of a program.
+    /// Returns an interpreter of a program.
     pub fn new(alloc: Global, program: &'a Program) -> Result<Interpreter<'a>, AllocError>
         ensures ready { IfOk result (λ interpreter. IsReady interpreter) }
         ensures program { IfOk result (λ interpreter. tree_of interpreter ≡ program_tree program.now) }
@@ -69,7 +69,7 @@ impl<'a> Interpreter<'a> {
         })
     }
 
-    /// The words of the globals as a run starts.
+    /// Returns the words of the globals at the start of a run.
     pub fn start_globals(&self) -> Result<Vec<u32>, AllocError>
         requires { IsReady self.now }
         ensures rows { IfOk result (λ words. globals_of (tree_of self.now) words.items ≡ start_globals (tree_of self.now)) }
@@ -78,7 +78,7 @@ impl<'a> Interpreter<'a> {
         first_words(self.alloc, self.program.globals())
     }
 
-    /// A thread at the start of a function, with an argument if there is one.
+    /// Returns a thread at the start of a function, with an argument if there is one.
     pub fn start(&self, function: u32, argument: Option<u32>) -> Result<Thread<'a>, AllocError>
         requires ready { IsReady self.now }
         requires there { function < length (tree_of self.now).functions }
@@ -97,7 +97,7 @@ impl<'a> Interpreter<'a> {
         })
     }
 
-    /// The argument that a thread starts with, if there is one.
+    /// Returns the argument with which a thread starts, if there is one.
     fn given(&self, argument: Option<u32>) -> Result<Vec<u32>, AllocError>
         ensures { IfOk result (λ words. words.items ≡ option_to_list argument) }
     {
@@ -111,7 +111,7 @@ impl<'a> Interpreter<'a> {
         }
     }
 
-    /// A frame at its function's start: it has its arguments, and 0 in every other name.
+    /// Returns a frame at its function's start: its parameters have the arguments, and every other name is 0.
     #[inline(always)]
     pub(crate) fn frame(
         &self,
@@ -138,7 +138,8 @@ impl<'a> Interpreter<'a> {
         })
     }
 
-    /// Runs a thread up to what it asks next, its end or its trap, by at most `left` steps, which falls by the steps taken.
+    /// Runs a thread to its next request, its end or its trap, by at most `left` steps, and subtracts the steps taken
+    /// from `left`.
     #[inline(never)]
     pub fn run(
         &self,

@@ -1,4 +1,4 @@
-// Where the words of names stand.
+// The places of names' words.
 ghost use Rattle.std.specs.Prelude.{◌≡◌, ◌<◌, ◌^◌, IfOk, length, map, replicate, sum};
 ghost use Rattle.c_tree.specs.Views.{function_tree};
 ghost use Rattle.c_mean.specs.Layout as rows;
@@ -8,14 +8,15 @@ use crate::frames::push;
 use c_tree::{Function, GlobalFact};
 use std::alloc::{AllocError, Global};
 
-/// Where the words of each of a function's names start in a frame, and how many words a frame has.
+/// The index of the first word of each of a function's names in a frame, and the number of words of
+/// a frame.
 #[derive(Drop)]
 pub(crate) struct Layout {
     pub(crate) starts: Vec<u32>,
     pub(crate) words: usize,
 }
 
-/// The layout of names that have so many words each.
+/// Returns the layout of names with these numbers of words.
 pub(crate) fn layout_of(alloc: Global, widths: &[u32]) -> Result<Layout, AllocError>
     requires { sum widths.now < 2 ^ 32 }
     ensures { IfOk result (λ layout. IsLayout widths.now layout) }
@@ -29,7 +30,7 @@ pub(crate) fn layout_of(alloc: Global, widths: &[u32]) -> Result<Layout, AllocEr
     Ok(Layout { starts, words })
 }
 
-/// The layouts of functions, in the order of their numbers.
+/// Returns the layouts of functions, in the order of their numbers.
 pub(crate) fn layouts_of(alloc: Global, functions: &[Function]) -> Result<Vec<Layout>, AllocError>
     requires { AreSmall (map function_tree functions.now) }
     ensures { IfOk result (λ layouts. AreLayouts (map function_tree functions.now) layouts.items) }
@@ -42,7 +43,7 @@ pub(crate) fn layouts_of(alloc: Global, functions: &[Function]) -> Result<Vec<La
     Ok(layouts)
 }
 
-/// How many words each global has.
+/// Returns the number of words of each global.
 pub(crate) fn widths_of(alloc: Global, facts: &[GlobalFact]) -> Result<Vec<u32>, AllocError>
     ensures { IfOk result (λ widths. widths.items ≡ rows.widths_of facts.now) }
 {
@@ -53,7 +54,7 @@ pub(crate) fn widths_of(alloc: Global, facts: &[GlobalFact]) -> Result<Vec<u32>,
     Ok(widths)
 }
 
-/// The words of the globals as a run starts.
+/// Returns the words of the globals at the start of a run.
 pub(crate) fn first_words(alloc: Global, facts: &[GlobalFact]) -> Result<Vec<u32>, AllocError>
     requires { sum (rows.widths_of facts.now) < 2 ^ 32 }
     ensures rows { IfOk result (λ words. rows.rows_of (rows.widths_of facts.now) words.items ≡ map (λ g. replicate g.words g.start) facts.now) }

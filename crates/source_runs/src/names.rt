@@ -11,7 +11,7 @@ use crate::layout::Layout;
 use source_items::Rows;
 
 impl<'a> Interpreter<'a> {
-    /// The layout of a function's names.
+    /// Returns the layout of a function's names.
     pub(crate) fn layout(&self, function: u32) -> &Layout
         requires ready { IsReady self.now }
         requires there { function < length (tree_of self.now).functions }
@@ -20,7 +20,7 @@ impl<'a> Interpreter<'a> {
         &self.layouts[function as usize]
     }
 
-    /// How many words each name of a function has.
+    /// Returns the number of words of each name of a function.
     pub(crate) fn sizes(&self, function: u32) -> &[u32]
         requires { function < length (tree_of self.now).functions }
         ensures { result.now ≡ sizes_at (tree_of self.now) function }
@@ -28,7 +28,7 @@ impl<'a> Interpreter<'a> {
         self.program.functions()[function as usize].sizes.as_slice()
     }
 
-    /// The members of a table.
+    /// Returns the members of a table.
     pub(crate) fn members(&self, table: u32) -> &[u32]
         requires { table < length (tree_of self.now).tables }
         ensures { result.now ≡ slice_index_or (tree_of self.now).tables table [] }
@@ -36,7 +36,7 @@ impl<'a> Interpreter<'a> {
         self.program.tables()[table as usize].members.as_slice()
     }
 
-    /// Where the words of a function's name start in a frame.
+    /// Returns the index of the first word of a function's name in a frame.
     pub(crate) fn local_start(&self, function: u32, x: u32) -> usize
         requires ready { IsReady self.now }
         requires there { function < length (tree_of self.now).functions }
@@ -46,7 +46,7 @@ impl<'a> Interpreter<'a> {
         self.layout(function).starts[x as usize] as usize
     }
 
-    /// Where the words of a global start.
+    /// Returns the index of the first word of a global.
     pub(crate) fn global_start(&self, g: u32) -> usize
         requires ready { IsReady self.now }
         requires named { g < length (widths_of (tree_of self.now).globals) }
@@ -55,7 +55,7 @@ impl<'a> Interpreter<'a> {
         self.global_layout.starts[g as usize] as usize
     }
 
-    /// The words of the globals, by their numbers.
+    /// Returns the words of the globals, by their numbers.
     pub(crate) fn global_rows<'s>(&'s self, globals: &'s [u32]) -> Rows<'s>
         requires ready { IsReady self.now }
         requires full { length globals.now ≡ sum (widths_of (tree_of self.now).globals) }
@@ -70,7 +70,7 @@ impl<'a> Interpreter<'a> {
         }
     }
 
-    /// The words of a frame's names, by their numbers.
+    /// Returns the words of a frame's names, by their numbers.
     pub(crate) fn name_rows<'s>(&'s self, frame: &'s Frame<'a>) -> Rows<'s>
         requires ready { IsReady self.now }
         requires frame { IsFrame (tree_of self.now) frame.now }

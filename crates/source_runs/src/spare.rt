@@ -1,4 +1,4 @@
-// The memory of frames that ended, for frames to come.
+// The memory of frames that have ended, for later frames.
 
 ghost use Rattle.std.specs.Prelude.{◌≡◌, [], IfOk};
 
@@ -7,7 +7,7 @@ use source_items::Item;
 use std::alloc::{AllocError, Global};
 use std::mem;
 
-/// The memory of the frames that ended in a run, which later frames of the run take.
+/// The memory of the frames that have ended in a run, which later frames of the run reuse.
 #[derive(Drop)]
 pub(crate) struct Spare<'a> {
     pub(crate) alloc: Global,
@@ -15,7 +15,8 @@ pub(crate) struct Spare<'a> {
     pub(crate) items: Vec<Vec<Item<'a>>>,
 }
 
-/// An empty list, in spare memory, or with room for `count` elements if there is none.
+/// Returns an empty list in spare memory, or a new one with room for `count` elements if there is
+/// none.
 #[inline(always)]
 fn taken<T: Drop>(
     alloc: Global,
@@ -35,7 +36,7 @@ fn taken<T: Drop>(
 }
 
 impl<'a> Spare<'a> {
-    /// No spare memory.
+    /// Returns no spare memory.
     pub(crate) fn new(alloc: Global) -> Spare<'a> {
         Spare {
             alloc,
@@ -44,7 +45,7 @@ impl<'a> Spare<'a> {
         }
     }
 
-    /// An empty list of words.
+    /// Returns an empty list of words.
     #[inline(always)]
     pub(crate) fn words(&mut self, count: usize) -> Result<Vec<u32>, AllocError>
         ensures { IfOk result (λ words. words.items ≡ []) }
@@ -52,7 +53,7 @@ impl<'a> Spare<'a> {
         taken(self.alloc, &mut self.names, count)
     }
 
-    /// An empty stack of items.
+    /// Returns an empty stack of items.
     #[inline(always)]
     pub(crate) fn stack(&mut self, count: usize) -> Result<Vec<Item<'a>>, AllocError>
         ensures { IfOk result (λ items. items.items ≡ []) }
@@ -60,7 +61,7 @@ impl<'a> Spare<'a> {
         taken(self.alloc, &mut self.items, count)
     }
 
-    /// Takes the memory of a frame that ended. It is freed if there is none for the list of it.
+    /// Keeps the memory of a frame that has ended; frees it if it can't be added to the list.
     #[inline(always)]
     pub(crate) fn keep(&mut self, frame: &mut Frame<'a>) {
         let names = mem::replace(&mut frame.names, Vec::new(self.alloc));

@@ -23,7 +23,7 @@ use source_items::{
 };
 use std::alloc::AllocError;
 
-/// A step that wanted memory goes on where there was some.
+/// Returns that a step continues, unless an allocation failed.
 pub(crate) fn went(pushed: Result<(), AllocError>) -> Result<Move, Halt>
     ensures { MatchResult pushed (λ _. result ≡ Ok move.Goes) (λ _. result ≡ Err halt.Memory) }
 {
@@ -34,7 +34,7 @@ pub(crate) fn went(pushed: Result<(), AllocError>) -> Result<Move, Halt>
 }
 
 impl<'a> Interpreter<'a> {
-    /// One step. A function that reaches its end returns 0 if it is an `int` function.
+    /// Executes one step. A function that reaches its end returns 0 if it is an `int` function.
     #[inline(always)]
     pub(crate) fn step(
         &self,
@@ -56,7 +56,7 @@ impl<'a> Interpreter<'a> {
         }
     }
 
-    /// An item, where the thread has only the items after it still to do.
+    /// Executes an item, when the thread has only the items after it still to do.
     #[inline(always)]
     fn perform(
         &self,
@@ -90,7 +90,7 @@ impl<'a> Interpreter<'a> {
         }
     }
 
-    /// A statement that is done whole.
+    /// Executes a statement that is one item.
     #[inline(always)]
     fn whole(
         &self,
@@ -127,7 +127,7 @@ impl<'a> Interpreter<'a> {
         }
     }
 
-    /// The test of a branch.
+    /// Executes the test of a branch.
     #[inline(always)]
     fn choose(
         &self,
@@ -156,7 +156,7 @@ impl<'a> Interpreter<'a> {
         }
     }
 
-    /// The test of a loop.
+    /// Executes the test of a loop.
     #[inline(always)]
     fn test(
         &self,
@@ -181,7 +181,7 @@ impl<'a> Interpreter<'a> {
         Ok(Move::Goes)
     }
 
-    /// `return`, with a value if there is one.
+    /// Executes a `return`, with an optional value.
     #[inline(always)]
     fn return_right(
         &self,
@@ -205,8 +205,8 @@ impl<'a> Interpreter<'a> {
         }
     }
 
-    /// A declaration of one name, an assignment or a call. In `a[i] = e` the index comes before the right side, and the range
-    /// test after it.
+    /// Executes a declaration of one name, an assignment or a call. In `a[i] = e` the index is evaluated before the
+    /// right side, and tested after it.
     #[inline(always)]
     fn perform_simple(
         &self,
@@ -272,7 +272,7 @@ impl<'a> Interpreter<'a> {
         }
     }
 
-    /// A right side, whose value or result goes to a place.
+    /// Evaluates a right side; its value or result goes to a place.
     #[inline(always)]
     fn assign(
         &self,

@@ -1,4 +1,4 @@
-// Where words go.
+// Storing words.
 ghost use Rattle.std.specs.Prelude.{◌≡◌, ◌+◌, ◌<◌, ◌≤◌, ℕ, List, Ok, Err, MatchResult, length, slice_index, sum, take};
 ghost use Rattle.std.specs.List.{AllByRecursion};
 ghost use Rattle.cap_word.specs.Rows.{with_zeros};
@@ -13,7 +13,7 @@ use crate::interpreter::{Interpreter, Move};
 use crate::spare::Spare;
 use cap_word::TrapKind;
 
-/// All words of a name are 0: so many, from where they start on.
+/// Sets `width` words to 0, from `start` on.
 fn clear_row(words: &mut [u32], start: usize, width: usize)
     requires { start + width ≤ length words.old }
     ensures rows { (ns : List ℕ) (x : ℕ) → x < length ns → start ≡ sum (take x ns) → width ≡ slice_index ns x → length words.old ≡ sum ns → rows_of ns words.new ≡ with_zeros (rows_of ns words.old) x }
@@ -25,8 +25,8 @@ fn clear_row(words: &mut [u32], start: usize, width: usize)
 }
 
 impl<'a> Interpreter<'a> {
-    /// A word goes to a place. An element's index, read unsigned, has to be below the array's size. A word that goes back to
-    /// the caller is all that is left to do.
+    /// Stores a word at a place. An element's index, unsigned, has to be below the array's size. If the word is
+    /// returned to the caller, nothing else is left to do.
     #[inline(always)]
     pub(crate) fn store(
         &self,
@@ -82,7 +82,7 @@ impl<'a> Interpreter<'a> {
         }
     }
 
-    /// The result of a call comes: where it can't be stored, the trap is what is left to do.
+    /// Stores the result of a call; if it can't be stored, only the trap is left to do.
     pub(crate) fn deliver(
         &self,
         thread: &mut Thread<'a>,
@@ -103,7 +103,7 @@ impl<'a> Interpreter<'a> {
         }
     }
 
-    /// A thread goes on with the answer to its modelled call, which is no step.
+    /// Resumes a thread with the answer to its modelled call, which isn't a step.
     pub fn resume(&self, thread: &mut Thread<'a>, globals: &mut Vec<u32>, word: u32)
         requires ready { IsReady self.now }
         requires thread { IsThread (tree_of self.now) thread.old globals.old.items }
@@ -114,7 +114,7 @@ impl<'a> Interpreter<'a> {
         self.deliver(thread, globals, place, word);
     }
 
-    /// A declaration without a value: all words of its name are 0.
+    /// Executes a declaration without a value: sets all words of its name to 0.
     pub(crate) fn clear(&self, thread: &mut Thread<'a>, x: u32)
         requires ready { IsReady self.now }
         requires frame { IsFrame (tree_of self.now) thread.old.front }
@@ -129,7 +129,7 @@ impl<'a> Interpreter<'a> {
         clear_row(&mut thread.front.names, start, width);
     }
 
-    /// A return to the frame below, with a word that isn't looked at where the function gives none; or the thread's end.
+    /// Returns to the frame below, with a word that is ignored if the function gives no result; or ends the thread.
     pub(crate) fn give_back(
         &self,
         thread: &mut Thread<'a>,

@@ -1,4 +1,4 @@
--- What is found out of a program, and what it is built into.
+-- The analysis of a program, and its image and certificate.
 use Rattle.std.specs.Prelude.{ℕ, ◌≡◌, ◌<◌, ◌^◌, ◌-◌, List, min, option_map, Option}
 use Rattle.flat_code.specs.Codes.{FlatCode}
 use Rattle.call_graph.specs.Graph.{CallGraphState}
@@ -15,7 +15,7 @@ use Rattle.stack_build.specs.declared.refusals.BuildError.{BuildError}
 use Rattle.stack_build.specs.declared.refusals.BuildError.TheVariants.{CodeTooLarge}
 use Rattle.stack_build.specs.Refusals.{of_place}
 
--- the refusal of the first frame that exceeds the most bytes of a path or 2,032, if there is one
+-- the refusal of the first frame that exceeds max path or 2,032 bytes, if there is one
 abbrev pub frame_refusal : FlatCode → ℕ → Option BuildError
 frame_refusal code max_path = option_map of_place (refusal_from max_path 0 (weights_of code))
 

@@ -5,34 +5,39 @@ ghost use Rattle.stack_build.specs.declared.refusals.BuildError.TheVariants.{Mem
 ghost use Rattle.stack_build.specs.Builds.{frame_refusal, IsPlacedBy};
 ghost use Rattle.stack_plan.specs.Plans.{IsEnough};
 
+use crate::graphs::graph_of;
 use crate::refusals::BuildError;
-use c_lower::lower;
 use c_tree::Program;
 use call_graph::GraphSite;
 use cap_word::Words;
 use checkpoint_place::Plan;
 use codegen_link::Options;
-use stack_plan::plan_of;
+use stack_plan::plan_of_graph;
 use std::alloc::{AllocError, Global};
 
-/// What was found out of a program's calls.
+/// The results of the analysis of a program's calls.
 #[derive(Drop)]
 pub struct Analysis {
-    /// The bytes of each function's frame, by number.
+    /// The size of each function's frame in bytes, by number.
     pub weights: Words,
     /// The bound of each function in bytes, by number.
     pub bounds: Words,
-    /// The call sites, in order of their numbers. One through a table names the table, whose members stand in the program.
+    /// The call sites, in order of their numbers. A site that calls a table names the table, whose members are in the
+    /// program.
     pub sites: Vec<GraphSite>,
-    /// The numbers of the back-edge sites, rising.
+    /// The numbers of the back-edge sites, increasing.
     pub back: Words,
-    /// The numbers of the checkpointed sites, rising.
+    /// The numbers of the checkpointed sites, increasing.
     pub checkpointed: Words,
 }
 
-/// The analysis of a program for paths of at most `options.max_path` bytes: its call graph, the back edges
-/// of the walk, and the placement. It refuses with `FrameTooLarge` only where a frame exceeds that or 2,032
-/// bytes, and names the first such function; where there is one, no analysis is given.
+/// Returns the analysis of a program for paths of at most `options.max_path` bytes: its call graph, the back edges of
+/// the walk, and the placement.
+///
+/// # Errors
+///
+/// `FrameTooLarge` only if a frame exceeds that or 2,032 bytes, with the first such function; if there is one, no
+/// analysis is returned. `Memory` if an allocation fails.
 pub fn analyse(alloc: Global, program: &Program, options: Options) -> Result<Analysis, BuildError>
     ensures refused { IfErr result (λ error. (error ≡ Memory)
         ⊎ (frame_refusal (lowered (program_tree program.now)) options.max_path ≡ Some error)) }
@@ -45,13 +50,13 @@ pub fn analyse(alloc: Global, program: &Program, options: Options) -> Result<Ana
           main = (program_tree program.now).main;
         })
         a.back (record { checkpointed = a.checkpointed; bounds = a.bounds })) }
-    // No frame exceeds 2,032 bytes or its bound, and no bound a path.
+    // No frame exceeds 2,032 bytes or its bound, and no bound exceeds max path.
     ensures enough { IfOk result (λ a.
         IsEnough (lowered (program_tree program.now)) options.max_path
         (record { checkpointed = a.checkpointed; bounds = a.bounds })) }
 {
-    let flat = lower(alloc, program)?;
-    let planned = plan_of(alloc, &flat, options.max_path)?;
+    let graph = graph_of(alloc, program)?;
+    let planned = plan_of_graph(alloc, graph, options.max_path)?;
     let weights = Vec::from_slice(alloc, planned.graph.weights())?;
     let sites = Vec::from_slice(alloc, planned.graph.sites())?;
     let Plan {

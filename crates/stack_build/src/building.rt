@@ -18,23 +18,27 @@ use stack_image::Image;
 use stack_plan::plan_of;
 use std::alloc::Global;
 
-/// What a program is built into.
+/// The result of building a program.
 #[derive(Drop)]
 pub struct Built {
     pub image: Image,
     pub certificate: Certificate,
 }
 
-/// The image and the certificate of a program, laid out for the placement, which meet every rule of the
-/// checker. It refuses with `FrameTooLarge` only where a frame exceeds `options.max_path` or 2,032 bytes, and
-/// names the first such function; with `CodeTooLarge` only where the code of the placement has more than
-/// 200,000 words.
+/// Returns the image and the certificate of a program, laid out for the placement; they meet every rule of the
+/// checker.
+///
+/// # Errors
+///
+/// `FrameTooLarge` only if a frame exceeds `options.max_path` or 2,032 bytes, with the first such function;
+/// `CodeTooLarge` only if the code of the placement has more than 200,000 words; `Memory` if an allocation
+/// fails.
 pub fn lay_out(alloc: Global, program: &Program, options: Options) -> Result<Built, BuildError>
     requires { AreInRange options }
     ensures refused { IfErr result (λ error. (error ≡ Memory)
         ⊎ ((frame_refusal (lowered (program_tree program.now)) options.max_path ≡ Some error)
         ⊎ IsTooLarge (lowered (program_tree program.now)) options error)) }
-    // Frames come first: no frame is too large where there is a pair, or where the code is too large.
+    // Frames take precedence: no frame is too large if there is a pair, or if the code is too large.
     ensures frames { MatchResult result (λ _.
         frame_refusal (lowered (program_tree program.now)) options.max_path ≡ None)
         (λ error. IsTooLarge (lowered (program_tree program.now)) options error →
@@ -50,8 +54,12 @@ pub fn lay_out(alloc: Global, program: &Program, options: Options) -> Result<Bui
     Ok(Built { image, certificate })
 }
 
-/// The accepted program: its image and its certificate are laid out for the placement, and the checker accepts
-/// them. It refuses as `lay_out` does; a refusal drops the program.
+/// Returns the accepted program: its image and its certificate are laid out for the placement, and the checker
+/// accepts them.
+///
+/// # Errors
+///
+/// Those of `lay_out`; the program is then dropped.
 pub fn build(alloc: Global, program: Program, options: Options) -> Result<Accepted, BuildError>
     requires { AreInRange options }
     ensures refused { IfErr result (λ error. (error ≡ Memory)

@@ -8,11 +8,12 @@ use std::alloc::AllocError;
 /// Why a program isn't built.
 #[derive(Clone, Copy)]
 pub enum BuildError {
-    /// The frame of this function, the first such one, exceeds the most bytes of a path or 2,032.
+    /// The frame of this function, the first such one, exceeds max path or 2,032 bytes.
     FrameTooLarge { function: u32, bytes: u32 },
-    /// The code has so many words, more than 200,000. The count stands still at the end of its type.
+    /// The code has this number of words, more than 200,000. The count saturates at the maximum of
+    /// its type.
     CodeTooLarge { words: u64 },
-    /// No memory.
+    /// An allocation failed.
     Memory,
 }
 

@@ -6,6 +6,7 @@ use Rattle.rv_code.specs.declared.instructions.Instr.{Instr}
 use Rattle.stack_certificate.specs.declared.functions.FunctionFact.{FunctionFact}
 use Rattle.stack_certificate.specs.Fits.{checked}
 use Rattle.stack_certificate.specs.Parts.{load, store, arguments, saves}
+use Rattle.stack_certificate.specs.Registers.{a0}
 
 arguments-append : (fact : FunctionFact) (r : ℕ) (xs : List ℕ) (x : ℕ) → arguments fact r (xs ++ x ∷ []) ≡ arguments fact r xs ++ load fact (r + length xs) x ∷ []
 arguments-append fact r [] x = rw add-zero
@@ -28,24 +29,24 @@ grown : (old list : List (Option Instr)) (so_far more : List Instr) (instr : Ins
 grown old list so_far more instr e h = rw (e, h, map-append, append_assoc)
 
 arguments_more : (fact : FunctionFact) (xs : List ℕ) (k : ℕ) → k < length xs →
-    arguments fact 10 (take (k + 1) xs) ≡ arguments fact 10 (take k xs) ++ load fact (10 + k) (slice_index xs k) ∷ []
+    arguments fact a0 (take (k + 1) xs) ≡ arguments fact a0 (take k xs) ++ load fact (a0 + k) (slice_index xs k) ∷ []
 arguments_more fact xs k lt =
-    ap (λ ys. arguments fact 10 ys) (take_more xs k 0 lt) ∙
-    (arguments-append fact 10 (take k xs) (slice_index xs k) ∙
-    ap (λ n. arguments fact 10 (take k xs) ++ load fact (10 + n) (slice_index xs k) ∷ []) (length-take-le k xs (omega arith)))
+    ap (λ ys. arguments fact a0 ys) (take_more xs k 0 lt) ∙
+    (arguments-append fact a0 (take k xs) (slice_index xs k) ∙
+    ap (λ n. arguments fact a0 (take k xs) ++ load fact (a0 + n) (slice_index xs k) ∷ []) (length-take-le k xs (omega arith)))
 
-saves_more : (fact : FunctionFact) (k : ℕ) → saves fact 10 0 (k + 1) ≡ saves fact 10 0 k ++ store fact (10 + k) k ∷ []
+saves_more : (fact : FunctionFact) (k : ℕ) → saves fact a0 0 (k + 1) ≡ saves fact a0 0 k ++ store fact (a0 + k) k ∷ []
 saves_more fact k =
     let one : k + 1 ≡ suc k = omega arith in
     let same : 0 + k ≡ k = omega arith in
-    ap (λ n. saves fact 10 0 n) one ∙ (saves-more fact 10 0 k ∙ ap (λ n. saves fact 10 0 k ++ store fact (10 + k) n ∷ []) same)
+    ap (λ n. saves fact a0 0 n) one ∙ (saves-more fact a0 0 k ∙ ap (λ n. saves fact a0 0 k ++ store fact (a0 + k) n ∷ []) same)
 
 pub arguments_step : (old list : List (Option Instr)) (fact : FunctionFact) (xs : List ℕ) (k : ℕ) → k < length xs →
-    list ≡ old ++ map checked (arguments fact 10 (take k xs)) →
-    list ++ checked (load fact (10 + k) (slice_index xs k)) ∷ [] ≡ old ++ map checked (arguments fact 10 (take (k + 1) xs))
-arguments_step old list fact xs k lt h = grown old list (arguments fact 10 (take k xs)) (arguments fact 10 (take (k + 1) xs)) (load fact (10 + k) (slice_index xs k)) (arguments_more fact xs k lt) h
+    list ≡ old ++ map checked (arguments fact a0 (take k xs)) →
+    list ++ checked (load fact (a0 + k) (slice_index xs k)) ∷ [] ≡ old ++ map checked (arguments fact a0 (take (k + 1) xs))
+arguments_step old list fact xs k lt h = grown old list (arguments fact a0 (take k xs)) (arguments fact a0 (take (k + 1) xs)) (load fact (a0 + k) (slice_index xs k)) (arguments_more fact xs k lt) h
 
 pub saves_step : (old list : List (Option Instr)) (fact : FunctionFact) (k : ℕ) →
-    list ≡ old ++ map checked (saves fact 10 0 k) →
-    list ++ checked (store fact (10 + k) k) ∷ [] ≡ old ++ map checked (saves fact 10 0 (k + 1))
-saves_step old list fact k h = grown old list (saves fact 10 0 k) (saves fact 10 0 (k + 1)) (store fact (10 + k) k) (saves_more fact k) h
+    list ≡ old ++ map checked (saves fact a0 0 k) →
+    list ++ checked (store fact (a0 + k) k) ∷ [] ≡ old ++ map checked (saves fact a0 0 (k + 1))
+saves_step old list fact k h = grown old list (saves fact a0 0 k) (saves fact a0 0 (k + 1)) (store fact (a0 + k) k) (saves_more fact k) h

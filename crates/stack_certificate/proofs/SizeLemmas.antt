@@ -8,6 +8,7 @@ use Rattle.stack_certificate.specs.declared.settings.Setting.{Setting}
 use Rattle.stack_certificate.specs.declared.sites.LinkKind.{LinkKind}
 use Rattle.stack_certificate.specs.Parts.{middle, zeroes, arguments, result, transfer, saves}
 use Rattle.stack_certificate.specs.Templates.{row, size, middle_size, transfer_size, result_size, prologue}
+use Rattle.stack_certificate.specs.Registers.{a0}
 
 length-middle : (op : BinOp) → length (middle op) ≡ middle_size op
 length-middle BinOp.Add = refl
@@ -49,7 +50,7 @@ length-transfer (LinkKind.Linked need) callee here = refl
 length-transfer (LinkKind.Spawned need) callee here = refl
 
 pub length-prologue : (fact : FunctionFact) (params : ℕ) → length (prologue fact params) ≡ 2 + params
-length-prologue fact params = let e = length-saves fact 10 0 params in omega arith
+length-prologue fact params = let e = length-saves fact a0 0 params in omega arith
 
 pub length-row : (fact : FunctionFact) (sizes : List ℕ) (s : Setting) (op : Op) → length (row fact sizes s op) ≡ size sizes s.kind op
 length-row fact sizes s (Op.Const d value) = refl

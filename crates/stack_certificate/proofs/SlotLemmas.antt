@@ -6,6 +6,7 @@ use Rattle.rv_code.specs.Range.{IsImmediate, IsJumpOffset}
 use Rattle.rv_code.specs.declared.instructions.Instr.{Instr}
 use Rattle.stack_certificate.specs.Fits.{checked}
 use Rattle.stack_certificate.proofs.FitsLemmas.{checked-in, checked-out}
+use Rattle.stack_certificate.specs.Registers.{sp}
 
 pub place_over : (offset : ℕ) → 2047 < offset → ¬ (IsImmediate (pos offset))
 place_over offset h f = omega (arith, ints, f.1)
@@ -26,11 +27,11 @@ store_immediate : (base source : ℕ) (z : ℤ) → IsInRange (Instr.Sw base sou
 unfolding IsInRange
 store_immediate base source z f = f.2
 
-add_range : (z : ℤ) → IsImmediate z → IsInRange (Instr.Addi 2 2 z)
+add_range : (z : ℤ) → IsImmediate z → IsInRange (Instr.Addi sp sp z)
 unfolding IsInRange
 add_range z h = (omega arith, omega arith, h)
 
-add_immediate : (z : ℤ) → IsInRange (Instr.Addi 2 2 z) → IsImmediate z
+add_immediate : (z : ℤ) → IsInRange (Instr.Addi sp sp z) → IsImmediate z
 unfolding IsInRange
 add_immediate z f = f.2
 
@@ -54,10 +55,10 @@ checked_store base source imm z b r e h = rw (e, checked-in (Instr.Sw base sourc
 pub no_store : (base source : ℕ) (z : ℤ) → ¬ (IsImmediate z) → None ≡ checked (Instr.Sw base source z)
 no_store base source z h = sym (checked-out _ (λ f. h (store_immediate base source z f)))
 
-pub checked_add : (imm z : ℤ) → imm ≡ z → IsImmediate z → Some (Instr.Addi 2 2 imm) ≡ checked (Instr.Addi 2 2 z)
-checked_add imm z e h = rw (e, checked-in (Instr.Addi 2 2 z) (add_range z h))
+pub checked_add : (imm z : ℤ) → imm ≡ z → IsImmediate z → Some (Instr.Addi sp sp imm) ≡ checked (Instr.Addi sp sp z)
+checked_add imm z e h = rw (e, checked-in (Instr.Addi sp sp z) (add_range z h))
 
-pub no_add : (z : ℤ) → ¬ (IsImmediate z) → None ≡ checked (Instr.Addi 2 2 z)
+pub no_add : (z : ℤ) → ¬ (IsImmediate z) → None ≡ checked (Instr.Addi sp sp z)
 no_add z h = sym (checked-out _ (λ f. h (add_immediate z f)))
 
 pub checked_jump : (rd : ℕ) (imm z : ℤ) → rd < 32 → imm ≡ z → IsJumpOffset z → Some (Instr.Jal rd imm) ≡ checked (Instr.Jal rd z)

@@ -1,4 +1,4 @@
--- Whether the numbers of an instruction fit their fields, as a test that computes.
+-- Whether the numbers of an instruction fit their fields, as a test that can be computed.
 use Rattle.std.specs.Prelude.{ℕ, Bool, true, ◌&&◌, nat_lt, nat_eq, if◌then◌else◌, ℤ, pos, negsuc, int_le, Option, Some, None}
 use Rattle.rv_code.specs.Field.{low_bits}
 use Rattle.rv_code.specs.declared.instructions.Instr.{Instr}
@@ -75,6 +75,6 @@ fits (Divu rd rs1 rs2) = fits_register rd && fits_register rs1 && fits_register 
 fits (Rem rd rs1 rs2) = fits_register rd && fits_register rs1 && fits_register rs2
 fits (Remu rd rs1 rs2) = fits_register rd && fits_register rs1 && fits_register rs2
 
--- the instruction, where each number fits its field
+-- the instruction, if each number fits its field
 unfoldable pub checked : Instr → Option Instr
 checked instr = if fits instr then Some instr else None

@@ -1,5 +1,5 @@
--- The parts of which templates are made, as lists of instructions. `[x]` in the comments is the word of variable x in the
--- frame, `place(x)(sp)`.
+-- The parts of templates, as lists of instructions. `[x]` in the comments is the word of variable x in the frame,
+-- `place(x)(sp)`.
 use Rattle.std.specs.Prelude.{ℕ, zero, suc, ◌+◌, ◌/◌, ◌%◌, ◌^◌, ℤ, pos, ◌-ℤ◌, List, [], ◌∷◌, ◌++◌, slice_index, Option, Some, None}
 use Rattle.rv_code.specs.Field.{signed}
 use Rattle.rv_code.specs.declared.instructions.Instr.{Instr}
@@ -8,7 +8,7 @@ use Rattle.stack_certificate.specs.declared.functions.FunctionFact.{FunctionFact
 use Rattle.stack_certificate.specs.declared.sites.LinkKind.{LinkKind}
 use Rattle.stack_certificate.specs.Registers.{zero_, ra, sp, tp, t0, t1, t2, a0, a7}
 
--- li r, v: the upper part, rounded so that the low 12 bits, read as signed, can be added
+-- li r, v: the upper part, rounded so that the low 12 bits can be added as a signed number
 abbrev pub upper_part : ℕ → ℕ
 upper_part v = (v + 2048) / 4096 % 2 ^ 20
 
@@ -35,7 +35,7 @@ abbrev pub guard : FunctionFact → ℕ → ℕ → ℕ → List Instr
 guard fact i n kind =
     load fact t0 i ∷ li t1 n ++ (Instr.Bltu t0 t1 (pos 16) ∷ Instr.Addi a0 zero_ (pos kind) ∷ system_call 31)
 
--- what an operator makes of t0 and t1, in t0
+-- an operator on t0 and t1, in t0
 abbrev pub middle : BinOp → List Instr
 middle BinOp.Add = Instr.Add t0 t0 t1 ∷ []
 middle BinOp.Subtract = Instr.Sub t0 t0 t1 ∷ []
@@ -64,16 +64,16 @@ abbrev pub arguments : FunctionFact → ℕ → List ℕ → List Instr
 arguments fact r [] = []
 arguments fact r (x ∷ xs) = load fact r x ∷ arguments fact (r + 1) xs
 
--- sw a0, [d], where a result is wanted
+-- sw a0, [d], if the result is used
 abbrev pub result : FunctionFact → Option ℕ → List Instr
 result fact None = []
 result fact (Some d) = store fact a0 d ∷ []
 
--- a jump from one address to another, which puts the place after it in register r
+-- a jump from one address to another, which sets register r to the address after it
 abbrev pub jump : ℕ → ℕ → ℕ → Instr
 jump r to from = Instr.Jal r (pos to -ℤ pos from)
 
--- a call instruction at an address: of the function at an entry, or through t2 where there is none
+-- a call instruction at an address: of the function at an entry, or through t2 if there is none
 abbrev pub call_instruction : Option ℕ → ℕ → Instr
 call_instruction (Some entry) from = jump ra entry from
 call_instruction None from = Instr.Jalr ra t2 (pos 0)
@@ -88,7 +88,7 @@ transfer (LinkKind.Linked need) callee here =
     Instr.Addi a7 zero_ (pos 1) ∷ Instr.Ecall ∷ call_instruction callee (here + 32) ∷ system_call 2)
 transfer (LinkKind.Spawned need) callee here = call_instruction callee here ∷ []
 
--- sw a0, [0]; .. for so many parameters, from parameter k on, which is in register r
+-- sw a0, [0]; .. for this number of parameters, from parameter k on, which is in register r
 abbrev pub saves : FunctionFact → ℕ → ℕ → ℕ → List Instr
 saves fact r k zero = []
 saves fact r k (suc n) = store fact r k ∷ saves fact (r + 1) (k + 1) n

@@ -1,4 +1,4 @@
--- The table of templates: the instructions of each operation, in order, by the places of its function's certificate.
+-- The table of templates: the instructions of each operation, in order, by the places in its function's fact.
 use Rattle.std.specs.Prelude.{◌≡◌, ℕ, ◌+◌, ◌*◌, pos, negsuc, ◌-ℤ◌, List, [], ◌∷◌, ◌++◌, length, sum_by, take, slice_index, Option, Some, None}
 use Rattle.rv_code.specs.declared.instructions.Instr.{Instr}
 use Rattle.flat_code.specs.declared.functions.FlatFunction.{FlatFunction}
@@ -13,15 +13,15 @@ use Rattle.stack_certificate.specs.Certificates.{fact_at, kind_in, need_of, glob
 use Rattle.stack_certificate.specs.Parts.{li, load, store, system_call, guard, middle, zeroes, arguments, result, jump, transfer, saves, epilogue}
 use Rattle.stack_certificate.specs.Registers.{zero_, ra, sp, t0, t1, t2, a0, a1, a2}
 
--- the end stub, at which the code begins: the last frame of a thread returns to it
+-- the end stub, with which the code begins: the last frame of a thread returns to it
 abbrev pub end_stub : List Instr
 end_stub = system_call 30
 
--- the prologue of a function with so many parameters: addi sp, sp, -frame; sw ra, ra(sp); sw a0, [0]; ..
+-- the prologue of a function with this number of parameters: addi sp, sp, -frame; sw ra, ra(sp); sw a0, [0]; ..
 abbrev pub prologue : FunctionFact → ℕ → List Instr
 prologue fact params = Instr.Addi sp sp (pos 0 -ℤ pos fact.frame) ∷ Instr.Sw sp ra (pos fact.ra) ∷ saves fact a0 0 params
 
--- the instructions of an operation, where `sizes` are the words of its function's variables
+-- the instructions of an operation; `sizes` are the sizes in words of its function's variables
 abbrev pub row : FunctionFact → List ℕ → Setting → Op → List Instr
 row fact sizes s (Op.Const d value) = li t0 value ++ (store fact t0 d ∷ [])
 row fact sizes s (Op.Copy d x) = load fact t0 x ∷ store fact t0 d ∷ []
@@ -58,7 +58,7 @@ row fact sizes s (Op.Spawn site d f x) =
 row fact sizes s (Op.Return None) = epilogue fact
 row fact sizes s (Op.Return (Some x)) = load fact a0 x ∷ epilogue fact
 
--- ---- how many words each operation has
+-- ---- the number of words of each operation
 
 abbrev pub middle_size : BinOp → ℕ
 middle_size BinOp.LessOrEqual = 2
@@ -99,9 +99,9 @@ size sizes kind (Op.Spawn site d f x) = 7 + result_size d
 size sizes kind (Op.Return None) = 3
 size sizes kind (Op.Return (Some x)) = 4
 
--- ---- where its words begin
+-- ---- the address of its first word
 
--- how an operation links, by its site
+-- the link kind of an operation, by its site
 abbrev pub kind_at : Certificate → Option ℕ → LinkKind
 kind_at certificate None = LinkKind.Plain
 kind_at certificate (Some site) = kind_in certificate.sites site
@@ -115,13 +115,13 @@ words_before code certificate f i =
     2 + (function_at code f).params +
     sum_by (λ op. size (function_at code f).sizes (kind_of certificate op) op) (take i (function_at code f).ops)
 
--- the address at which operation i of function f begins
+-- the address of the first word of operation i of function f
 abbrev pub begin : FlatCode → Certificate → ℕ → ℕ → ℕ
 begin code certificate f i = (fact_at certificate f).entry + 4 * words_before code certificate f i
 
--- ---- what a template takes from the rest of the program
+-- ---- what a template needs from the rest of the program
 
--- where the operation of function f to which a jump goes begins
+-- the address of the operation of function f to which a jump goes
 abbrev pub goes_to : FlatCode → Certificate → ℕ → Op → ℕ
 goes_to code certificate f (Op.Jump to) = begin code certificate f to
 goes_to code certificate f (Op.JumpZero x to) = begin code certificate f to
@@ -142,14 +142,14 @@ named_address code (Op.StoreArray a i x) = global_address code a
 named_address code (Op.CallTable site d t i x) = table_address code t
 named_address code _ = 0
 
--- the words of the array or the members of the table that an operation names
+-- the size in words of the array, or the number of members of the table, that an operation names
 abbrev pub named_count : FlatCode → Op → ℕ
 named_count code (Op.LoadArray d a i) = global_words code a
 named_count code (Op.StoreArray a i x) = global_words code a
 named_count code (Op.CallTable site d t i x) = member_count code t
 named_count code _ = 0
 
--- what the template of an operation of function f takes, where its words begin at an address
+-- the setting of the template of an operation of function f, if its first word is at an address
 abbrev pub setting : FlatCode → Certificate → ℕ → ℕ → Op → Setting
 setting code certificate f here op = record {
   here = here;
@@ -164,7 +164,7 @@ abbrev pub row_at : FunctionFact → List ℕ → Setting → Option Op → List
 row_at fact sizes s None = []
 row_at fact sizes s (Some op) = row fact sizes s op
 
--- how many words an operation has, if it is there
+-- the number of words of an operation, if it exists
 abbrev pub size_at : List ℕ → LinkKind → Option Op → ℕ
 size_at sizes kind None = 0
 size_at sizes kind (Some op) = size sizes kind op
@@ -179,7 +179,7 @@ template code certificate f i =
     row_at (fact_at certificate f) (function_at code f).sizes
     (setting_at code certificate f (begin code certificate f i) (operation_at code f i)) (operation_at code f i)
 
--- a certificate for a program: it has a fact of each function, with a place for each variable
+-- a certificate for a program: it has a fact for each function, with a place for each variable
 abbrev pub HasPlaces : List FlatFunction → List FunctionFact → Type 0
 HasPlaces [] [] = Unit {0}
 HasPlaces [] (fact ∷ facts) = ⊥

@@ -7,6 +7,7 @@ ghost use Rattle.stack_certificate.specs.Certificates.{need_of};
 ghost use Rattle.stack_certificate.specs.Fits.{checked};
 ghost use Rattle.stack_certificate.specs.Parts as parts;
 ghost use Rattle.stack_certificate.specs.Places.{HasPlace, HavePlaces};
+ghost use Rattle.stack_certificate.specs.Registers.{a0};
 ghost use Rattle.stack_certificate.specs.Templates.{row};
 ghost use Rattle.stack_certificate.specs.declared.settings.Setting.{Setting};
 
@@ -72,7 +73,7 @@ pub(crate) fn model(fact: &FunctionFact, d: Option<u32>, n: u32, args: &[u32]) -
     requires places { All (λ x. x < length fact.now.places) args.now }
     requires place { HasPlace (length fact.now.places) d }
     requires small { n < 2048 }
-    ensures { result ≡ map checked (parts.arguments fact.now 10 args.now ++ parts.system_call n ++ parts.result fact.now d) }
+    ensures { result ≡ map checked (parts.arguments fact.now a0 args.now ++ parts.system_call n ++ parts.result fact.now d) }
 {
     let mut list = InstructionList::new();
     parts::arguments(&mut list, fact, args);
@@ -81,7 +82,7 @@ pub(crate) fn model(fact: &FunctionFact, d: Option<u32>, n: u32, args: &[u32]) -
     list
 }
 
-// The bytes that a link or a new thread needs.
+// The number of bytes that a link or a new thread needs.
 fn need(kind: LinkKind) -> u32
     ensures { result ≡ need_of kind }
 {

@@ -1,15 +1,15 @@
 use crate::functions::FunctionFacts;
 use crate::sites::SiteFacts;
 
-/// What is claimed of a program's machine code, so that its use of stack can be checked.
+/// Claims about a program's machine code, by which its use of stack can be checked.
 #[derive(Drop)]
 pub struct Certificate {
-    /// The bytes of a chunk, its header included.
+    /// The size of a chunk in bytes, including its header.
     pub chunk: u32,
-    /// The most bytes that a function may need until the next linked call.
+    /// The maximum number of bytes that a function may need up to the next linked call.
     pub max_path: u32,
-    /// A fact of each function, in order of numbers.
+    /// A fact for each function, in order of numbers.
     pub functions: FunctionFacts,
-    /// A fact of each site at which a function is called or a thread started.
+    /// A fact for each site at which a function is called or a thread started.
     pub sites: SiteFacts,
 }

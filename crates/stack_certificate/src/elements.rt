@@ -6,6 +6,7 @@ ghost use Rattle.flat_code.specs.declared.operations.Op.{Op};
 ghost use Rattle.stack_certificate.specs.Fits.{checked};
 ghost use Rattle.stack_certificate.specs.Parts as parts;
 ghost use Rattle.stack_certificate.specs.Places.{HavePlaces};
+ghost use Rattle.stack_certificate.specs.Registers.{t0, t1};
 ghost use Rattle.stack_certificate.specs.Templates.{row};
 
 use crate::functions::FunctionFact;
@@ -16,7 +17,7 @@ use rv_code::{Instr, Register, ShiftCount};
 
 // slli t0, t0, 2
 fn times_four() -> Option<Instr>
-    ensures { result ≡ checked (Instr.Slli 5 5 (pos 2)) }
+    ensures { result ≡ checked (Instr.Slli t0 t0 (pos 2)) }
 {
     parts::whole(&Instr::Slli {
         rd: Register::T0,
@@ -27,7 +28,7 @@ fn times_four() -> Option<Instr>
 
 // add t0, t0, base
 fn add_base(base: Register) -> Option<Instr>
-    ensures { result ≡ checked (Instr.Add 5 5 base) }
+    ensures { result ≡ checked (Instr.Add t0 t0 base) }
 {
     parts::whole(&Instr::Add {
         rd: Register::T0,
@@ -36,7 +37,7 @@ fn add_base(base: Register) -> Option<Instr>
     })
 }
 
-// The word of a variable at an index, to d.
+// Loads the word of a variable at an index, into d.
 pub(crate) fn load_local(
     fact: &FunctionFact,
     setting: &Setting,
@@ -58,7 +59,7 @@ pub(crate) fn load_local(
     list
 }
 
-// A word to a variable at an index.
+// Stores a word in a variable at an index.
 pub(crate) fn store_local(
     fact: &FunctionFact,
     setting: &Setting,
@@ -91,7 +92,7 @@ pub(crate) fn element(
     requires room { length list.old + 11 ≤ 32 }
     requires index { i < length fact.now.places }
     requires small { kind < 2048 }
-    ensures { list.new ≡ list.old ++ map checked (parts.guard fact.now i setting.now.count kind ++ (Instr.Slli 5 5 (pos 2) ∷ parts.li 6 setting.now.address ++ (Instr.Add 5 5 6 ∷ []))) }
+    ensures { list.new ≡ list.old ++ map checked (parts.guard fact.now i setting.now.count kind ++ (Instr.Slli t0 t0 (pos 2) ∷ parts.li t1 setting.now.address ++ (Instr.Add t0 t0 t1 ∷ []))) }
 {
     parts::guard(list, fact, i, setting.count, kind);
     list.push(times_four());
@@ -99,7 +100,7 @@ pub(crate) fn element(
     list.push(add_base(Register::T1));
 }
 
-// The word of a global at an index, to d.
+// Loads the word of a global at an index, into d.
 pub(crate) fn load_array(fact: &FunctionFact, setting: &Setting, d: u32, i: u32) -> InstructionList
     requires d { d < length fact.now.places }
     requires i { i < length fact.now.places }
@@ -112,7 +113,7 @@ pub(crate) fn load_array(fact: &FunctionFact, setting: &Setting, d: u32, i: u32)
     list
 }
 
-// A word to a global at an index.
+// Stores a word in a global at an index.
 pub(crate) fn store_array(fact: &FunctionFact, setting: &Setting, i: u32, s: u32) -> InstructionList
     requires i { i < length fact.now.places }
     requires s { s < length fact.now.places }

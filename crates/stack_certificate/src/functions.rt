@@ -3,25 +3,26 @@ ghost use Rattle.std.specs.Prelude.{◌≡◌, length};
 use cap_word::Words;
 use std::marker::Model;
 
-/// What is claimed of a function's machine code.
+/// Claims about a function's machine code.
 #[derive(Drop)]
 pub struct FunctionFact {
     /// The address of its first word.
     pub entry: u32,
     /// The number of its words.
     pub words: u32,
-    /// The bytes of its frame.
+    /// The size of its frame in bytes.
     pub frame: u32,
-    /// The place of the return address, in bytes from the start of the frame.
+    /// The offset of the return address in the frame, in bytes.
     pub ra: u32,
-    /// The most bytes that it needs until the next linked call, its own frame included.
+    /// Its bound: the maximum number of bytes that it needs up to the next linked call, including its
+    /// own frame.
     pub bound: u32,
-    /// The place of each variable, in bytes from the start of the frame.
+    /// The offset of each variable in the frame, in bytes.
     pub places: Words,
 }
 
 /// A fact of each function, in order of numbers. Contracts see it as the list of them. It is made from a
-/// `Vec` and gives it back without taking memory.
+/// `Vec` without taking memory.
 #[derive(Drop)]
 pub struct FunctionFacts {
     facts: Vec<FunctionFact>,
@@ -37,18 +38,11 @@ impl Model for FunctionFacts {
 }
 
 impl FunctionFacts {
-    /// The list of these facts. It takes no memory.
+    /// Returns the list of these facts. It doesn't allocate.
     pub fn new(facts: Vec<FunctionFact>) -> FunctionFacts
         ensures { result ≡ facts.items }
     {
         FunctionFacts { facts }
-    }
-
-    /// The facts, in the `Vec` that holds them. It takes no memory.
-    pub fn into_vec(self) -> Vec<FunctionFact>
-        ensures { result.items ≡ self }
-    {
-        self.facts
     }
 
     /// The facts, in order.
@@ -58,7 +52,7 @@ impl FunctionFacts {
         self.facts.as_slice()
     }
 
-    /// The number of facts.
+    /// Returns the number of facts.
     pub fn len(&self) -> usize
         ensures { result ≡ length self.now }
     {

@@ -3,7 +3,7 @@ ghost use Rattle.std.specs.Prelude.{◌≡◌, ◌+◌, ◌<◌, ◌≤◌, [], 
 use rv_code::Instr;
 use std::marker::Model;
 
-// At most 32 instructions, each of which may be missing because a number in it doesn't fit its field.
+// At most 32 instructions; one may be missing because a number in it doesn't fit its field.
 #[derive(Drop)]
 pub(crate) struct InstructionList {
     slots: [Option<Instr>; 32],
@@ -22,7 +22,7 @@ impl Model for InstructionList {
 }
 
 impl InstructionList {
-    // No instruction.
+    // An empty list.
     pub(crate) fn new() -> InstructionList
         ensures { result ≡ [] }
     {
@@ -32,7 +32,7 @@ impl InstructionList {
         }
     }
 
-    // One more instruction at the end.
+    // Appends an instruction.
     pub(crate) fn push(&mut self, slot: Option<Instr>)
         requires { length self.old < 32 }
         ensures { self.new ≡ self.old ++ slot ∷ [] }
@@ -41,7 +41,7 @@ impl InstructionList {
         self.len += 1;
     }
 
-    // The instruction at an index: none past the end.
+    // The instruction at an index, or none after the end.
     pub(crate) fn get(&self, index: usize) -> Option<Option<Instr>>
         ensures { result ≡ slice_get self.now index }
     {

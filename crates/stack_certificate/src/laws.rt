@@ -10,9 +10,9 @@ ghost use Rattle.stack_certificate.specs.declared.certificates.Certificate.{Cert
 ghost use Rattle.stack_certificate.specs.declared.functions.FunctionFact.{FunctionFact};
 ghost use Rattle.stack_certificate.specs.declared.settings.Setting.{Setting};
 
-/// The laws of templates: a word of a template decodes to its instruction; how many instructions the end
-/// stub, the prologue and each operation have; where the first operation of a function begins, and where
-/// the one after another. It does nothing.
+/// Law: a word of a template decodes to its instruction; the clauses also state the numbers of
+/// instructions of the end stub, the prologue and each operation, the address of a function's first
+/// operation, and that of the one after another. It has no effect at run time.
 pub fn template_laws()
     ensures decodes { (instr : Instr) (word : ℕ) → IsWordOf (Some instr) (Some word) → decoding word ≡ Some instr }
     ensures stub { length end_stub ≡ 2 }

@@ -1,16 +1,16 @@
-// Certificates of stack use, and the templates of machine code that they are about.
+// Certificates of stack use, and the templates of machine code that they describe.
 //
-// A certificate (`Certificate`) says where each function of a program stands in the code, how large its
-// frame is and where its variables lie in it, how many bytes of stack it needs at most until the next
-// linked call (its bound), and which calls link a new chunk. `operation_word` gives the words into which
-// an operation of flat code is translated under a certificate: the generator writes them and the checker
-// compares with them, so that both mean the same; `template_word` gives them with no setting computed before.
-// specs/Templates.antt has the table, a row an operation.
-// A certificate's text is read and written by the crate certificate_text.
-// The idea of linked chunks and of bounds checked at chosen calls is Capriccio's (von Behren, Condit,
-// Zhou, Necula, Brewer, "Capriccio: Scalable Threads for Internet Services", SOSP 2003).
+// A certificate (`Certificate`) gives the place of each function in the code, the size of its frame, the
+// places of its variables in the frame, its bound (the maximum number of bytes of stack that it needs up to
+// the next linked call), and the calls that link a new chunk. `operation_word` returns the words of an
+// operation of flat code under a certificate: the generator writes them and the checker compares with them,
+// so both mean the same; `template_word` returns them without a precomputed setting. specs/Templates.antt has
+// the table, with a row for each operation. A certificate's text is read and written by the crate
+// certificate_text. The idea of linked chunks and of bounds checked at chosen calls is Capriccio's (von
+// Behren, Condit, Zhou, Necula, Brewer, "Capriccio: Scalable Threads for Internet Services", SOSP 2003).
 #![tactic(auto)]
 
+mod addresses;
 mod begins;
 mod calls;
 mod certificates;
@@ -28,10 +28,12 @@ mod slots;
 mod template_words;
 mod words;
 
+pub use addresses::{global_addresses, table_addresses};
 pub use begins::operation_begin;
 pub use certificates::Certificate;
 pub use functions::{FunctionFact, FunctionFacts};
 pub use laws::template_laws;
+pub use lookups::{fact_of, function_of, members_of_table, placed_fact_of, words_of_global};
 pub use places_in_code::operation_size;
 pub use settings::Setting;
 pub use sites::{LinkKind, SiteFact, SiteFacts};

@@ -1,4 +1,4 @@
-// What a program and its certificate hold at a number.
+// Look-ups by number in a program and its certificate.
 
 ghost use Rattle.std.specs.Prelude.{◌≡◌, ◌<◌, ◌≤◌, ◌^◌, length, slice_get, slice_index_or, Some, sum};
 ghost use Rattle.flat_code.specs.Codes.{function_at, operation_at};
@@ -12,8 +12,8 @@ use crate::certificates::Certificate;
 use crate::functions::FunctionFact;
 use flat_code::{FlatFunction, FlatProgram, Op};
 
-// A function of a program.
-pub(crate) fn function_of(flat: &FlatProgram, function: u32) -> &FlatFunction
+/// A function of a program.
+pub fn function_of(flat: &FlatProgram, function: u32) -> &FlatFunction
     requires { function < length (program_code flat.now).functions }
     ensures value { result.now ≡ function_at (program_code flat.now) function }
     ensures params { result.now.params ≤ 6 }
@@ -23,8 +23,16 @@ pub(crate) fn function_of(flat: &FlatProgram, function: u32) -> &FlatFunction
     &flat.functions()[function as usize]
 }
 
-// What the certificate of a program says of a function, with a place for each variable.
-pub(crate) fn fact_of<'a>(
+/// What a certificate says of a function.
+pub fn fact_of(certificate: &Certificate, function: u32) -> &FunctionFact
+    requires { function < length certificate.now.functions }
+    ensures { result.now ≡ fact_at certificate.now function }
+{
+    &certificate.functions.as_slice()[function as usize]
+}
+
+/// What the certificate of a program says of a function, with a place for each variable.
+pub fn placed_fact_of<'a>(
     flat: &FlatProgram,
     certificate: &'a Certificate,
     function: u32,
@@ -34,7 +42,7 @@ pub(crate) fn fact_of<'a>(
     ensures value { result.now ≡ fact_at certificate.now function }
     ensures places { length result.now.places ≡ length (function_at (program_code flat.now) function).sizes }
 {
-    &certificate.functions.as_slice()[function as usize]
+    fact_of(certificate, function)
 }
 
 // An operation of a function, which is well formed.
@@ -58,16 +66,16 @@ fn operation_in(function: &FlatFunction, op: u32) -> &Op
     &function.ops.as_slice()[op as usize]
 }
 
-// The words of a global.
-pub(crate) fn words_of_global(flat: &FlatProgram, g: u32) -> u32
+/// The words of a global.
+pub fn words_of_global(flat: &FlatProgram, g: u32) -> u32
     requires { g < length (program_code flat.now).globals }
     ensures { result ≡ global_words (program_code flat.now) g }
 {
     flat.globals()[g as usize].words
 }
 
-// The number of a table's members.
-pub(crate) fn members_of_table(flat: &FlatProgram, t: u32) -> u32
+/// The number of a table's members.
+pub fn members_of_table(flat: &FlatProgram, t: u32) -> u32
     requires { t < length (program_code flat.now).tables }
     ensures { result ≡ member_count (program_code flat.now) t }
 {

@@ -5,6 +5,7 @@ ghost use Rattle.rv_code.specs.declared.instructions.Instr.{Instr};
 ghost use Rattle.stack_certificate.specs.Fits.{checked};
 ghost use Rattle.stack_certificate.specs.Parts as parts;
 ghost use Rattle.stack_certificate.specs.Places.{HasPlace, IsNear};
+ghost use Rattle.stack_certificate.specs.Registers.{zero_, a0};
 ghost use Rattle.stack_certificate.specs.declared.sites.LinkKind.{LinkKind};
 
 use crate::functions::FunctionFact;
@@ -15,6 +16,9 @@ use flat_code::BinOp;
 use rv_code::{
     BranchOffset, Immediate, Instr, JumpOffset, Register, ShiftCount, UpperImmediate, encode,
 };
+
+// The number of a0, the register of the first argument.
+const A0: u32 = 10;
 
 // An instruction, whose operands keep their own ranges.
 pub(crate) fn whole(instr: &Instr) -> Option<Instr>
@@ -48,10 +52,10 @@ pub(crate) fn store(fact: &FunctionFact, r: Register, x: u32) -> Option<Instr>
     slots::store_word(Register::SP, r, place(fact, x))
 }
 
-// addi rd, x0, value, of a small value
+// addi rd, x0, value, for a small value
 fn small(rd: Register, value: u32) -> Option<Instr>
     requires { value < 2048 }
-    ensures { result ≡ checked (Instr.Addi rd 0 (pos value)) }
+    ensures { result ≡ checked (Instr.Addi rd zero_ (pos value)) }
 {
     let imm = Immediate::new(value as i32);
     whole(&Instr::Addi {
@@ -121,7 +125,7 @@ pub(crate) fn guard(list: &mut InstructionList, fact: &FunctionFact, i: u32, n: 
     system_call(list, 31);
 }
 
-// The instruction that makes in t0 what an operator makes of t0 and t1, and a second one where one doesn't do.
+// The instruction that computes an operator on t0 and t1 in t0, and a second one if one isn't enough.
 fn middle_instructions(op: BinOp) -> (Instr, Option<Instr>)
     ensures { parts.middle op ≡ result.0 ∷ option_to_list result.1 }
 {
@@ -168,7 +172,7 @@ fn middle_instructions(op: BinOp) -> (Instr, Option<Instr>)
     }
 }
 
-// What an operator makes of t0 and t1, in t0.
+// An operator on t0 and t1, in t0.
 pub(crate) fn middle(list: &mut InstructionList, op: BinOp)
     requires { length list.old + 2 ≤ 32 }
     ensures { list.new ≡ list.old ++ map checked (parts.middle op) }
@@ -185,11 +189,11 @@ pub(crate) fn arguments(list: &mut InstructionList, fact: &FunctionFact, args: &
     requires few { length args.now ≤ 6 }
     requires room { length list.old + 6 ≤ 32 }
     requires places { All (λ x. x < length fact.now.places) args.now }
-    ensures list { list.new ≡ list.old ++ map checked (parts.arguments fact.now 10 args.now) }
+    ensures list { list.new ≡ list.old ++ map checked (parts.arguments fact.now a0 args.now) }
     ensures count { length list.new ≡ length list.old + length args.now }
 {
     for (k, x) in args.iter().enumerate() {
-        let register = Register::new(10 + k as u32);
+        let register = Register::new(A0 + k as u32);
         list.push(load(fact, register, *x));
     }
 }
@@ -199,15 +203,15 @@ pub(crate) fn saves(list: &mut InstructionList, fact: &FunctionFact, params: u32
     requires few { params ≤ 6 }
     requires room { length list.old + 6 ≤ 32 }
     requires places { params ≤ length fact.now.places }
-    ensures { list.new ≡ list.old ++ map checked (parts.saves fact.now 10 0 params) }
+    ensures { list.new ≡ list.old ++ map checked (parts.saves fact.now a0 0 params) }
 {
     for k in 0..params {
-        let register = Register::new(10 + k);
+        let register = Register::new(A0 + k);
         list.push(store(fact, register, k));
     }
 }
 
-// sw a0, [d], where a result is wanted
+// sw a0, [d], if the result is used
 pub(crate) fn result(list: &mut InstructionList, fact: &FunctionFact, d: Option<u32>)
     requires room { length list.old + 1 ≤ 32 }
     requires places { HasPlace (length fact.now.places) d }
@@ -232,7 +236,7 @@ pub(crate) fn epilogue(list: &mut InstructionList, fact: &FunctionFact)
     }));
 }
 
-// A call instruction: of the function at an entry, or through t2 where there is none.
+// A call instruction: of the function at an entry, or through t2 if there is none.
 fn call_instruction(callee: Option<u64>, from: u64) -> Option<Instr>
     requires callee { IsNear callee }
     requires from { from < 2 ^ 60 }

@@ -10,7 +10,8 @@ use crate::lookups::{function_of, operation_of};
 use crate::sites::LinkKind;
 use flat_code::{BinOp, FlatProgram, Op};
 
-/// How many words the template of an operation has, by how its site links. It takes no memory.
+/// Returns the number of words of an operation's template, by the link kind of its site. It doesn't
+/// allocate.
 pub fn operation_size(flat: &FlatProgram, function: u32, op: u32, kind: LinkKind) -> u32
     requires function { function < length (program_code flat.now).functions }
     requires op { op < length (function_at (program_code flat.now) function).ops }
@@ -25,7 +26,7 @@ pub fn operation_size(flat: &FlatProgram, function: u32, op: u32, kind: LinkKind
     )
 }
 
-// How many words the template of an operation has.
+// The number of words of an operation's template.
 fn size_of(sizes: &[u32], kind: LinkKind, op: &Op) -> u32
     requires places { HavePlaces (length sizes.now) op.now }
     requires words { sum sizes.now ≤ 2 ^ 20 }
@@ -79,7 +80,7 @@ fn size_of_result(d: Option<u32>) -> u32
     if d.is_some() { 1 } else { 0 }
 }
 
-// How a site links, by the first fact of it.
+// The link kind of a site, by its first fact.
 fn kind_of_site(certificate: &Certificate, site: u32) -> LinkKind
     ensures { result ≡ kind_in certificate.now.sites site }
 {
@@ -91,7 +92,7 @@ fn kind_of_site(certificate: &Certificate, site: u32) -> LinkKind
     LinkKind::Plain
 }
 
-// How an operation links.
+// The link kind of an operation.
 pub(crate) fn kind_of_operation(certificate: &Certificate, op: &Op) -> LinkKind
     ensures { result ≡ kind_of certificate.now op.now }
 {

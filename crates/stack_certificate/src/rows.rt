@@ -6,6 +6,7 @@ ghost use Rattle.flat_code.specs.declared.operations.Op.{Op};
 ghost use Rattle.stack_certificate.specs.Fits.{checked};
 ghost use Rattle.stack_certificate.specs.Parts as parts;
 ghost use Rattle.stack_certificate.specs.Places.{HasPlace, HavePlaces, IsBounded};
+ghost use Rattle.stack_certificate.specs.Registers.{zero_, t0, t1};
 ghost use Rattle.stack_certificate.specs.Templates.{row};
 
 use crate::functions::FunctionFact;
@@ -18,7 +19,7 @@ use rv_code::{BranchOffset, Immediate, Instr, Register};
 // li t0, value; sw t0, [d]
 fn constant(fact: &FunctionFact, d: u32, value: u32) -> InstructionList
     requires { d < length fact.now.places }
-    ensures { result ≡ map checked (parts.li 5 value ++ (parts.store fact.now 5 d ∷ [])) }
+    ensures { result ≡ map checked (parts.li t0 value ++ (parts.store fact.now t0 d ∷ [])) }
 {
     let mut list = InstructionList::new();
     parts::li(&mut list, Register::T0, value);
@@ -30,7 +31,7 @@ fn constant(fact: &FunctionFact, d: u32, value: u32) -> InstructionList
 fn copy(fact: &FunctionFact, d: u32, s: u32) -> InstructionList
     requires d { d < length fact.now.places }
     requires s { s < length fact.now.places }
-    ensures { result ≡ map checked (parts.load fact.now 5 s ∷ parts.store fact.now 5 d ∷ []) }
+    ensures { result ≡ map checked (parts.load fact.now t0 s ∷ parts.store fact.now t0 d ∷ []) }
 {
     let mut list = InstructionList::new();
     list.push(parts::load(fact, Register::T0, s));
@@ -42,7 +43,7 @@ fn copy(fact: &FunctionFact, d: u32, s: u32) -> InstructionList
 fn unary(fact: &FunctionFact, d: u32, s: u32, instr: &Instr) -> InstructionList
     requires d { d < length fact.now.places }
     requires s { s < length fact.now.places }
-    ensures { result ≡ map checked (parts.load fact.now 5 s ∷ instr.now ∷ parts.store fact.now 5 d ∷ []) }
+    ensures { result ≡ map checked (parts.load fact.now t0 s ∷ instr.now ∷ parts.store fact.now t0 d ∷ []) }
 {
     let mut list = InstructionList::new();
     list.push(parts::load(fact, Register::T0, s));
@@ -56,7 +57,7 @@ fn binary(fact: &FunctionFact, op: BinOp, d: u32, a: u32, b: u32) -> Instruction
     requires d { d < length fact.now.places }
     requires a { a < length fact.now.places }
     requires b { b < length fact.now.places }
-    ensures { result ≡ map checked (parts.load fact.now 5 a ∷ parts.load fact.now 6 b ∷ parts.middle op ++ (parts.store fact.now 5 d ∷ [])) }
+    ensures { result ≡ map checked (parts.load fact.now t0 a ∷ parts.load fact.now t1 b ∷ parts.middle op ++ (parts.store fact.now t0 d ∷ [])) }
 {
     let mut list = InstructionList::new();
     list.push(parts::load(fact, Register::T0, a));
@@ -69,7 +70,7 @@ fn binary(fact: &FunctionFact, op: BinOp, d: u32, a: u32, b: u32) -> Instruction
 // li t1, address; lw t0, 0(t1); sw t0, [d]
 fn load_global(fact: &FunctionFact, address: u32, d: u32) -> InstructionList
     requires { d < length fact.now.places }
-    ensures { result ≡ map checked (parts.li 6 address ++ (Instr.Lw 5 6 (pos 0) ∷ parts.store fact.now 5 d ∷ [])) }
+    ensures { result ≡ map checked (parts.li t1 address ++ (Instr.Lw t0 t1 (pos 0) ∷ parts.store fact.now t0 d ∷ [])) }
 {
     let mut list = InstructionList::new();
     parts::li(&mut list, Register::T1, address);
@@ -81,7 +82,7 @@ fn load_global(fact: &FunctionFact, address: u32, d: u32) -> InstructionList
 // lw t0, [s]; li t1, address; sw t0, 0(t1)
 fn store_global(fact: &FunctionFact, address: u32, s: u32) -> InstructionList
     requires { s < length fact.now.places }
-    ensures { result ≡ map checked (parts.load fact.now 5 s ∷ parts.li 6 address ++ (Instr.Sw 6 5 (pos 0) ∷ [])) }
+    ensures { result ≡ map checked (parts.load fact.now t0 s ∷ parts.li t1 address ++ (Instr.Sw t1 t0 (pos 0) ∷ [])) }
 {
     let mut list = InstructionList::new();
     list.push(parts::load(fact, Register::T0, s));
@@ -94,7 +95,7 @@ fn store_global(fact: &FunctionFact, address: u32, s: u32) -> InstructionList
 fn jump(setting: &Setting) -> InstructionList
     requires here { setting.now.here < 2 ^ 59 }
     requires to { setting.now.to < 2 ^ 60 }
-    ensures { result ≡ map checked (parts.jump 0 setting.now.to setting.now.here ∷ []) }
+    ensures { result ≡ map checked (parts.jump zero_ setting.now.to setting.now.here ∷ []) }
 {
     let mut list = InstructionList::new();
     list.push(slots::jump(Register::ZERO, setting.to, setting.here));
@@ -106,7 +107,7 @@ fn jump_zero(fact: &FunctionFact, setting: &Setting, s: u32) -> InstructionList
     requires s { s < length fact.now.places }
     requires here { setting.now.here < 2 ^ 59 }
     requires to { setting.now.to < 2 ^ 60 }
-    ensures { result ≡ map checked (parts.load fact.now 5 s ∷ Instr.Bne 5 0 (pos 8) ∷ parts.jump 0 setting.now.to (setting.now.here + 8) ∷ []) }
+    ensures { result ≡ map checked (parts.load fact.now t0 s ∷ Instr.Bne t0 zero_ (pos 8) ∷ parts.jump zero_ setting.now.to (setting.now.here + 8) ∷ []) }
 {
     let mut list = InstructionList::new();
     list.push(parts::load(fact, Register::T0, s));
@@ -119,7 +120,7 @@ fn jump_zero(fact: &FunctionFact, setting: &Setting, s: u32) -> InstructionList
     list
 }
 
-// The instructions of an operation: the row of the table that it has.
+// The instructions of an operation: its row of the table.
 pub(crate) fn row(fact: &FunctionFact, sizes: &[u32], setting: &Setting, op: &Op) -> InstructionList
     requires places { HavePlaces (length fact.now.places) op.now }
     requires sizes { length sizes.now ≡ length fact.now.places }
@@ -154,7 +155,7 @@ pub(crate) fn row(fact: &FunctionFact, sizes: &[u32], setting: &Setting, op: &Op
 
 // sub t0, x0, t0
 fn negate() -> Instr
-    ensures { result ≡ Instr.Sub 5 0 5 }
+    ensures { result ≡ Instr.Sub t0 zero_ t0 }
 {
     Instr::Sub {
         rd: Register::T0,
@@ -165,7 +166,7 @@ fn negate() -> Instr
 
 // xori t0, t0, -1
 fn complement() -> Instr
-    ensures { result ≡ Instr.Xori 5 5 (negsuc 0) }
+    ensures { result ≡ Instr.Xori t0 t0 (negsuc 0) }
 {
     Instr::Xori {
         rd: Register::T0,
@@ -176,7 +177,7 @@ fn complement() -> Instr
 
 // sltiu t0, t0, 1
 fn is_zero() -> Instr
-    ensures { result ≡ Instr.Sltiu 5 5 (pos 1) }
+    ensures { result ≡ Instr.Sltiu t0 t0 (pos 1) }
 {
     Instr::Sltiu {
         rd: Register::T0,

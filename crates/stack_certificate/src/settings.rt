@@ -1,19 +1,19 @@
 use crate::sites::LinkKind;
 
-/// What the template of an operation takes from the rest of the program, so that its words need no search
-/// of their own.
+/// What the template of an operation needs from the rest of the program, so that its words can be
+/// computed without a search.
 #[derive(Clone, Copy)]
 pub struct Setting {
-    /// The address at which the operation's words begin.
+    /// The address of the operation's first word.
     pub here: u64,
-    /// The address at which the operation begins to which it jumps.
+    /// The address of the first word of the operation to which it jumps.
     pub to: u64,
     /// The entry of the function that it calls or starts.
     pub entry: u32,
     /// The address of the global or table that it names.
     pub address: u32,
-    /// The words of the array or the members of the table that it names.
+    /// The size in words of the array, or the number of members of the table, that it names.
     pub count: u32,
-    /// How its site links.
+    /// The link kind of its site.
     pub kind: LinkKind,
 }

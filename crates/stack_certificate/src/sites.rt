@@ -2,26 +2,26 @@ ghost use Rattle.std.specs.Prelude.{◌≡◌, length};
 
 use std::marker::Model;
 
-/// How a call finds its stack.
+/// The link kind of a call: how its callee gets stack space.
 #[derive(Clone, Copy, PartialEq, Eq)]
 pub enum LinkKind {
-    /// The caller's chunk holds the callee.
+    /// The callee uses the caller's chunk.
     Plain,
-    /// A new chunk is linked where the caller's has fewer free bytes than `need`.
+    /// A new chunk is linked if the caller's has fewer free bytes than `need`.
     Linked { need: u32 },
-    /// A new thread starts in a chunk of its own, of which it needs at most `need` bytes.
+    /// A new thread starts in a new chunk, of which it needs at most `need` bytes.
     Spawned { need: u32 },
 }
 
-/// What is claimed of a call site, by its number.
+/// Claims about a call site, by its number.
 #[derive(Clone, Copy, PartialEq, Eq)]
 pub struct SiteFact {
     pub number: u32,
     pub kind: LinkKind,
 }
 
-/// A fact of each site. Contracts see it as the list of them. It is made from a `Vec` and gives it back
-/// without taking memory.
+/// A fact of each site. Contracts see it as the list of them. It is made from a `Vec` without taking
+/// memory.
 #[derive(Drop)]
 pub struct SiteFacts {
     facts: Vec<SiteFact>,
@@ -37,18 +37,11 @@ impl Model for SiteFacts {
 }
 
 impl SiteFacts {
-    /// The list of these facts. It takes no memory.
+    /// Returns the list of these facts. It doesn't allocate.
     pub fn new(facts: Vec<SiteFact>) -> SiteFacts
         ensures { result ≡ facts.items }
     {
         SiteFacts { facts }
-    }
-
-    /// The facts, in the `Vec` that holds them. It takes no memory.
-    pub fn into_vec(self) -> Vec<SiteFact>
-        ensures { result.items ≡ self }
-    {
-        self.facts
     }
 
     /// The facts, in order.
@@ -58,7 +51,7 @@ impl SiteFacts {
         self.facts.as_slice()
     }
 
-    /// The number of facts.
+    /// Returns the number of facts.
     pub fn len(&self) -> usize
         ensures { result ≡ length self.now }
     {

@@ -1,10 +1,11 @@
-// Instructions whose numbers may not fit their fields: none where they don't.
+// Instructions whose numbers may not fit their fields: none if they don't.
 
 ghost use Rattle.std.specs.Prelude.{◌≡◌, ◌<◌, ◌^◌, ◌-ℤ◌, pos, IfSome, IfNone};
 ghost use Rattle.rv_code.specs.Range.{IsImmediate, IsJumpOffset};
 ghost use Rattle.rv_code.specs.declared.instructions.Instr.{Instr};
 ghost use Rattle.stack_certificate.specs.Fits.{checked};
 ghost use Rattle.stack_certificate.specs.Parts as parts;
+ghost use Rattle.stack_certificate.specs.Registers.{sp};
 
 use rv_code::{Immediate, Instr, JumpOffset, Register};
 
@@ -36,7 +37,7 @@ pub(crate) fn store_word(base: Register, source: Register, offset: u32) -> Optio
 
 // addi sp, sp, frame
 pub(crate) fn raise_stack(frame: u32) -> Option<Instr>
-    ensures { result ≡ checked (Instr.Addi 2 2 (pos frame)) }
+    ensures { result ≡ checked (Instr.Addi sp sp (pos frame)) }
 {
     match immediate(frame) {
         Some(imm) => Some(Instr::Addi {
@@ -50,7 +51,7 @@ pub(crate) fn raise_stack(frame: u32) -> Option<Instr>
 
 // addi sp, sp, -frame
 pub(crate) fn lower_stack(frame: u32) -> Option<Instr>
-    ensures { result ≡ checked (Instr.Addi 2 2 (pos 0 -ℤ pos frame)) }
+    ensures { result ≡ checked (Instr.Addi sp sp (pos 0 -ℤ pos frame)) }
 {
     match negated(frame) {
         Some(imm) => Some(Instr::Addi {
@@ -62,7 +63,7 @@ pub(crate) fn lower_stack(frame: u32) -> Option<Instr>
     }
 }
 
-// A jump from one address to another, which puts the place after it in a register.
+// A jump from one address to another, which sets a register to the address after it.
 pub(crate) fn jump(rd: Register, to: u64, from: u64) -> Option<Instr>
     requires to { to < 2 ^ 60 }
     requires from { from < 2 ^ 60 }
@@ -75,7 +76,7 @@ pub(crate) fn jump(rd: Register, to: u64, from: u64) -> Option<Instr>
     }
 }
 
-// An immediate of 12 bits, where the value fits it.
+// An immediate of 12 bits, if the value fits it.
 fn immediate(value: u32) -> Option<Immediate>
     ensures fits { IfSome result (λ imm. (imm ≡ pos value) × IsImmediate (pos value)) }
     ensures over { IfNone result (¬ (IsImmediate (pos value))) }
@@ -86,7 +87,7 @@ fn immediate(value: u32) -> Option<Immediate>
     Some(Immediate::new(value as i32))
 }
 
-// The negative of a value as an immediate of 12 bits, where it fits it.
+// The negated value as an immediate of 12 bits, if it fits.
 fn negated(value: u32) -> Option<Immediate>
     ensures fits { IfSome result (λ imm. (imm ≡ pos 0 -ℤ pos value) × IsImmediate (pos 0 -ℤ pos value)) }
     ensures over { IfNone result (¬ (IsImmediate (pos 0 -ℤ pos value))) }
@@ -98,7 +99,7 @@ fn negated(value: u32) -> Option<Immediate>
     Some(Immediate::new(0 - value))
 }
 
-// The offset of a jump from one address to another, where it fits.
+// The offset of a jump from one address to another, if it fits.
 fn jump_offset(to: u64, from: u64) -> Option<JumpOffset>
     requires to { to < 2 ^ 60 }
     requires from { from < 2 ^ 60 }
@@ -108,7 +109,7 @@ fn jump_offset(to: u64, from: u64) -> Option<JumpOffset>
     offset_of(distance(to, from))
 }
 
-// The offset of a jump by so many bytes, where it fits.
+// The offset of a jump by this number of bytes, if it fits.
 fn offset_of(value: i64) -> Option<JumpOffset>
     ensures fits { IfSome result (λ imm. (imm ≡ value) × IsJumpOffset value) }
     ensures over { IfNone result (¬ (IsJumpOffset value)) }
@@ -123,7 +124,7 @@ fn offset_of(value: i64) -> Option<JumpOffset>
     Some(JumpOffset::new(value))
 }
 
-// How far one address lies above another.
+// The distance from one address up to another.
 fn distance(to: u64, from: u64) -> i64
     requires to { to < 2 ^ 60 }
     requires from { from < 2 ^ 60 }

@@ -5,17 +5,18 @@ ghost use Rattle.flat_code.specs.WellFormed.{IsOperation, context_of};
 ghost use Rattle.stack_certificate.specs.InstructionWords.{IsWordOf};
 ghost use Rattle.stack_certificate.specs.Templates.{begin, goes_to, named_address, named_count, named_entry, setting_at, template, IsFor};
 
-use crate::begins::{address_of_global, address_of_table, operation_begin};
+use crate::addresses::{address_of_global, address_of_table};
+use crate::begins::operation_begin;
 use crate::certificates::Certificate;
-use crate::lookups::{fact_of, members_of_table, operation_of, words_of_global};
+use crate::lookups::{members_of_table, operation_of, placed_fact_of, words_of_global};
 use crate::places_in_code::kind_of_operation;
 use crate::settings::Setting;
 use crate::words::operation_word;
 use flat_code::{FlatProgram, Op};
 
-/// A word of the template of an operation: none where the template has no such word, or where a number in
-/// the word doesn't fit its field. It takes no memory, and goes over the operations before it and those
-/// before the one to which it jumps; `operation_word` does not.
+/// Returns a word of the template of an operation; `None` if the template has no such word, or if a number
+/// in the word doesn't fit its field. It doesn't allocate; its time is linear in the number of operations
+/// before it and before the one to which it jumps. `operation_word` needs no such time.
 pub fn template_word(
     flat: &FlatProgram,
     certificate: &Certificate,
@@ -32,8 +33,8 @@ pub fn template_word(
     operation_word(flat, certificate, function, op, &setting, word)
 }
 
-/// What the template of an operation takes from the rest of the program. It takes no memory, and goes over
-/// the operations before it and those before the one to which it jumps.
+/// Returns what the template of an operation needs from the rest of the program. It doesn't allocate; its
+/// time is linear in the number of operations before it and before the one to which it jumps.
 pub fn operation_setting(
     flat: &FlatProgram,
     certificate: &Certificate,
@@ -80,8 +81,8 @@ fn entry(flat: &FlatProgram, certificate: &Certificate, function: u32, op: &Op) 
     ensures { result ≡ named_entry certificate.now op.now }
 {
     match op {
-        Op::Call { f, .. } => fact_of(flat, certificate, *f).entry,
-        Op::Spawn { f, .. } => fact_of(flat, certificate, *f).entry,
+        Op::Call { f, .. } => placed_fact_of(flat, certificate, *f).entry,
+        Op::Spawn { f, .. } => placed_fact_of(flat, certificate, *f).entry,
         _ => 0,
     }
 }
@@ -101,7 +102,7 @@ fn address(flat: &FlatProgram, function: u32, op: &Op) -> u32
     }
 }
 
-// The words of the array or the members of the table that an operation names.
+// The size in words of the array, or the number of members of the table, that an operation names.
 fn count(flat: &FlatProgram, function: u32, op: &Op) -> u32
     requires formed { IsOperation (context_of (program_code flat.now) (function_at (program_code flat.now) function)) op.now }
     ensures { result ≡ named_count (program_code flat.now) op.now }

@@ -12,14 +12,14 @@ ghost use Rattle.stack_certificate.specs.Templates.{end_stub, prologue, row, row
 use crate::certificates::Certificate;
 use crate::functions::FunctionFact;
 use crate::instruction_lists::InstructionList;
-use crate::lookups::{fact_of, function_of, operation_of};
+use crate::lookups::{function_of, operation_of, placed_fact_of};
 use crate::settings::Setting;
 use crate::{parts, rows, slots};
 use flat_code::{FlatProgram, Op};
 use rv_code::{Register, encode};
 
-/// A word of the end stub, with which the code begins and to which the last frame of a thread returns: none
-/// where it has no such word. It takes no memory.
+/// Returns a word of the end stub, with which the code begins and to which the last frame of a thread
+/// returns; `None` if it has no such word. It doesn't allocate.
 pub fn stub_word(word: u32) -> Option<u32>
     ensures { IsWordOf (slice_get end_stub word) result }
 {
@@ -28,8 +28,8 @@ pub fn stub_word(word: u32) -> Option<u32>
     slot_word(&list, word)
 }
 
-/// A word of a function's prologue: none where it has no such word, or where a number in the word doesn't
-/// fit its field. It takes no memory.
+/// Returns a word of a function's prologue; `None` if it has no such word, or if a number in the word
+/// doesn't fit its field. It doesn't allocate.
 pub fn prologue_word(fact: &FunctionFact, params: u32, word: u32) -> Option<u32>
     requires few { params ≤ 6 }
     requires places { params ≤ length fact.now.places }
@@ -42,9 +42,9 @@ pub fn prologue_word(fact: &FunctionFact, params: u32, word: u32) -> Option<u32>
     slot_word(&list, word)
 }
 
-/// A word of the template of an operation, by what it takes from the rest of the program: none where the
-/// template has no such word, or where a number in the word doesn't fit its field. It takes no memory, and
-/// a number of steps that doesn't depend on the program.
+/// Returns a word of the template of an operation, from its setting; `None` if the template has no such
+/// word, or if a number in the word doesn't fit its field. It doesn't allocate, and its time doesn't depend
+/// on the program.
 pub fn operation_word(
     flat: &FlatProgram,
     certificate: &Certificate,
@@ -61,7 +61,7 @@ pub fn operation_word(
     ensures { IsWordOf (slice_get (row_at (fact_at certificate.now function) (function_at (program_code flat.now) function).sizes setting.now (operation_at (program_code flat.now) function op)) word) result }
 {
     let body = function_of(flat, function);
-    let fact = fact_of(flat, certificate, function);
+    let fact = placed_fact_of(flat, certificate, function);
     let operation = operation_of(flat, function, op);
     row_word(fact, body.sizes.as_slice(), setting, operation, word)
 }
@@ -97,7 +97,7 @@ fn slot_word(list: &InstructionList, word: u32) -> Option<u32>
     }
 }
 
-// The word that sets the word of an array to 0, at an index.
+// The word of the instruction that sets the array's word at an index to 0.
 fn zero_word(place: u32, size: u32, word: u32) -> Option<u32>
     ensures { IsWordOf (slice_get (zeroes place size) word) result }
 {

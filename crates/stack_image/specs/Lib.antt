@@ -1,3 +1,4 @@
+pub mod Addresses
 pub mod Refusal
 pub mod Spelling
 pub mod Reading

@@ -1,4 +1,4 @@
--- The image that bytes spell, where nothing refuses them.
+-- The image that bytes spell, if they aren't refused.
 use Rattle.std.specs.Prelude.{ℕ, zero, suc, ◌*◌, List, [], ◌∷◌, ◌++◌, drop}
 use Rattle.stack_image.specs.declared.images.Image.{Image}
 use Rattle.stack_image.specs.Refusal.{number_at, code_size, globals_size, tables_size, entries_size}
@@ -8,7 +8,7 @@ abbrev pub words_of : ℕ → List ℕ → List ℕ
 words_of zero bytes = []
 words_of (suc n) bytes = words_of n bytes ++ number_at bytes (4 * n) ∷ []
 
--- the bytes behind n words
+-- the bytes after the first n words
 abbrev pub behind : ℕ → List ℕ → List ℕ
 behind n bytes = drop (4 * n) bytes
 

@@ -1,11 +1,11 @@
--- The one spelling of an image as bytes: CAP1, the four counts, and the words, each as four bytes, lowest
--- byte first.
+-- The one spelling of an image as bytes: CAP1, the four counts, and the words, each as four bytes, least
+-- significant byte first.
 use Rattle.std.specs.Prelude.{ℕ, ◌<◌, ◌≤◌, ◌^◌, List, [], ◌∷◌, ◌++◌, length, codes, All}
 use Rattle.std.specs.List.{flat_map}
 use Rattle.std.specs.Int.{w32, to_le_bytes}
 use Rattle.stack_image.specs.declared.images.Image.{Image}
 
--- the bytes that every image begins with
+-- the first bytes of every image
 abbrev pub magic : List ℕ
 magic = codes "CAP1"
 
@@ -25,7 +25,7 @@ unfoldable pub spelling : Image → List ℕ
 spelling image =
     magic ++ words (sizes image) ++ words image.code ++ words image.globals ++ words image.tables ++ words image.entries
 
--- no list has more words than it may
+-- no list has more words than its limit
 pub record IsWithinLimits (image : Image) : Type 0 where
   pub code : length image.code ≤ 200000
   pub globals : length image.globals ≤ 65536

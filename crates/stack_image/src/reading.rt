@@ -11,10 +11,10 @@ use std::alloc::{AllocError, Global};
 
 const MAGIC: &[u8] = b"CAP1";
 
-// The byte behind the counts.
+// The index of the first byte after the counts.
 const HEADER_END: usize = 20;
 
-// The numbers of words that the bytes tell.
+// The numbers of words, as in the bytes.
 #[derive(Clone, Copy)]
 struct Sizes {
     code: u32,
@@ -23,7 +23,7 @@ struct Sizes {
     entries: u32,
 }
 
-// The word whose lowest byte is byte `at`.
+// The word with lowest byte `at`.
 #[tactic(auto, unfolding(crate::specs::Refusal::number_at))]
 fn word_at(bytes: &[u8], at: usize) -> u32
     requires { at + 4 ≤ length bytes.now }
@@ -71,7 +71,7 @@ fn sizes_of(bytes: &[u8]) -> Sizes
     }
 }
 
-// The byte past the last word.
+// The index of the first byte after the last word.
 fn end_of(sizes: Sizes) -> usize
     ensures { result ≡ 20 + 4 * (sizes.code + sizes.globals + sizes.tables + sizes.entries) }
 {
@@ -114,7 +114,7 @@ fn refusal(bytes: &[u8]) -> Option<ImageError>
     length_refusal(bytes.len(), end_of(sizes))
 }
 
-// The first `count` words, and the bytes behind them.
+// The first `count` words, and the bytes after them.
 fn words_of(alloc: Global, count: u32, bytes: &[u8]) -> Result<(Words, &[u8]), AllocError>
     requires { 4 * count ≤ length bytes.now }
     ensures { IfOk result (λ read. (read.0 ≡ words_of count bytes.now)
@@ -161,25 +161,27 @@ fn image_of(alloc: Global, bytes: &[u8]) -> Result<Image, AllocError>
     })
 }
 
-/// Reads an image from all of the bytes.
+/// Reads an image from all of the bytes. The format is Capriccio's own.
 ///
-/// It refuses what is no image, at the first of these that holds: `Magic`, where the first four bytes,
-/// or all if there are fewer, don't begin as `CAP1` does; `Short` at the bytes' length, where there are
-/// fewer than 20; `Limit`, where the code exceeds 200,000 words, the globals 65,536, the tables 65,536
-/// or the entries 4,096, in this order; `Short` at the bytes' length, where words are missing; `Long` at
-/// the first byte past the last word. Other bytes are an image, and only `Memory` can fail then. The
-/// format is Capriccio's own.
+/// # Errors
+///
+/// The first of these that applies: `Magic` if the first four bytes, or all if there are fewer, aren't
+/// the beginning of `CAP1`; `Short` at the length of the bytes if there are fewer than 20; `Limit` if
+/// the code exceeds 200,000 words, the globals 65,536, the tables 65,536 or the entries 4,096, in this
+/// order; `Short` at the length of the bytes if words are missing; `Long` at the first byte after the
+/// last word. All other bytes are an image; reading them fails only with `Memory`, if an allocation
+/// fails.
 pub fn read_image(alloc: Global, bytes: &[u8]) -> Result<Image, ImageError>
-    // Which refusal it is, with its place. It comes even where memory is out.
+    // The refusal, with its place. It is returned even if there is no memory.
     ensures refused { IfSome (refusal_of bytes.now) (λ refusal. result ≡ Err refusal) }
     ensures only_memory { IfNone (refusal_of bytes.now) (IsOkUnless result ImageError.Memory) }
 
-    // What is read is spelled so, each byte of it.
+    // The bytes are the spelling of the image.
     ensures spelled { IfOk result (λ image. bytes.now ≡ spelling image) }
     ensures limits { IfOk result IsWithinLimits }
     ensures words { IfOk result HoldsWords }
 
-    // What is spelled so is read, unless memory runs out.
+    // The spelling of an image is read as that image, unless an allocation fails.
     ensures again { (image : Image) → IsWithinLimits image → HoldsWords image → bytes.now ≡ spelling image →
         MatchResult result (λ read. read ≡ image) (λ error. error ≡ ImageError.Memory) }
 {

@@ -4,19 +4,19 @@ ghost use Rattle.stack_image.specs.declared.refusals.ImageError.TheVariants.{Mem
 use cap_word::Which;
 use std::alloc::{AllocError, AllocFailed};
 
-/// Why bytes are no image. Where several hold, `read_image` says which comes first. Places are bytes,
-/// from 0.
+/// Why bytes aren't an image. If several variants apply, `read_image` says which takes precedence.
+/// Places are byte indices, from 0.
 #[derive(Clone, Copy, PartialEq, Eq)]
 pub enum ImageError {
-    /// The bytes don't begin as an image does.
+    /// The first bytes aren't those of an image.
     Magic,
-    /// The bytes end at `at`, before the image does.
+    /// The bytes end at `at`, before the end of the image.
     Short { at: u32 },
-    /// The image ends at `at`, before the bytes do.
+    /// The image ends at `at`, before the end of the bytes.
     Long { at: u32 },
     /// A number of words exceeds its limit.
     Limit { which: Which },
-    /// No memory for the words.
+    /// An allocation failed.
     Memory,
 }
 

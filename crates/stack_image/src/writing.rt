@@ -4,7 +4,7 @@ ghost use Rattle.stack_image.specs.Spelling.{words, sizes, spelling, IsWithinLim
 use crate::images::Image;
 use std::alloc::{AllocError, Global};
 
-// Appends the words, each as four bytes, lowest byte first.
+// Appends the words, each as four bytes, least significant byte first.
 fn put_words(bytes: &mut Vec<u8>, added: &[u32]) -> Result<(), AllocError>
     ensures added { OnOk result (bytes.new.items ≡ bytes.old.items ++ words added.now) }
     ensures words { All (λ word. word < 2 ^ 32) added.now }
@@ -15,10 +15,10 @@ fn put_words(bytes: &mut Vec<u8>, added: &[u32]) -> Result<(), AllocError>
     Ok(())
 }
 
-/// Writes the image as bytes, in its one spelling, which `read_image` reads back: `CAP1`, the numbers of
-/// code, global, table and entry words, and those words, all little-endian. The image keeps the limits:
-/// at most 200,000 words of code, 65,536 globals, 65,536 table words and 4,096 entries. The format is
-/// Capriccio's own.
+/// Returns the bytes of an image, its one spelling, from which `read_image` reads it: `CAP1`, the
+/// numbers of code, global, table and entry words, and those words, all little-endian. The image keeps
+/// the limits: at most 200,000 words of code, 65,536 globals, 65,536 table words and 4,096 entries. The
+/// format is Capriccio's own.
 #[tactic(auto, unfolding(crate::specs::Spelling::spelling))]
 pub fn write_image(alloc: Global, image: &Image) -> Result<Vec<u8>, AllocError>
     requires limits { IsWithinLimits image.now }

@@ -1,4 +1,4 @@
--- The plan of a program: where its calls test the stack, and what that says of frames and bounds.
+-- The plan of a program: the calls that test the stack, and what this implies for frames and bounds.
 use Rattle.std.specs.Prelude.{ℕ, ◌≡◌, ◌+◌, ◌<◌, ◌≤◌, false, List, length, map, slice_index, Some}
 use Rattle.std.specs.List.Sorted.{IsPermutation, IsStrictlyIncreasing}
 use Rattle.flat_code.specs.declared.operations.Op.{Op}
@@ -11,11 +11,11 @@ use Rattle.call_graph.specs.Graph.{CallGraphState, IsRising}
 use Rattle.call_graph.specs.Lists.{has}
 use Rattle.checkpoint_place.specs.declared.plans.Plan.{Plan}
 
--- the bytes of each function's frame
+-- the size of each function's frame in bytes
 abbrev pub weights_of : FlatCode → List ℕ
 weights_of code = map (λ f. weight_of f.sizes) code.functions
 
--- the call graph of a program: its functions weigh what their frames take
+-- the call graph of a program: the weight of a function is the size of its frame
 pub record IsGraphOf (code : FlatCode) (graph : CallGraphState) : Type 0 where
   pub weights : graph.weights ≡ weights_of code
   pub tables : graph.tables ≡ code.tables
@@ -23,9 +23,9 @@ pub record IsGraphOf (code : FlatCode) (graph : CallGraphState) : Type 0 where
   pub sites : IsPermutation (call_sites_from 0 code.functions) graph.sites
   pub rising : IsRising graph.sites
 
--- what code may rely on in a plan: a bound for each function, checkpointed numbers that rise, no frame above 2,032 bytes or
--- its function's bound, no bound above the most bytes of a path, and where a call isn't checkpointed, the caller's frame and
--- what is called are within the caller's bound
+-- what code may rely on in a plan: a bound for each function, checkpointed numbers that increase, no frame above 2,032
+-- bytes or its function's bound, no bound above max path, and, at each call that isn't checkpointed, the caller's frame
+-- plus the bound of each callee within the caller's bound
 pub record IsEnough (code : FlatCode) (max_path : ℕ) (plan : Plan) : Type 0 where
   pub each : length plan.bounds ≡ length code.functions
   pub rising : IsStrictlyIncreasing plan.checkpointed

@@ -5,6 +5,7 @@ ghost use Rattle.checkpoint_place.specs.Placement.{IsPlacement};
 ghost use Rattle.checkpoint_place.specs.Refusal.{refusal_from};
 ghost use Rattle.checkpoint_place.specs.declared.refusals.PlaceError.TheVariants.{Memory};
 ghost use Rattle.cycle_break.specs.BackEdges.{back_edges};
+ghost use Rattle.flat_code.specs.Codes.{FlatCode};
 ghost use Rattle.flat_code.specs.ProgramView.{program_code};
 ghost use Rattle.flat_code.specs.Weight.{weight_of};
 ghost use Rattle.stack_plan.specs.Plans.{weights_of, IsGraphOf, IsEnough};
@@ -16,17 +17,17 @@ use cycle_break::back_edges;
 use flat_code::{FlatFunction, FlatProgram, weight};
 use std::alloc::{AllocError, Global};
 
-/// What was found out of a program's calls, and where they test the stack.
+/// A program's call graph, its back edges and its plan.
 #[derive(Drop)]
 pub struct Planned {
-    /// The call graph, with the bytes of each function's frame.
+    /// The call graph, with the size of each function's frame in bytes.
     pub graph: CallGraph,
-    /// The numbers of the back-edge sites, rising.
+    /// The numbers of the back-edge sites, increasing.
     pub back: Words,
     pub plan: Plan,
 }
 
-// The bytes of each function's frame.
+// The size of each function's frame in bytes.
 fn weights(alloc: Global, functions: &[FlatFunction]) -> Result<Vec<u32>, AllocError>
     requires { AllByRecursion (λ f. sum f.sizes ≤ 2 ^ 20) functions.now }
     ensures { IfOk result (λ list. list.items ≡ map (λ f. weight_of f.sizes) functions.now) }
@@ -36,6 +37,25 @@ fn weights(alloc: Global, functions: &[FlatFunction]) -> Result<Vec<u32>, AllocE
         list.push(weight(function))?;
     }
     Ok(list)
+}
+
+/// The plan of a call graph for paths of at most `max_path` bytes, with the graph and its back edges. It refuses
+/// with `FrameTooLarge` only where a frame exceeds `max_path` or 2,032 bytes, and names the first such function;
+/// where there is one, the answer is that refusal or want of memory.
+pub fn plan_of_graph(alloc: Global, graph: CallGraph, max_path: u32) -> Result<Planned, PlaceError>
+    ensures refused { IfErr result (λ error. (error ≡ Memory) ⊎ (refusal_from max_path 0 graph.weights ≡ Some error)) }
+    ensures graph { IfOk result (λ planned. planned.graph ≡ graph) }
+    ensures back { IfOk result (λ planned. planned.back ≡ back_edges graph) }
+    ensures placed { IfOk result (λ planned. IsPlacement graph planned.back max_path planned.plan) }
+    ensures enough { (code : FlatCode) → IsGraphOf code graph → IfOk result (λ planned. IsEnough code max_path planned.plan) }
+{
+    let back = back_edges(alloc, &graph)?;
+    let plan = place(alloc, &graph, &back, max_path)?;
+    Ok(Planned {
+        graph,
+        back: Words::new(back),
+        plan,
+    })
 }
 
 /// The plan of a program of flat code for paths of at most `max_path` bytes, with its call graph and its back
@@ -50,11 +70,8 @@ pub fn plan_of(alloc: Global, flat: &FlatProgram, max_path: u32) -> Result<Plann
 {
     let weights = weights(alloc, flat.functions())?;
     let graph = graph(alloc, flat, &weights)?;
-    let back = back_edges(alloc, &graph)?;
-    let plan = place(alloc, &graph, &back, max_path)?;
-    Ok(Planned {
-        graph,
-        back: Words::new(back),
-        plan,
-    })
+    match plan_of_graph(alloc, graph, max_path) {
+        Ok(planned) => Ok(planned),
+        Err(error) => Err(error),
+    }
 }

@@ -3,7 +3,7 @@ use Rattle.std.specs.Prelude.{ℕ, ◌≢◌, ◌+◌, ◌==◌, nat_lt, ◌&&�
 use Rattle.std.specs.List.{AllByRecursion}
 use Rattle.stride_rule.specs.declared.clients.Client.{Client}
 
--- whether a thread with this pass goes before another: by pass, and by number where the passes are the same
+-- whether a thread with this pass comes before another: by pass, and by number if the passes are equal
 abbrev pub goes_before : (pass thread other_pass other : ℕ) → Bool
 goes_before pass thread other_pass other = nat_lt pass other_pass || (pass == other_pass && nat_lt thread other)
 
@@ -14,7 +14,7 @@ is_before client other = goes_before client.pass client.thread.number other.pass
 abbrev pub client_of : ℕ → List Client → Option Client
 client_of number clients = find (λ client. client.thread.number == number) clients
 
--- the choice of its thread is under way
+-- the segment of its thread is in progress
 abbrev pub is_running : Option ℕ → Client → Bool
 is_running None client = false
 is_running (Some number) client = client.thread.number == number
@@ -25,7 +25,7 @@ IsAbsent number clients = AllByRecursion (λ client. client.thread.number ≢ nu
 
 -- ---- a thread's pass grows
 
--- the pass of a thread, or 0 where it isn't there
+-- the pass of a thread, or 0 if there is no such thread
 abbrev pub pass_in : ℕ → List Client → ℕ
 pass_in number [] = 0
 pass_in number (client ∷ clients) = if client.thread.number == number then client.pass else pass_in number clients

@@ -1,4 +1,5 @@
--- The places of threads that are scheduled by strides, in order of start. A place whose thread has gone is empty.
+-- The places of threads that are scheduled by strides, in order of start. The place of a thread that has left is
+-- empty.
 use Rattle.std.specs.Prelude.{ℕ, ◌≡◌, ◌<◌, ◌==◌, Bool, true, false, Option, Some, None, List, [], ◌∷◌, length, slice_index_or}
 use Rattle.ready_tree.specs.declared.needs.Need.{Need}
 use Rattle.stride_rule.specs.declared.clients.Client.{Client}
@@ -11,7 +12,7 @@ clients_of [] = []
 clients_of (None ∷ places) = clients_of places
 clients_of (Some row ∷ places) = row.client ∷ clients_of places
 
--- what was told of them
+-- their needs
 abbrev pub needs_in : List (Option Row) → List (ℕ × Need)
 needs_in [] = []
 needs_in (None ∷ places) = needs_in places
@@ -35,12 +36,12 @@ pub record IsPlaceOf (number : ℕ) (places : List (Option Row)) (place : ℕ) :
   pub there : place < length places
   pub its : is_of number (row_at places place) ≡ true
 
--- a place of the thread, and none exactly where it has none
+-- a place of the thread, and none exactly if it has none
 abbrev pub IsPlaceIf : ℕ → List (Option Row) → Option ℕ → Type 0
 IsPlaceIf number places None = (place : ℕ) → place < length places → is_of number (row_at places place) ≡ false
 IsPlaceIf number places (Some place) = IsPlaceOf number places place
 
--- ---- what changes at a place
+-- ---- changes at a place
 
 abbrev pub pass_of : Option Row → ℕ
 pass_of None = 0
@@ -51,7 +52,7 @@ abbrev pub row_grown : Option Row → Option Row
 row_grown None = None
 row_grown (Some row) = Some (record row { client = with_growth row.client })
 
--- the thread waits for this
+-- the thread has this need
 abbrev pub row_told : Need → Option Row → Option Row
 row_told need None = None
 row_told need (Some row) = Some (record row { need = need })

@@ -13,14 +13,14 @@ abbrev pub better : Option Client → Client → Option Client
 better None client = Some client
 better (Some best) client = if is_before client best then Some client else Some best
 
--- what is found with one more client
+-- the state of the search after one more client
 abbrev pub found_with : (ThreadId → Bool) → Option ℕ → Found → Client → Found
 found_with eligible running found client =
     if is_running running client then found
     else if eligible client.thread then record { best = better found.best client; all = found.all }
     else record { best = found.best; all = false }
 
--- the same at one more place, and at all these
+-- the same after one more place, and after all these
 abbrev pub found_at : (ThreadId → Bool) → Option ℕ → Found → Option Row → Found
 found_at eligible running found None = found
 found_at eligible running found (Some row) = found_with eligible running found row.client
@@ -31,12 +31,12 @@ found_among eligible running found (place ∷ places) = found_among eligible run
 
 -- ---- the first whose need is met
 
--- whether a client goes before the best so far, or there is none
+-- whether a client comes before the best so far, or there is none
 abbrev pub is_before_best : Client → Option Client → Bool
 is_before_best client None = true
 is_before_best client (Some best) = is_before client best
 
--- the first so far with who is at one more place, whose need is met
+-- the first so far, given the thread at one more place, if its need is met
 abbrev pub met_with : Bounds → Option Client → Option Row → Option Client
 met_with bounds best None = best
 met_with bounds best (Some row) = if is_before_best row.client best && is_met bounds row.need then Some row.client else best

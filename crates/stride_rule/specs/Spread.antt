@@ -1,4 +1,4 @@
--- How far apart the passes of threads are.
+-- The differences between the passes of threads.
 use Rattle.std.specs.Prelude.{ℕ, ◌-◌, min, max, if◌then◌else◌, Option, Some, None, List, [], ◌∷◌}
 use Rattle.stride_rule.specs.declared.clients.Client.{Client}
 use Rattle.stride_rule.specs.declared.rows.Row.{Row}
@@ -13,7 +13,7 @@ abbrev pub least_from : ℕ → List Client → ℕ
 least_from pass [] = pass
 least_from pass (client ∷ clients) = least_from (min pass client.pass) clients
 
--- the same of a pass and those at places
+-- the same for a pass and those at places
 abbrev pub most_with : ℕ → Option Row → ℕ
 most_with pass None = pass
 most_with pass (Some row) = max pass row.client.pass
@@ -35,11 +35,11 @@ abbrev pub first_pass : List Client → Option ℕ
 first_pass [] = None
 first_pass (client ∷ clients) = Some client.pass
 
--- the greatest pass less the least, or 0 without clients
+-- the greatest pass minus the least, or 0 without clients
 abbrev pub apart_in : List Client → ℕ
 apart_in [] = 0
 apart_in (client ∷ clients) = most_from client.pass clients - least_from client.pass clients
 
--- the same of the threads that haven't left, unless a thread that waited at some choice wasn't eligible
+-- the same for the threads that haven't left, unless a waiting thread wasn't eligible at some choice
 abbrev pub spread_of : StrideState → Option ℕ
 spread_of rule = if rule.held_back then None else Some (apart_in rule.clients)

@@ -1,7 +1,8 @@
--- Tickets, and the strides that they give.
+-- Tickets, and the strides that follow from them.
 use Rattle.std.specs.Prelude.{ℕ, suc, ⊤, ◌/◌, ◌≤◌, ◌==◌, if◌then◌else◌, List, [], ◌∷◌}
 
--- the numbers of the threads rise strictly, from this one on, and each thread has from 1 to 1,024 tickets
+-- the numbers of the threads strictly increase, from this one on, and each thread has from 1 to 1,024
+-- tickets
 abbrev pub AreTicketsFrom : ℕ → List (ℕ × ℕ) → Type 0
 AreTicketsFrom least [] = ⊤
 AreTicketsFrom least ((thread, tickets) ∷ rest) = (least ≤ thread) × (1 ≤ tickets) × (tickets ≤ 1024) × AreTicketsFrom (suc thread) rest
@@ -9,11 +10,11 @@ AreTicketsFrom least ((thread, tickets) ∷ rest) = (least ≤ thread) × (1 ≤
 abbrev pub AreTickets : List (ℕ × ℕ) → Type 0
 AreTickets tickets = AreTicketsFrom 0 tickets
 
--- the tickets of a thread: 1 where none are given
+-- the tickets of a thread: 1 if none are given
 abbrev pub tickets_of : List (ℕ × ℕ) → ℕ → ℕ
 tickets_of [] sought = 1
 tickets_of ((thread, tickets) ∷ rest) sought = if thread == sought then tickets else tickets_of rest sought
 
--- by how much the pass of a thread grows at each choice of it
+-- the stride of a thread, by which its pass grows at each choice of it
 abbrev pub stride_of : List (ℕ × ℕ) → ℕ → ℕ
 stride_of tickets thread = 1048576 / tickets_of tickets thread

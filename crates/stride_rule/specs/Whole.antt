@@ -1,4 +1,4 @@
--- What a rule keeps, with the summaries of its places.
+-- The invariant of a rule, with the summaries of its places.
 use Rattle.std.specs.Prelude.{Option, List}
 use Rattle.stride_rule.specs.declared.levels.Levels.{Levels}
 use Rattle.stride_rule.specs.declared.rows.Row.{Row}

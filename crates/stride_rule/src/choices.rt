@@ -5,6 +5,6 @@ use cap_word::ThreadId;
 pub struct StrideChoice {
     /// The thread.
     pub thread: ThreadId,
-    /// Whether every thread that waited could have gone on.
+    /// Whether every waiting thread was eligible.
     pub all: bool,
 }

@@ -8,20 +8,22 @@ use cap_word::ThreadId;
 pub struct Client {
     /// The thread.
     pub thread: ThreadId,
-    /// By how much its pass grows at each choice of it: from 1,024 to 1,048,576.
+    /// Its stride, by which its pass grows at each choice of it: from 1,024 to 1,048,576.
     pub stride: u32,
     /// Its pass.
     pub pass: u64,
 }
 
-/// Whether a thread with this pass goes before another: by pass, and by number where the passes are the same.
+/// Returns whether a thread with this pass comes before another: by pass, and by number if the passes are
+/// equal.
 pub(crate) fn is_earlier(pass: u64, number: u32, other_pass: u64, other: u32) -> bool
     ensures { result ≡ goes_before pass number other_pass other }
 {
     pass < other_pass || pass == other_pass && number < other
 }
 
-/// Whether a client goes before another: by pass, and by the thread's number where the passes are the same.
+/// Returns whether a client comes before another: by pass, and by the thread's number if the passes are
+/// equal.
 pub(crate) fn is_client_before(client: &Client, other: &Client) -> bool
     ensures { result ≡ is_before client.now other.now }
 {
@@ -33,7 +35,7 @@ pub(crate) fn is_client_before(client: &Client, other: &Client) -> bool
     )
 }
 
-/// Whether the choice of this client's thread is under way.
+/// Returns whether the segment of this client's thread is in progress.
 pub(crate) fn is_client_running(running: Option<u32>, client: &Client) -> bool
     ensures { result ≡ is_running running client.now }
 {

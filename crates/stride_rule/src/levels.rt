@@ -1,4 +1,4 @@
-// Summaries of 16, of 256 and of 4,096 places at a time. Summary i of a level is of the places from i times its size on.
+// Summaries of 16, 256 and 4,096 places. Summary i of a level is that of the places from i times its size on.
 ghost use Rattle.std.specs.Prelude.{◌≡◌, ◌≢◌, ◌<◌, ◌≤◌, ◌/◌, ◌^◌, ◌++◌, ◌∷◌, [], ℕ, length, None, Option, List, OnOk};
 ghost use Rattle.stride_rule.specs.declared.rows.Row.{Row as RowOf};
 ghost use Rattle.stride_rule.specs.Levels.{AreLevels, AreLevelsBut, HasRoom, IsCovered, IsThere};
@@ -13,13 +13,13 @@ use crate::summaries::Summary;
 use ready_tree::Bounds;
 use std::alloc::{AllocError, Global};
 
-/// How many places, or summaries of the level below, a summary is of.
+/// The number of places, or of summaries of the level below, of a summary.
 const SPAN: usize = 16;
 
-/// How many places a summary of the middle level is of.
+/// The number of places of a summary of the middle level.
 const MIDDLE: usize = 256;
 
-/// How many places a summary of the large level is of.
+/// The number of places of a summary of the large level.
 const LARGE: usize = 4096;
 
 /// The summaries of the places of a rule.
@@ -33,7 +33,7 @@ pub struct Levels {
     pub large: Vec<Summary>,
 }
 
-/// The summary of this number, of 16 places.
+/// Returns the summary with this number, of 16 places.
 fn summary_of_places(places: &[Option<Row>], index: usize) -> Summary
     requires { index ≤ length places.now }
     ensures { (place : ℕ) → place < length places.now → place / 16 ≡ index → Covers result (row_at places.now place) }
@@ -47,7 +47,7 @@ fn summary_of_places(places: &[Option<Row>], index: usize) -> Summary
     summary
 }
 
-/// The summary of this number, of 16 summaries of the level below.
+/// Returns the summary with this number, of 16 summaries of the level below.
 fn summary_of_level(level: &[Summary], index: usize) -> Summary
     requires { index ≤ length level.now }
     ensures { (other : ℕ) → other < length level.now → other / 16 ≡ index → Includes result (summary_at level.now other) }
@@ -61,7 +61,7 @@ fn summary_of_level(level: &[Summary], index: usize) -> Summary
     summary
 }
 
-/// Makes the summary of this number be of one more place. It may be the first of that number.
+/// Adds one more place to the summary with this number, which may be a new one.
 fn cover(level: &mut Vec<Summary>, index: usize, place: &Option<Row>) -> Result<(), AllocError>
     requires { index ≤ length level.old.items }
     ensures kept { (other : ℕ) → (row : Option RowOf) → IsCovered level.old.items other row → IsCovered level.new.items other row }
@@ -75,7 +75,7 @@ fn cover(level: &mut Vec<Summary>, index: usize, place: &Option<Row>) -> Result<
     Ok(())
 }
 
-/// Brings the summaries of the first places up to date.
+/// Updates the summaries of the first places.
 fn renew_small(small: &mut [Summary], places: &[Option<Row>])
     ensures { (place : ℕ) → place < length places.now → place / 16 < length small.old → Covers (summary_at small.new (place / 16)) (row_at places.now place) }
 {
@@ -84,7 +84,7 @@ fn renew_small(small: &mut [Summary], places: &[Option<Row>])
     }
 }
 
-/// Brings the summaries of a level up to date with those of the level below.
+/// Updates the summaries of a level from those of the level below.
 fn renew_level(level: &mut [Summary], below: &[Summary])
     ensures { (other : ℕ) → other < length below.now → other / 16 < length level.old → Includes (summary_at level.new (other / 16)) (summary_at below.now other) }
 {
@@ -94,7 +94,7 @@ fn renew_level(level: &mut [Summary], below: &[Summary])
 }
 
 impl Levels {
-    /// The summaries of no places.
+    /// Returns the summaries of no places.
     pub fn new(alloc: Global) -> Levels
         ensures { AreLevels result [] }
     {
@@ -105,7 +105,7 @@ impl Levels {
         }
     }
 
-    /// Makes the summaries be of one more place, behind the others. If an allocation fails, they cover the places before it.
+    /// Adds one more place at the end to the summaries. If an allocation fails, they cover the places before it.
     pub fn add(&mut self, place: usize, row: &Option<Row>) -> Result<(), AllocError>
         requires { HasRoom self.old place }
         ensures kept { (places : List (Option RowOf)) → AreLevels self.old places → AreLevels self.new places }
@@ -116,7 +116,7 @@ impl Levels {
         cover(&mut self.large, place / LARGE, row)
     }
 
-    /// Brings the summaries up to date after a change at a place.
+    /// Updates the summaries after a change at a place.
     pub fn renew(&mut self, places: &[Option<Row>], place: usize)
         requires there { place < length places.now }
         requires but { AreLevelsBut self.old places.now place }
@@ -127,8 +127,8 @@ impl Levels {
         self.large[place / LARGE] = summary_of_level(&self.middle, place / LARGE);
     }
 
-    /// Brings the summaries of these places up to date, where there are enough of them. Summaries behind them may still be of
-    /// places that are gone, which costs steps and changes no answer.
+    /// Updates the summaries of these places, if there are enough of them. Summaries after them may still cover removed
+    /// places, which costs time but doesn't change a result.
     pub fn renew_all(&mut self, places: &[Option<Row>])
         requires { (place : ℕ) → place < length places.now → IsThere self.old place }
         ensures { AreLevels self.new places.now }
@@ -138,8 +138,8 @@ impl Levels {
         renew_level(&mut self.large, &self.middle);
     }
 
-    /// The next place to look at: with the best so far, nobody from this place on and before that one is the first whose need is
-    /// met.
+    /// Returns the next place to be tested: given the best so far, no thread from this place on and before that one is
+    /// the first whose need is met.
     fn next_from(&self, place: usize, bounds: &Bounds, best: &Option<Client>) -> usize
         requires there { IsThere self.now place }
         requires room { place < 2 ^ 62 }
@@ -161,7 +161,7 @@ impl Levels {
         place
     }
 
-    /// The first of the clients whose needs are met.
+    /// Returns the first of the clients whose needs are met.
     pub fn first_met(&self, places: &[Option<Row>], bounds: &Bounds) -> Option<Client>
         requires { AreLevels self.now places.now }
         ensures { result ≡ met_among bounds.now None places.now }

@@ -1,14 +1,14 @@
-// Stride scheduling: which thread goes on next, by passes and strides.
+// Stride scheduling: which thread runs next, by passes and strides.
 //
-// A thread has tickets; its stride is 1,048,576 divided by them, and its pass grows by its stride each time that it is chosen. Of
-// the threads that may go on, the one with the least pass is chosen, and of several the one with the least number. `StrideRule`
-// keeps the threads from their start (`start`) to their end (`leave`); `choose` names the choice, and `note_choice` and `rejoin`
-// stand before and after its segment. `take_choice` chooses and notes, for a world that vouches for the needs that `rejoin_for`
-// told, and asks no thread once one was held back. `specs/Choices.antt` says what a choice is, and not how it is found,
-// `specs/State.antt` what each call does, and `spread` that the passes stay within the greatest stride of one another while every
-// waiting thread may always go on. choice_rules says over the choices of a whole run what the passes are. The rule is that of
-// Waldspurger and Weihl ("Stride Scheduling", 1995); a thread starts at the pass of the thread chosen last, which takes the place of
-// their global pass.
+// A thread has tickets; its stride is 1,048,576 divided by its tickets, and its pass grows by its stride each time that
+// it is chosen. Of the eligible threads, the one with the least pass is chosen; of several, the one with the least
+// number. `StrideRule` has the threads from their start (`start`) to their end (`leave`); `choose` returns the choice,
+// `note_choice` begins its segment, and `rejoin` ends it. `take_choice` chooses and notes for a world that guarantees
+// the needs passed to `rejoin_for`; after some choice has found a waiting thread that wasn't eligible, it asks no
+// thread. `specs/Choices.antt` defines a choice independently of the search for it, and `specs/State.antt` the effect
+// of each call; `spread` says that the passes differ by at most the greatest stride as long as every waiting thread was
+// eligible. choice_rules defines the passes over the choices of a whole run. The rule is that of Waldspurger and Weihl
+// ("Stride Scheduling", 1995); a thread starts at the pass of the thread chosen last, in place of their global pass.
 #![tactic(auto)]
 
 mod choices;

@@ -1,6 +1,6 @@
-// The places of threads, in order of start. A place is emptied when its thread ends, and the empty ones go when there is no room
-// for one more. The hints say by the place of a thread's record where the thread was put. A hint is believed only where that place
-// is the thread's, so nothing is kept of them.
+// The places of threads, in order of start. A place is emptied when its thread ends, and empty places are removed when
+// there is no room for one more. The hints give the place of a thread by the slot of its record. A hint is used only if
+// that place is the thread's, so there is no invariant on them.
 ghost use Rattle.std.specs.Prelude.{◌≡◌, ◌+◌, ◌≤◌, ◌^◌, None, length, slice_set, IsTrue, OnOk, OnErr, Some, [], ◌∷◌, ◌++◌, ◌<◌};
 ghost use Rattle.std.specs.List.{AllByRecursion};
 ghost use Rattle.stride_rule.specs.Levels.{AreLevels};
@@ -13,7 +13,7 @@ use cap_word::ThreadId;
 use ready_tree::Need;
 use std::alloc::AllocError;
 
-/// Whether it is the thread's place.
+/// Returns whether it is the thread's place.
 fn is_row_of(place: &Option<Row>, number: u32) -> bool
     ensures { result ≡ is_of number place.now }
 {
@@ -23,14 +23,14 @@ fn is_row_of(place: &Option<Row>, number: u32) -> bool
     }
 }
 
-/// Whether a place is there, and is the thread's.
+/// Returns whether a place exists and is the thread's.
 fn is_place_of(places: &[Option<Row>], place: usize, number: u32) -> bool
     ensures { IsTrue result → IsPlaceOf number places.now place }
 {
     place < places.len() && is_row_of(&places[place], number)
 }
 
-/// Looks for the place of a thread from the first place on.
+/// Searches for the place of a thread from the first place on.
 fn search_place(places: &[Option<Row>], number: u32) -> Option<usize>
     ensures { IsPlaceIf number places.now result }
 {
@@ -42,7 +42,7 @@ fn search_place(places: &[Option<Row>], number: u32) -> Option<usize>
     None
 }
 
-/// Where the thread was put, as far as that was noted.
+/// Returns the hint for a thread.
 fn hint_of(hints: &[usize], slot: u32) -> usize {
     match hints.get(slot as usize) {
         Some(place) => *place,
@@ -50,7 +50,7 @@ fn hint_of(hints: &[usize], slot: u32) -> usize {
     }
 }
 
-/// The place of a thread. It is searched for only where the hint fails.
+/// Returns the place of a thread. It searches only if the hint is wrong.
 pub(crate) fn place_of(places: &[Option<Row>], hints: &[usize], thread: ThreadId) -> Option<usize>
     ensures { IsPlaceIf thread.number places.now result }
 {
@@ -61,7 +61,7 @@ pub(crate) fn place_of(places: &[Option<Row>], hints: &[usize], thread: ThreadId
     search_place(places, thread.number)
 }
 
-/// Lets the pass of the thread at a place grow by its stride. The pass that it had.
+/// Adds the stride of the thread at a place to its pass, and returns the old pass.
 pub(crate) fn grow_at(places: &mut Vec<Option<Row>>, place: usize) -> u64
     requires there { place < length places.old.items }
     requires room { AllByRecursion (λ client. client.pass + client.stride ≤ 2 ^ 61) (clients_of places.old.items) }
@@ -84,7 +84,7 @@ pub(crate) fn grow_at(places: &mut Vec<Option<Row>>, place: usize) -> u64
     }
 }
 
-/// Notes what the thread at a place waits for.
+/// Sets the need of the thread at a place.
 pub(crate) fn tell_at(places: &mut Vec<Option<Row>>, place: usize, need: Need)
     requires { place < length places.old.items }
     ensures { places.new.items ≡ slice_set places.old.items place (row_told need (row_at places.old.items place)) }
@@ -94,7 +94,7 @@ pub(crate) fn tell_at(places: &mut Vec<Option<Row>>, place: usize, need: Need)
     }
 }
 
-/// The thread at a place has gone.
+/// Empties the place of a thread that has left.
 pub(crate) fn empty_at(places: &mut Vec<Option<Row>>, place: usize)
     requires { place < length places.old.items }
     ensures { places.new.items ≡ slice_set places.old.items place None }
@@ -102,7 +102,7 @@ pub(crate) fn empty_at(places: &mut Vec<Option<Row>>, place: usize)
     places[place] = None;
 }
 
-/// Notes where a thread was put, where there is room for that.
+/// Records the place of a thread as a hint, if there is room.
 fn note(hints: &mut [usize], place: usize, row: &Option<Row>) {
     if let Some(row) = row {
         let slot = row.client.thread.slot as usize;
@@ -112,7 +112,7 @@ fn note(hints: &mut [usize], place: usize, row: &Option<Row>) {
     }
 }
 
-/// Notes where each thread is.
+/// Records the place of each thread as a hint.
 fn note_all(hints: &mut [usize], places: &[Option<Row>]) {
     for place in 0..places.len() {
         note(hints, place, &places[place]);
@@ -128,7 +128,7 @@ fn has_row(place: &Option<Row>) -> bool
     }
 }
 
-/// Takes the empty places out.
+/// Removes the empty places.
 fn gather(places: &mut Vec<Option<Row>>)
     ensures clients { clients_of places.new.items ≡ clients_of places.old.items }
     ensures needs { needs_in places.new.items ≡ needs_in places.old.items }
@@ -137,7 +137,7 @@ fn gather(places: &mut Vec<Option<Row>>)
     places.retain(|place| has_row(place));
 }
 
-/// Makes room for one more. So many threads start before the places are gathered again that each costs a few steps for it.
+/// Makes room for one more. It is amortized: so many threads start before the next removal that each costs a few steps.
 pub(crate) fn make_room(
     places: &mut Vec<Option<Row>>,
     hints: &mut Vec<usize>,
@@ -161,7 +161,7 @@ pub(crate) fn make_room(
     Ok(())
 }
 
-/// Puts a thread at the end, and notes where it is.
+/// Appends a thread, and records its place as a hint.
 pub(crate) fn append(
     places: &mut Vec<Option<Row>>,
     hints: &mut Vec<usize>,

@@ -6,6 +6,6 @@ use ready_tree::Need;
 pub struct Row {
     /// The thread with its stride and its pass.
     pub client: Client,
-    /// What it waits for, or waited for at last where its choice is under way.
+    /// Its need, or its last one if its segment is in progress.
     pub need: Need,
 }

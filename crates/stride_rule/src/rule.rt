@@ -18,14 +18,14 @@ use scheduler::bounds_at_gate;
 use std::alloc::{AllocError, Global};
 use std::marker::Model;
 
-/// Whether some choice found a thread that waited and wasn't eligible: one before, or the last.
+/// Returns whether some choice found a waiting thread that wasn't eligible: an earlier one, or the last.
 fn is_held_back(before: bool, all: bool) -> bool
     ensures { result ≡ (before || not all) }
 {
     before || !all
 }
 
-/// The threads that haven't left, with their strides and passes, and what is noted of the choices.
+/// The threads that haven't left, with their strides and passes, and the state of the choices.
 #[derive(Drop)]
 pub struct StrideRule {
     tickets: Vec<(u32, u32)>,
@@ -57,8 +57,8 @@ impl StrideRule {
     ghost use Rattle.stride_rule.specs.Spread.{spread_of};
     ghost use Rattle.stride_rule.specs.State.{AreExact, AreKnown, IsNotedAsIf, new_rule, waiting_of, with_client, after_choice, after_segment, after_segment_for, after_leaving};
 
-    /// A rule without threads. The tickets are given by the numbers of threads, which rise strictly, and are from 1 to 1,024
-    /// each; every other thread has 1. It takes no memory.
+    /// Returns a rule without threads. The tickets are given by the numbers of threads, which strictly increase, and
+    /// are from 1 to 1,024 each; every other thread has 1. It doesn't allocate.
     pub fn new(alloc: Global, tickets: Vec<(u32, u32)>) -> StrideRule
         requires { AreTickets tickets.items }
         ensures { result ≡ new_rule tickets.items }
@@ -76,7 +76,8 @@ impl StrideRule {
         }
     }
 
-    /// Adds a thread that waits, for nothing, at the pass of the thread chosen last, and the room that later calls need for it.
+    /// Adds a waiting thread without a need, at the pass of the thread chosen last, and allocates the room that later
+    /// calls need for it.
     pub fn start(&mut self, thread: ThreadId) -> Result<(), AllocError>
         requires { IsAbsent thread.number self.old.clients }
         ensures ok { OnOk result (self.new ≡ with_client self.old thread) }
@@ -97,10 +98,10 @@ impl StrideRule {
         Ok(())
     }
 
-    /// The thread to go on next, or none where no thread that waits is eligible. A thread is eligible where it is ready and, if it
-    /// is at `accept`, the gate is open or no thread elsewhere than at `accept` is ready. Of the eligible threads it has the least
-    /// pass, and of those with that pass the least number. The choice tells whether every thread that waits is eligible, so each
-    /// is asked. It takes no memory.
+    /// Returns the thread that runs next, or `None` if no waiting thread is eligible. A thread is eligible if it is
+    /// ready and, if it is at `accept`, the gate is open or no thread that isn't at `accept` is ready. Of the eligible
+    /// threads it has the least pass; of those with that pass, the least number. The choice says whether every waiting
+    /// thread is eligible, so each is asked. It doesn't allocate.
     pub fn choose<R: Ready>(&self, gate_open: bool, ready: &R) -> Option<StrideChoice>
         ensures { IsLawfulStrideChoice (waiting_of self.now) (is_eligible (R.is_ready ready.now) (R.at_accept ready.now) (R.any_elsewhere ready.now) gate_open) result }
     {
@@ -114,7 +115,7 @@ impl StrideRule {
         }
     }
 
-    /// Notes a choice, which is under way from here on: the thread's pass grows by its stride. It takes no memory.
+    /// Notes a choice, whose segment begins: the thread's pass grows by its stride. It doesn't allocate.
     pub fn note_choice(&mut self, choice: &StrideChoice)
         requires waits { IsSome (client_of choice.now.thread.number self.old.clients) }
         requires none_under_way { self.old.running ≡ None }
@@ -128,8 +129,8 @@ impl StrideRule {
         self.held_back = is_held_back(self.held_back, choice.all);
     }
 
-    /// The thread of the choice among those whose needs are met, where no choice is under way. No thread is asked. It takes no
-    /// memory.
+    /// Returns the thread of the choice among those whose needs are met, if no segment is in progress. It asks no
+    /// thread and doesn't allocate.
     fn first(&self, bounds: &Bounds) -> Option<ThreadId>
         requires { self.now.running ≡ None }
         ensures { (test : ThreadIdOf → Bool) → AreExact bounds.now test self.now → IsLawfulStrideThread (waiting_of self.now) test result }
@@ -140,8 +141,8 @@ impl StrideRule {
         }
     }
 
-    /// The choice as it is to be noted, by the needs. Where a thread was held back before, it isn't looked for whether one is now,
-    /// and no thread is asked.
+    /// Returns the choice to be noted, by the needs. If some choice found a thread that wasn't eligible, it doesn't
+    /// test this again, and asks no thread.
     fn choice_by_needs<W: Bounded>(&self, gate_open: bool, world: &W) -> Option<StrideChoice>
         requires none_under_way { self.now.running ≡ None }
         requires known { AreKnown (W.vouches world.now) self.now }
@@ -158,9 +159,9 @@ impl StrideRule {
         }
     }
 
-    /// The thread of the choice that `choose` makes, for a world that vouches for the needs that were told. The choice is noted, and
-    /// under way from here on. Each thread that waits is asked until some choice finds one that isn't eligible. From then on none is
-    /// asked: the needs say who may go on. It takes no memory.
+    /// Makes the same choice as `choose`, for a world that guarantees the needs, notes it, and returns its thread,
+    /// whose segment begins. It asks each waiting thread until some choice finds one that isn't eligible. From then on
+    /// it asks none: the needs determine which threads are eligible. It doesn't allocate.
     pub fn take_choice<W: Bounded>(&mut self, gate_open: bool, world: &W) -> Option<ThreadId>
         requires none_under_way { self.old.running ≡ None }
         requires known { AreKnown (W.vouches world.now) self.old }
@@ -176,7 +177,7 @@ impl StrideRule {
         Some(choice.thread)
     }
 
-    /// Ends the choice under way: its thread waits again, for what it waited before. It takes no memory.
+    /// Ends the segment in progress: its thread waits again, with the same need. It doesn't allocate.
     pub fn rejoin(&mut self, thread: ThreadId)
         requires { self.old.running ≡ Some thread.number }
         ensures { self.new ≡ after_segment self.old }
@@ -184,7 +185,7 @@ impl StrideRule {
         self.running = None;
     }
 
-    /// Ends the choice under way: its thread waits for this. It takes no memory.
+    /// Ends the segment in progress: its thread waits with this need. It doesn't allocate.
     pub fn rejoin_for(&mut self, thread: ThreadId, need: Need)
         requires { self.old.running ≡ Some thread.number }
         ensures { self.new ≡ after_segment_for self.old thread.number need }
@@ -199,7 +200,7 @@ impl StrideRule {
         self.running = None;
     }
 
-    /// Ends the choice under way: its thread has ended. It takes no memory.
+    /// Ends the segment in progress: its thread has ended. It doesn't allocate.
     pub fn leave(&mut self, thread: ThreadId)
         requires { self.old.running ≡ Some thread.number }
         ensures { self.new ≡ after_leaving self.old thread.number }
@@ -208,9 +209,9 @@ impl StrideRule {
         self.running = None;
     }
 
-    /// How far apart the passes are: the greatest less the least of the threads that haven't left, 0 without threads; none where
-    /// at some choice so far a thread that waited wasn't eligible. It is at most the greatest stride of any thread started so
-    /// far. It takes no memory.
+    /// Returns the difference between the greatest and the least pass of the threads that haven't left, 0 without
+    /// threads; `None` if at some choice so far a waiting thread wasn't eligible. It is at most the greatest stride of
+    /// any thread started so far. It doesn't allocate.
     pub fn spread(&self) -> Option<u64>
         ensures value { result ≡ spread_of self.now }
         ensures within { IfSome result (λ spread. spread ≤ self.now.greatest) }

@@ -8,16 +8,16 @@ use cap_word::Ready;
 use ready_tree::Bounds;
 use scheduler::may_go_on;
 
-/// How far a search through the clients has come.
+/// The state of a search through the clients.
 #[derive(Clone, Copy)]
 pub struct Found {
-    /// The first of the clients so far that may go on.
+    /// The first of the eligible clients so far.
     pub best: Option<Client>,
-    /// Whether each waiting client so far may go on.
+    /// Whether each waiting client so far is eligible.
     pub all: bool,
 }
 
-/// The first of the best so far and this client.
+/// Returns the first of the best so far and this client.
 fn better_of(best: Option<Client>, client: &Client) -> Option<Client>
     ensures { result ≡ better best client.now }
 {
@@ -33,7 +33,7 @@ fn better_of(best: Option<Client>, client: &Client) -> Option<Client>
     }
 }
 
-/// What is found with one more client, which is asked unless its choice is under way.
+/// Returns the state after one more client, which is asked unless its segment is in progress.
 fn looked_at<R: Ready>(
     found: Found,
     running: Option<u32>,
@@ -58,7 +58,7 @@ fn looked_at<R: Ready>(
     }
 }
 
-/// The same with one more place.
+/// Returns the state after one more place.
 fn looked_at_place<R: Ready>(
     found: Found,
     running: Option<u32>,
@@ -74,7 +74,7 @@ fn looked_at_place<R: Ready>(
     }
 }
 
-/// What is found among all clients. Each that waits is asked once.
+/// Returns the state after all clients. Each waiting client is asked once.
 pub(crate) fn search<R: Ready>(
     places: &[Option<Row>],
     running: Option<u32>,
@@ -93,7 +93,7 @@ pub(crate) fn search<R: Ready>(
     found
 }
 
-/// Whether a client goes before the best so far, or there is none so far.
+/// Returns whether a client comes before the best so far, or there is none so far.
 fn is_before_best_so_far(client: &Client, best: &Option<Client>) -> bool
     ensures { result ≡ is_before_best client.now best.now }
 {
@@ -103,7 +103,7 @@ fn is_before_best_so_far(client: &Client, best: &Option<Client>) -> bool
     }
 }
 
-/// The first of the best so far and who is at one more place, if its need is met.
+/// Returns the first of the best so far and the client at one more place, if its need is met.
 pub(crate) fn met_at(best: Option<Client>, place: &Option<Row>, bounds: &Bounds) -> Option<Client>
     ensures { result ≡ met_with bounds.now best place.now }
 {

@@ -4,7 +4,7 @@ ghost use Rattle.stride_rule.specs.Spread.{apart_in, first_pass, most_among, mos
 
 use crate::rows::Row;
 
-/// The greatest pass less the least, or 0 where there is no client.
+/// Returns the greatest pass minus the least, or 0 if there are no clients.
 pub(crate) fn apart(places: &[Option<Row>]) -> u64
     ensures { result ≡ apart_in (clients_of places.now) }
 {
@@ -14,7 +14,7 @@ pub(crate) fn apart(places: &[Option<Row>]) -> u64
     }
 }
 
-/// The pass of the first client.
+/// Returns the pass of the first client.
 fn pass_of_first(places: &[Option<Row>]) -> Option<u64>
     ensures { result ≡ first_pass (clients_of places.now) }
 {
@@ -26,7 +26,7 @@ fn pass_of_first(places: &[Option<Row>]) -> Option<u64>
     None
 }
 
-/// The greater of a pass and that at a place.
+/// Returns the greater of a pass and that at a place.
 fn most_of(pass: u64, place: &Option<Row>) -> u64
     ensures { result ≡ most_with pass place.now }
 {
@@ -36,7 +36,7 @@ fn most_of(pass: u64, place: &Option<Row>) -> u64
     }
 }
 
-/// The lesser of a pass and that at a place.
+/// Returns the lesser of a pass and that at a place.
 fn least_of(pass: u64, place: &Option<Row>) -> u64
     ensures { result ≡ least_with pass place.now }
 {
@@ -46,7 +46,7 @@ fn least_of(pass: u64, place: &Option<Row>) -> u64
     }
 }
 
-/// How far apart a pass and those at the places are.
+/// Returns the greatest difference between a pass and those at the places.
 fn apart_from(pass: u64, places: &[Option<Row>]) -> u64
     ensures { result ≡ most_among pass places.now - least_among pass places.now }
 {

@@ -1,4 +1,4 @@
-// What is known of several places at once, so that a search passes them without looking at each.
+// Summaries of several places, so that a search can skip them.
 ghost use Rattle.std.specs.Prelude.{◌≡◌};
 ghost use Rattle.stride_rule.specs.Clients.{goes_before};
 ghost use Rattle.stride_rule.specs.Summaries.{Covers, Includes, may_help as may_help_in};
@@ -7,33 +7,33 @@ use crate::clients::{Client, is_earlier};
 use crate::rows::Row;
 use ready_tree::{Bounds, Needs};
 
-/// What is known of several places.
+/// A summary of several places.
 #[derive(Clone, Copy)]
 pub struct Summary {
-    /// What some thread there waits for.
+    /// The needs of the threads there.
     pub needs: Needs,
-    /// No thread there goes before this pass with the number.
+    /// A lower bound of the passes there, with the number.
     pub pass: u64,
-    /// The number.
+    /// A lower bound of the numbers at that pass.
     pub number: u32,
 }
 
 impl Summary {
-    /// Nobody is there.
+    /// The summary of no threads.
     pub const NONE: Summary = Summary {
         needs: Needs::NONE,
         pass: u64::MAX,
         number: u32::MAX,
     };
 
-    /// Whether a pass with a number goes before the least here.
+    /// Returns whether a pass with a number comes before the lower bound.
     fn is_after(&self, pass: u64, number: u32) -> bool
         ensures { result ≡ goes_before pass number self.now.pass self.now.number }
     {
         is_earlier(pass, number, self.pass, self.number)
     }
 
-    /// What is known of these places and others.
+    /// Returns the summary of these places and others.
     pub fn join(&self, other: &Summary) -> Summary
         ensures left { Includes result self.now }
         ensures right { Includes result other.now }
@@ -46,7 +46,7 @@ impl Summary {
         }
     }
 
-    /// What is known of these places and one more.
+    /// Returns the summary of these places and one more.
     pub fn with(&self, place: &Option<Row>) -> Summary
         ensures covers { Covers result place.now }
         ensures keeps { Includes result self.now }
@@ -61,7 +61,7 @@ impl Summary {
         }
     }
 
-    /// Whether someone here may be the first whose need is met, with the best so far.
+    /// Returns whether a thread here may be the first whose need is met, given the best so far.
     pub fn may_help(&self, bounds: &Bounds, best: &Option<Client>) -> bool
         ensures { result ≡ may_help_in bounds.now best.now self.now }
     {
@@ -71,7 +71,7 @@ impl Summary {
         }
     }
 
-    /// Whether the least here goes before a client.
+    /// Returns whether the lower bound comes before a client.
     fn is_before(&self, client: &Client) -> bool
         ensures { result ≡ goes_before self.now.pass self.now.number client.now.pass client.now.thread.number }
     {

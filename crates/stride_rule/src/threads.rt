@@ -1,4 +1,4 @@
-// What a call does to one thread, by its number.
+// The effects of calls on one thread, by its number.
 ghost use Rattle.std.specs.Prelude.{◌≡◌, ◌+◌, ◌≤◌, ◌^◌, IsSome};
 ghost use Rattle.std.specs.List.{AllByRecursion};
 ghost use Rattle.stride_rule.specs.Clients.{client_of, pass_in, grown, without};
@@ -14,7 +14,7 @@ use crate::rows::Row;
 use cap_word::ThreadId;
 use ready_tree::Need;
 
-/// Lets the pass of a thread grow by its stride. The pass that it had, or 0 where there is no such thread.
+/// Adds the stride of a thread to its pass, and returns the old pass, or 0 if there is no such thread.
 pub(crate) fn grow(places: &mut Vec<Option<Row>>, hints: &[usize], thread: ThreadId) -> u64
     requires once { AreOnce (clients_of places.old.items) }
     requires room { AllByRecursion (λ client. client.pass + client.stride ≤ 2 ^ 61) (clients_of places.old.items) }
@@ -29,7 +29,7 @@ pub(crate) fn grow(places: &mut Vec<Option<Row>>, hints: &[usize], thread: Threa
     }
 }
 
-/// Notes what a thread waits for.
+/// Sets the need of a thread.
 pub(crate) fn tell(
     places: &mut Vec<Option<Row>>,
     hints: &[usize],
@@ -50,7 +50,7 @@ pub(crate) fn tell(
     }
 }
 
-/// Takes a thread out.
+/// Removes a thread.
 pub(crate) fn take_out(
     places: &mut Vec<Option<Row>>,
     hints: &[usize],

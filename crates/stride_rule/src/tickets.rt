@@ -4,7 +4,7 @@ ghost use Rattle.stride_rule.specs.Tickets.{AreTickets, stride_of, tickets_of};
 /// The stride of a thread with one ticket.
 const WHOLE: u32 = 1_048_576;
 
-/// The tickets of a thread: 1 where none are given.
+/// Returns the tickets of a thread: 1 if none are given.
 fn tickets_for(tickets: &[(u32, u32)], number: u32) -> u32
     requires { AreTickets tickets.now }
     ensures value { result ≡ tickets_of tickets.now number }
@@ -19,7 +19,7 @@ fn tickets_for(tickets: &[(u32, u32)], number: u32) -> u32
     1
 }
 
-/// The stride of a thread.
+/// Returns the stride of a thread.
 pub(crate) fn stride_for(tickets: &[(u32, u32)], number: u32) -> u32
     requires { AreTickets tickets.now }
     ensures value { result ≡ stride_of tickets.now number }

@@ -5,7 +5,7 @@ use cap_word::Which;
 use stack_image::{Image, ImageError, read_image, write_image};
 use std::alloc::Global;
 
-// The image of a `main` that puts one number, as the format's worked example has it, and a byte more.
+// The image of a `main` that puts one number, as in the format's worked example, and one byte more.
 const LONG: &[u8] = b"CAP1\x18\x00\x00\x00\x00\x00\x00\x00\x00\x00\x00\x00\
 \x01\x00\x00\x00\x93\x08\xe0\x01\x73\x00\x00\x00\x13\x01\x01\xff\
 \x23\x26\x11\x00\xb7\x02\x00\x00\x93\x82\x72\x00\x23\x20\x51\x00\
@@ -48,7 +48,7 @@ const EXAMPLE_CODE: &[u32] = &[
 const FOUR: &[u8] = b"CAP1\x02\x00\x00\x00\x01\x00\x00\x00\x00\x00\x00\x00\x02\x00\x00\x00\
 \x01\x00\x00\x00\x04\x03\x02\x01\xff\xff\xff\xff\x04\x00\x00\x00\x05\x00\x00\x00";
 
-// Whether an image without a table word is written as these bytes.
+// Checks whether an image without a table word is written as these bytes.
 fn is_written(alloc: Global, image: &Image, want: &[u8]) -> bool
     requires { IsWithinLimits image.now }
 {
@@ -62,7 +62,7 @@ fn is_written(alloc: Global, image: &Image, want: &[u8]) -> bool
     }
 }
 
-// Whether the bytes are an image of these words without a table word, and are written again.
+// Checks whether the bytes are an image of these words without a table word, and are written again.
 fn comes_back(alloc: Global, bytes: &[u8], code: &[u32], globals: &[u32], entries: &[u32]) -> bool {
     match read_image(alloc, bytes) {
         Ok(image) => {
@@ -94,8 +94,8 @@ const LATE: u32 = 3;
 
 const LIMIT: u32 = 4;
 
-// Why the bytes are refused, and the place or the limit's number: 0 of the code, 1 of the globals, 2 of the tables and
-// 3 of the entries.
+// Returns why the bytes are refused, and the place or the limit's number: 0 for the code, 1 for the globals, 2 for the
+// tables and 3 for the entries.
 fn refusal(alloc: Global, bytes: &[u8]) -> (u32, u32) {
     match read_image(alloc, bytes) {
         Ok(image) => {
@@ -120,7 +120,7 @@ fn number_of(which: Which) -> u32 {
     }
 }
 
-// Beginnings of the example with a byte more, by their length, and why they are refused.
+// Prefixes of the example with one byte more, by length, and why they are refused.
 const BEGINNINGS: &[(usize, u32, u32)] = &[
     (0, SHORT, 0),
     (2, SHORT, 2),

@@ -1,9 +1,8 @@
-// Lists of words: those that are refused, and those with the command that they ask for, from the table of commands and
-// options.
+// Lists of words: those that are refused, and those that ask for a command, from the table of commands and options.
 use command_words::{Audit, Command, Placement, Policy, Rule, Tickets, WordsError, read_words};
 use std::alloc::{AllocError, Global};
 
-// Lists that are no word list: one a line, with a blank between the words.
+// Lists that aren't word lists: one a line, with a space between the words.
 const REFUSED: &str = "help
 serve
 serve P Q
@@ -93,7 +92,7 @@ const POLICY: Policy = Policy {
     knee: 0,
 };
 
-// The words of a line.
+// Returns the words of a line.
 fn words_of(alloc: Global, line: &str) -> Result<Vec<String>, AllocError> {
     let mut words = Vec::new(alloc);
     for word in line.split(' ') {
@@ -102,7 +101,7 @@ fn words_of(alloc: Global, line: &str) -> Result<Vec<String>, AllocError> {
     Ok(words)
 }
 
-// Whether the words of a line are refused.
+// Checks whether the words of a line are refused.
 fn is_refused(alloc: Global, line: &str) -> bool {
     let Ok(words) = words_of(alloc, line) else {
         return false;
@@ -124,7 +123,7 @@ fn other_words_are_refused(rt: HostRuntime) {
     assert!(rt; right);
 }
 
-// The name of a command.
+// Returns the name of a command.
 fn name_of(command: &Command<'_>) -> &'static str {
     match command {
         Command::Serve { .. } => "serve",
@@ -138,7 +137,7 @@ fn name_of(command: &Command<'_>) -> &'static str {
     }
 }
 
-// The files of a command by name, an empty name for each that it has less than three.
+// Returns the names of a command's files, with empty names up to three.
 fn files_of<'a>(command: &Command<'a>) -> [&'a str; 3] {
     match *command {
         Command::Serve { source, .. } | Command::Graph { source, .. } => [source, "", ""],
@@ -169,7 +168,7 @@ fn files_of<'a>(command: &Command<'a>) -> [&'a str; 3] {
     }
 }
 
-// The placement of a command, the default one if it has none.
+// Returns the placement of a command, or the default one if it has none.
 fn placement_of(command: &Command<'_>) -> Placement {
     match *command {
         Command::Serve { placement, .. }
@@ -179,7 +178,7 @@ fn placement_of(command: &Command<'_>) -> Placement {
     }
 }
 
-// The policy of a command, the default one if it has none.
+// Returns the policy of a command, or the default one if it has none.
 fn policy_of(command: &Command<'_>) -> Policy {
     match *command {
         Command::Serve { policy, .. } | Command::Run { policy, .. } => policy,
@@ -188,7 +187,7 @@ fn policy_of(command: &Command<'_>) -> Policy {
     }
 }
 
-// The number of a workload or of an audit's steps, 0 if a command has none.
+// Returns the number of a workload or of an audit's steps, or 0 if a command has none.
 fn number_of(command: &Command<'_>) -> u64 {
     match *command {
         Command::Demo { number } => u64::from(number),
@@ -197,7 +196,7 @@ fn number_of(command: &Command<'_>) -> u64 {
     }
 }
 
-// Whether two rules of choices are the same.
+// Checks whether two rules of choice are the same.
 fn is_same_rule(a: &Rule, b: &Rule) -> bool {
     match (a, b) {
         (Rule::Graph, Rule::Graph) => true,
@@ -208,7 +207,7 @@ fn is_same_rule(a: &Rule, b: &Rule) -> bool {
     }
 }
 
-// Whether two policies are the same.
+// Checks whether two policies are the same.
 fn is_same_policy(a: &Policy, b: &Policy) -> bool {
     a.chunks == b.chunks
         && a.extra == b.extra
@@ -222,7 +221,7 @@ fn is_same_policy(a: &Policy, b: &Policy) -> bool {
         && a.knee == b.knee
 }
 
-// Whether two commands are the same, with their files by name and their options.
+// Checks whether two commands are the same, with the names of their files and their options.
 fn is_same(a: &Command<'_>, b: &Command<'_>) -> bool {
     let (here, there) = (placement_of(a), placement_of(b));
     name_of(a) == name_of(b)
@@ -233,7 +232,7 @@ fn is_same(a: &Command<'_>, b: &Command<'_>) -> bool {
         && is_same_policy(&policy_of(a), &policy_of(b))
 }
 
-// Whether the words of a line ask for this command.
+// Checks whether the words of a line ask for this command.
 fn asks(alloc: Global, line: &str, want: &Command<'_>) -> bool {
     let Ok(words) = words_of(alloc, line) else {
         return false;
@@ -334,7 +333,7 @@ const AUDIT_OF_FEW_STEPS: Command<'static> = Command::Audit {
     },
 };
 
-// The policy of `--rule stride --knee 500 --tickets 0=3,7=1024`.
+// Returns the policy of `--rule stride --knee 500 --tickets 0=3,7=1024`.
 fn stride_policy() -> Policy {
     let mut pairs = [(0, 0); 64];
     pairs[0] = (0, 3);
@@ -348,7 +347,7 @@ fn stride_policy() -> Policy {
     }
 }
 
-// The policy of `--rule stride`, with one ticket for each of so many threads from 0 on.
+// Returns the policy of `--rule stride`, with one ticket for each of the first `threads` threads.
 fn one_ticket_each(threads: usize) -> Policy {
     let mut pairs = [(0, 0); 64];
     for thread in 0..threads.min(64) {
@@ -365,7 +364,7 @@ fn one_ticket_each(threads: usize) -> Policy {
     }
 }
 
-// The command `serve P` under a policy.
+// Returns the command `serve P` under a policy.
 fn serve_under(policy: Policy) -> Command<'static> {
     Command::Serve {
         source: "P",
@@ -374,7 +373,7 @@ fn serve_under(policy: Policy) -> Command<'static> {
     }
 }
 
-// The line `serve P --rule stride --tickets 0=1,1=1,..`, with a ticket for each of so many threads.
+// Returns the line `serve P --rule stride --tickets 0=1,1=1,..`, with a ticket for each of the first `threads` threads.
 fn line_of(alloc: Global, threads: u32) -> Result<String, AllocError> {
     let mut line = String::from_str(alloc, "serve P --rule stride --tickets 0=1")?;
     for thread in 1..threads {
@@ -410,7 +409,7 @@ fn the_rule_of_choices_and_the_knee_are_read(rt: HostRuntime) {
     assert!(rt; right);
 }
 
-// A policy with so many chunks of a second size.
+// Returns a policy with this number of chunks of a second size.
 fn with_extra(extra: u32, extra_bytes: u32) -> Policy {
     Policy {
         extra,
@@ -419,8 +418,8 @@ fn with_extra(extra: u32, extra_bytes: u32) -> Policy {
     }
 }
 
-// Beside 1,024 chunks of 4,096 bytes 61,440 of 1,024 are as many as a pool may have; `run` learns the size of the first from
-// its certificate alone, so its words may ask for more.
+// With 1,024 chunks of 4,096 bytes, 61,440 of 1,024 are the maximum of a pool; `run` learns the first size only from
+// its certificate, so its words may ask for more.
 #[test]
 fn chunks_of_a_second_size_are_read(rt: HostRuntime) {
     let alloc = rt.alloc();

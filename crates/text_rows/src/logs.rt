@@ -56,7 +56,7 @@ const OTHERS: &[&[u8]] = &[
     b"event 5 data 8",
 ];
 
-// Whether an entry is put as this line and a line feed.
+// Checks whether an entry is written as this line and a line feed.
 fn is_put(alloc: Global, entry: &Entry, want: &[u8]) -> bool {
     let mut out = CleanSink::new(alloc);
     let put = put_entry(alloc, &mut out, entry).is_ok() && out.bytes() == want;
@@ -64,7 +64,7 @@ fn is_put(alloc: Global, entry: &Entry, want: &[u8]) -> bool {
     put
 }
 
-// Whether a line is read, and its entry put as it was.
+// Checks whether a line is read, and its entry is written as the same line.
 fn comes_back(alloc: Global, line: &[u8]) -> bool {
     match line.split_last() {
         Some((_, text)) => match read_entry(text) {
@@ -144,8 +144,8 @@ const END: Entry = Entry::End {
 
 const END_LINE: &[u8] = b"end 0 31 1022\n";
 
-// Whether a sink that takes so many bytes a call and fails at that call has a prefix of the line, and all of it where
-// that call doesn't come.
+// Checks whether a sink that takes `per_call` bytes a call and fails at call `failing` has a prefix of the line, and
+// all of it if that call isn't made.
 fn leaves_a_prefix(alloc: Global, per_call: u32, failing: u64) -> bool
     requires { 1 ≤ per_call }
 {
@@ -176,10 +176,10 @@ fn a_failed_write_leaves_a_prefix(rt: HostRuntime) {
     assert!(rt; right);
 }
 
-/// How many times over the lines go through a writer: 9,570 bytes, which are two of its buffers and a part of one.
+/// The number of times that the lines go through a writer: 9,570 bytes, which are two of its buffers and a part of one.
 const TIMES: u32 = 30;
 
-// The lines of the table, so many times over.
+// Returns the lines of the table, repeated.
 fn long_log(alloc: Global) -> Option<Vec<u8>> {
     let mut text = Vec::new(alloc);
     for _ in 0..TIMES {
@@ -193,8 +193,8 @@ fn long_log(alloc: Global) -> Option<Vec<u8>> {
     Some(text)
 }
 
-// Puts the entries of the lines through a writer, so many times over, and tells whether each was put and, where one was
-// not, each later one and the end were refused too.
+// Writes the entries of the lines through a writer, repeated. Returns whether each was written and, if one wasn't, each
+// later one and the end were refused too.
 fn put_through<K: Sink>(alloc: Global, out: &mut K) -> Option<bool> {
     let Ok(mut writer) = LogWriter::new(alloc) else {
         return None;
@@ -216,7 +216,7 @@ fn put_through<K: Sink>(alloc: Global, out: &mut K) -> Option<bool> {
     }
 }
 
-// Whether the entry of a line is put.
+// Writes the entry of a line. Returns whether that succeeded.
 fn put_line<K: Sink>(writer: &mut LogWriter, out: &mut K, line: &[u8]) -> bool {
     match line.split_last() {
         Some((_, text)) => match read_entry(text) {
@@ -227,8 +227,8 @@ fn put_line<K: Sink>(writer: &mut LogWriter, out: &mut K, line: &[u8]) -> bool {
     }
 }
 
-// Whether a sink that takes so many bytes a call and fails at that call, 0 for none, has all of the long log, and where
-// it failed so many bytes of it.
+// Checks whether a sink that takes `per_call` bytes a call and fails at call `failing`, 0 for none, has the whole long
+// log, or `length` bytes of it if it failed.
 fn leaves_of_log(alloc: Global, per_call: u32, failing: u64, length: Option<usize>) -> bool
     requires { 1 ≤ per_call }
 {
@@ -242,7 +242,7 @@ fn leaves_of_log(alloc: Global, per_call: u32, failing: u64, length: Option<usiz
     left && put == Some(length.is_none())
 }
 
-// Whether these bytes are the first of the long log, so many of them, or all.
+// Checks whether these bytes are the first `length` bytes of the long log, or all of it.
 fn is_left(alloc: Global, bytes: &[u8], length: Option<usize>) -> bool {
     let Some(text) = long_log(alloc) else {
         return false;

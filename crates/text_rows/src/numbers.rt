@@ -109,7 +109,7 @@ fn reads_canonical_numbers(rt: HostRuntime) {
     assert!(rt; right);
 }
 
-// A text and a number, and the text with the number behind it.
+// A text and a number, and the text followed by the number.
 const PUT: &[(i128, &[u8])] = &[
     (0, b"x 0"),
     (7, b"x 7"),
@@ -120,7 +120,7 @@ const PUT: &[(i128, &[u8])] = &[
     (i128::MIN, b"x -170141183460469231731687303715884105728"),
 ];
 
-// Whether the number behind `x ` is this text.
+// Checks whether the number after `x ` is this text.
 fn is_put(alloc: Global, value: i128, want: &[u8]) -> bool {
     let Ok(mut out) = Vec::from_slice(alloc, b"x ") else {
         return false;
@@ -139,7 +139,7 @@ fn puts_numbers_after_what_is_there(rt: HostRuntime) {
     assert!(rt; right);
 }
 
-// Whether these are the lines of a text, and the end comes twice behind them.
+// Checks whether these are the lines of a text, followed by the end twice.
 fn has_lines(text: &[u8], want: &[&[u8]]) -> bool {
     let mut lines = Lines::new(text);
     let mut same = true;
@@ -161,7 +161,7 @@ fn gives_the_pieces_between_line_feeds(rt: HostRuntime) {
     assert!(rt; right);
 }
 
-// Whether these are the fields of a text between blanks, and it is over behind them and not before.
+// Checks whether these are the fields of a text between spaces, which ends after them and not before.
 fn has_fields(text: &[u8], want: &[&[u8]]) -> bool {
     let mut fields = Fields::new(text, b' ');
     let mut same = true;

@@ -11,7 +11,8 @@ use std::io;
 use std::io::{ErrorKind, Read, Write};
 use std::test::Fail;
 
-/// Whether a source gives these bytes, in reads of at most `room` up to the end, with so many failures, each tried again.
+/// Checks whether a source returns these bytes, in reads of at most `room` up to the end, with `failures` failures,
+/// each of which is retried.
 fn gives<S: Source>(alloc: Global, source: &mut S, room: usize, want: &[u8], failures: u32) -> bool
     requires { room ≤ 16 }
 {
@@ -33,7 +34,7 @@ fn gives<S: Source>(alloc: Global, source: &mut S, room: usize, want: &[u8], fai
 
 const LETTERS: &[u8] = b"abcdefgh";
 
-/// Whether a source in memory that gives so many bytes a call and fails at these two calls gives its bytes so.
+/// Checks whether a source in memory that returns `per_call` bytes a call and fails at these two calls does so.
 fn memory_gives(alloc: Global, per_call: u32, fails: [u64; 2], room: usize, failures: u32) -> bool
     requires call { 1 ≤ per_call }
     requires room { room ≤ 16 }
@@ -64,7 +65,7 @@ fn clean_gives(alloc: Global) -> bool {
 #[test]
 fn sources_give_their_bytes(rt: HostRuntime) {
     let alloc = rt.alloc();
-    // The bytes of a call, the calls that fail, the room of a read, and how often it fails.
+    // The bytes of a call, the calls that fail, the size of a read, and the number of failures.
     let right = memory_gives(alloc, 1, [0, 0], 16, 0)
         & memory_gives(alloc, 3, [1, 3], 1, 2)
         & memory_gives(alloc, 3, [2, 2], 5, 1)
@@ -87,14 +88,15 @@ fn number_of(answer: Result<(), SinkError>) -> u32 {
     }
 }
 
-/// Puts two pieces, and tells how each went.
+/// Writes two pieces, and returns the result of each.
 fn put_two<K: Sink>(out: &mut K) -> (u32, u32) {
     let first = number_of(put_all(out, b"abcde"));
     let second = number_of(put_all(out, b"xyz"));
     (first, second)
 }
 
-/// Whether a sink in memory that takes so many bytes a call and fails at these two calls takes both pieces so.
+/// Checks whether a sink in memory that takes `per_call` bytes a call and fails at these two calls takes both pieces
+/// like this.
 fn memory_takes(
     alloc: Global,
     per_call: u32,
@@ -130,7 +132,7 @@ fn sinks_take_whole_pieces(rt: HostRuntime) {
     assert!(rt; right);
 }
 
-/// Whether a file has these bytes, and may have so many.
+/// Checks whether a file has these bytes, with a maximum size of `most`.
 fn has<H: Shelf>(alloc: Global, shelf: &mut H, name: &str, most: u32, want: &[u8]) -> bool {
     match shelf.load(alloc, name, most) {
         Ok(bytes) => {
@@ -142,7 +144,7 @@ fn has<H: Shelf>(alloc: Global, shelf: &mut H, name: &str, most: u32, want: &[u8
     }
 }
 
-/// Whether a load of at most 8 bytes ends so.
+/// Checks whether a load of at most 8 bytes fails like this.
 fn is_refused<H: Shelf>(alloc: Global, shelf: &mut H, name: &str, want: ShelfError) -> bool {
     match shelf.load(alloc, name, 8) {
         Ok(bytes) => {
@@ -171,7 +173,7 @@ fn files(alloc: Global) -> Result<Vec<(String, Vec<u8>)>, AllocError> {
     Ok(vec![in alloc; eight, nine]?)
 }
 
-/// Loads from a shelf of `files` that does not fail, stores over a file of it and anew, and loads again.
+/// Checks a shelf of `files` that doesn't fail: loads, stores over one of its files and in a new one, and loads again.
 fn keeps_files<H: Shelf>(alloc: Global, shelf: &mut H) -> bool {
     has(alloc, shelf, "cap_io_eight", 8, b"12345678")
         & has(alloc, shelf, "cap_io_nine", 9, b"123456789")
@@ -203,7 +205,7 @@ fn clean_keeps_files(alloc: Global) -> bool {
     right
 }
 
-/// A shelf in memory that fails at its first call, and leaves 2 bytes of its third and all of its fourth.
+/// Returns a shelf in memory that fails at its first call, and stores 2 bytes of its third and all of its fourth.
 fn failing_shelf(alloc: Global) -> Result<MemShelf, AllocError> {
     let fails = vec![in alloc; (1, 0), (3, 2), (4, 9)]?;
     Ok(MemShelf::new(alloc, files(alloc)?, fails))
@@ -231,7 +233,7 @@ fn shelves_keep_files(rt: HostRuntime) {
     );
 }
 
-/// A stream whose second call fails, and which takes at most three bytes, and none at its fourth call.
+/// A stream whose second call fails, and which takes at most three bytes a call, and none at its fourth.
 #[derive(Drop)]
 struct Flaky {
     calls: u32,

@@ -1,4 +1,4 @@
-// Traces read from sources in memory, in pieces of several sizes and with reads that fail.
+// Traces read from sources in memory, in pieces of several sizes and with failing reads.
 ghost use Rattle.std.specs.Prelude.{◌≤◌};
 
 use cap_io::{CleanSource, MemSource, Source};
@@ -6,10 +6,10 @@ use cap_text::put_dec;
 use event_trace::{Event, EventKind, TraceError, TraceReader};
 use std::alloc::Global;
 
-// Where the channel of a message stands in a row, and not a channel: an arrival.
+// In place of the channel of a message in a row: an arrival.
 const ARRIVAL: u32 = 64;
 
-// An event as numbers: its time, its channel or ARRIVAL, and its value.
+// Returns an event as numbers: its time, its channel or ARRIVAL, and its value.
 fn numbers_of(event: Event) -> (u64, u32, u32) {
     match event.kind {
         EventKind::Arrive { value } => (event.time, ARRIVAL, value),
@@ -25,7 +25,7 @@ const LINE_2: (u64, u64, u64) = (2, 0, 0);
 
 const FALLING: (u64, u64, u64) = (2, 6, 7);
 
-// A refusal as numbers: the line, its time and the earlier one.
+// Returns a refusal as numbers: the line, its time and the earlier one.
 fn refusal_of(error: TraceError) -> (u64, u64, u64) {
     match error {
         TraceError::Line { number } => (u64::from(number), 0, 0),
@@ -38,8 +38,8 @@ fn refusal_of(error: TraceError) -> (u64, u64, u64) {
     }
 }
 
-// Whether a reader gives in ten calls these events and then, where there is one, this refusal at each call. An event behind it would
-// be among them.
+// Checks whether a reader returns in ten calls these events and then, if there is one, this refusal at each call. An
+// event after it would be among them.
 fn gives<S: Source>(
     alloc: Global,
     source: &mut S,
@@ -89,7 +89,8 @@ const EVENTS: &[(u64, u32, u32)] = &[
     (1_000_000_000_000_000, 7, 9),
 ];
 
-// Whether a source of the bytes that gives so many a call and fails at these calls gives these events and this refusal.
+// Checks whether a source that returns `per_call` bytes a call and fails at these calls gives these events and this
+// refusal.
 fn memory_gives(
     alloc: Global,
     bytes: &[u8],
@@ -122,7 +123,7 @@ fn events_come_in_order_whatever_the_pieces(rt: HostRuntime) {
     assert!(rt; right);
 }
 
-// Lines behind one of time 7. The last has 65 bytes.
+// Lines after one of time 7. The last has 65 bytes.
 const REFUSED: &[&[u8]] = &[
     b"",
     b" ",
@@ -146,7 +147,7 @@ const REFUSED: &[&[u8]] = &[
     b"11111111111111111111111111111111111111111111111111111111111111111",
 ];
 
-// Whether a line behind one of time 7 is refused so, for good.
+// Checks whether a line after one of time 7 is refused like this, each time.
 fn is_refused(alloc: Global, line: &[u8], refusal: (u64, u64, u64)) -> bool {
     let mut text = Vec::new(alloc);
     let whole = text.extend_from_slice(b"arrive 7 7\n").is_ok()
@@ -171,7 +172,7 @@ fn other_lines_are_refused_for_good(rt: HostRuntime) {
 fn each_read_may_fail(rt: HostRuntime) {
     let alloc = rt.alloc();
     let line = b"arrive 0 7\n";
-    // The read that meets the end, and the eleven reads of a line of eleven bytes.
+    // The read that meets the end, after the eleven reads of a line of eleven bytes.
     let mut right = memory_gives(alloc, line, 1, &[12], &[(0, ARRIVAL, 7)], READ_FAULT);
     for call in 1..=11 {
         right = right && memory_gives(alloc, line, 1, &[call], &[], READ_FAULT);
@@ -179,10 +180,11 @@ fn each_read_may_fail(rt: HostRuntime) {
     assert!(rt; right);
 }
 
-/// How many lines a long trace has: each has 17 bytes with its LF, and 18 from the time 1,000 on, so that each 4,096 bytes end in the midst of one.
+/// The number of lines of a long trace: each has 17 bytes with its LF, and 18 from time 1,000 on, so that each block of
+/// 4,096 bytes ends within one.
 const LONG_LINES: u64 = 1_000;
 
-// A trace of that many lines `arrive T 12345`, T from 100 on, which is no multiple of a block.
+// Returns a trace of that many lines `arrive T 12345`, with T from 100 on, whose length is no multiple of a block.
 fn long_trace(alloc: Global) -> Option<Vec<u8>> {
     let mut text = Vec::new(alloc);
     for line in 0..LONG_LINES {
@@ -197,7 +199,7 @@ fn long_trace(alloc: Global) -> Option<Vec<u8>> {
     Some(text)
 }
 
-// Whether a source gives the events of the long trace, one after another, and then no more.
+// Checks whether a source gives the events of the long trace, one after another, and then no more.
 fn gives_long<S: Source>(alloc: Global, source: &mut S) -> bool {
     let Ok(mut reader) = TraceReader::new(alloc) else {
         return false;
@@ -211,7 +213,7 @@ fn gives_long<S: Source>(alloc: Global, source: &mut S) -> bool {
     same && over
 }
 
-// Whether the next event is the arrival of 12345 at that time.
+// Checks whether the next event is the arrival of 12345 at that time.
 fn next_is<S: Source>(reader: &mut TraceReader, source: &mut S, time: u64) -> bool {
     match reader.next(source) {
         Ok(Some(event)) => numbers_of(event) == (time, ARRIVAL, 12_345),
@@ -219,7 +221,7 @@ fn next_is<S: Source>(reader: &mut TraceReader, source: &mut S, time: u64) -> bo
     }
 }
 
-// Whether a source that gives so many bytes a call gives the long trace.
+// Checks whether a source that returns `per_call` bytes a call gives the long trace.
 fn long_in_pieces(alloc: Global, per_call: u32) -> bool
     requires { 1 ≤ per_call }
 {
@@ -245,10 +247,10 @@ fn lines_go_on_across_the_end_of_a_block(rt: HostRuntime) {
 fn nothing_is_read_while_a_whole_line_is_held(rt: HostRuntime) {
     let alloc = rt.alloc();
     let events = [(0, ARRIVAL, 1), (1, ARRIVAL, 2), (2, ARRIVAL, 3)];
-    // The second read comes behind the three lines that the first one gave.
+    // The second read comes after the three lines of the first one.
     let lines = b"arrive 0 1\narrive 1 2\narrive 2 3\n";
     let mut right = memory_gives(alloc, lines, 100, &[2], &events, READ_FAULT);
-    // It comes for the rest of a line that the first one cut.
+    // It comes for the rest of a line that the first one cut off.
     right = right && memory_gives(alloc, lines, 30, &[2], &events[..2], READ_FAULT);
     assert!(rt; right);
 }

@@ -1,4 +1,4 @@
--- What a world is made of, before its first thread.
+-- The parts of a world before its first thread.
 use Rattle.std.specs.Prelude.{◌≡◌, ◌/◌, ◌≤◌, [], ◌∷◌, None}
 use Rattle.c_mean.specs.World.{empty_exchange}
 use Rattle.accepted_pairs.specs.Acceptance.{Acceptance}
@@ -8,7 +8,8 @@ use Rattle.thread_core.specs.declared.making.Parts.{Parts}
 use Rattle.thread_core.specs.declared.policy.WorldPolicy.{WorldPolicy}
 use Rattle.thread_core.specs.Making.{start_areas}
 
--- every chunk is free, the globals and tables are the image's, nothing waits and nothing is used, and there is room for a record
+-- every chunk is free, globals and tables are the image's, the queues are empty, no resource is in use, and there is
+-- room for a record
 pub record AreParts (accepted : Acceptance) (policy : WorldPolicy) (parts : Parts) : Type 0 where
   pub areas : parts.areas ≡ start_areas accepted policy
   pub formed : AreWellFormed (checked_of accepted) parts.areas

@@ -1,4 +1,4 @@
--- What the fields of a world hold.
+-- The contents of a world's fields.
 use Rattle.thread_core.specs.States.{setting_of, machine_of, numbers_of}
 use Rattle.thread_core.specs.Worlds.{Held}
 use Rattle.thread_core.specs.declared.world.World.TheInside.{Inside}

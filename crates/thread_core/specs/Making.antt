@@ -1,4 +1,4 @@
--- The world in which a run starts, and what comes to a world from outside.
+-- The world in which a run starts, and the deliveries and advances of a world.
 use Rattle.std.specs.Prelude.{◌≡◌, ℕ, ◌+◌, ◌*◌, ◌%◌, ◌<◌, ◌≤◌, Some, None, if◌then◌else◌, slice_index}
 use Rattle.c_mean.specs.ModelledCalls.{is_dropped}
 use Rattle.c_mean.specs.World as source
@@ -19,7 +19,7 @@ use Rattle.thread_core.specs.declared.outside.Delivered.{Delivered}
 use Rattle.thread_core.specs.declared.turns.WorldError.{WorldError}
 use Rattle.thread_core.specs.declared.turns.WorldError.TheVariants.{Memory}
 
--- the policy is in its ranges, and the pool in its limit
+-- the policy is in its ranges, and the pool within its limit
 pub record IsPolicy (accepted : Acceptance) (policy : WorldPolicy) (fuel : ℕ) : Type 0 where
   pub some_chunks : 1 ≤ policy.chunks
   pub chunks : policy.chunks ≤ 65536
@@ -33,12 +33,13 @@ pub record IsPolicy (accepted : Acceptance) (policy : WorldPolicy) (fuel : ℕ) 
   pub most : fuel ≤ 1000000000
   pub pool : policy.chunks * accepted.certificate.chunk + policy.extra * policy.extra_bytes ≤ 67108864
 
--- the areas in which a run of an accepted program under a policy starts: a new pool, and what the image has
+-- the areas in which a run of an accepted program under a policy starts: a new pool, and the globals and tables of the
+-- image
 abbrev pub start_areas : Acceptance → WorldPolicy → Areas
 start_areas accepted policy =
     new_areas policy.chunks accepted.certificate.chunk policy.extra policy.extra_bytes accepted.image.globals accepted.image.tables
 
--- what a run of an accepted program under a policy starts with: the machine's start and the source's
+-- the start of a run of an accepted program under a policy: the machine's and the source's
 pub record IsStart (accepted : Acceptance) (policy : WorldPolicy) (fuel : ℕ) (held : Held) : Type 0 where
   pub accepted_is : held.accepted ≡ accepted
   pub setting : held.setting ≡ record { code = code_of accepted; fuel = fuel; backlog = policy.backlog; caps = policy.caps }
@@ -50,7 +51,7 @@ pub record IsStart (accepted : Acceptance) (policy : WorldPolicy) (fuel : ℕ) (
   pub begun : held.begun ≡ 0
   pub stopped : held.stopped ≡ None
 
--- ---- from outside
+-- ---- deliveries and the clock
 
 abbrev pub IsEventInRange : EventKind → Type 0
 IsEventInRange (Arrive value) = Unit {0}
@@ -65,6 +66,6 @@ delivery_answer held kind = if is_dropped held.setting.backlog held.machine.exch
 abbrev pub after_wait : Held → ℕ → Held
 after_wait held to = record held { machine = advanced held.machine to }
 
--- the program that was handed in
+-- the error has the program that was passed
 abbrev pub HandsBack : Acceptance → WorldError → Type 0
 HandsBack accepted (Memory back) = back ≡ accepted

@@ -1,4 +1,4 @@
--- What the threads of a world wait for, as needs.
+-- The needs of a world's threads.
 use Rattle.std.specs.Prelude.{◌≡◌, Bool, true, false, not, Option, Some, None, if◌then◌else◌}
 use Rattle.cap_word.specs.declared.threads.ThreadId.{ThreadId}
 use Rattle.machine_world.specs.Threads.{Blocked, Thread, World}
@@ -8,7 +8,7 @@ use Rattle.thread_core.specs.Ready.{runs_now, passes_at}
 use Rattle.thread_core.specs.Worlds.{Held}
 use Rattle.thread_waits.specs.Needs.{need_of_block}
 
--- a thread that hasn't run yet waits for nothing
+-- the need of a thread; one that hasn't run yet needs nothing
 abbrev pub need_of_blocked : Option Blocked → Need
 need_of_blocked None = Need.Nothing
 need_of_blocked (Some blocked) = need_of_block blocked.since blocked.block
@@ -24,6 +24,6 @@ waits_for_need w need thread = if runs_now w.running thread.number then false el
 abbrev pub IsWaitingIn : Held → ThreadId → Type 0
 IsWaitingIn held thread = passes_at (waits_to_go held.machine) held thread ≡ true
 
--- the thread of that name lives and waits, and this is its need
+-- the thread with that id lives and waits, and this is its need
 abbrev pub Vouches : Held → ThreadId → Need → Type 0
 Vouches held thread need = passes_at (waits_for_need held.machine need) held thread ≡ true

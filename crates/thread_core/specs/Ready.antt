@@ -1,5 +1,5 @@
--- Which threads of a world are ready to be chosen: those that haven't run yet, and those that are blocked and may go on. The
--- thread whose segment is under way is not.
+-- Which threads of a world are ready to be chosen: those that haven't run yet, and those that are blocked at a call
+-- that is ready. The thread whose segment is in progress isn't.
 use Rattle.std.specs.Prelude.{◌≡◌, ℕ, ◌≤◌, ◌&&◌, Bool, false, not, map, All, Contains, Option, Some, None, if◌then◌else◌, nat_eq, slice_index_or}
 use Rattle.std.specs.List.{list_any}
 use Rattle.cap_word.specs.declared.threads.ThreadId.{ThreadId}
@@ -8,7 +8,7 @@ use Rattle.machine_world.specs.Threads.{Blocked, Thread, World, Setting, thread_
 use Rattle.thread_waits.specs.Waiting.{is_at_accept_block}
 use Rattle.thread_core.specs.Worlds.{Held}
 
--- the segment under way is that of this thread
+-- the segment in progress is that of this thread
 abbrev pub runs_now : Option ℕ → ℕ → Bool
 runs_now None number = false
 runs_now (Some running) number = nat_eq running number
@@ -52,7 +52,7 @@ any_ready_in held = list_any (is_ready_thread held.setting held.machine) held.ma
 abbrev pub any_elsewhere_in : Held → Bool
 any_elsewhere_in held = list_any (λ thread. is_ready_thread held.setting held.machine thread && not (is_at_accept_thread thread)) held.machine.threads
 
--- the least time until which a thread sleeps; none exactly where none sleeps
+-- the least time at which a sleeping thread wakes; None exactly if no thread sleeps
 abbrev pub IsWake : Setting → World → Option ℕ → Type 0
 IsWake s w None = All (λ thread. asleep_until s w thread.blocked ≡ None) w.threads
 IsWake s w (Some time) =

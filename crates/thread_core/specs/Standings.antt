@@ -1,4 +1,4 @@
--- Where the threads of a world stand.
+-- The pc and registers of a world's threads.
 use Rattle.std.specs.Prelude.{ℕ, List, Option, Some, None, if◌then◌else◌, nat_eq, option_map, slice_index_or}
 use Rattle.slab.specs.Slab.{get}
 use Rattle.cap_word.specs.declared.threads.ThreadId.{ThreadId}
@@ -10,14 +10,14 @@ use Rattle.thread_core.specs.declared.records.Record.{Record}
 use Rattle.thread_core.specs.declared.standing.Standing.{Standing}
 use Rattle.thread_core.specs.declared.state.State.{State}
 
--- by a pc and registers: sp is register 2, t0 is 5 and t1 is 6
+-- pc and registers by their numbers: sp is register 2, t0 is 5 and t1 is 6
 abbrev pub standing_at : ℕ → List ℕ → Standing
 standing_at pc x = record { pc = pc; sp = read x 2; t0 = read x 5; t1 = read x 6 }
 
 abbrev pub standing_of : Thread → Standing
 standing_of thread = standing_at thread.core.pc thread.core.x
 
--- a thread by its place and number: it stands somewhere where it lives
+-- the thread at a place with a number; None if it isn't live
 abbrev pub standing_in : Held → ThreadId → Option Standing
 standing_in held thread =
     if is_same_number (slice_index_or held.places thread.slot None) thread.number

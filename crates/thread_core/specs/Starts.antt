@@ -6,7 +6,7 @@ use Rattle.thread_waits.specs.declared.waits.Wait.{Wait}
 use Rattle.thread_core.specs.declared.records.Record.{Record}
 use Rattle.thread_core.specs.declared.state.State.{State}
 
--- more places may be there, and nothing else has changed
+-- there may be more places, and nothing else has changed
 pub record HasMorePlaces (old new : State) : Type 0 where
   pub slots : new.records.slots ≡ old.records.slots
   pub same : (place : ℕ) → wait_at new.waits place ≡ wait_at old.waits place
@@ -14,7 +14,7 @@ pub record HasMorePlaces (old new : State) : Type 0 where
   pub clock : new.waits.clock ≡ old.waits.clock
   pub rest : new ≡ record old { records = new.records; waits = new.waits }
 
--- one more record goes to this place
+-- there is room at this place for one more record
 pub record HasPlaceFor (st : State) (place : ℕ) : Type 0 where
   pub next : st.records.vacant_key ≡ place
   pub vacant : get st.records place ≡ None
@@ -22,7 +22,7 @@ pub record HasPlaceFor (st : State) (place : ℕ) : Type 0 where
   pub there : place < length st.waits.places
   pub named : place < 2 ^ 32
 
--- one more record stands at a place, of a thread that waits to run for the first time
+-- one more record is at a place, of a thread that waits to run for the first time
 pub record HasAdded (old : State) (place : ℕ) (r : Record) (new : State) : Type 0 where
   pub added : get new.records place ≡ Some r
   pub others : (other : ℕ) → other ≢ place → get new.records other ≡ get old.records other

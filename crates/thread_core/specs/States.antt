@@ -1,4 +1,4 @@
--- What the state of a world holds, as the machine world: the live threads are found by their numbers.
+-- The state of a world as the machine world: the live threads are found by their numbers.
 use Rattle.std.specs.Prelude.{ℕ, ◌-◌, List, map, Option, Some, None, option_map}
 use Rattle.cap_word.specs.declared.threads.ThreadId.{ThreadId}
 use Rattle.accepted_pairs.specs.Acceptance.{Acceptance}
@@ -46,6 +46,6 @@ machine_of most st = record {
   running = number_in st.running;
 }
 
--- the number of the thread whose record stands at each place
+-- the number of the thread whose record is at each place
 abbrev pub numbers_of : State → List (Option ℕ)
 numbers_of st = map (option_map number_of) st.records.slots

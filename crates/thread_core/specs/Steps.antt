@@ -22,7 +22,7 @@ use Rattle.thread_core.specs.declared.records.Record.{Record}
 use Rattle.thread_core.specs.declared.state.State.{State}
 use Rattle.thread_core.specs.declared.turns.Turn.{Turn}
 
--- all that is told of a state
+-- a state as contracts see it
 abbrev pub held_in : Acceptance → ℕ → State → Held
 held_in accepted most st = record {
   accepted = accepted;
@@ -33,40 +33,40 @@ held_in accepted most st = record {
   stopped = st.stopped;
 }
 
--- a segment of the thread is under way
+-- a segment of the thread is in progress
 pub record Runs (accepted : Acceptance) (most : ℕ) (st : State) (thread : ThreadId) : Type 0 where
   pub kept : IsKept accepted most st
   pub is : st.running ≡ Some thread
   pub going : st.stopped ≡ None
 
--- what holds of the thread of a record over the areas
+-- the thread of a record, over the areas, has this property
 abbrev pub LocalIs : State → ThreadId → (Local → Type 0) → Type 0
 LocalIs st thread P = (r : Record) → get st.records thread.slot ≡ Some r → P (local_of st.areas r.context)
 
--- and the thread rests, behind its ECALL
+-- and the thread rests just after its ECALL
 pub record MayRun (accepted : Acceptance) (most : ℕ) (st : State) (thread : ThreadId) : Type 0 where
   pub runs : Runs accepted most st thread
   pub ready : LocalIs st thread (IsReady (checked_of accepted) (code_of accepted))
 
--- what stays through a segment
+-- what stays the same during a segment
 pub record KeepsRest (accepted : Acceptance) (most : ℕ) (old new : State) : Type 0 where
   pub caps : new.exchange.caps ≡ old.exchange.caps
   pub backlog : new.exchange.backlog ≡ old.exchange.backlog
   pub chunks : new.areas.pool.count ≡ old.areas.pool.count
   pub begun : new.begun ≡ old.begun
 
--- every place has the record of the thread that it had
+-- every place has the record of the same thread
 abbrev pub SamePlaces : State → State → Type 0
 SamePlaces old new = (place : ℕ) → option_map number_of (get new.records place) ≡ option_map number_of (get old.records place)
 
--- so it is after silence; and else every thread that lives on has its record at the same place
+-- the same after a step without a turn; otherwise every thread that remains live has its record at the same place
 abbrev pub PlacesIf : Acceptance → ℕ → State → Option Turn → State → Type 0
 PlacesIf accepted most old None new = SamePlaces old new
 PlacesIf accepted most old (Some turn) new = KeepsPlaces (held_in accepted most old) (held_in accepted most new)
 
 -- ---- up to a call
 
--- what is next to do of a thread that has come to its call, or can't go on
+-- the next step of a thread that has reached its call or can't continue
 abbrev pub IsNext : Checked → List ℕ → Segment → Local → Type 0
 IsNext c code (answer.Blocks block) l = IsAtModel c code l (Calls (Blocking block))
 IsNext c code (answer.Asks ask) l = IsAtAsk c code l ask
@@ -75,7 +75,7 @@ IsNext c code (answer.Traps kind) l = local_step code l ≡ Stops (Trapped kind)
 IsNext c code answer.NoChunk l = local_step code l ≡ Stops NoRoom
 IsNext c code answer.OutOfFuel l = Unit {0}
 
--- whether fuel is left then
+-- whether fuel is left at that point
 abbrev pub HasFuel : Segment → ℕ → Type 0
 HasFuel (answer.Blocks block) left = 0 < left
 HasFuel (answer.Asks ask) left = 0 < left
@@ -84,7 +84,7 @@ HasFuel (answer.Traps kind) left = 0 < left
 HasFuel answer.NoChunk left = 0 < left
 HasFuel answer.OutOfFuel left = left ≡ 0
 
--- the thread has gone on silently, to its call or to where it can't go on
+-- the thread has run without a turn up to its call, or to where it can't continue
 pub record RanTo (accepted : Acceptance) (most : ℕ) (thread : ThreadId) (old : State) (segment : Segment) (new : State) : Type 0 where
   pub steps : ℕ
   pub goes_on : GoesOn (setting_of accepted most old) steps (machine_of most old) (machine_of most new)
@@ -95,7 +95,7 @@ pub record RanTo (accepted : Acceptance) (most : ℕ) (thread : ThreadId) (old :
   pub next : LocalIs new thread (IsNext (checked_of accepted) (code_of accepted) segment)
   pub fuel : HasFuel segment new.fuel.left
 
--- or it has ended, and its record is gone
+-- the thread has ended, and its record is removed
 pub record RanOut (accepted : Acceptance) (most : ℕ) (thread : ThreadId) (old new : State) : Type 0 where
   pub steps : ℕ
   pub at : World
@@ -113,13 +113,13 @@ Ran accepted most thread old segment new = RanTo accepted most thread old segmen
 
 -- ---- a call
 
--- what a step leads to: silence, or what the turn tells
+-- what a step leads to: no turn, or this turn
 abbrev pub TellsIf : Move → Option Turn → ℕ → World → Held → Type 0
 TellsIf move None number at new = (move ≡ machine.Goes new.machine) × (new.stopped ≡ None)
 TellsIf move (Some turn) number at new = Tells move turn number at new
 
--- the thread may run on after silence, after a value and after a start; it runs still where the run has stopped, and no more
--- where the segment has ended
+-- the thread may run on after no turn, a value and a start; it is still running if the run has stopped, and no longer
+-- if the segment has ended
 abbrev pub GoesIf : Acceptance → ℕ → ThreadId → Option Turn → State → Type 0
 GoesIf accepted most thread None new = MayRun accepted most new thread
 GoesIf accepted most thread (Some (Turn.Out value)) new = MayRun accepted most new thread
@@ -129,7 +129,7 @@ GoesIf accepted most thread (Some (Turn.Ended cost)) new = new.running ≡ None
 GoesIf accepted most thread (Some (Turn.Cut stop cost)) new = new.running ≡ Some thread
 GoesIf accepted most thread (Some Turn.Memory) new = new.running ≡ Some thread
 
--- what comes of a call, at whose ECALL the thread stands
+-- the result of a call whose thread is at its ECALL
 pub record Told (accepted : Acceptance) (most : ℕ) (thread : ThreadId) (old : State) (answered : Option Turn) (new : State) : Type 0 where
   pub kept : IsKept accepted most new
   pub rest : KeepsRest accepted most old new
@@ -137,7 +137,7 @@ pub record Told (accepted : Acceptance) (most : ℕ) (thread : ThreadId) (old : 
   pub tells : TellsIf (step (setting_of accepted most old) (machine_of most old)) answered thread.number (machine_of most old) (held_in accepted most new)
   pub goes : GoesIf accepted most thread answered new
 
--- what comes of a thread that runs to its call, and does it
+-- the result of running a thread up to its call and making the call
 pub record OnTold (accepted : Acceptance) (most : ℕ) (thread : ThreadId) (old : State) (answered : Option Turn) (new : State) : Type 0 where
   pub steps : ℕ
   pub at : World

@@ -1,5 +1,5 @@
--- What `begin` and `proceed` do: silent steps of the machine world from where the segment stands, and then the step that the
--- turn tells.
+-- What `begin` and `proceed` do: steps of the machine world without a turn from the world of the segment on, then the
+-- step that gives the turn.
 use Rattle.std.specs.Prelude.{◌≡◌, ℕ, ◌-◌, List, Option, Some, None, IsSome, IsTrue}
 use Rattle.cap_word.specs.declared.threads.ThreadId.{ThreadId}
 use Rattle.flat_code.specs.declared.operations.Op.{Op}
@@ -18,8 +18,8 @@ use Rattle.thread_core.specs.Ready.{is_ready_in}
 use Rattle.segment_laws.specs.Silent.{GoesOn}
 use Rattle.thread_core.specs.Worlds.{Held, IsThread, segment_cost}
 
--- the key of a thread that stands just behind the ECALL at which it is blocked: it stands there with some frames, and
--- whatever its frames are the key is theirs
+-- the key of a thread that is just after the ECALL at which it is blocked: it is there with some frames, and for any
+-- such frames the key is theirs
 pub record HasKeyOf (c : Checked) (pool : Pool) (core : Core) (key : List ℕ) : Type 0 where
   pub function : ℕ
   pub operation : ℕ
@@ -34,8 +34,8 @@ abbrev pub HasKey : Checked → World → Option Thread → List ℕ → Type 0
 HasKey c w None key = ⊥
 HasKey c w (Some thread) key = HasKeyOf c w.areas.pool thread.core key
 
--- the step of a world which the turn tells of a thread. The cost is that of the segment. At a cut, and where there is no
--- memory to start a thread, nothing has changed and the run has stopped.
+-- the step of a world from which a turn of a thread follows. The cost is that of the segment. At a cut, and out of
+-- memory at the start of a thread, nothing has changed and the run has stopped.
 abbrev pub Tells : Move → Turn → ℕ → World → Held → Type 0
 Tells (Puts value after) (Turn.Out told) number at new = (told ≡ value) × (new.machine ≡ after) × (new.stopped ≡ None)
 Tells (Spawns started after) (Turn.Spawned thread) number at new = (thread.number ≡ started) × IsThread new thread × (new.machine ≡ after) × (new.stopped ≡ None)
@@ -47,23 +47,23 @@ Tells (Stops stop) (Turn.Cut told cost) number at new =
     (told ≡ stop) × (cost ≡ segment_cost new) × (new.machine ≡ at) × (new.stopped ≡ Some (Turn.Cut told cost))
 Tells _ _ number at new = ⊥
 
--- what came of a world whose segment under way is that of a thread
+-- the result for a world in which a segment of this thread is in progress
 pub record IsTurn (old : Held) (number : ℕ) (from : World) (turn : Turn) (new : Held) : Type 0 where
   pub steps : ℕ
   pub at : World
   pub goes_on : GoesOn old.setting steps from at
   pub tells : Tells (step old.setting at) turn number at new
-  -- all that was made is a good stretch
+  -- all steps together are a good stretch
   pub good : IsGoodStretch (checked_of old.accepted) old.setting (new.machine.cost - from.cost) from
 
--- what `proceed` makes of a world that hasn't stopped
+-- `proceed` on a world that hasn't stopped
 pub record Proceeds (old : Held) (turn : Turn) (new : Held) : Type 0 where
   pub number : ℕ
   pub running : old.machine.running ≡ Some number
   pub made : IsTurn old number old.machine turn new
   pub begun : new.begun ≡ old.begun
 
--- what `begin` makes of it: the effect of resuming, and then the same
+-- `begin` on a world that hasn't stopped: resuming has its effect, and then the same
 pub record Begins (old : Held) (number : ℕ) (turn : Turn) (new : Held) : Type 0 where
   pub picked : World
   pub picks : after_action old.setting old.machine (Pick number) ≡ Some picked
@@ -76,23 +76,23 @@ pub record KeepsSetting (old new : Held) : Type 0 where
   pub setting : new.setting ≡ old.setting
   pub chunks : new.machine.areas.pool.count ≡ old.machine.areas.pool.count
 
--- a world that has stopped answers as it did
+-- a stopped world returns the same turn again
 abbrev pub AnswersAgain : Held → Option Turn → Turn → Held → Type 0
 AnswersAgain old None turn new = Unit {0}
 AnswersAgain old (Some before) turn new = (turn ≡ before) × (new ≡ old)
 
--- a thread may begin: it is ready, and no segment is under way
+-- a thread may begin: it is ready, and no segment is in progress
 abbrev pub MayBegin : Held → ThreadId → Option Turn → Type 0
 MayBegin old thread None = IsTrue (is_ready_in old thread) × (old.machine.running ≡ None)
 MayBegin old thread (Some turn) = Unit {0}
 
--- a segment is under way
+-- a segment is in progress
 abbrev pub MayProceed : Held → Option Turn → Type 0
 MayProceed old None = IsSome old.machine.running
 MayProceed old (Some turn) = Unit {0}
 
--- what a turn leaves: after a value and a start the segment is under way still, after a block and an end none is, and after a
--- cut and want of memory the run has stopped
+-- after a value and a start the segment is still in progress, after a block and an end none is, and after a cut and out
+-- of memory the run has stopped
 abbrev pub LeavesRun : Turn → Held → Type 0
 LeavesRun (Turn.Out value) new = (new.stopped ≡ None) × IsSome new.machine.running
 LeavesRun (Turn.Spawned thread) new = (new.stopped ≡ None) × IsSome new.machine.running

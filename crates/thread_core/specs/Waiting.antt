@@ -12,11 +12,11 @@ abbrev pub wait_of : State → ThreadId → Option Record → Option Wait
 wait_of st thread None = None
 wait_of st thread (Some r) = if nat_eq r.number thread.number then wait_at st.waits thread.slot else None
 
--- what is waited for at its place, where its record stands there
+-- what a thread waits for at a place, if its record is there
 abbrev pub waits_for_in : State → ThreadId → Option Wait
 waits_for_in st thread = wait_of st thread (get st.records thread.slot)
 
--- a call at which a thread waits was no trap, and it has waited since a clock that may be
+-- the call at which a thread waits was no trap, and it has waited since a possible clock
 abbrev pub IsUntrapped : Exchanging → Option Wait → Type 0
 IsUntrapped x None = Unit {0}
 IsUntrapped x (Some Wait.Fresh) = Unit {0}

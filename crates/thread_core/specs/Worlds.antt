@@ -1,5 +1,5 @@
--- What a world holds: the machine world, which its calls move, and beside it what a run does not change, the places of the
--- threads' records, and how the run has stopped.
+-- What a world holds: the machine world, which its calls change, what a run doesn't change, the places of the threads'
+-- records, and how the run has stopped.
 use Rattle.std.specs.Prelude.{◌≡◌, ℕ, ◌-◌, List, length, Option, Some, None, IsSome, if◌then◌else◌, nat_eq, slice_index_or}
 use Rattle.c_mean.specs.ModelledCalls.{cap_of, use_of}
 use Rattle.accepted_pairs.specs.Acceptance.{Acceptance}
@@ -12,14 +12,14 @@ pub record Held : Type 0 where
   pub accepted : Acceptance
   pub setting : Setting
   pub machine : World
-  -- the number of the thread whose record stands at each place
+  -- the number of the thread whose record is at each place
   pub places : List (Option ℕ)
-  -- the instructions that had retired when the segment under way, or the last one, began
+  -- the number of instructions that had retired when the segment in progress, or the last one, began
   pub begun : ℕ
-  -- how the run has stopped: by a cut, or by want of memory
+  -- how the run has stopped: by a cut or out of memory
   pub stopped : Option Turn
 
--- the record of the thread stands at its place
+-- the record of the thread is at its place
 abbrev pub IsThread : Held → ThreadId → Type 0
 IsThread held thread = slice_index_or held.places thread.slot None ≡ Some thread.number
 
@@ -27,16 +27,16 @@ IsThread held thread = slice_index_or held.places thread.slot None ≡ Some thre
 abbrev pub KeepsPlaces : Held → Held → Type 0
 KeepsPlaces old new = (thread : ThreadId) → IsThread old thread → IsSome (thread_of new.machine thread.number) → IsThread new thread
 
--- the cost of the segment under way, or of the last one
+-- the cost of the segment in progress, or of the last one
 abbrev pub segment_cost : Held → ℕ
 segment_cost held = held.machine.cost - held.begun
 
 -- ---- resources
 
--- the use of a resource; of resource 0 it is the number of held chunks
+-- the use of a resource; that of resource 0 is the number of held chunks
 abbrev pub used_in : World → ℕ → ℕ
 used_in w r = if nat_eq r 0 then w.areas.pool.count - free_count w.areas.pool else use_of w.exchange r
 
--- its cap; of resource 0 it is the number of chunks
+-- the cap of a resource; that of resource 0 is the number of chunks
 abbrev pub cap_in : Held → ℕ → ℕ
 cap_in held r = if nat_eq r 0 then held.machine.areas.pool.count else cap_of held.setting.caps r

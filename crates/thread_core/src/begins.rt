@@ -9,8 +9,8 @@ use crate::world::World;
 use cap_word::ThreadId;
 
 impl World {
-    /// Begins a segment of a thread that is ready: the effect of resuming, and then the thread runs up to what the turn
-    /// tells. Where the run has stopped the answer is as it was.
+    /// Begins a segment of a thread that is ready: resumes it, runs it up to its next turn, and returns the turn. After
+    /// a stop of the run, returns the same turn again.
     pub fn begin(&mut self, thread: ThreadId) -> Turn
         requires { MayBegin self.old thread self.old.stopped }
         ensures begins { self.old.stopped ≡ None → Begins self.old thread.number result self.new }
@@ -25,7 +25,7 @@ impl World {
         match self.state.stopped {
             Some(turn) => turn,
             None => {
-                // What the image's call tells: the pair is valid.
+                // By the clause of `image`, the pair is valid.
                 let _image = self.accepted.image();
                 self.state.resume(&self.accepted, self.most, thread);
                 self.state.run(&self.accepted, self.most, thread)
@@ -33,7 +33,8 @@ impl World {
         }
     }
 
-    /// The segment under way goes on, up to what the turn tells. Where the run has stopped the answer is as it was.
+    /// Continues the segment in progress up to its next turn, and returns the turn. After a stop of the run, returns
+    /// the same turn again.
     pub fn proceed(&mut self) -> Turn
         requires { MayProceed self.old self.old.stopped }
         ensures proceeds { self.old.stopped ≡ None → Proceeds self.old result self.new }

@@ -1,13 +1,12 @@
 // The thread package: many threads over one pool of linked chunks.
 //
-// In: an accepted program, a policy, events, the clock, and the thread whose segment begins or
-// continues. Out: the turns of a segment, which threads are ready, and other facts about the world.
-// In contracts a world is the machine world (`machine_world`): `make` starts it, `deliver` and
-// `advance` move it, `begin` and `proceed` run it. `specs/States` says how it is read from the
-// fields, `specs/Kept` what every world keeps. The three theorems on `begin` and `proceed` are in
-// `specs/Turns` (the machine world after a turn), `specs/Sources` (the source's run) and
-// `specs/Lengths` (the lengths of chains). The idea of cooperative threads on linked stacks is
-// Capriccio's (von Behren et al., SOSP 2003).
+// In: an accepted program, a policy, events, the clock, and the thread whose segment begins or continues. Out: the
+// turns of a segment, which threads are ready, and other facts about the world. In contracts a world is the machine
+// world (`machine_world`): `make` starts it, `deliver` and `advance` move it, `begin` and `proceed` run it.
+// `specs/States` defines it from the fields, and `specs/Kept` is the invariant of every world. The three theorems on
+// `begin` and `proceed` are in `specs/Turns` (the machine world after a turn), `specs/Sources` (the source's run) and
+// `specs/Lengths` (the lengths of chains). The idea of cooperative threads on linked stacks is Capriccio's (von Behren
+// et al., SOSP 2003).
 #![tactic(auto)]
 
 mod begins;

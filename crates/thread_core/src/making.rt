@@ -16,7 +16,7 @@ use std::alloc::{AllocError, Global};
 use thread_exchange::Exchange;
 use thread_waits::{Wait, Waits};
 
-// What a world takes memory for.
+// The parts of a world that need memory.
 struct Parts {
     areas: Areas,
     exchange: Exchange,
@@ -25,9 +25,13 @@ struct Parts {
 }
 
 impl World {
-    /// The world in which a run starts: thread 0 is at the start of `main`, and the pool, the queues and a thread's record
-    /// are reserved. The run retires at most `fuel` instructions, which are at most 1,000,000,000. A want of memory hands the
-    /// program back. The policy is in the ranges of `WorldPolicy`, and both sizes of chunk take 67,108,864 bytes at most together.
+    /// Returns the world in which a run starts: thread 0 is at the start of `main`, and the pool, the queues and the
+    /// record of one thread are allocated. The run retires at most `fuel` instructions, at most 1,000,000,000. The
+    /// policy is in the ranges of `WorldPolicy`, and the chunks of both sizes have at most 67,108,864 bytes in all.
+    ///
+    /// # Errors
+    ///
+    /// `WorldError::Memory` with the program if an allocation fails.
     pub fn make(
         alloc: Global,
         accepted: Accepted,
@@ -44,7 +48,7 @@ impl World {
         }
     }
 
-    /// The first thread, which runs `main`.
+    /// Returns the first thread, which runs `main`.
     pub fn main_thread(&self) -> ThreadId
         ensures { result ≡ record { slot = 0; number = 0 } }
     {
@@ -52,7 +56,7 @@ impl World {
     }
 }
 
-// The parts of the world in which a run starts, before its first thread.
+// Returns the parts of the world in which a run starts, before its first thread.
 fn take_parts(alloc: Global, accepted: &Accepted, policy: WorldPolicy) -> Result<Parts, AllocError>
     requires some_chunks { 1 ≤ policy.chunks }
     requires chunks { policy.chunks ≤ 65536 }
@@ -85,7 +89,7 @@ fn take_parts(alloc: Global, accepted: &Accepted, policy: WorldPolicy) -> Result
     })
 }
 
-// The world with its first thread.
+// Returns the world with its first thread.
 fn with_main(
     alloc: Global,
     accepted: Accepted,
@@ -104,7 +108,7 @@ fn with_main(
         mut waits,
         mut records,
     } = parts;
-    // What the image's call tells: the pair is valid.
+    // By the clause of `image`, the pair is valid.
     let _image = accepted.image();
     let main = accepted.program().main_number();
     match start(&accepted, &mut areas, main, 0) {

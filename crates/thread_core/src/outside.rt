@@ -4,18 +4,18 @@ ghost use Rattle.thread_core.specs.Making.{IsEventInRange, after_event, delivery
 use crate::world::World;
 use event_trace::{Event, EventKind};
 
-/// What became of an event.
+/// What `deliver` did with an event.
 #[derive(Clone, Copy, Debug, PartialEq, Eq)]
 pub enum Delivered {
-    /// It waits in its queue.
+    /// It joined its queue.
     Queued,
     /// Its queue was full.
     Dropped,
 }
 
 impl World {
-    /// An event joins its queue, or is dropped: exactly where that queue holds as many items as may wait there. No segment is
-    /// under way, and the channel of a message is below 64.
+    /// Delivers an event: it joins its queue, or is dropped exactly if that queue is full. No segment is in progress,
+    /// and the channel of a message is below 64.
     pub fn deliver(&mut self, event: Event) -> Delivered
         requires between { self.old.machine.running ≡ None }
         requires in_range { IsEventInRange event.kind }
@@ -33,7 +33,7 @@ impl World {
         }
     }
 
-    /// The clock goes on to a time, which isn't past and is 2^63 at most. No segment is under way.
+    /// Advances the clock to a time, which isn't past and is at most 2^63. No segment is in progress.
     pub fn advance(&mut self, to: u64)
         requires between { self.old.machine.running ≡ None }
         requires later { self.old.machine.clock ≤ to }
@@ -44,7 +44,7 @@ impl World {
     }
 }
 
-// The same word. A caller knows of an answer that it is a word.
+// Returns the same word. The caller of a function knows that the answer is a word.
 fn word(value: u32) -> u32
     ensures { result ≡ value }
 {

@@ -1,4 +1,4 @@
-// Parts of a call: the thread's record, its place, the clock.
+// Parts of a call: the thread's record, its pc, the clock.
 ghost use Rattle.std.specs.Prelude.{◌≡◌, ◌+◌, ◌-◌, ◌<◌, ◌≤◌, ◌^◌, ◌↔◌, false, None, Some, IsSome, IsTrue, IfSome, OnSome, length, slice_set};
 ghost use Rattle.c_lower.specs.ProgramCode.{lowered};
 ghost use Rattle.accepted_pairs.specs.Acceptance.{Acceptance};
@@ -30,7 +30,7 @@ use segment_run::{Context, reply, retire};
 use thread_waits::Wait;
 
 impl State {
-    /// The effect of resuming, where a segment of the thread begins: it waits no more, and its call takes what it waited for.
+    /// Resumes a thread at the beginning of its segment: it no longer waits, and its call takes what it waited for.
     pub(crate) fn resume(&mut self, accepted: &Accepted, most: u64, thread: ThreadId)
         requires kept { IsKept accepted.now most self.old }
         requires between { self.old.running ≡ None }
@@ -47,7 +47,7 @@ impl State {
         ensures areas { self.new.areas ≡ self.old.areas }
         ensures same { SamePlaces self.old self.new }
     {
-        // What the image's call tells: the pair is valid.
+        // By the clause of `image`, the pair is valid.
         let _image = accepted.image();
         match self.waits.at(thread.slot as usize) {
             Some(Wait::At { block, .. }) => {
@@ -59,7 +59,7 @@ impl State {
         }
     }
 
-    /// What a call answers as its thread is resumed, and what it takes.
+    /// Takes what the call waited for, and sets its result.
     pub(crate) fn take_result(&mut self, thread: ThreadId, block: Block)
         requires there { IsSome (get self.old.records thread.slot) }
         requires may { MayResume self.old.exchange block }
@@ -83,7 +83,7 @@ impl State {
         }
     }
 
-    /// The thread waits no more, and its segment begins.
+    /// Begins the segment of a thread, which no longer waits.
     pub(crate) fn set_out(&mut self, most: u64, thread: ThreadId)
         requires waits { IsSome (wait_at self.old.waits thread.slot) }
         requires fuel { self.old.fuel.left ≤ most }
@@ -99,7 +99,8 @@ impl State {
         self.begun = most - self.fuel.left;
     }
 
-    /// The ECALL at which the thread stands retires, with that result where there is one.
+    /// Retires the ECALL at which the thread is, with the call's result if it gives one, and returns the context after
+    /// it.
     pub(crate) fn pass(&mut self, thread: ThreadId, answer: Option<u32>) -> Context
         requires there { IsSome (get self.old.records thread.slot) }
         requires pc { ContextIs self.old thread (λ context. context.pc < 2 ^ 32 - 4) }
@@ -128,7 +129,7 @@ impl State {
         context
     }
 
-    /// Whether a free chunk fits the bound of a function, so that a thread can start there.
+    /// Checks whether a free chunk fits the bound of a function, so that a thread can start there.
     pub(crate) fn has_chunk_for(&self, accepted: &Accepted, function: u32) -> bool
         requires { function < length accepted.now.certificate.functions }
         ensures { (result ≡ false) ↔ FitsNone self.now.areas.pool
@@ -138,7 +139,7 @@ impl State {
         self.areas.pool().fits(fact.bound)
     }
 
-    /// A place for one more record, for which memory is there.
+    /// Returns a place for one more record, for which memory is reserved.
     pub(crate) fn free_place(&mut self) -> Option<u32>
         ensures more { HasMorePlaces self.old self.new }
         ensures place { IfSome result (HasPlaceFor self.new) }
@@ -150,7 +151,7 @@ impl State {
         Some(slot)
     }
 
-    /// One more thread, at the place that was reserved for it, which hasn't run yet.
+    /// Adds a thread that hasn't run yet, at the place that was reserved for it.
     pub(crate) fn add(&mut self, made: Record)
         requires place { HasPlaceFor self.old self.old.records.vacant_key }
         requires empty { wait_at self.old.waits self.old.records.vacant_key ≡ None }
@@ -164,7 +165,7 @@ impl State {
         self.next += 1;
     }
 
-    /// The thread has ended, and its record goes.
+    /// Removes the record of a thread that has ended.
     pub(crate) fn leave(&mut self, thread: ThreadId)
         requires there { IsSome (get self.old.records thread.slot) }
         requires live { 0 < self.old.live }
@@ -177,7 +178,7 @@ impl State {
         self.running = None;
     }
 
-    /// So many instructions have retired.
+    /// Counts `retired` instructions that have retired.
     pub(crate) fn tick(&mut self, retired: u64)
         requires { self.old.waits.clock + retired ≤ latest }
         ensures { self.new ≡ record self.old
@@ -187,7 +188,7 @@ impl State {
         self.waits.advance(now);
     }
 
-    /// The cost of the segment so far.
+    /// Returns the cost of the segment so far.
     pub(crate) fn segment_cost(&self, most: u64) -> u64
         requires some { self.now.fuel.left ≤ most }
         requires begun { self.now.begun ≤ most - self.now.fuel.left }
@@ -196,7 +197,7 @@ impl State {
         most - self.fuel.left - self.begun
     }
 
-    /// The context of a live thread.
+    /// Returns the context of a live thread.
     pub(crate) fn context(&self, thread: ThreadId) -> Context
         requires { IsSome (get self.now.records thread.slot) }
         ensures { ContextIs self.now thread (λ context. result ≡ context) }
@@ -207,7 +208,7 @@ impl State {
         }
     }
 
-    /// Sets it.
+    /// Sets the context of a live thread.
     pub(crate) fn set_context(&mut self, thread: ThreadId, context: Context)
         requires { IsSome (get self.old.records thread.slot) }
         ensures record { HasContext self.old thread context self.new }

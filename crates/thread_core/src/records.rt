@@ -1,8 +1,10 @@
 use segment_run::Context;
 
-/// What is kept of a live thread.
+/// The record of a live thread.
 #[derive(Clone, Copy)]
 pub struct Record {
+    /// The thread's number.
     pub number: u32,
+    /// The thread between two segments.
     pub context: Context,
 }

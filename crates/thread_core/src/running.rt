@@ -17,11 +17,11 @@ use cap_word::{Ask, Block, Stop, ThreadId};
 use segment_run::{Context, Segment, reply, retire, run_segment, start, walk};
 use thread_waits::Wait;
 
-/// The most threads that may live at a time.
+/// The maximum number of live threads.
 pub(crate) const MOST_THREADS: u32 = 65535;
 
 impl State {
-    /// Runs the thread up to what the turn tells.
+    /// Runs the thread up to the next turn.
     pub(crate) fn run(&mut self, accepted: &Accepted, most: u64, thread: ThreadId) -> Turn
         requires { MayRun accepted.now most self.old thread }
         ensures { OnTold accepted.now most thread self.old (Some result) self.new }
@@ -33,7 +33,7 @@ impl State {
         }
     }
 
-    // Runs the thread up to its next call, and does that; None where it tells nothing.
+    // Runs the thread up to its next call and makes it. Returns `None` if the call gives no turn.
     fn run_on(&mut self, accepted: &Accepted, most: u64, thread: ThreadId) -> Option<Turn>
         requires { MayRun accepted.now most self.old thread }
         ensures told { OnTold accepted.now most thread self.old result self.new }
@@ -51,12 +51,13 @@ impl State {
         }
     }
 
-    // Runs the thread up to its next call. The clock goes on by what retires; a thread that has ended leaves its record.
+    // Runs the thread up to its next call. The clock advances by the retired instructions; a thread that has ended
+    // leaves its record.
     fn run_to_call(&mut self, accepted: &Accepted, most: u64, thread: ThreadId) -> Segment
         requires { MayRun accepted.now most self.old thread }
         ensures { Ran accepted.now most thread self.old result self.new }
     {
-        // A number of 64 bits, as the clause needs.
+        // A number of 64 bits, as the clause requires.
         let _most = most;
         let left = self.fuel.left;
         let mut context = self.context(thread);
@@ -70,7 +71,7 @@ impl State {
         segment
     }
 
-    // A call that blocks: it retires, and the thread waits, unless the call is a trap.
+    // Makes a call that blocks: it retires, and the thread waits, unless the call is a trap.
     fn block(&mut self, accepted: &Accepted, most: u64, thread: ThreadId, block: Block) -> Turn
         requires runs { Runs accepted.now most self.old thread }
         requires fuel { 0 < self.old.fuel.left }
@@ -95,7 +96,7 @@ impl State {
         }
     }
 
-    // A call that is answered at once.
+    // Makes a call that is answered at once.
     fn answer(&mut self, accepted: &Accepted, most: u64, thread: ThreadId, ask: Ask) -> Option<Turn>
         requires runs { Runs accepted.now most self.old thread }
         requires fuel { 0 < self.old.fuel.left }
@@ -104,7 +105,7 @@ impl State {
         ensures told { Told accepted.now most thread self.old result self.new }
         ensures fuel { IfNone result (self.new.fuel.left < self.old.fuel.left) }
     {
-        // What the image's call tells: the pair is valid.
+        // By the clause of `image`, the pair is valid.
         let _image = accepted.image();
         match ask {
             Ask::Put { value } => {
@@ -128,7 +129,8 @@ impl State {
         }
     }
 
-    // Starts a thread: a free chunk has to fit its function's bound, and a place for it is reserved before anything changes.
+    // Starts a thread and returns the turn. A free chunk has to fit its function's bound, and a place for it is
+    // reserved before anything changes.
     fn spawn(
         &mut self,
         accepted: &Accepted,
@@ -144,7 +146,7 @@ impl State {
             (Ask.Spawn function argument)) }
         ensures { Told accepted.now most thread self.old (Some result) self.new }
     {
-        // What the image's call tells: the pair is valid.
+        // By the clause of `image`, the pair is valid.
         let _image = accepted.image();
         if self.live >= MOST_THREADS {
             return self.cut(most, Stop::Threads);
@@ -169,7 +171,7 @@ impl State {
         }
     }
 
-    // The run stops.
+    // Stops the run and returns the turn.
     fn cut(&mut self, most: u64, stop: Stop) -> Turn
         requires some { self.old.fuel.left ≤ most }
         requires begun { self.old.begun ≤ most - self.old.fuel.left }

@@ -17,19 +17,30 @@ const T0: usize = 5;
 
 const T1: usize = 6;
 
-/// What moves in a world.
+/// The part of a world that changes.
 #[derive(Drop)]
 pub struct State {
+    /// The allocator.
     pub alloc: Global,
+    /// The memory of the threads.
     pub areas: Areas,
+    /// The queues and the uses of the resources 1 to 7.
     pub exchange: Exchange,
+    /// What each thread waits for, by place, and the clock.
     pub waits: Waits,
+    /// The records of the live threads, at their places.
     pub records: Slab<Record>,
+    /// The number of live threads.
     pub live: u32,
+    /// The number of the next thread.
     pub next: u32,
+    /// The number of instructions that may still retire.
     pub fuel: Fuel,
+    /// The thread whose segment is in progress, if there is one.
     pub running: Option<ThreadId>,
+    /// The number of instructions that had retired when the segment in progress, or the last one, began.
     pub begun: u64,
+    /// The turn that stopped the run, if it has stopped.
     pub stopped: Option<Turn>,
 }
 
@@ -39,7 +50,7 @@ impl State {
     ghost use Rattle.thread_waits.specs.Needs.{need_for};
     ghost use Rattle.thread_waits.specs.Waiting.{is_ready_in, is_at_accept};
 
-    /// What a live thread waits for, where it isn't the one that runs.
+    /// Returns what a live thread waits for, unless it is the running one.
     pub(crate) fn waits_for(&self, thread: ThreadId) -> Option<Wait>
         ensures { result ≡ waits_for_in self.now thread }
     {
@@ -50,7 +61,7 @@ impl State {
         self.waits.at(thread.slot as usize)
     }
 
-    /// What must be so for a live thread that isn't the one that runs to be ready.
+    /// Returns the need of a live thread, unless it is the running one.
     pub(crate) fn need_of(&self, thread: ThreadId) -> Option<Need>
         ensures { result ≡ option_map need_for (waits_for_in self.now thread) }
     {
@@ -61,7 +72,7 @@ impl State {
         self.waits.need_at(thread.slot as usize)
     }
 
-    /// Where a live thread stands.
+    /// Returns pc and registers of a live thread.
     pub(crate) fn standing(&self, thread: ThreadId) -> Option<Standing>
         ensures { result ≡ standing_for self.now thread }
     {
@@ -77,7 +88,7 @@ impl State {
         })
     }
 
-    /// Whether a live thread is ready.
+    /// Checks whether a live thread is ready.
     pub(crate) fn is_ready(&self, thread: ThreadId) -> bool
         requires { IsUntrapped self.now.exchange (waits_for_in self.now thread) }
         ensures { result ≡ is_ready_in self.now.exchange.caps self.now.exchange.exchange
@@ -92,7 +103,7 @@ impl State {
         }
     }
 
-    /// Whether a live thread is blocked at `accept`.
+    /// Checks whether a live thread is blocked at `accept`.
     pub(crate) fn at_accept(&self, thread: ThreadId) -> bool
         ensures { result ≡ is_at_accept (waits_for_in self.now thread) }
     {

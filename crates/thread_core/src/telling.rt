@@ -40,7 +40,7 @@ impl Bounded for World {
 }
 
 impl World {
-    /// What must be so for a thread that waits to be ready.
+    /// Returns the need of a thread that waits.
     pub fn need_of(&self, thread: ThreadId) -> Need
         requires { IsWaitingIn self.now thread }
         ensures { Vouches self.now thread result }
@@ -51,43 +51,43 @@ impl World {
         need
     }
 
-    /// Tells whether some thread is ready.
+    /// Checks whether any thread is ready.
     pub fn any_ready(&self) -> bool
         ensures { result ≡ any_ready_in self.now }
     {
         self.state.waits.any_ready(&self.state.exchange)
     }
 
-    /// The clock.
+    /// Returns the clock.
     pub fn clock(&self) -> u64
         ensures { result ≡ self.now.machine.clock }
     {
         self.state.waits.clock()
     }
 
-    /// The least time of a thread that sleeps, or None where none sleeps: one that is blocked at `sleep` or `waitfor` and isn't
-    /// ready.
+    /// Returns the least time at which a sleeping thread wakes, or `None` if no thread sleeps. A thread sleeps if it is
+    /// blocked at `sleep` or `waitfor` and isn't ready.
     pub fn wake(&self) -> Option<u64>
         ensures { IsWake self.now.setting self.now.machine result }
     {
         self.state.waits.wake(&self.state.exchange)
     }
 
-    /// How many threads live.
+    /// Returns the number of live threads.
     pub fn live(&self) -> u32
         ensures { result ≡ length self.now.machine.threads }
     {
         self.state.live
     }
 
-    /// How many chunks are free.
+    /// Returns the number of free chunks.
     pub fn free(&self) -> u32
         ensures { result ≡ free_count self.now.machine.areas.pool }
     {
         self.state.areas.pool().free()
     }
 
-    /// The use of a resource below 8; of resource 0 it is the number of held chunks.
+    /// Returns the use of a resource below 8; the use of resource 0 is the number of held chunks.
     pub fn used(&self, resource: u32) -> u32
         requires { resource < 8 }
         ensures use_is { result ≡ used_in self.now.machine resource }
@@ -100,7 +100,8 @@ impl World {
         }
     }
 
-    /// The cap of a resource below 8, 0 where it isn't given; of resource 0 it is the number of chunks of both sizes.
+    /// Returns the cap of a resource below 8, or 0 if it has none; the cap of resource 0 is the number of chunks of
+    /// both sizes.
     pub fn cap(&self, resource: u32) -> u32
         requires { resource < 8 }
         ensures { result ≡ cap_in self.now resource }
@@ -112,28 +113,28 @@ impl World {
         }
     }
 
-    /// How many instructions have retired.
+    /// Returns the number of retired instructions.
     pub fn cost(&self) -> u64
         ensures { result ≡ self.now.machine.cost }
     {
         self.most - self.state.fuel.left
     }
 
-    /// The program with its image and certificate, as `make` was given them.
+    /// Returns the program with its image and certificate, as passed to `make`.
     pub fn accepted(&self) -> &Accepted
         ensures { result.now ≡ self.now.accepted }
     {
         &self.accepted
     }
 
-    /// Where a thread stands, or `None` where it doesn't live: a thread that has ended stands nowhere.
+    /// Returns pc and registers of a thread, or `None` if it isn't live.
     pub fn standing(&self, thread: ThreadId) -> Option<Standing>
         ensures { result ≡ standing_in self.now thread }
     {
         self.state.standing(thread)
     }
 
-    /// How many words a chunk has.
+    /// Returns the number of words of a chunk.
     pub fn chunk_words(&self, chunk: u32) -> u32
         requires { chunk < self.now.machine.areas.pool.count }
         ensures { result ≡ words_of self.now.machine.areas.pool chunk }
@@ -141,7 +142,7 @@ impl World {
         self.state.areas.pool().bytes_of(chunk) / 4
     }
 
-    /// A word of a chunk of the pool, which has as many as `chunk_words` says.
+    /// Returns a word of a chunk of the pool; `word` is below `chunk_words` of the chunk.
     pub fn word_at(&self, chunk: u32, word: u32) -> u32
         requires chunk { chunk < self.now.machine.areas.pool.count }
         requires word { word < words_of self.now.machine.areas.pool chunk }

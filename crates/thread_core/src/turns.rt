@@ -1,26 +1,26 @@
 use accepted_pairs::Accepted;
 use cap_word::{SiteKey, Stop, ThreadId};
 
-/// What the thread whose segment is under way did.
+/// What the thread whose segment is in progress did.
 #[derive(Clone, Copy, PartialEq, Eq)]
 pub enum Turn {
-    /// It put a value. The segment goes on.
+    /// It put a value. The segment continues.
     Out { value: u32 },
-    /// It started a thread. The segment goes on.
+    /// It started a thread. The segment continues.
     Spawned { thread: ThreadId },
-    /// It is blocked at that site, after a segment of that many instructions.
+    /// It is blocked at the site of that key, after a segment of `cost` instructions.
     Blocked { key: SiteKey, cost: u64 },
-    /// It has ended, after a segment of that many instructions.
+    /// It has ended, after a segment of `cost` instructions.
     Ended { cost: u64 },
-    /// The run stops in the midst of its segment, after that many instructions.
+    /// The run stops within its segment, after `cost` instructions.
     Cut { stop: Stop, cost: u64 },
-    /// No memory to start a thread. The run stops.
+    /// Out of memory at the start of a thread. The run stops.
     Memory,
 }
 
-/// Why a world isn't made. It hands the program back.
+/// Why no world is made. It has the program.
 #[derive(Drop)]
 pub enum WorldError {
-    /// No memory.
+    /// Out of memory.
     Memory { accepted: Accepted },
 }

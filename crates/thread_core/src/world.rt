@@ -2,8 +2,8 @@ use crate::state::State;
 use accepted_pairs::Accepted;
 use std::marker::Model;
 
-/// The threads of an accepted program over one pool of chunks, with globals, queues, uses and the clock. Contracts see it
-/// as the machine world. It comes from `make` alone, and moves by its own calls alone.
+/// The threads of an accepted program over one pool of chunks, with globals, queues, uses and the clock. Contracts see
+/// it as the machine world. Only `make` returns one, and only its own calls change it.
 #[derive(Drop)]
 pub struct World {
     pub(crate) accepted: Accepted,

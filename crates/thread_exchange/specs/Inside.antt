@@ -1,4 +1,4 @@
--- What the fields of an exchange hold.
+-- The contents of an exchange's fields.
 use Rattle.std.specs.Prelude.{◌≡◌, ℕ, List, length, map, All}
 use Rattle.circular_buffer.specs.Buffer.{Buffer}
 use Rattle.thread_exchange.specs.Exchanges.{Exchanging, AreWithinCaps}

@@ -13,7 +13,7 @@ use std::alloc::{AllocError, Global};
 use std::marker::Model;
 
 /// The queue of arrivals, the 64 channel queues and the uses of the resources 1 to 7. Contracts see it as its caps, the
-/// most items that may wait in a queue, and the queues and uses by themselves. No call but `new` takes memory.
+/// maximum length of a queue, and the queues and uses by themselves. Only `new` allocates memory.
 #[derive(Drop)]
 pub struct Exchange {
     caps: [u32; 8],
@@ -36,11 +36,11 @@ impl Model for Exchange {
 }
 
 impl Exchange {
-    /// How many channels there are.
+    /// The number of channels.
     pub const CHANNELS: u32 = 64;
 
-    /// An exchange in which nothing waits and nothing is used. At most `backlog` items may wait in a queue. The caps stand
-    /// by the numbers of their resources, of which 0 isn't read; a cap of 0 says that the resource isn't given.
+    /// Returns an exchange with empty queues and unused resources. A queue has at most `backlog` items. The caps are
+    /// given by resource number, of which 0 isn't read; a cap of 0 means that the resource has none.
     pub fn new(alloc: Global, backlog: u32, caps: [u32; 8]) -> Result<Exchange, AllocError>
         ensures { IfOk result (λ x. x ≡ record { caps = caps; backlog = backlog; exchange = empty_exchange }) }
     {
@@ -55,8 +55,8 @@ impl Exchange {
         })
     }
 
-    /// A value arrives, and joins the queue of arrivals. Tells whether it did: it is dropped exactly where as many wait
-    /// there as may.
+    /// Adds an arriving value to the queue of arrivals. Returns whether it did: the value is dropped exactly if the
+    /// queue is full.
     pub fn arrive(&mut self, value: u32) -> bool
         ensures queued { result ≡ not (table.is_dropped self.old.backlog self.old.exchange (Arrival value)) }
         ensures after { self.new ≡ after_delivery self.old (Arrival value) }
@@ -64,8 +64,8 @@ impl Exchange {
         self.arrivals.try_push_back(value).is_ok()
     }
 
-    /// A message of a channel comes, and joins that channel's queue. Tells whether it did: it is dropped exactly where as
-    /// many wait there as may.
+    /// Adds a message to its channel's queue. Returns whether it did: the message is dropped exactly if the queue is
+    /// full.
     pub fn send(&mut self, channel: u32, value: u32) -> bool
         requires { channel < 64 }
         ensures queued { result ≡ not (table.is_dropped self.old.backlog self.old.exchange (Message channel value)) }
@@ -78,12 +78,12 @@ impl Exchange {
         }
     }
 
-    /// The trap that a call which blocks is, if it is one.
+    /// Returns the trap of a call that blocks, if it traps.
     pub fn trap_of(&self, block: Block) -> Option<TrapKind>
         ensures trap { result ≡ (row_of self.now block).trap }
         ensures caps { length self.now.caps ≡ 8 }
     {
-        // What every exchange keeps: there are eight caps.
+        // By the invariant, there are eight caps.
         let _ = &self.caps;
         match block {
             Block::Accept | Block::Sleep { .. } | Block::Yield => None,
@@ -98,7 +98,7 @@ impl Exchange {
         }
     }
 
-    /// Whether a thread that blocked at a call, which was no trap, since that clock is ready.
+    /// Checks whether a thread is ready that has been blocked since `since` at a call that was no trap.
     pub fn is_ready(&self, block: Block, since: u64, clock: u64) -> bool
         requires untrapped { (row_of self.now block).trap ≡ None }
         requires early { since < 2 ^ 64 - 2 ^ 31 }
@@ -116,8 +116,8 @@ impl Exchange {
         }
     }
 
-    /// The effect of resuming from a call which was no trap, by a thread that is ready: `accept` and `wait` take the oldest
-    /// of their queue, `take` raises a use, `waitfor` takes nothing. Answers the call's result, or 0 where it has none.
+    /// Resumes a ready thread from a call that was no trap: `accept` and `wait` take the oldest item of their queue,
+    /// `take` raises a use, `waitfor` takes nothing. Returns the call's result, or 0 if it has none.
     pub fn resume(&mut self, block: Block) -> u32
         requires { MayResume self.old block }
         ensures result_is { result ≡ (row_of self.old block).result }
@@ -138,7 +138,7 @@ impl Exchange {
         }
     }
 
-    /// `give(resource, amount)`: lowers the use, or answers the trap that the call is, and then nothing changes.
+    /// Does `give(resource, amount)`: lowers the use, or returns the trap of the call and changes nothing.
     pub fn give(&mut self, resource: u32, amount: u32) -> Option<TrapKind>
         ensures trap { result ≡ table.resource_trap self.old.caps resource amount (table.use_of self.old.exchange resource) }
         ensures after { self.new ≡ after_ask self.old (immediate_row self.old.caps self.old.exchange 0 0 (Ask.Give resource amount)) }
@@ -150,14 +150,14 @@ impl Exchange {
         trap
     }
 
-    /// Tells whether an arrival waits.
+    /// Checks whether an arrival is in the queue.
     pub fn holds_arrival(&self) -> bool
         ensures { result ≡ table.holds_some self.now.exchange.arrivals }
     {
         !self.arrivals.is_empty()
     }
 
-    /// Tells whether a message waits in the channel's queue.
+    /// Checks whether a message is in the channel's queue.
     pub fn holds_message(&self, channel: u32) -> bool
         requires { channel < 64 }
         ensures { result ≡ table.holds_some (table.channel_of self.now.exchange channel) }
@@ -165,7 +165,7 @@ impl Exchange {
         !self.channels[channel as usize].is_empty()
     }
 
-    /// Tells whether so much of a resource that is given is unused.
+    /// Checks whether this amount of a resource with a cap is unused.
     pub fn fits(&self, resource: u32, amount: u32) -> bool
         requires { resource < 8 }
         ensures { result ≡ nat_le (table.use_of self.now.exchange resource + amount) (table.cap_of self.now.caps resource) }
@@ -173,7 +173,7 @@ impl Exchange {
         self.used(resource) as u64 + amount as u64 <= self.cap(resource) as u64
     }
 
-    /// The use of a resource.
+    /// Returns the use of a resource.
     pub fn used(&self, resource: u32) -> u32
         requires { resource < 8 }
         ensures use_is { result ≡ table.use_of self.now.exchange resource }
@@ -182,7 +182,7 @@ impl Exchange {
         self.uses[resource as usize]
     }
 
-    /// The cap of a resource, 0 where it isn't given.
+    /// Returns the cap of a resource, or 0 if it has none.
     pub fn cap(&self, resource: u32) -> u32
         requires { resource < 8 }
         ensures { result ≡ table.cap_of self.now.caps resource }
@@ -193,7 +193,7 @@ impl Exchange {
         }
     }
 
-    // The trap of a call that takes so much of a resource, which may be its cap at most, or gives it, at most its use.
+    // Returns the trap of a call that takes an amount of a resource, at most its cap, or gives it, at most its use.
     fn resource_trap(&self, resource: u32, amount: u32, gives: bool) -> Option<TrapKind>
         ensures { result ≡ table.resource_trap self.now.caps resource amount (if gives then table.use_of self.now.exchange resource else table.cap_of self.now.caps resource) }
     {

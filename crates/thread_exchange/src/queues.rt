@@ -4,7 +4,7 @@ ghost use Rattle.circular_buffer.specs.Buffer.{buffer};
 use circular_buffer::HeapCircularBuffer;
 use std::alloc::{AllocError, Global};
 
-/// As many empty queues as there are channels.
+/// Returns an empty queue for each channel.
 pub(crate) fn channel_queues(
     alloc: Global,
     backlog: u32,
@@ -15,7 +15,7 @@ pub(crate) fn channel_queues(
     for made in 0..64u32 {
         let queue = HeapCircularBuffer::with_capacity(alloc, backlog as usize)?;
         queues.push(queue)?;
-        // The invariant counts by it.
+        // The loop invariant uses the count.
         let _count = made;
     }
     Ok(queues)

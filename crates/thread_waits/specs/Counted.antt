@@ -1,4 +1,4 @@
--- What is counted of those who wait.
+-- The counts and trees over waiting threads.
 use Rattle.std.specs.Prelude.{◌≡◌, ◌≢◌, ℕ, ◌+◌, ◌-◌, ◌*◌, ◌<◌, ◌≤◌, ◌^◌, Bool, true, false, List, [], length, All, Option, Some, None, if◌then◌else◌, nat_eq, nat_le, nat_lt, slice_index, slice_index_or, count_by}
 use Rattle.cap_word.specs.declared.calls.Block.{Block}
 use Rattle.c_mean.specs.ModelledCalls.{ticks_of, wakes_at}
@@ -37,7 +37,7 @@ is_ready_anyway clock None = false
 is_ready_anyway clock (Some Wait.Fresh) = true
 is_ready_anyway clock (Some (Wait.At block since)) = is_block_ready_anyway clock since block
 
--- the time from which on who waits so is ready whatever they are
+-- the time from which on a thread with this wait is ready whatever they are
 abbrev pub wake_for : Wait → Option ℕ
 wake_for Wait.Fresh = None
 wake_for (Wait.At block since) = wakes_at since block
@@ -46,7 +46,7 @@ abbrev pub wake_of : Option Wait → Option ℕ
 wake_of None = None
 wake_of (Some wait) = wake_for wait
 
--- the same, if it is still to come
+-- the same, if it is after the clock
 abbrev pub if_later : ℕ → Option ℕ → Option ℕ
 if_later clock None = None
 if_later clock (Some time) = if nat_lt clock time then Some time else None
@@ -67,7 +67,7 @@ is_at_channel channel None = false
 is_at_channel channel (Some Wait.Fresh) = false
 is_at_channel channel (Some (Wait.At block since)) = is_block_at_channel channel block
 
--- the number in a tree at a place where there is none
+-- the number in a tree of a place without one
 abbrev pub no_number : ℕ
 no_number = 2 ^ 64 - 1
 
@@ -91,14 +91,14 @@ amount_of r (Some (Wait.At block since)) = block_amount r block
 
 -- ---- trees over blocks of 16 places
 
--- the number is that of who waits at a place from one on and before another
+-- the number is that of a waiting thread at a place from one place on and before another
 pub record IsBetween (number : Option Wait → Option ℕ) (places : List (Option Wait)) (start end value : ℕ) : Type 0 where
   pub place : ℕ
   pub from : start ≤ place
   pub before : place < end
   pub number_is : number (slice_index_or places place None) ≡ Some value
 
--- the least number of those who wait there, or that of none
+-- the least number of the threads that wait there, or `no_number`
 pub record IsLeastBetween (number : Option Wait → Option ℕ) (places : List (Option Wait)) (start end least : ℕ) : Type 0 where
   pub most : least ≤ no_number
   pub lowest : (k : ℕ) → start ≤ k → k < end → least ≤ number_or (number (slice_index_or places k None))
@@ -107,7 +107,7 @@ pub record IsLeastBetween (number : Option Wait → Option ℕ) (places : List (
 abbrev pub IsLeafOf : (Option Wait → Option ℕ) → List (Option Wait) → ℕ → ℕ → Type 0
 IsLeafOf number places block leaf = IsLeastBetween number places (16 * block) (16 * block + 16) leaf
 
--- a tree has for each block of places the least number of those who wait there
+-- for each block of places, a tree has the least number of the threads that wait there
 pub record IsTreeOf (number : Option Wait → Option ℕ) (places : List (Option Wait)) (leaves : List ℕ) : Type 0 where
   pub places_fit : length places ≤ 16 * length leaves
   pub leaf : (block : ℕ) → IsLeafOf number places block (slice_index_or leaves block no_number)

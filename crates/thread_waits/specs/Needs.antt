@@ -1,11 +1,11 @@
--- What must be so for a thread to be ready, by what it waits for.
+-- The needs of threads, by what they wait for.
 use Rattle.std.specs.Prelude.{ℕ, ◌+◌, ◌-◌, ◌^◌}
 use Rattle.cap_word.specs.declared.calls.Block.{Block}
 use Rattle.c_mean.specs.ModelledCalls.{ticks_of}
 use Rattle.ready_tree.specs.declared.needs.Need.{Need}
 use Rattle.thread_waits.specs.declared.waits.Wait.{Wait}
 
--- of a thread that blocked at a call since a clock; no clock is 2 ^ 64 - 1
+-- the need of a thread that is blocked at a call since a clock; no clock is 2 ^ 64 - 1
 abbrev pub need_of_block : ℕ → Block → Need
 need_of_block since Block.Accept = Need.Arrival
 need_of_block since (Block.Wait channel) = Need.Event (2 ^ channel) (2 ^ 64 - 1)

@@ -1,4 +1,4 @@
--- A tree of minima, as its fields hold it.
+-- The contents of a tree of minima.
 use Rattle.std.specs.Prelude.{ℕ, List}
 use Rattle.thread_waits.specs.Minima.{AreMinima, leaves_in}
 use Rattle.thread_waits.specs.declared.min_tree.MinTree.TheInside.{Inside}

@@ -1,22 +1,22 @@
--- Who waits for what, by place, and which of those who wait are ready.
+-- Waiting threads by place, and which of them are ready.
 use Rattle.std.specs.Prelude.{◌≡◌, ℕ, ◌+◌, ◌<◌, ◌≤◌, ◌^◌, ◌&&◌, Bool, true, false, not, List, map, All, Contains, Option, Some, None, slice_index_or}
 use Rattle.std.specs.List.{list_any}
 use Rattle.cap_word.specs.declared.calls.Block.{Block}
 use Rattle.c_mean.specs.ModelledCalls.{Exchange, is_ready, sleeps_until}
 use Rattle.thread_waits.specs.declared.waits.Wait.{Wait}
 
--- what is waited for at each place, nothing at a place where nobody waits, and the clock
+-- the wait at each place, None if no thread waits there, and the clock
 pub record Waiting : Type 0 where
   pub places : List (Option Wait)
   pub clock : ℕ
 
--- what is waited for at a place
+-- the wait at a place
 abbrev pub wait_at : Waiting → ℕ → Option Wait
 wait_at w place = slice_index_or w.places place None
 
 -- ---- readiness
 
--- whether who waits so is ready, where the caps, the queues and uses and the clock are these
+-- whether a thread with this wait is ready, with these caps, queues and uses, and this clock
 abbrev pub is_ready_for : List ℕ → Exchange → ℕ → Wait → Bool
 is_ready_for caps x clock Wait.Fresh = true
 is_ready_for caps x clock (Wait.At block since) = is_ready caps x clock since block
@@ -33,7 +33,7 @@ abbrev pub is_at_accept_for : Wait → Bool
 is_at_accept_for Wait.Fresh = false
 is_at_accept_for (Wait.At block since) = is_at_accept_block block
 
--- nobody is ready where nobody waits
+-- no thread is ready at a place where no thread waits
 abbrev pub is_ready_in : List ℕ → Exchange → ℕ → Option Wait → Bool
 is_ready_in caps x clock None = false
 is_ready_in caps x clock (Some wait) = is_ready_for caps x clock wait
@@ -42,35 +42,35 @@ abbrev pub is_at_accept : Option Wait → Bool
 is_at_accept None = false
 is_at_accept (Some wait) = is_at_accept_for wait
 
--- whether somebody is ready, and whether somebody is that isn't at `accept`
+-- whether any thread is ready, and whether any that isn't at `accept` is
 abbrev pub any_ready_in : List ℕ → Exchange → Waiting → Bool
 any_ready_in caps x w = list_any (is_ready_in caps x w.clock) w.places
 
 abbrev pub any_elsewhere_in : List ℕ → Exchange → Waiting → Bool
 any_elsewhere_in caps x w = list_any (λ wait. is_ready_in caps x w.clock wait && not (is_at_accept wait)) w.places
 
--- ---- sleepers
+-- ---- sleeping threads
 
--- the clock until which who waits so sleeps, where the caps, the queues and uses and the clock are these
+-- the clock until which a thread with this wait sleeps, with these caps, queues and uses, and this clock
 abbrev pub sleeps_for : List ℕ → Exchange → ℕ → Wait → Option ℕ
 sleeps_for caps x clock Wait.Fresh = None
 sleeps_for caps x clock (Wait.At block since) = sleeps_until caps x clock since block
 
--- nobody sleeps where nobody waits
+-- no thread sleeps at a place where no thread waits
 abbrev pub sleeps_in : List ℕ → Exchange → ℕ → Option Wait → Option ℕ
 sleeps_in caps x clock None = None
 sleeps_in caps x clock (Some wait) = sleeps_for caps x clock wait
 
--- the least time until which somebody sleeps; none exactly where nobody sleeps
+-- the least time at which a sleeping thread wakes; None exactly if no thread sleeps
 abbrev pub IsWake : List ℕ → Exchange → Waiting → Option ℕ → Type 0
 IsWake caps x w None = All (λ wait. sleeps_in caps x w.clock wait ≡ None) w.places
 IsWake caps x w (Some time) =
     Contains (map (sleeps_in caps x w.clock) w.places) (Some time)
     × ((other : ℕ) → Contains (map (sleeps_in caps x w.clock) w.places) (Some other) → time ≤ other)
 
--- ---- who may wait
+-- ---- possible waits
 
--- a channel below 64, a resource from 1 to 7, and a clock that may be
+-- a channel below 64, a resource from 1 to 7, and a possible clock
 abbrev pub IsBlockInRange : Block → Type 0
 IsBlockInRange Block.Accept = Unit {0}
 IsBlockInRange (Block.Wait channel) = channel < 64

@@ -1,4 +1,4 @@
-// The least numbers of blocks of places, which are the leaves of the trees.
+// The minima of blocks of places, which are the leaves of the trees.
 ghost use Rattle.std.specs.Prelude.{◌≡◌, ℕ, ◌/◌, ◌<◌, ◌≤◌, [], All, None, length, slice_index_or, slice_set};
 ghost use Rattle.thread_waits.specs.Counted.{IsLeafOf, IsTreeOf, amount_of, wake_of};
 ghost use Rattle.thread_waits.specs.Waiting.{IsWaitInRangeIf};
@@ -7,10 +7,10 @@ use crate::kinds::{amount_number, wake_number};
 use crate::min_tree::MinTree;
 use crate::waits::Wait;
 
-/// How many places a block has.
+/// The number of places in a block.
 pub(crate) const BLOCK: usize = 16;
 
-// What is waited for at a place where another place has this.
+// Returns the wait at a place, after another place was set.
 fn at_with(
     places: &[Option<Wait>],
     changed: usize,
@@ -27,7 +27,7 @@ fn at_with(
     }
 }
 
-// The least time of those who wait in the block of a place, where this is waited for there.
+// Returns the least wake time in the block of a place, after the place is set.
 fn least_wake(places: &[Option<Wait>], place: usize, next: Option<Wait>) -> u64
     requires there { place < length places.now }
     requires in_range { All IsWaitInRangeIf places.now }
@@ -44,7 +44,7 @@ fn least_wake(places: &[Option<Wait>], place: usize, next: Option<Wait>) -> u64
     least
 }
 
-// The least amount of a resource for which somebody waits in the block of a place, where this is waited for there.
+// Returns the least amount of a resource that is waited for in the block of a place, after the place is set.
 fn least_amount(places: &[Option<Wait>], resource: usize, place: usize, next: Option<Wait>) -> u64
     requires there { place < length places.now }
     ensures { IsLeafOf (amount_of resource) (slice_set places.now place next) (place / 16) result }
@@ -59,7 +59,7 @@ fn least_amount(places: &[Option<Wait>], resource: usize, place: usize, next: Op
     least
 }
 
-/// Brings the tree of times up to date for a place at which this is going to be waited for.
+/// Updates the tree of times for a place that is about to be set.
 pub(crate) fn renew_sleepers(
     tree: &mut MinTree,
     places: &[Option<Wait>],
@@ -78,7 +78,7 @@ pub(crate) fn renew_sleepers(
     tree.set(place / BLOCK, least_wake(places, place, next));
 }
 
-// Brings the tree of a resource up to date for a place at which this is going to be waited for.
+// Updates the tree of a resource for a place that is about to be set.
 fn renew_taker(
     tree: &mut MinTree,
     places: &[Option<Wait>],
@@ -98,7 +98,7 @@ fn renew_taker(
     tree.set(place / BLOCK, least_amount(places, resource, place, next));
 }
 
-/// Brings the trees of all resources up to date for a place at which this is going to be waited for.
+/// Updates the trees of all resources for a place that is about to be set.
 pub(crate) fn renew_takers(
     trees: &mut Vec<MinTree>,
     places: &[Option<Wait>],

@@ -1,4 +1,4 @@
-// What of a wait is counted, and where.
+// Which counts and trees a wait belongs to.
 ghost use Rattle.std.specs.Prelude.{◌≡◌, ℕ, ◌<◌, ◌≤◌, cond, if◌then◌else◌, IfSome, None, Option, Some};
 ghost use Rattle.thread_waits.specs.Waiting.{is_at_accept, IsWaitInRangeIf};
 ghost use Rattle.thread_waits.specs.Counted.{amount_of, if_later, is_at, is_at_channel, is_ready_always, number_or, wake_of};
@@ -9,7 +9,7 @@ use crate::waits::Wait;
 use cap_word::Block;
 use thread_exchange::{Exchange, ticks_of};
 
-/// 1 where who waits so is ready whatever the queues, the uses and the clock are, or else 0.
+/// Returns 1 if a thread with this wait is ready whatever the queues, the uses and the clock are, and otherwise 0.
 pub(crate) fn ready_always(wait: Option<Wait>) -> usize
     ensures { result ≡ cond (is_ready_always wait) 1 0 }
 {
@@ -27,7 +27,7 @@ pub(crate) fn ready_always(wait: Option<Wait>) -> usize
     }
 }
 
-/// 1 where who waits so is at `accept`, or else 0.
+/// Returns 1 if a thread with this wait is at `accept`, and otherwise 0.
 pub(crate) fn at_accept(wait: Option<Wait>) -> usize
     ensures { result ≡ cond (is_at_accept wait) 1 0 }
 {
@@ -44,7 +44,7 @@ pub(crate) fn at_accept(wait: Option<Wait>) -> usize
     }
 }
 
-/// The channel at which who waits so is.
+/// Returns the channel of this wait.
 pub(crate) fn channel_of(wait: Option<Wait>) -> Option<usize>
     requires { IsWaitInRangeIf wait }
     ensures is { (channel : ℕ) → is_at_channel channel wait ≡ is_at result channel }
@@ -59,7 +59,7 @@ pub(crate) fn channel_of(wait: Option<Wait>) -> Option<usize>
     }
 }
 
-/// The amount of a resource for which who waits so waits, or else no number.
+/// Returns the amount of a resource that is waited for, or `NONE`.
 pub(crate) fn amount_number(resource: usize, wait: Option<Wait>) -> u64
     ensures { result ≡ number_or (amount_of resource wait) }
 {
@@ -79,7 +79,7 @@ pub(crate) fn amount_number(resource: usize, wait: Option<Wait>) -> u64
     }
 }
 
-// The amount, where it is of the resource, or else no number.
+// Returns the amount if it is of the resource, and otherwise `NONE`.
 fn amount_if(is_of: bool, amount: u32) -> u64
     ensures { result ≡ number_or (if is_of then Some amount else None) }
 {
@@ -90,7 +90,7 @@ fn amount_if(is_of: bool, amount: u32) -> u64
     }
 }
 
-/// The time from which on who waits so is ready whatever happens, or else no number.
+/// Returns the time from which on a thread with this wait is ready whatever happens, or `NONE`.
 pub(crate) fn wake_number(wait: Option<Wait>) -> u64
     requires { IsWaitInRangeIf wait }
     ensures { result ≡ number_or (wake_of wait) }
@@ -104,7 +104,8 @@ pub(crate) fn wake_number(wait: Option<Wait>) -> u64
     }
 }
 
-/// When who sleeps so wakes, or else no number: who is at a channel that holds a message doesn't sleep.
+/// Returns the time at which a sleeping thread with this wait wakes, or `NONE`. A thread whose channel has a message
+/// doesn't sleep.
 pub(crate) fn sleep_number(exchange: &Exchange, clock: u64, wait: Option<Wait>) -> u64
     requires { IsWaitInRangeIf wait }
     ensures { result ≡ number_or (silent_wake exchange.now.exchange clock wait) }
@@ -116,7 +117,7 @@ pub(crate) fn sleep_number(exchange: &Exchange, clock: u64, wait: Option<Wait>) 
     }
 }
 
-// Whether who waits so is at a channel that holds a message.
+// Checks whether the channel of this wait has a message.
 fn is_at_message(exchange: &Exchange, wait: Option<Wait>) -> bool
     requires { IsWaitInRangeIf wait }
     ensures { result ≡ is_at_message exchange.now.exchange wait }
@@ -132,7 +133,7 @@ fn is_at_message(exchange: &Exchange, wait: Option<Wait>) -> bool
     }
 }
 
-// A time that is still to come, or else no number.
+// Returns a time after the clock, or `NONE`.
 fn later(clock: u64, time: u64) -> u64
     ensures { (o : Option ℕ) → time ≡ number_or o → result ≡ number_or (if_later clock o) }
 {

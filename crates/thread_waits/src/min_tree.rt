@@ -5,7 +5,7 @@ ghost use Rattle.thread_waits.specs.Minima.{AreMinima, AreMinimaBut, leaves_in};
 use std::alloc::{AllocError, Global};
 use std::marker::Model;
 
-/// Numbers by place, and the least of them at hand: the leaves of a binary tree whose every inner node is the lesser of its
+/// Numbers by place, with their minimum: the leaves of a binary tree in which every inner node is the minimum of its
 /// two children. Contracts see it as the list of its numbers.
 #[derive(Drop)]
 pub struct MinTree {
@@ -25,10 +25,10 @@ impl Model for MinTree {
 }
 
 impl MinTree {
-    /// The number at a place that has none.
+    /// The number of a place without one.
     pub const NONE: u64 = u64::MAX;
 
-    /// A tree with so many places, and no number at any.
+    /// Returns a tree of `count` places without numbers.
     pub fn new(alloc: Global, count: usize) -> Result<MinTree, AllocError>
         requires some { 1 ≤ count }
         requires fits { count < 2 ^ 40 }
@@ -38,7 +38,7 @@ impl MinTree {
         Ok(MinTree { nodes })
     }
 
-    /// How many places there are.
+    /// Returns the number of places.
     pub fn len(&self) -> usize
         ensures count { result ≡ length self.now }
         ensures some { 1 ≤ result }
@@ -47,7 +47,7 @@ impl MinTree {
         self.nodes.len() / 2
     }
 
-    /// The number at a place.
+    /// Returns the number at a place.
     pub fn get(&self, place: usize) -> u64
         requires { place < length self.now }
         ensures { result ≡ slice_index self.now place }
@@ -55,7 +55,7 @@ impl MinTree {
         self.nodes[self.nodes.len() / 2 + place]
     }
 
-    /// Sets the number at a place. It takes as many steps as the tree is high.
+    /// Sets the number at a place. The time is logarithmic in the number of places.
     pub fn set(&mut self, place: usize, number: u64)
         requires { place < length self.old }
         ensures { self.new ≡ slice_set self.old place number }
@@ -65,7 +65,7 @@ impl MinTree {
         renew_above(&mut self.nodes, leaf);
     }
 
-    /// The least number.
+    /// Returns the least number.
     pub fn least(&self) -> u64
         ensures { IsLeast self.now result }
     {
@@ -73,7 +73,7 @@ impl MinTree {
         nodes[1]
     }
 
-    /// Makes so many places of it, the new ones without numbers.
+    /// Increases the number of places to `count`; the new places have no numbers.
     pub fn grow(&mut self, alloc: Global, count: usize) -> Result<(), AllocError>
         requires more { length self.old ≤ count }
         requires fits { count < 2 ^ 40 }
@@ -90,7 +90,7 @@ impl MinTree {
     }
 }
 
-// Makes each inner node above this one the lesser of its two children.
+// Sets each inner node above this one to the minimum of its two children.
 fn renew_above(nodes: &mut [u64], changed: usize)
     requires there { changed < length nodes.old }
     requires inner { 1 ≤ changed }

@@ -1,4 +1,4 @@
-// What those who wait wait for, as needs, and what is there for them.
+// The needs of waiting threads, and the bounds against which they are tested.
 ghost use Rattle.std.specs.Prelude.{◌≡◌, ◌+◌, ◌-◌, ◌<◌, ◌≤◌, ◌^◌, ℕ, Some, option_map, slice_index};
 ghost use Rattle.c_mean.specs.ModelledCalls.{cap_of, channel_of, holds_some, ticks_of, use_of};
 ghost use Rattle.ready_tree.specs.Needs.{is_met, is_shared};
@@ -12,7 +12,7 @@ use cap_word::Block;
 use ready_tree::{Bounds, Need};
 use thread_exchange::{Exchange, ticks_of};
 
-/// What must be so for who waits so to be ready.
+/// Returns the need of a wait.
 fn need_of(wait: Wait) -> Need
     requires { IsWaitInRange wait }
     ensures { result ≡ need_for wait }
@@ -33,7 +33,7 @@ fn need_of(wait: Wait) -> Need
     }
 }
 
-// A message of one of these channels, or so many ticks past a clock.
+// Returns the need of a message of one of these channels, or of `ticks` ticks after a clock.
 fn message_or_time(channels: u64, since: u64, ticks: u32) -> Need
     requires { since ≤ latest }
     ensures { result ≡ Event channels (since + ticks_of ticks) }
@@ -44,7 +44,7 @@ fn message_or_time(channels: u64, since: u64, ticks: u32) -> Need
     }
 }
 
-// The channels that hold a message, by bits.
+// Returns the channels that have a message, as bits.
 fn held_channels(exchange: &Exchange) -> u64
     ensures { (channel : ℕ) → channel < 64 → is_shared result (2 ^ channel) ≡ holds_some (channel_of exchange.now.exchange channel) }
 {
@@ -57,7 +57,7 @@ fn held_channels(exchange: &Exchange) -> u64
     held
 }
 
-// How much of each resource is unused.
+// Returns the unused amount of each resource.
 fn unused_of(exchange: &Exchange) -> [u32; 8]
     ensures is { (r : ℕ) → r < 8 → slice_index result r ≡ cap_of exchange.now.caps r - use_of exchange.now.exchange r }
     ensures within { (r : ℕ) → r < 8 → use_of exchange.now.exchange r ≤ cap_of exchange.now.caps r }
@@ -70,7 +70,7 @@ fn unused_of(exchange: &Exchange) -> [u32; 8]
 }
 
 impl Waits {
-    /// What must be so for who waits at a place to be ready.
+    /// Returns the need of the thread that waits at a place.
     pub fn need_at(&self, place: usize) -> Option<Need>
         ensures { result ≡ option_map need_for (wait_at self.now place) }
     {
@@ -78,7 +78,8 @@ impl Waits {
         Some(need_of(wait))
     }
 
-    /// What is there for those who wait: the need of each is met exactly where it is ready.
+    /// Returns the bounds of the exchange and the clock: the need of a waiting thread is met exactly if the thread is
+    /// ready.
     pub fn bounds(&self, exchange: &Exchange) -> Bounds
         ensures { (place : ℕ) (wait : WaitOf) → wait_at self.now place ≡ Some wait → is_met result (need_for wait) ≡ is_ready_for exchange.now.caps exchange.now.exchange self.now.clock wait }
     {

@@ -1,4 +1,4 @@
-// Changes of what is counted, one part at a time.
+// Updates of the counts and trees, one part at a time.
 ghost use Rattle.std.specs.Prelude.{◌≡◌, ℕ, ◌+◌, ◌<◌, ◌≤◌, ◌^◌, ◌++◌, [], ◌∷◌, cond, length, replicate, OnOk, IfOk, IfSome, slice_index, slice_index_or, None};
 ghost use Rattle.thread_waits.specs.Counted.{is_at, IsGrown, no_number};
 
@@ -6,7 +6,7 @@ use crate::min_tree::MinTree;
 use crate::waits::Wait;
 use std::alloc::{AllocError, Global};
 
-/// One more at a channel, where there is one.
+/// Increments the count of a channel, if there is one.
 pub(crate) fn count_in(counts: &mut [usize; 64], channel: Option<usize>)
     requires below { IfSome channel (λ channel. channel < 64) }
     requires small { (k : ℕ) → k < 64 → slice_index counts.old k < 2 ^ 63 }
@@ -18,7 +18,7 @@ pub(crate) fn count_in(counts: &mut [usize; 64], channel: Option<usize>)
     }
 }
 
-/// One less at a channel, where there is one.
+/// Decrements the count of a channel, if there is one.
 pub(crate) fn count_out(counts: &mut [usize; 64], channel: Option<usize>)
     requires below { IfSome channel (λ channel. channel < 64) }
     requires some { (k : ℕ) → k < 64 → cond (is_at channel k) 1 0 ≤ slice_index counts.old k }
@@ -29,7 +29,7 @@ pub(crate) fn count_out(counts: &mut [usize; 64], channel: Option<usize>)
     }
 }
 
-/// One place, at which nobody waits.
+/// Returns one place, at which no thread waits.
 pub(crate) fn one_place(alloc: Global) -> Result<Vec<Option<Wait>>, AllocError>
     ensures { IfOk result (λ places. places.items ≡ None ∷ []) }
 {
@@ -38,7 +38,7 @@ pub(crate) fn one_place(alloc: Global) -> Result<Vec<Option<Wait>>, AllocError>
     Ok(places)
 }
 
-/// A tree with one block for each resource.
+/// Returns a tree with one block for each resource.
 pub(crate) fn one_block_each(alloc: Global) -> Result<Vec<MinTree>, AllocError>
     ensures { IfOk result (λ trees. trees.items ≡ replicate 8 (replicate 1 no_number)) }
 {
@@ -46,13 +46,13 @@ pub(crate) fn one_block_each(alloc: Global) -> Result<Vec<MinTree>, AllocError>
     for made in 0..8u32 {
         let tree = MinTree::new(alloc, 1)?;
         trees.push(tree)?;
-        // The invariant counts by it.
+        // The loop invariant uses the count.
         let _made = made;
     }
     Ok(trees)
 }
 
-/// Makes at least so many leaves of a tree.
+/// Grows a tree to at least `count` leaves.
 pub(crate) fn grow_tree(tree: &mut MinTree, alloc: Global, count: usize) -> Result<(), AllocError>
     requires { count < 2 ^ 40 }
     ensures grown { IsGrown no_number tree.old tree.new }
@@ -65,7 +65,7 @@ pub(crate) fn grow_tree(tree: &mut MinTree, alloc: Global, count: usize) -> Resu
     Ok(())
 }
 
-/// Makes at least so many leaves of each tree.
+/// Grows each tree to at least `count` leaves.
 pub(crate) fn grow_trees(
     trees: &mut Vec<MinTree>,
     alloc: Global,
@@ -84,7 +84,7 @@ pub(crate) fn grow_trees(
     Ok(())
 }
 
-/// Makes so many places, at which nobody waits, behind those that there are.
+/// Grows the places to `count`; no thread waits at a new one.
 pub(crate) fn grow_places(places: &mut Vec<Option<Wait>>, count: usize) -> Result<(), AllocError>
     requires { length places.old.items ≤ count }
     ensures most { length places.new.items ≤ count }
@@ -95,7 +95,7 @@ pub(crate) fn grow_places(places: &mut Vec<Option<Wait>>, count: usize) -> Resul
     places.reserve_exact(count - places.len())?;
     for made in places.len()..count {
         places.push(None)?;
-        // The invariant counts by it.
+        // The loop invariant uses the count.
         let _made = made;
     }
     Ok(())

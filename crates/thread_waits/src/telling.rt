@@ -10,7 +10,7 @@ use crate::waits::Waits;
 use thread_exchange::Exchange;
 
 impl Waits {
-    /// Tells whether somebody who waits is ready.
+    /// Checks whether any waiting thread is ready.
     pub fn any_ready(&self, exchange: &Exchange) -> bool
         ensures { result ≡ any_ready_in exchange.now.caps exchange.now.exchange self.now }
     {
@@ -23,7 +23,7 @@ impl Waits {
         exchange.holds_arrival()
     }
 
-    /// Tells whether somebody is ready who doesn't wait at `accept`.
+    /// Checks whether any thread that doesn't wait at `accept` is ready.
     pub fn any_elsewhere(&self, exchange: &Exchange) -> bool
         ensures { result ≡ any_elsewhere_in exchange.now.caps exchange.now.exchange self.now }
     {
@@ -36,8 +36,9 @@ impl Waits {
         self.any_at_resource(exchange)
     }
 
-    /// The least time until which somebody sleeps, or None where nobody sleeps. Who is ready doesn't sleep. Where nobody is ready
-    /// by a message or a time it takes a few steps, or else as many as there are places.
+    /// Returns the least time at which a sleeping thread wakes, or `None` if no thread sleeps. A ready thread doesn't
+    /// sleep. The time is constant if no thread is ready by a message or a time, and otherwise linear in the number of
+    /// places.
     pub fn wake(&self, exchange: &Exchange) -> Option<u64>
         ensures { IsWake exchange.now.caps exchange.now.exchange self.now result }
     {
@@ -49,7 +50,7 @@ impl Waits {
         }
     }
 
-    // The least time to come of those for whom no message waits, or no number.
+    // Returns the least wake time after the clock of the threads without a message, or `NONE`.
     fn least_time(&self, exchange: &Exchange) -> u64
         ensures { IsLeastNumber (silent_wake exchange.now.exchange self.now.clock) self.now.places result }
     {
@@ -63,7 +64,7 @@ impl Waits {
         least
     }
 
-    // The same, looked for at each place: some whose times are in the tree are ready.
+    // Returns the same by a search of all places, since some threads whose times are in the tree are ready.
     fn least_asleep(&self, exchange: &Exchange) -> u64
         ensures { IsLeastNumber (silent_wake exchange.now.exchange self.now.clock) self.now.places result }
     {
@@ -75,7 +76,7 @@ impl Waits {
         least
     }
 
-    // Whether somebody is ready whatever the queues and uses are.
+    // Checks whether any thread is ready whatever the queues and uses are.
     fn any_anyway(&self) -> bool
         ensures { result ≡ list_any (is_ready_anyway self.now.clock) self.now.places }
     {
@@ -85,7 +86,7 @@ impl Waits {
         self.sleepers.least() <= self.clock
     }
 
-    // Whether a message waits in a channel at which somebody waits.
+    // Checks whether any thread waits at a channel that has a message.
     fn any_at_channel(&self, exchange: &Exchange) -> bool
         ensures { result ≡ list_any (is_at_message exchange.now.exchange) self.now.places }
     {
@@ -97,7 +98,7 @@ impl Waits {
         false
     }
 
-    // Whether the least amount that waits for a resource is unused.
+    // Checks whether the least amount of a resource that is waited for is unused.
     fn any_at_resource(&self, exchange: &Exchange) -> bool
         ensures { result ≡ list_any (is_taking exchange.now.caps exchange.now.exchange) self.now.places }
     {

@@ -11,16 +11,16 @@ use cap_word::Block;
 use std::alloc::{AllocError, Global};
 use std::marker::Model;
 
-/// What somebody waits for that waits to be chosen.
+/// What a waiting thread waits for.
 #[derive(Clone, Copy)]
 pub enum Wait {
-    /// To run for the first time.
+    /// It waits to run for the first time.
     Fresh,
-    /// To go on from a call that blocks, since a clock.
+    /// It is blocked at a call since a clock.
     At { block: Block, since: u64 },
 }
 
-/// Those who wait, by place, and the clock.
+/// The waiting threads by place, and the clock.
 #[derive(Drop)]
 pub struct Waits {
     pub(crate) places: Vec<Option<Wait>>,
@@ -45,7 +45,7 @@ impl Model for Waits {
 }
 
 impl Waits {
-    /// One place, at which nobody waits, at clock 0.
+    /// Returns one place, at which no thread waits, at clock 0.
     pub fn new(alloc: Global) -> Result<Waits, AllocError>
         ensures { IfOk result (λ w. w ≡ record { places = None ∷ []; clock = 0 }) }
     {
@@ -63,7 +63,7 @@ impl Waits {
         })
     }
 
-    /// Makes a place where there is none yet. Nobody waits at a new place, and all others wait as they did.
+    /// Adds a place, at which no thread waits, if it doesn't exist yet. All other places stay the same.
     pub fn make_place(&mut self, alloc: Global, place: usize) -> Result<(), AllocError>
         requires { place < 2 ^ 32 }
         ensures there { OnOk result (place < length self.new.places) }
@@ -82,21 +82,21 @@ impl Waits {
         Ok(())
     }
 
-    /// What is waited for at a place, if somebody waits there.
+    /// Returns the wait at a place, if a thread waits there.
     pub fn at(&self, place: usize) -> Option<Wait>
         ensures { result ≡ wait_at self.now place }
     {
         self.places.get(place).copied().flatten()
     }
 
-    /// The clock.
+    /// Returns the clock.
     pub fn clock(&self) -> u64
         ensures { result ≡ self.now.clock }
     {
         self.clock
     }
 
-    /// Somebody begins to wait at a place.
+    /// Begins a wait at a place.
     pub fn wait(&mut self, place: usize, wait: Wait)
         requires there { place < length self.old.places }
         requires empty { wait_at self.old place ≡ None }
@@ -106,7 +106,7 @@ impl Waits {
         self.put(place, Some(wait));
     }
 
-    /// Who waits at a place waits no more.
+    /// Ends the wait at a place.
     pub fn go(&mut self, place: usize)
         requires { IsSome (wait_at self.old place) }
         ensures { self.new ≡ record self.old { places = slice_set self.old.places place None } }
@@ -114,7 +114,7 @@ impl Waits {
         self.put(place, None);
     }
 
-    /// The clock goes on to a time.
+    /// Advances the clock to a time.
     pub fn advance(&mut self, to: u64)
         requires later { self.old.clock ≤ to }
         requires possible { to ≤ latest }
@@ -123,7 +123,7 @@ impl Waits {
         self.clock = to;
     }
 
-    // What is waited for at a place becomes this.
+    // Sets the wait at a place.
     fn put(&mut self, place: usize, next: Option<Wait>)
         requires there { place < length self.old.places }
         requires in_range { IsWaitInRangeIf next }

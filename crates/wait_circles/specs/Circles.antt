@@ -13,7 +13,7 @@ leads steps held wanted = fold (λ found step. found || is_step held wanted step
 abbrev pub is_among : List ℕ → ℕ → Bool
 is_among path resource = fold (λ found one. found || nat_eq one resource) false path
 
--- a path may go on to a resource: its first one is the least of all, and no other comes twice
+-- a path may continue with a resource: its first one is the least of all, and no other occurs twice
 abbrev pub may_go : List Step → ℕ → ℕ → List ℕ → ℕ → Bool
 may_go steps first last path next = nat_lt first next && not (is_among path next) && leads steps last next
 
@@ -23,8 +23,8 @@ leads_back steps first last path [] = leads steps last first
 leads_back steps first last path (next ∷ rest) =
     nat_lt next 8 && may_go steps first last path next && leads_back steps first next (path ++ next ∷ []) rest
 
--- the resources of a circle, from the least one on: of each a thread holds units that waits for the next, and of the last one that
--- waits for the first; resources are 0 to 7, so it has at most 8
+-- the resources of a circle, from the least one on: for each, some thread holds units of it and waits for the next one;
+-- for the last, the next one is the first; resources are 0 to 7, so it has at most 8
 abbrev pub IsCircle : List Step → List ℕ → Type 0
 IsCircle steps [] = ⊥
 IsCircle steps (first ∷ rest) = (first < 8) × (length rest ≤ 7) × (leads_back steps first first (first ∷ []) rest ≡ true)

@@ -6,7 +6,7 @@ use crate::steps::{Step, leads, may_go};
 use std::alloc::{AllocError, Global};
 use std::marker::Model;
 
-/// How many resources there are.
+/// The number of resources.
 const RESOURCES: u32 = 8;
 
 /// A circle of resources. Contracts see it as the list of them.
@@ -26,8 +26,8 @@ impl Model for Circle {
 impl Circle {
     ghost use Rattle.std.specs.Prelude.{◌≡◌};
 
-    /// The resources in order, the least first: of each a thread holds units that waits for the next, and of the last one that waits
-    /// for the first.
+    /// Returns the resources in order, the least first: for each, some thread holds units of it and waits for the next
+    /// one; for the last, the next one is the first.
     pub fn resources(&self) -> &[u32]
         ensures { result.now ≡ self.now }
     {
@@ -35,7 +35,7 @@ impl Circle {
     }
 }
 
-/// All circles of these steps.
+/// Returns all circles of these steps.
 pub fn circles_of(alloc: Global, steps: &[Step]) -> Result<Vec<Circle>, AllocError>
     ensures told { IfOk result (λ circles. All (IsCircle steps.now) circles.items) }
     ensures each { (circle : List ℕ) → IsCircle steps.now circle → IfOk result (λ circles. Contains circles.items circle) }
@@ -47,7 +47,7 @@ pub fn circles_of(alloc: Global, steps: &[Step]) -> Result<Vec<Circle>, AllocErr
     Ok(found)
 }
 
-/// Appends the circles whose least resource this is.
+/// Appends the circles whose least resource is `first`.
 fn begin(
     alloc: Global,
     steps: &[Step],
@@ -59,7 +59,7 @@ fn begin(
     follow(alloc, steps, first, first, &[first], RESOURCES - 1, found)
 }
 
-/// Appends the circles that go on from a path, from `first` to `last`, over at most so many resources more.
+/// Appends the circles that extend a path from `first` to `last` by at most this many further resources.
 fn follow(
     alloc: Global,
     steps: &[Step],
@@ -84,7 +84,7 @@ fn follow(
     Ok(())
 }
 
-/// Appends a path, where it is a circle.
+/// Appends a path if it is a circle.
 fn close(
     alloc: Global,
     steps: &[Step],
@@ -104,7 +104,7 @@ fn close(
     Ok(())
 }
 
-/// A path with one resource more.
+/// Returns a path with one more resource.
 fn longer(alloc: Global, path: &[u32], next: u32) -> Result<Vec<u32>, AllocError>
     ensures { IfOk result (λ more. more.items ≡ path.now ++ next ∷ []) }
 {

@@ -4,14 +4,15 @@ ghost use Rattle.wait_circles.specs.Circles.{is_among, is_step, leads, may_go};
 /// A thread that holds units of a resource and waits for units of another, or of the same.
 #[derive(Clone, Copy)]
 pub struct Step {
+    /// The thread's number.
     pub thread: u32,
     /// The resource, below 8, of which it holds units.
     pub held: u32,
-    /// The resource, below 8, that it waits for.
+    /// The resource, below 8, for which it waits.
     pub wanted: u32,
 }
 
-/// Whether a thread holds units of the one resource and waits for the other.
+/// Checks whether a thread holds units of the one resource and waits for the other.
 pub(crate) fn leads(steps: &[Step], held: u32, wanted: u32) -> bool
     ensures { result ≡ leads steps.now held wanted }
 {
@@ -22,21 +23,21 @@ pub(crate) fn leads(steps: &[Step], held: u32, wanted: u32) -> bool
     found
 }
 
-/// Whether one of both holds.
+/// Returns the disjunction of both.
 fn either(before: bool, now: bool) -> bool
     ensures { result ≡ (before || now) }
 {
     before || now
 }
 
-/// Whether a step is from the one resource to the other.
+/// Checks whether a step is from the one resource to the other.
 fn is_step(step: &Step, held: u32, wanted: u32) -> bool
     ensures { result ≡ is_step held wanted step.now }
 {
     step.held == held && step.wanted == wanted
 }
 
-/// Whether a resource is on a path.
+/// Checks whether a resource is on a path.
 fn is_among(path: &[u32], resource: u32) -> bool
     ensures { result ≡ is_among path.now resource }
 {
@@ -47,7 +48,8 @@ fn is_among(path: &[u32], resource: u32) -> bool
     found
 }
 
-/// Whether a path from `first` to `last` may go on to a resource: one with a greater number than `first`, that isn't on it.
+/// Checks whether a path from `first` to `last` may continue with a resource: one with a greater number than `first`
+/// that isn't on it.
 pub(crate) fn may_go(steps: &[Step], first: u32, last: u32, path: &[u32], next: u32) -> bool
     ensures { result ≡ may_go steps.now first last path.now next }
 {

@@ -1,9 +1,10 @@
--- The source of the workload of n: a chain of n + 1 functions, each of which but the first calls the one before it; a worker
--- that takes an arrival, waits for its message, walks the chain and puts the result; and a main that spawns n workers.
+-- The source of the workload of n: a chain of n + 1 functions, each of which, except the first, calls the one before
+-- it; a worker that takes an arrival, waits for its message, calls the chain and puts the result; and a main that
+-- spawns n workers.
 use Rattle.std.specs.Prelude.{ℕ, zero, suc, List, [], ◌∷◌, ◌++◌, codes}
 use Rattle.cap_text.specs.Decimals.{canonical_decimal}
 
--- what ends a line: LF
+-- the end of a line: LF
 abbrev pub line_feed : List ℕ
 line_feed = 10 ∷ []
 

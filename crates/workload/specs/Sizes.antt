@@ -1,4 +1,4 @@
--- When a program is built whatever its placement.
+-- The sizes of a program that is built whatever its placement.
 use Rattle.std.specs.Prelude.{◌≡◌, ◌≤◌, None}
 use Rattle.c_tree.specs.Trees.{ProgramTree}
 use Rattle.c_lower.specs.ProgramCode.{lowered}

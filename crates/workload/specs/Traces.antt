@@ -1,17 +1,17 @@
--- The trace of the workload of n: n arrivals, 10 ticks apart, and later a message for each.
+-- The trace of the workload of n: n arrivals, 10 ticks apart, and later a message for each of them.
 use Rattle.std.specs.Prelude.{ℕ, zero, suc, ◌+◌, ◌*◌, ◌%◌, List, [], ◌++◌, codes}
 use Rattle.cap_text.specs.Decimals.{canonical_decimal}
 use Rattle.workload.specs.Programs.{line_feed}
 
--- the arrivals go round the 64 channels
+-- the channels of the arrivals: the 64 channels in turn
 abbrev pub channel_of : ℕ → ℕ
 channel_of j = j % 64
 
--- arrival j, which brings its channel
+-- arrival j, whose value is its channel
 unfoldable pub arrival_line : ℕ → List ℕ
 arrival_line j = codes "arrive " ++ (canonical_decimal (10 * j) ++ (codes " " ++ (canonical_decimal (channel_of j) ++ line_feed)))
 
--- message j, on the channel that arrival j brings
+-- message j, on the channel of arrival j
 unfoldable pub message_line : ℕ → List ℕ
 message_line j = codes "data " ++ (canonical_decimal (1000000 + 10 * j) ++ (codes " " ++ (canonical_decimal (channel_of j) ++ (codes " " ++ (canonical_decimal j ++ line_feed)))))
 

@@ -1,4 +1,4 @@
-// The source of the workload, written.
+// The source of the workload.
 ghost use Rattle.std.specs.Prelude.{◌≡◌, ◌+◌, ◌<◌, ◌≤◌, ◌^◌, ◌++◌, OnOk, IfOk};
 ghost use Rattle.c_tree.specs.Trees.{ProgramTree};
 ghost use Rattle.c_scope.specs.SourceText.{ReadsAs};
@@ -7,8 +7,9 @@ ghost use Rattle.workload.specs.Programs.{first_line, link_line, chain_text, wor
 use crate::numbers::put_number;
 use std::alloc::{AllocError, Global};
 
-/// The source of the workload of `n`, `n` from 1 to 1,000: n + 1 functions of which each but the first calls the one before
-/// it, a worker that sends its message down all of them, and a `main` that spawns `n` workers. It reads as a program.
+/// Returns the source of the workload of `n`, from 1 to 1,000: a chain of `n` + 1 functions, each of which, except the
+/// first, calls the one before it; a worker that sends its message down the chain; and a `main` that spawns `n`
+/// workers. It reads as a program.
 pub fn make_program(alloc: Global, n: u32) -> Result<Vec<u8>, AllocError>
     requires some { 1 ≤ n }
     requires few { n ≤ 1000 }
@@ -33,7 +34,7 @@ fn put_first(text: &mut Vec<u8>) -> Result<(), AllocError>
     Ok(())
 }
 
-// Appends the other functions of the chain up to number n, behind the first.
+// Appends the functions of the chain after the first, up to number n.
 fn put_links(text: &mut Vec<u8>, n: u32) -> Result<(), AllocError>
     requires { text.old.items ≡ chain_text 0 }
     ensures { OnOk result (text.new.items ≡ chain_text n) }

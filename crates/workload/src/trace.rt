@@ -1,19 +1,19 @@
-// The trace of the workload, written.
+// The trace of the workload.
 ghost use Rattle.std.specs.Prelude.{◌≡◌, ◌<◌, ◌≤◌, ◌++◌, OnOk, IfOk};
 ghost use Rattle.workload.specs.Traces.{arrival_line, message_line, lines_below, trace_text};
 
 use crate::numbers::put_number;
 use std::alloc::{AllocError, Global};
 
-// The channels that a trace may name.
+// The number of channels.
 const CHANNELS: u32 = 64;
-// Ticks from one arrival to the next, and from one message to the next.
+// The number of ticks from one arrival to the next, and from one message to the next.
 const APART: u32 = 10;
 // The tick of the first message.
 const FIRST_MESSAGE: u32 = 1_000_000;
 
-/// The trace of the workload of `n`, `n` from 1 to 1,000: `n` arrivals, 10 ticks apart from tick 0 on, each of which brings
-/// one of the 64 channels in turn; then a message for each, 10 ticks apart from tick 1,000,000 on, on that channel.
+/// Returns the trace of the workload of `n`, from 1 to 1,000: `n` arrivals, every 10 ticks from tick 0 on, whose values
+/// are the 64 channels in turn; then a message for each, every 10 ticks from tick 1,000,000 on, on that channel.
 #[tactic(auto, unfolding(crate::specs::Traces::trace_text))]
 pub fn make_trace(alloc: Global, n: u32) -> Result<Vec<u8>, AllocError>
     requires some { 1 ≤ n }

@@ -9,11 +9,11 @@ use scheduler::{Choice, Scheduler};
 use std::alloc::{AllocError, Global};
 use std::marker::Model;
 
-/// The most choices, and the most segments, of a run that is made again: below 2^40.
+/// The maximum number of choices, and of segments, of a run that is repeated: below 2^40.
 const MOST: u64 = 1_000_000_000_000;
 
-/// What stands beside a run that is made again: the threads that wait at the nodes of the blocking graph, the graph, the resources,
-/// and what decided the choices so far.
+/// The data of a run that is repeated, in addition to its world: the threads that wait at the nodes of the blocking
+/// graph, the graph, the resources, and the reasons for the choices so far.
 #[derive(Drop)]
 pub struct Choosing<C: Measure> {
     alloc: Global,
@@ -46,7 +46,8 @@ impl<C: Measure> Choosing<C> {
     ghost use Rattle.scheduler.specs.State.{IsJoined};
     ghost use Rattle.report.specs.Courses.{start_of, seen, Decides};
 
-    /// Before the first choice of a run whose resources begin so, with these caps. It takes no memory.
+    /// Returns the state before the first choice of a run whose resources begin so, with these caps. It doesn't
+    /// allocate.
     pub fn new(alloc: Global, monitor: Monitor<C>, caps: [u32; 8]) -> Choosing<C>
         requires { monitor.caps ≡ caps }
         ensures { result ≡ start_of monitor }
@@ -67,28 +68,28 @@ impl<C: Measure> Choosing<C> {
         }
     }
 
-    /// What decided the choices so far.
+    /// Returns the counts of reasons for the choices so far.
     pub fn choices(&self) -> Choices
         ensures { result ≡ self.now.choices }
     {
         self.choices
     }
 
-    /// The caps of the resources.
+    /// Returns the caps of the resources.
     pub fn caps(&self) -> [u32; 8]
         ensures { result ≡ self.now.monitor.caps }
     {
         self.caps
     }
 
-    /// Whether the gate is open.
+    /// Checks whether the gate is open.
     pub fn is_open(&self) -> bool
         ensures { result ≡ self.now.monitor.is_open }
     {
         self.monitor.gate()
     }
 
-    /// The gate moves by these uses of the resources.
+    /// Updates the gate from these uses of the resources.
     pub fn observe(&mut self, uses: [u32; 8])
         requires { NoneAbove uses self.old.monitor.caps }
         ensures { self.new ≡ record self.old { monitor = seen self.old.monitor uses } }
@@ -96,7 +97,7 @@ impl<C: Measure> Choosing<C> {
         self.monitor.observe(uses);
     }
 
-    /// A thread waits at a node from now on.
+    /// Puts a thread that begins to wait into the queue of a node.
     pub fn wait(&mut self, node: u32, thread: ThreadId) -> Result<(), AllocError>
         ensures ok { OnOk result (IsJoined self.old.scheduler self.new.scheduler node thread) }
         ensures others { self.new ≡ record self.old { scheduler = self.new.scheduler } }
@@ -104,8 +105,8 @@ impl<C: Measure> Choosing<C> {
         self.scheduler.enqueue(node, thread)
     }
 
-    /// The choice at these uses of the resources: the gate moves, a thread is chosen and leaves its node, and what decided it is
-    /// counted. None where no thread may go on, and where a count would be 10^12 or more.
+    /// Makes the choice at these uses of the resources: updates the gate, chooses a thread, removes it from its node,
+    /// and counts the reason. Returns `None` if no thread is eligible, or if a count would be 10^12 or more.
     pub fn choose<R: Ready>(&mut self, uses: [u32; 8], world: &R) -> Option<Choice>
         requires { NoneAbove uses self.old.monitor.caps }
         ensures { IfSome result (Decides (R.is_ready world.now) (R.at_accept world.now) (R.any_elsewhere world.now) uses self.old self.new) }
@@ -129,7 +130,7 @@ impl<C: Measure> Choosing<C> {
         Some(choice)
     }
 
-    /// Takes in the record of a segment. False where there is no memory, or would be 10^12 of them.
+    /// Takes up the record of a segment. Returns `false` if memory runs out, or if there would be 10^12 records.
     pub fn note(&mut self, segment: SegmentRecord) -> bool
         requires { IsSegment segment }
         ensures noted { result ≡ true → self.new.graph.edges ≡ edges_with self.old.graph.edges segment }

@@ -10,7 +10,8 @@ use resource_monitor::{Measure, Monitor};
 use scheduler::{Choice, Scheduler};
 use std::alloc::Global;
 
-/// What decided the choice of that thread, which the scheduler makes and hasn't noted yet. It takes no memory.
+/// Returns the reason for the choice of that thread, which the scheduler makes but hasn't recorded yet. It doesn't
+/// allocate.
 pub fn reason_of<C: Measure, R: Ready>(
     alloc: Global,
     scheduler: &Scheduler,
@@ -27,7 +28,7 @@ pub fn reason_of<C: Measure, R: Ready>(
     reason_from(thread, ungated, unscored)
 }
 
-/// What decided the choice of a thread, by what would be chosen past the gate and what without scores.
+/// Returns the reason for the choice of a thread, given the choice without the gate and the one without scores.
 fn reason_from(thread: u32, ungated: Option<Choice>, unscored: Option<Choice>) -> Reason
     ensures { result ≡ reason_by thread ungated unscored }
 {
@@ -40,7 +41,7 @@ fn reason_from(thread: u32, ungated: Option<Choice>, unscored: Option<Choice>) -
     }
 }
 
-/// Whether a choice is that of a thread.
+/// Checks whether a choice is that of a thread.
 fn is_choice_of(thread: u32, choice: Option<Choice>) -> bool
     ensures { result ≡ is_of thread choice }
 {

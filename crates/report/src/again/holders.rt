@@ -2,9 +2,11 @@ use run_history::HistoryError;
 use std::alloc::Global;
 use std::collections::BTreeMap;
 
-/// How many units of a resource each thread holds, by its number: those by which its segments changed the use of the resource.
+/// The number of units of a resource that each thread holds, by thread number: the sum of the changes of its use by the
+/// thread's segments.
 #[derive(Drop)]
 pub struct Holders {
+    /// The number of units of each thread whose segments changed the use.
     pub held: BTreeMap<u32, i64>,
 }
 
@@ -14,7 +16,7 @@ impl Holders {
     ghost use Rattle.std.specs.Ordering.{nat_cmp};
     ghost use Rattle.report.specs.Holds.{held_in};
 
-    /// Before the first segment nobody holds anything. It takes no memory.
+    /// Returns the state before the first segment: no thread holds anything. It doesn't allocate.
     pub fn new(alloc: Global) -> Holders
         ensures { (thread : ℕ) → get nat_cmp result.held thread ≡ None }
     {
@@ -23,7 +25,7 @@ impl Holders {
         }
     }
 
-    /// A segment of a thread changed the use of the resource so. After a refusal nothing is said.
+    /// Adds the change of the resource's use by a segment of a thread. After an error the contents are unspecified.
     pub fn add(&mut self, thread: u32, before: u32, after: u32) -> Result<(), HistoryError>
         ensures its { OnOk result (held_in (get nat_cmp self.new.held thread) ≡ held_in (get nat_cmp self.old.held thread) +ℤ (pos after -ℤ pos before)) }
         ensures others { (other : ℕ) → other ≢ thread → OnOk result (get nat_cmp self.new.held other ≡ get nat_cmp self.old.held other) }

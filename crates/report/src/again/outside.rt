@@ -1,4 +1,4 @@
-// What comes to a world that is made again, and its clock.
+// The events and the clock of a world that is repeated.
 ghost use Rattle.std.specs.Prelude.{IfSome};
 ghost use Rattle.report.specs.Between.{GoesOn, IsBetween};
 
@@ -9,10 +9,10 @@ use thread_core::World;
 /// The latest clock of a run.
 const LAST: u64 = 0x8000_0000_0000_0000;
 
-/// How many channels there are.
+/// The number of channels.
 const CHANNELS: u32 = 64;
 
-/// The clock goes on to that time. False where it is past, or later than any.
+/// Advances the clock to that time. Returns `false` if it is past, or later than any clock of a run.
 pub(crate) fn reach(world: &mut World, clock: u64) -> bool
     requires { IsBetween world.old }
     ensures { IsBetween world.new }
@@ -24,8 +24,8 @@ pub(crate) fn reach(world: &mut World, clock: u64) -> bool
     true
 }
 
-/// An item comes at that time, as the log says, and the run goes on. None where it can't come: at a clock that is past, or a message
-/// where there is no such channel.
+/// Delivers an item at that time, as the log says. Returns `true` if the run continues, or `None` if the delivery is
+/// impossible: the time is past, or the channel of a message doesn't exist.
 pub(crate) fn come(world: &mut World, clock: u64, item: &Item) -> Option<bool>
     requires { IsBetween world.old }
     ensures { IfSome result (λ goes. GoesOn goes world.new) }

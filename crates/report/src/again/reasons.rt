@@ -1,27 +1,30 @@
 ghost use Rattle.std.specs.Prelude.{◌≡◌, IfSome};
 ghost use Rattle.report.specs.Counts.{with_reason};
 
-/// What decided a choice.
+/// The reason for a choice.
 #[derive(Clone, Copy)]
 pub enum Reason {
-    /// The gate: if no thread counted as one at `accept`, another would have been chosen.
+    /// The gate: if no thread counted as one at `accept`, another thread would have been chosen.
     Gate,
     /// The scores: without them another thread would have been chosen.
     Score,
-    /// Whose turn it was.
+    /// The turn of the thread.
     Turn,
 }
 
-/// How many choices each reason decided.
+/// The number of choices for each reason.
 #[derive(Clone, Copy)]
 pub struct Choices {
+    /// The number of choices decided by the gate.
     pub by_gate: u64,
+    /// The number of choices decided by the scores.
     pub by_score: u64,
+    /// The number of choices decided by the turn.
     pub by_turn: u64,
 }
 
 impl Choices {
-    /// One choice more; none where a count is 2^64.
+    /// Counts one more choice. Returns `None` if a count would be 2^64.
     pub fn with(self, reason: Reason) -> Option<Choices>
         ensures { IfSome result (λ more. more ≡ with_reason reason self) }
     {

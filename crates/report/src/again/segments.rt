@@ -1,4 +1,4 @@
-// A segment of a world that is made again.
+// A segment of a world that is repeated.
 ghost use Rattle.std.specs.Prelude.{◌≡◌, None, IfSome};
 ghost use Rattle.report.specs.Between.{GoesOn, IsBetween};
 
@@ -6,8 +6,9 @@ use crate::push::push;
 use cap_word::{Ready, ThreadId};
 use thread_core::{Turn, World};
 
-/// Runs a segment of a thread, and appends the threads that it starts to `started`. True where the thread has blocked or ended, and
-/// false where the segment was cut, and the run has stopped. None where the thread isn't ready, and where there is no memory.
+/// Runs a segment of a thread, and appends the threads that it starts to `started`. Returns `true` if the thread has
+/// blocked or ended, and `false` if the segment was cut off and the run has stopped. Returns `None` if the thread isn't
+/// ready, or if memory runs out.
 pub(crate) fn run_segment(
     world: &mut World,
     thread: ThreadId,

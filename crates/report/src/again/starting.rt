@@ -1,4 +1,4 @@
-// The run once more from its start, and what stands beside it.
+// The start of a repeated run, and its additional data.
 ghost use Rattle.std.specs.Prelude.{ℕ, List, ◌≡◌, ◌+◌, ◌*◌, ◌≤◌};
 ghost use Rattle.codegen_link.specs.Plans.{AreInRange};
 ghost use Rattle.command_options.specs.Options.{IsRunPolicy};
@@ -23,8 +23,12 @@ use resource_monitor::{Measure, past_knee};
 use std::alloc::{AllocError, Global};
 use thread_core::World;
 
-/// Makes the run of these words once more, beside its log. None where the words are those of no run, a file isn't what it was, or the
-/// log is of another run; and where there is no memory. `Read` comes where a file can't be read.
+/// Repeats the run of these words along its log. Returns `None` if the words are those of no run, a file has changed,
+/// the log is of another run, or memory runs out.
+///
+/// # Errors
+///
+/// `Read` if a file can't be read.
 pub fn make_once_more<F: Shelf>(
     alloc: Global,
     words: &Vec<String>,
@@ -37,7 +41,7 @@ pub fn make_once_more<F: Shelf>(
     }
 }
 
-/// Makes the run that a command asks for once more.
+/// Repeats the run for which a command asks.
 fn start_command<F: Shelf>(
     alloc: Global,
     command: Command,
@@ -68,7 +72,7 @@ fn start_command<F: Shelf>(
     }
 }
 
-/// Makes the run of a source once more.
+/// Repeats the run of a source.
 fn start_source<F: Shelf>(
     alloc: Global,
     shelf: &mut F,
@@ -87,7 +91,7 @@ fn start_source<F: Shelf>(
     }
 }
 
-/// Makes the run of a source with its image and certificate once more.
+/// Repeats the run of a source with its image and certificate.
 fn start_files<F: Shelf>(
     alloc: Global,
     shelf: &mut F,
@@ -105,7 +109,7 @@ fn start_files<F: Shelf>(
     }
 }
 
-/// What there is to tell where the run isn't made once more: nothing, but a failed read ends the report, as it ends a run.
+/// Returns the result if the run can't be repeated: `None`, except that a failed read ends the report as it ends a run.
 fn end_with(stop: Stop) -> Result<Option<Told>, Failure> {
     match stop {
         Stop::Failed(Fault::Read) => Err(Failure::Read),
@@ -116,7 +120,7 @@ fn end_with(stop: Stop) -> Result<Option<Told>, Failure> {
     }
 }
 
-/// Makes the run of an accepted program once more, with the policy's knee in the pressures of all resources.
+/// Repeats the run of an accepted program, with the policy's knee in the pressure curves of all resources.
 fn start_accepted(alloc: Global, accepted: Accepted, policy: Policy, log: &[u8]) -> Option<Told>
     requires range { IsRunPolicy policy }
     requires pool { pool_bytes policy accepted.certificate ≤ 67108864 }
@@ -136,7 +140,7 @@ fn start_accepted(alloc: Global, accepted: Accepted, policy: Policy, log: &[u8])
     }
 }
 
-/// Makes the run of a world, with this way to measure pressures.
+/// Repeats the run of a world, with this measure of pressure.
 fn make_measured<C: Measure + Copy + Drop>(
     alloc: Global,
     world: &mut World,

@@ -1,6 +1,6 @@
 use cap_word::{Ready, ThreadId};
 
-/// The threads of a world, of which none counts as one at `accept`.
+/// The threads of a world, none of which counts as one at `accept`.
 #[derive(Drop)]
 pub(crate) struct Ungated<'a, R> {
     pub(crate) world: &'a R,

@@ -1,13 +1,13 @@
-// The uses of the resources of a world, and how a segment changes them.
+// The uses of the resources of a world, and their changes by a segment.
 ghost use Rattle.std.specs.Prelude.{◌≡◌, ◌<◌, ◌≤◌, ◌^◌, All, unsigned_abs};
 ghost use Rattle.resource_monitor.specs.Monitor.{NoneAbove};
 
 use thread_core::World;
 
-/// The most by which a use changes.
+/// The maximum change of a use.
 const MOST: i64 = 0x8000_0000;
 
-/// The uses of the eight resources, at most these caps: a use is never above its cap.
+/// Returns the uses of the eight resources, at most these caps: a use is never above its cap.
 pub(crate) fn uses_of(world: &World, caps: &[u32; 8]) -> [u32; 8]
     ensures { NoneAbove result caps.now }
 {
@@ -18,14 +18,14 @@ pub(crate) fn uses_of(world: &World, caps: &[u32; 8]) -> [u32; 8]
     uses
 }
 
-/// A use, or its cap where that is less.
+/// Returns a use, or its cap if that is less.
 fn at_most(used: u32, cap: u32) -> u32
     ensures { result ≤ cap }
 {
     if used <= cap { used } else { cap }
 }
 
-/// The change of each use.
+/// Returns the change of each use.
 pub(crate) fn changes(before: &[u32; 8], after: &[u32; 8]) -> [i64; 8]
     ensures { All (λ change. unsigned_abs change ≤ 2 ^ 31) result }
 {
@@ -41,7 +41,7 @@ pub(crate) fn changes(before: &[u32; 8], after: &[u32; 8]) -> [i64; 8]
     ]
 }
 
-/// How much more the second is than the first: caps are at most 1,000,000, so it is never cut off.
+/// Returns the second use minus the first; caps are at most 1,000,000, so it is never cut off.
 fn difference(before: u32, after: u32) -> i64
     ensures { unsigned_abs result ≤ 2 ^ 31 }
 {

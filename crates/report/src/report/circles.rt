@@ -1,4 +1,4 @@
-// Circles of threads that wait for one another's resources, where a run has stopped (`wait_circles` says what a circle is).
+// Circles of threads that wait for one another's resources at the stop of a run (`wait_circles` defines a circle).
 
 use crate::again::Told;
 use crate::again::holders::Holders;
@@ -12,8 +12,8 @@ use wait_circles::{Step, circles_of};
 /// The number of the call `take`.
 const TAKE: u32 = 20;
 
-/// Appends a line for each circle of the threads of a world at its stop, by what is known of who holds what. `cut` is the thread whose
-/// segment was cut, which waits for nothing.
+/// Appends a line for each circle of the threads of a world at its stop, given what each thread holds. `cut` is the
+/// thread whose segment was cut off, which waits for nothing.
 pub fn put_circles(alloc: Global, text: &mut Text, world: &World, told: &Told, cut: Option<u32>) {
     let mut steps = Vec::new(alloc);
     match add_steps(&mut steps, world, told, cut) {
@@ -39,7 +39,7 @@ fn add_steps(
     Ok(())
 }
 
-/// The resource of which a thread that is blocked at `take` waits for more units than are left.
+/// Returns the resource of which a thread that is blocked at `take` waits for more units than are unused.
 fn wanted_by(world: &World, thread: ThreadId) -> Option<u32> {
     let called = blocked_at(world, thread)?;
     let resource = called.first?;
@@ -50,7 +50,7 @@ fn wanted_by(world: &World, thread: ThreadId) -> Option<u32> {
     }
 }
 
-/// Whether fewer units of a resource are left.
+/// Checks whether fewer units of a resource are unused.
 fn is_short(world: &World, resource: u32, amount: u32) -> bool {
     if resource >= 8 {
         return false;
@@ -58,8 +58,8 @@ fn is_short(world: &World, resource: u32, amount: u32) -> bool {
     amount > world.cap(resource).saturating_sub(world.used(resource))
 }
 
-/// Adds a step from each resource of which a thread holds units to the one that it waits for, unless there is such a step. Of a resource
-/// of which a thread gave back more than it took nobody knows who holds it, so it is in no circle.
+/// Adds a step from each resource of which a thread holds units to the one for which it waits, unless there is such a
+/// step. If some thread gave back more of a resource than it took, its holders are unknown, so it is in no circle.
 fn add_held(
     steps: &mut Vec<Step>,
     holders: &[Holders],
@@ -84,7 +84,7 @@ fn add_held(
     Ok(())
 }
 
-/// Whether no thread gave back more of a resource than it took.
+/// Checks whether no thread gave back more of a resource than it took.
 fn is_owned(holders: &Holders) -> bool {
     for (_, units) in &holders.held {
         if *units < 0 {
@@ -94,7 +94,7 @@ fn is_owned(holders: &Holders) -> bool {
     true
 }
 
-/// The thread of the first step from the one resource to the other.
+/// Returns the thread of the first step from the one resource to the other.
 fn thread_between(steps: &[Step], held: u32, wanted: u32) -> Option<u32> {
     for step in steps {
         if step.held == held && step.wanted == wanted {
@@ -116,7 +116,8 @@ fn put_all(alloc: Global, text: &mut Text, steps: &[Step]) {
     }
 }
 
-/// Appends the line of a circle of these resources: each thread waits for the resource behind its arrow, which the next thread holds.
+/// Appends the line of a circle of these resources: each thread waits for the resource after its arrow, which the next
+/// thread holds.
 fn put_circle(text: &mut Text, steps: &[Step], resources: &[u32]) {
     text.words("circle: ");
     let mut held = None;

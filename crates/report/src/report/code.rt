@@ -1,10 +1,11 @@
-// Which function and which operation stand at an address.
+// The function and the operation at an address.
 
 use accepted_pairs::Accepted;
 use flat_code::Op;
 use stack_certificate::FunctionFact;
 
-/// The number of the function among whose words an address stands, and what is claimed of it; none where there is none.
+/// Returns the number of the function whose words contain an address, with the certificate's entry for it, or `None` if
+/// there is none.
 pub(crate) fn function_at(accepted: &Accepted, address: u32) -> Option<(u32, &FunctionFact)> {
     let mut number: u32 = 0;
     for fact in accepted.certificate().functions.as_slice() {
@@ -19,7 +20,7 @@ pub(crate) fn function_at(accepted: &Accepted, address: u32) -> Option<(u32, &Fu
     None
 }
 
-/// The operation among whose words an address stands, of the function of that number; none in the prologue.
+/// Returns the operation whose words contain an address, of the function of that number, or `None` in the prologue.
 pub(crate) fn operation_at<'a>(
     accepted: &'a Accepted,
     function: u32,
@@ -43,7 +44,7 @@ pub(crate) fn operation_at<'a>(
     functions[number].ops.as_slice().get(found?)
 }
 
-/// The site of an operation that has one.
+/// Returns the site of an operation, if it has one.
 pub(crate) fn site_of(op: &Op) -> Option<u32> {
     match op {
         Op::Call { site, .. }

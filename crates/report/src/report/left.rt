@@ -6,11 +6,11 @@ use source_places::Places;
 use std::alloc::Global;
 use thread_core::World;
 
-/// The most threads that are listed.
+/// The maximum number of threads that are listed.
 const LISTED: u64 = 20;
 
-/// Appends a line for each thread that is left after the last entry, up to 20 of them, and how many more there are. The answer is how
-/// many are left.
+/// Appends a line for each thread that is left after the last entry, up to 20, and the number of the others. Returns
+/// how many threads are left.
 pub(crate) fn put_left(
     alloc: Global,
     text: &mut Text,
@@ -37,7 +37,7 @@ pub(crate) fn put_left(
     left
 }
 
-/// Where a thread stands that has run and hasn't ended.
+/// Returns the state of a thread that has run and hasn't ended.
 fn standing_left(history: &History, thread: u32) -> Option<Standing> {
     match history.thread(thread) {
         Some(known) => match known.standing {
@@ -48,7 +48,7 @@ fn standing_left(history: &History, thread: u32) -> Option<Standing> {
     }
 }
 
-/// Appends where a thread stands that is left, with the values of its call where the world at the stop is there.
+/// Appends where a thread that is left is, with the values of its call if the world at the stop is available.
 fn put_standing(
     alloc: Global,
     text: &mut Text,
@@ -73,7 +73,7 @@ fn put_standing(
     }
 }
 
-/// Appends the `take` that a thread went past last, where there was one, and ends its line.
+/// Appends the last wait at `take` of a thread, if there is one, and ends its line.
 fn put_last(text: &mut Text, places: &Places, last: Option<Wait>) {
     match last {
         Some(wait) => {
@@ -85,8 +85,8 @@ fn put_last(text: &mut Text, places: &Places, last: Option<Wait>) {
     }
 }
 
-/// The wait at `take` that a thread which stands so went past last, where there was one since it took its request; none where it
-/// waits at `accept`: it is done with its request.
+/// Returns the last wait at `take` of a thread in this state, if there was one since it took its request. Returns
+/// `None` if it waits at `accept`, since it is then done with its request.
 fn last_take(course: &Course, thread: u32, standing: Standing) -> Option<Wait> {
     match standing {
         Standing::Waits { site, .. } if is_one(course.accepts, site) => None,

@@ -7,7 +7,7 @@ use thread_core::World;
 /// The address of the first chunk.
 const FIRST: u64 = 0x8000_0000;
 
-/// A chunk with the address that it begins at, and that behind it.
+/// A chunk with the address at which it begins, and the one just past its end.
 #[derive(Clone, Copy)]
 struct Chunk {
     number: u32,
@@ -15,7 +15,7 @@ struct Chunk {
     end: u64,
 }
 
-/// The chunk that has a byte at an address; none where none has.
+/// Returns the chunk that has a byte at an address, or `None` if no chunk has.
 fn chunk_at(world: &World, address: u64) -> Option<Chunk>
     ensures { IfSome result (λ chunk. chunk.number < world.now.machine.areas.pool.count) }
 {
@@ -30,7 +30,7 @@ fn chunk_at(world: &World, address: u64) -> Option<Chunk>
     None
 }
 
-/// A word of a chunk; none where it hasn't so many.
+/// Returns a word of a chunk, or `None` if the chunk is shorter.
 fn word_of(world: &World, chunk: u32, word: u64) -> Option<u32>
     requires { chunk < world.now.machine.areas.pool.count }
 {
@@ -41,19 +41,19 @@ fn word_of(world: &World, chunk: u32, word: u64) -> Option<u32>
     }
 }
 
-/// Where a frame returns to, by its lowest address and its function.
+/// Returns the return address of a frame, from its lowest address and its function.
 pub(crate) fn return_of(world: &World, low: u32, fact: &FunctionFact) -> Option<u32> {
     word_at(world, u64::from(low) + u64::from(fact.ra))
 }
 
-/// The word at an address; none where no chunk has it.
+/// Returns the word at an address, or `None` if no chunk has it.
 pub(crate) fn word_at(world: &World, address: u64) -> Option<u32> {
     let chunk = chunk_at(world, address)?;
     word_of(world, chunk.number, address.saturating_sub(chunk.start) / 4)
 }
 
-/// The lowest address of the frame below: it begins where this one ends, or, where this one ends its chunk, at the address that the
-/// chunk's header keeps.
+/// Returns the lowest address of the frame below: it begins where this one ends, or, if this one is the first of its
+/// chunk, at the sp that the chunk's header saved.
 pub(crate) fn below(world: &World, low: u32, fact: &FunctionFact) -> Option<u32> {
     let chunk = chunk_at(world, u64::from(low))?;
     let end = u64::from(low) + u64::from(fact.frame);

@@ -1,7 +1,7 @@
-// Where a run has stopped: the threads that never ran, the resources in use, and the segment that was cut.
+// Where a run has stopped: the threads that never ran, the resources in use, and the segment that was cut off.
 //
-// All is read off the world at the stop: pc, registers and the words of the stacks, with the certificate. docs/MACHINE.md says how
-// frames lie.
+// All this is read from the world at the stop: pc, registers and the words of the stacks, with the certificate.
+// docs/MACHINE.md describes the layout of frames.
 
 use crate::again::holders::Holders;
 use crate::report::code::{function_at, operation_at, site_of};
@@ -16,18 +16,18 @@ use stack_certificate::FunctionFact;
 use std::alloc::Global;
 use thread_core::{Standing, World};
 
-/// The most threads that are listed.
+/// The maximum number of threads that are listed.
 const LISTED: u64 = 20;
 
-/// The most calls above that are shown.
+/// The maximum number of callers that are shown.
 const MOST_CALLS: u32 = 8;
 
-/// Where a thread's innermost frame returns to its start.
+/// The return address of a thread's last frame.
 const END_STUB: u32 = 0x1000;
 
-/// Appends what the world at a stop tells beyond the log: how many threads never ran, of which `left` are left that did; the
-/// resources in use, with those who hold the resources 1 to 7 where that is known; and where the segment was that the last line of
-/// the log cuts, if it does.
+/// Appends what the world at a stop shows in addition to the log: the number of threads that never ran, given that
+/// `left` threads are left that did; the resources in use, with the holders of the resources 1 to 7 if they are known;
+/// and the place of the segment that the last line of the log cuts off, if it does.
 pub fn put_stop(
     alloc: Global,
     text: &mut Text,
@@ -56,7 +56,7 @@ pub fn put_stop(
     }
 }
 
-/// The thread whose segment the last line of a log cuts, if it does.
+/// Returns the thread whose segment the last line of a log cuts off, if it does.
 pub fn cut_in(line: &[u8]) -> Option<u32> {
     match read_entry(line) {
         Ok(Entry::Stop(StopLine::Cut { thread, .. })) => Some(thread),
@@ -64,7 +64,7 @@ pub fn cut_in(line: &[u8]) -> Option<u32> {
     }
 }
 
-/// Whether some of a resource is in use, of 1 to 7.
+/// Checks whether any of the resources 1 to 7 is in use.
 pub fn is_in_use(world: &World) -> bool {
     for resource in 1..8u32 {
         if world.used(resource) > 0 {
@@ -74,7 +74,7 @@ pub fn is_in_use(world: &World) -> bool {
     false
 }
 
-/// Appends a line for each resource that has a cap and is in use, with who holds it where that is known.
+/// Appends a line for each resource that has a cap and is in use, with its holders if they are known.
 fn put_uses(text: &mut Text, world: &World, holders: &[Holders]) {
     for resource in 1..8u32 {
         let used = world.used(resource);
@@ -92,7 +92,8 @@ fn put_uses(text: &mut Text, world: &World, holders: &[Holders]) {
     }
 }
 
-/// Appends who holds units of a resource, the first 20 threads of them. What a thread gave back beyond what it took was another's.
+/// Appends the holders of units of a resource, the first 20 threads. What a thread gave back beyond what it took was
+/// another's.
 fn put_holders(text: &mut Text, holders: &Holders) {
     let mut shown: u64 = 0;
     for (thread, units) in &holders.held {
@@ -111,7 +112,7 @@ fn put_holders(text: &mut Text, holders: &Holders) {
     }
 }
 
-/// Appends in which function, why and at which place a thread was cut that stands so, and the calls above.
+/// Appends in which function, why and at which place a thread in this state was cut off, and its callers.
 fn put_standing(
     alloc: Global,
     text: &mut Text,
@@ -144,7 +145,7 @@ fn put_standing(
     }
 }
 
-/// Where a thread stands, by its number: none where it doesn't live.
+/// Returns pc and registers of a thread, by number, or `None` if it isn't live.
 fn standing_of(world: &World, number: u32) -> Option<Standing> {
     world.standing(thread_of(world, number)?)
 }
@@ -175,7 +176,7 @@ fn put_resource(text: &mut Text, world: &World, standing: Standing) {
     }
 }
 
-/// Appends what is wrong with a resource: it has no units, as `--caps` gives it none, or the amount is out of range.
+/// Appends what is wrong with a resource: it has no units since `--caps` gives it none, or the amount is out of range.
 fn put_unusable(text: &mut Text, world: &World, resource: u32) {
     if resource >= 8 {
         text.words(": a resource above 7")
@@ -210,8 +211,8 @@ fn put_index(text: &mut Text, standing: Standing, unit: &str) {
     text.words(unit)
 }
 
-/// Appends the place of an operation: that of its call, or those at which the function has such an element, of a local array by its
-/// number of words.
+/// Appends the place of an operation: that of its call, or those at which the function has such an element; a local
+/// array is known by its number of words.
 fn put_where(
     alloc: Global,
     text: &mut Text,
@@ -231,7 +232,8 @@ fn put_where(
     }
 }
 
-/// The element that an operation reads or assigns to, of a local array where the number of its words is known.
+/// Returns the element that an operation reads or assigns to; of a local array only if the number of its words is
+/// known.
 fn access_of(op: &Op, bound: Option<u32>) -> Option<Access> {
     match op {
         Op::LoadArray { a, .. } => Some(Access {
@@ -254,8 +256,8 @@ fn access_of(op: &Op, bound: Option<u32>) -> Option<Access> {
     }
 }
 
-/// Whether sp is surely the lowest address of the function's frame: it is at every trap, and where a chunk or a thread is wanted.
-/// Where the fuel is spent it may be in a prologue, a return, or between two chunks.
+/// Checks whether sp is certainly the lowest address of the function's frame: it is at every trap, and if no chunk or
+/// thread is available. If the fuel is spent, it may be in a prologue, in a return, or between two chunks.
 fn is_in_its_frame(stop: Stop, op: Option<&Op>) -> bool {
     match stop {
         Stop::Fuel => match op {
@@ -269,7 +271,7 @@ fn is_in_its_frame(stop: Stop, op: Option<&Op>) -> bool {
     }
 }
 
-/// Appends a line for each call above a frame, by its lowest address and its function, the innermost first.
+/// Appends a line for each caller of a frame, from its lowest address and its function, the innermost first.
 fn put_calls(text: &mut Text, places: &Places, world: &World, sp: u32, innermost: &FunctionFact) {
     let mut low = sp;
     let mut fact = innermost;
@@ -293,14 +295,14 @@ fn put_calls(text: &mut Text, places: &Places, world: &World, sp: u32, innermost
     }
 }
 
-/// A call that a frame returns to: its site, and its function.
+/// A call to which a frame returns: its site, and its function.
 #[derive(Clone, Copy)]
 struct CallAbove<'a> {
     site: Option<u32>,
     caller: &'a FunctionFact,
 }
 
-/// The call that a frame returns to; none where that isn't known, and of the frame that began its thread.
+/// Returns the call to which a frame returns, or `None` if that isn't known, or for the first frame of a thread.
 fn call_above<'a>(world: &'a World, low: u32, fact: &FunctionFact) -> Option<CallAbove<'a>> {
     let returns = return_of(world, low, fact)?;
     if returns <= END_STUB {

@@ -1,4 +1,4 @@
-// The modelled call at which a thread stands, with the values of its arguments, read off its stack.
+// The modelled call at which a thread is, with the values of its arguments, read from its stack.
 
 use crate::report::code::{function_at, operation_at};
 use crate::report::stacks::word_at;
@@ -10,10 +10,10 @@ use stack_certificate::FunctionFact;
 use std::alloc::Global;
 use thread_core::World;
 
-/// The most threads that live.
+/// The maximum number of live threads.
 const MOST_THREADS: u32 = 65_535;
 
-/// A modelled call with the values of its arguments, of which none has more than two.
+/// A modelled call with the values of its arguments, at most two.
 #[derive(Clone, Copy)]
 pub(crate) struct Called {
     pub(crate) site: u32,
@@ -23,7 +23,7 @@ pub(crate) struct Called {
     pub(crate) second: Option<u32>,
 }
 
-/// The thread of that number; none where it doesn't live.
+/// Returns the thread of that number, or `None` if it isn't live.
 pub(crate) fn thread_of(world: &World, number: u32) -> Option<ThreadId> {
     for slot in 0..MOST_THREADS {
         let thread = ThreadId { slot, number };
@@ -34,13 +34,14 @@ pub(crate) fn thread_of(world: &World, number: u32) -> Option<ThreadId> {
     None
 }
 
-/// The call at which a thread is blocked, whose next instruction is the one behind it; none where it is at no modelled call.
+/// Returns the call at which a thread is blocked, which is just before its next instruction, or `None` if that is no
+/// modelled call.
 pub(crate) fn blocked_at(world: &World, thread: ThreadId) -> Option<Called> {
     let standing = world.standing(thread)?;
     called_at(world, standing.sp, standing.pc.checked_sub(4)?)
 }
 
-/// The modelled call among whose words an address stands, by a frame with that lowest address.
+/// Returns the modelled call whose words contain an address, given the lowest address of the frame.
 pub(crate) fn called_at(world: &World, low: u32, address: u32) -> Option<Called> {
     let (function, fact) = function_at(world.accepted(), address)?;
     match operation_at(world.accepted(), function, fact, address)? {
@@ -54,7 +55,7 @@ pub(crate) fn called_at(world: &World, low: u32, address: u32) -> Option<Called>
     }
 }
 
-/// The value of the argument of that number, from 0, which stands in its variable's place in the frame.
+/// Returns the value of the argument of that number, from 0, from its variable's place in the frame.
 fn argument_of(
     world: &World,
     low: u32,
@@ -67,7 +68,8 @@ fn argument_of(
     word_at(world, u64::from(low) + u64::from(place))
 }
 
-/// Appends the call at which the thread of that number is blocked with its values, `: take(2, 1)`, where its text has others.
+/// Appends the call at which the thread of that number is blocked, with its values, `: take(2, 1)`, if they differ from
+/// its text.
 pub(crate) fn put_blocked(
     alloc: Global,
     text: &mut Text,
@@ -82,7 +84,7 @@ pub(crate) fn put_blocked(
     }
 }
 
-/// Appends a call with its values, where its text has others.
+/// Appends a call with its values, if they differ from its text.
 pub(crate) fn put_values(alloc: Global, text: &mut Text, places: &Places, called: Called) {
     let mut written = Text::new(alloc);
     places.put_call(&mut written, called.site);

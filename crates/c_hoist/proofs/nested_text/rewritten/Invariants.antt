@@ -1,4 +1,5 @@
-use Rattle.std.proofs.Common.{◌≡◌, List, ◌++◌, drop}
+use Rattle.std.proofs.Common.{◌≡◌, List, ◌++◌, length}
+use Rattle.std.specs.Vec.Iter.{into_iter_items, into_iter_len}
 use Rattle.c_tree.specs.RawTrees.{RawItemTree}
 use Rattle.c_tree.specs.RawViews.{raw_item_trees}
 use Rattle.c_tree.specs.WholeForParts.{AreForPartsWhole}
@@ -11,7 +12,8 @@ use Rattle.c_hoist.proofs.nested_text.rewritten.Given as goal
 abbrev pub invariant-loop-item : goal.invariant-loop-item
 invariant-loop-item l =
     (read : List RawItemTree)
-    × HasRead l.rewritten.resolver (raw_item_trees l.raw) read
-    × (read ++ items_hoisted (raw_item_trees (drop l.item-index l.raw)) ≡ items_hoisted (raw_item_trees l.raw))
+    × HasRead l.rewritten.resolver (raw_item_trees l.fn.raw.items) read
+    × (read ++ items_hoisted (raw_item_trees (into_iter_items l.item-iterator)) ≡ items_hoisted (raw_item_trees l.fn.raw.items))
     × (l.rewritten.places.items ≡ items_places is_call read)
-    × AreForPartsWhole (raw_item_trees (drop l.item-index l.raw))
+    × AreForPartsWhole (raw_item_trees (into_iter_items l.item-iterator))
+    × (into_iter_len l.item-iterator ≡ length (into_iter_items l.item-iterator))

@@ -5,7 +5,7 @@ use Rattle.c_mean.specs.Examples.{recursion}
 use Rattle.machine_world.specs.Descending.{checked, at_entry, main_frame, caller_frame}
 use Rattle.machine_world.specs.DescendingSource.{waiting_f, waiting_main, call_in_f, call_in_main, entering}
 use Rattle.rv_machine.specs.Registers.{read}
-use Rattle.machine_world.specs.Local.{a0}
+use Rattle.stack_certificate.specs.Registers.{a0}
 use Rattle.machine_world.specs.Keys.{standing}
 use Rattle.machine_world.specs.Rests.{AtStart}
 use Rattle.machine_world.specs.StandsFor.{HoldsNames, IsWaitingFrame, IsStartingFrame}

@@ -6,6 +6,9 @@ use Rattle.certificate_rules.specs.Rules.{V5}
 use Rattle.rule_failures.proofs.CodeLemmas.{few_params, stands_there, stands_not, prologue_fails, prologue_holds, prologue_past}
 use Rattle.rule_failures.proofs.words.first_wrong_prologue_word.Goals as goal
 
+pub placed_fact_of-fact-requires-clause-certificate : goal.placed_fact_of-fact-requires-clause-certificate
+placed_fact_of-fact-requires-clause-certificate c = c.requires.readable.places
+
 pub prologue_word-requires-clause-places : goal.prologue_word-requires-clause-places
 prologue_word-requires-clause-places c =
     let few = few_params c.function_of.result.now.sizes c.function_of.result.now.params c.function_of.ensures.formed.parameters in

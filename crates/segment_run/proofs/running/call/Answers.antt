@@ -1,5 +1,6 @@
 use Rattle.std.proofs.Common.{refl, ap, subst, ◌∙◌}
-use Rattle.machine_world.specs.Local.{Starts, a0, a1, a2, system_call}
+use Rattle.stack_certificate.specs.Registers.{a0, a1, a2}
+use Rattle.machine_world.specs.Local.{Starts, system_call}
 use Rattle.rv_machine.specs.Registers.{read}
 use Rattle.segment_run.specs.Contexts.{checked_of}
 use Rattle.segment_run.specs.Safe.{IsSafeMove, AsksAt}

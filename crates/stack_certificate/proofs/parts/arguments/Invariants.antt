@@ -1,10 +1,11 @@
 use Rattle.std.proofs.Common.{◌≡◌, ◌+◌, ◌++◌, length, map, take}
 use Rattle.stack_certificate.specs.Fits.{checked}
 use Rattle.stack_certificate.specs.Parts as parts
+use Rattle.stack_certificate.specs.Registers.{a0}
 use Rattle.stack_certificate.proofs.parts.arguments.Given as goal
 
 abbrev pub invariant-loop-k : goal.invariant-loop-k
 invariant-loop-k l = record {
-  list : l.list ≡ l.initial.list ++ map checked (parts.arguments l.fact 10 (take l.k l.args));
+  list : l.list ≡ l.initial.list ++ map checked (parts.arguments l.fact a0 (take l.k l.args));
   count : length l.list ≡ length l.initial.list + l.k;
 }

@@ -1,10 +1,11 @@
 use Rattle.std.proofs.Common.{◌≡◌, ◌+◌, ◌++◌, length, map}
 use Rattle.stack_certificate.specs.Fits.{checked}
 use Rattle.stack_certificate.specs.Parts as parts
+use Rattle.stack_certificate.specs.Registers.{a0}
 use Rattle.stack_certificate.proofs.parts.saves.Given as goal
 
 abbrev pub invariant-loop-k : goal.invariant-loop-k
 invariant-loop-k l = record {
-  list : l.list ≡ l.initial.list ++ map checked (parts.saves l.fact 10 0 l.k);
+  list : l.list ≡ l.initial.list ++ map checked (parts.saves l.fact a0 0 l.k);
   count : length l.list ≡ length l.initial.list + l.k;
 }

@@ -3,6 +3,7 @@ use Rattle.rv_code.specs.declared.instructions.Instr.{Instr}
 use Rattle.stack_certificate.specs.Fits.{checked}
 use Rattle.stack_certificate.proofs.SlotLemmas.{no_store, place_over}
 use Rattle.stack_certificate.proofs.WordLemmas.{zero-past, zero-over, zero-word}
+use Rattle.stack_certificate.specs.Registers.{zero_, sp}
 use Rattle.stack_certificate.proofs.words.zero_word.Goals as goal
 
 pub returns-then-word-size : goal.returns-then-word-size
@@ -14,9 +15,9 @@ returns-then-offset-gt2047 c = zero-over _ _ _ c.if-word-size.false (sym (no_sto
 pub returns-in-Some : goal.returns-in-Some
 returns-in-Some c =
     let e : c.from.result + 4 * c.from-2.result ≡ c.args.place + 4 * c.args.word = omega arith in
-    rw c.encode.ensures.word (zero-word _ _ _ c.in-Some.instr c.if-word-size.false (sym (c.in-Some.ensures ∙ ap (λ p. checked (Instr.Sw 2 0 (pos p))) e)))
+    rw c.encode.ensures.word (zero-word _ _ _ c.in-Some.instr c.if-word-size.false (sym (c.in-Some.ensures ∙ ap (λ p. checked (Instr.Sw sp zero_ (pos p))) e)))
 
 pub returns-in-None : goal.returns-in-None
 returns-in-None c =
     let e : c.from.result + 4 * c.from-2.result ≡ c.args.place + 4 * c.args.word = omega arith in
-    zero-over _ _ _ c.if-word-size.false (sym (c.in-None.ensures ∙ ap (λ p. checked (Instr.Sw 2 0 (pos p))) e))
+    zero-over _ _ _ c.if-word-size.false (sym (c.in-None.ensures ∙ ap (λ p. checked (Instr.Sw sp zero_ (pos p))) e))

@@ -6,10 +6,11 @@ use Rattle.blocking_graph.specs.Graph.{GraphState}
 use Rattle.blocking_graph.specs.declared.edges.EdgeLine.{EdgeLine}
 use Rattle.blocking_graph.specs.declared.segments.SegmentRecord.{SegmentRecord}
 use Rattle.choice_rules.specs.Seen.{changes}
+use Rattle.choice_rules.proofs.Changes.{changes_are, small_changes}
 use Rattle.run_course.specs.Kept.{Kept}
 use Rattle.run_course.specs.Recorded.{IsRecorded}
 use Rattle.run_course.specs.declared.ends.Failure.{Failure}
-use Rattle.run_course.proofs.Caps.{uses_are, changes_are, small_changes, within_small}
+use Rattle.run_course.proofs.Caps.{uses_are, within_small}
 use Rattle.run_course.proofs.course.Course.record.Goals as goal
 
 pub note-requires-clause-range : goal.note-requires-clause-range

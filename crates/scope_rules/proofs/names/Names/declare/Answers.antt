@@ -2,7 +2,8 @@ use Rattle.std.proofs.Common.{◌≡◌, ◌∙◌, sym, ap, subst, nat_cmp, Som
 use Rattle.std.specs.BTreeMap.{UpdatesBy}
 use Rattle.std.specs.Cmp.Lexicographic.{slice_cmp}
 use Rattle.scope_rules.specs.declared.names.Declared.{Declared}
-use Rattle.scope_rules.proofs.Links.{declare_links, at_text, ByText}
+use Rattle.scope_rules.proofs.Links.{declare_links}
+use Rattle.scope_rules.proofs.TextKeys.{at_text, ByText}
 use Rattle.scope_rules.proofs.names.Names.declare.Goals as goal
 
 pub invariant_of-self-in-Ok : goal.invariant_of-self-in-Ok

@@ -12,4 +12,4 @@ returns-in-Ok-clause-faults c =
     let fi = expr_faults names (raw_expr_tree c.args.index.now) in
     let fv = right_faults names (raw_expr_tree c.args.value.now) in
     least_of_then c.args.self.now.least c.array-array.new.least c.then_right.new.self.least fa (fi ++ fv) c.array-array.ensures.faults
-    (least_of_then c.array-array.new.least c.expr.new.least c.then_right.new.self.least fi fv c.in_ok-index.ensures.faults c.in-Ok.ensures.faults)
+    (least_of_then c.array-array.new.least c.expr.new.least c.then_right.new.self.least fi fv c.in_ok-index.ensures.faults c.in_ok-index-3.ensures.faults)

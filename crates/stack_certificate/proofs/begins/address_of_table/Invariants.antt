@@ -1,6 +1,0 @@
-use Rattle.std.proofs.Common.{◌≡◌, take, length}
-use Rattle.std.specs.Prelude.{sum_by}
-use Rattle.stack_certificate.proofs.begins.address_of_table.Given as goal
-
-abbrev pub invariant-loop-i : goal.invariant-loop-i
-invariant-loop-i l = l.words ≡ sum_by length (take l.i l.flat.tables.items)
