@@ -38,7 +38,7 @@ changes_by zero [] [] [] b a c same = refl
 changes_by (suc n) (x ∷ before) (y ∷ after) (z ∷ change) b a c same =
     let head : z ≡ pos y -ℤ pos x = same 0 (omega arith) in
     let tail : change ≡ changes before after = changes_by n before after change (omega (arith, b)) (omega (arith, a)) (omega (arith, c))
-        (λ r below. same (suc r) (omega (arith, below))) in
+    (λ r below. same (suc r) (omega (arith, below))) in
     ap (λ (v : ℤ). v ∷ change) head ∙ ap (λ (l : List ℤ). (pos y -ℤ pos x) ∷ l) tail
 changes_by zero (x ∷ before) after change b a c same = absurd (omega (arith, b))
 changes_by zero [] (y ∷ after) change b a c same = absurd (omega (arith, a))
@@ -65,4 +65,4 @@ pub small_changes : (before after : List ℕ) (change : List ℤ) → length cha
 small_changes before after change eight same b a k d below =
     let in_eight : k < 8 = omega (arith, below, eight) in
     subst (λ (z : ℤ). unsigned_abs z ≤ 2 ^ 31) (sym (at_default change k d below ∙ same k in_eight))
-        (small_change (slice_index after k) (slice_index before k) (a k in_eight) (b k in_eight))
+    (small_change (slice_index after k) (slice_index before k) (a k in_eight) (b k in_eight))

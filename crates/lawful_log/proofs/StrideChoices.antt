@@ -156,10 +156,10 @@ eligible_same : (g : Setup) (state : State) (clock : ℕ) → StandsForWorld (ch
     (t : ThreadId) (x : Waiter) → t.number ≡ x.thread → IsPlaced places t → IsWaiting state.machine x → is_eligible ready accept (any_elsewhere g.policy (seen_of state) clock) open_ t ≡ rules.is_eligible g.policy (seen_of state) clock x
 eligible_same g state clock stands places ready accept open_ open_is ready_is accept_is t x n placed v =
     ap (λ (b : Bool). b && (not (accept t) || (open_ || not (any_elsewhere g.policy (seen_of state) clock))))
-        (ready_is t x n placed v ∙ ready_same g state clock stands x v)
+    (ready_is t x n placed v ∙ ready_same g state clock stands x v)
     ∙ ap (λ (b : Bool). is_ready g.policy (seen_of state) clock x && (not b || (open_ || not (any_elsewhere g.policy (seen_of state) clock)))) (accept_is t x n placed v ∙ accept_same g state clock stands x v)
     ∙ ap (λ (b : Bool). is_ready g.policy (seen_of state) clock x &&
-        (not (at_accept (seen_of state) x) || (b || not (any_elsewhere g.policy (seen_of state) clock)))) open_is
+    (not (at_accept (seen_of state) x) || (b || not (any_elsewhere g.policy (seen_of state) clock)))) open_is
 
 pub stride_choice_told : (g : Setup) (state : State) (clock : ℕ) (places : List (Option ℕ)) (strides : StridesState) (tickets : List (ℕ × ℕ)) (ready accept : ThreadId → Bool) (gate : Bool) →
     g.policy.rule ≡ by_stride tickets → StandsForWorld (checked_of g) g.program state.machine state.source → AreWaiting state.machine state.waiting → AreClients places strides state.waiting → HasPasses tickets strides.rule state.past.taken →
@@ -170,5 +170,5 @@ pub stride_choice_told : (g : Setup) (state : State) (clock : ℕ) (places : Lis
     IsChoiceByStrides strides (is_eligible ready accept (any_elsewhere g.policy (seen_of state) clock) gate) choice → IsChosen g state clock places choice
 stride_choice_told g state clock places strides tickets ready accept gate rule_is stands are clients passes none ready_is accept_is gate_is some choice is =
     choice_by_strides g state clock places strides tickets rule_is are clients passes none
-        (is_eligible ready accept (any_elsewhere g.policy (seen_of state) clock) gate)
+    (is_eligible ready accept (any_elsewhere g.policy (seen_of state) clock) gate)
     (eligible_same g state clock stands places ready accept gate gate_is ready_is accept_is) some choice is

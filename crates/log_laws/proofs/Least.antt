@@ -86,7 +86,7 @@ module _ (g : Setup) (state : State) (clock : ℕ) where
       (λ (same : b.best.node ≡ x.node). let best : Best (x ∷ xs) = record { best = b.best; passes = b.passes; there = some_later x xs b.best.node test b.there; behind = ((λ also. inl (sym same)), b.behind) } in best)
       (λ apart.
       let first : comes x.node b.best.node ≡ true = comes_before-total (score_of g.policy (seen_of state))
-          (last_choice state.past.taken) b.best.node x.node apart e in
+      (last_choice state.past.taken) b.best.node x.node apart e in
       record { best = x; passes = passing; there = some_here x xs test passing; behind = ((λ also. inl refl), all_earlier x.node b.best.node xs first b.behind) })
       (cases_eq b.best.node x.node)
 

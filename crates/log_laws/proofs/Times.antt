@@ -56,7 +56,7 @@ module _ (g : Setup) (state : State) (clock : ℕ) where
   sleepers_later : any_ready g.policy (seen_of state) clock ≡ false → AllByRecursion (λ t. clock ≤ t) (waking_times (seen_of state))
   sleepers_later none = gives_above (λ w. rules.wakes w.since (rules.rest_of (seen_of state) w.thread)) clock state.waiting
       (weakened (λ w. is_ready g.policy (seen_of state) clock w ≡ false)
-          (λ w. (t : ℕ) → rules.wakes w.since (rules.rest_of (seen_of state) w.thread) ≡ Some t → clock ≤ t)
+      (λ w. (t : ℕ) → rules.wakes w.since (rules.rest_of (seen_of state) w.thread) ≡ Some t → clock ≤ t)
       (λ w e t wakes. later_rest g.policy.caps state.source.exchange clock w.since (rules.rest_of (seen_of state) w.thread) t e wakes)
       state.waiting (all_false (is_ready g.policy (seen_of state) clock) state.waiting none))
 
@@ -67,7 +67,7 @@ module _ (g : Setup) (state : State) (clock : ℕ) where
   times_later None e = sleepers_later e
   times_later (Some event) e =
       let parts : (nat_le event.time clock ≡ false) × (any_ready g.policy (seen_of state) clock ≡ false) = not_both (nat_le event.time clock)
-          (any_ready g.policy (seen_of state) clock) e in
+      (any_ready g.policy (seen_of state) clock) e in
       (not_due_later event parts.0, sleepers_later parts.1)
 
   above_in : (times : List ℕ) (l : Least times) → AllByRecursion (λ t. clock ≤ t) times → clock ≤ l.time

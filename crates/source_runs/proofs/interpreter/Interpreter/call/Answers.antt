@@ -150,7 +150,9 @@ pub value-requires-in-Table-clause-in_range : goal.value-requires-in-Table-claus
 value-requires-in-Table-clause-in_range c = let h = rw c.in-Table.is at c.requires.scoped in rw c.deref-in-Table-2.ensures (scoped_in_range (context_at (tree_of c.args.self.now) c.args.thread.now.front.function) h.scope (expr_tree c.in-Table.argument.value) h.scoped.2)
 
 pub value-requires-in-Spawn-clause-in_range : goal.value-requires-in-Spawn-clause-in_range
-value-requires-in-Spawn-clause-in_range c = let h = rw c.in-Spawn.is at c.requires.scoped in scoped_in_range (context_at (tree_of c.args.self.now) c.args.thread.now.front.function) h.scope (expr_tree c.in-Spawn.argument) h.scoped.2
+value-requires-in-Spawn-clause-in_range c =
+    let h = rw c.in-Spawn.is at c.requires.scoped in
+    rw c.deref-in-Spawn.ensures (scoped_in_range (context_at (tree_of c.args.self.now) c.args.thread.now.front.function) h.scope (expr_tree c.in-Spawn.argument.value) h.scoped.2)
 
 pub asked-requires-clause-in_range : goal.asked-requires-clause-in_range
 asked-requires-clause-in_range c =
@@ -279,7 +281,8 @@ returns-in_err-argument-in-Spawn c =
     let r = c.from_residual-in_err-argument-in-Spawn.result in
     let p = err_from_is_err_and r c.from_residual-in_err-argument-in-Spawn.ensures.1 in
     made-so tree _ (called tree running place (call_tree c.args.call.now)) words thread r (ap (λ (k : Call). called tree running place (call_tree k)) call.is)
-    (trap-from tree running words thread (valued running (expr_tree call.argument)) (λ argument. asks running call.site place (spawn_of call.function argument)) _ r p.0 p.1 p.2 (sym c.in_err-argument-in-Spawn.ensures) refl)
+    (trap-from tree running words thread (valued running (expr_tree call.argument.value)) (λ argument. asks running call.site place (spawn_of call.function argument)) _ r p.0 p.1 p.2
+    (sym (rw c.deref-in-Spawn.ensures at c.in_err-argument-in-Spawn.ensures)) refl)
 
 pub returns-in_ok-argument-in-Spawn : goal.returns-in_ok-argument-in-Spawn
 returns-in_ok-argument-in-Spawn c =
@@ -294,7 +297,8 @@ returns-in_ok-argument-in-Spawn c =
     let h = rw call.is at c.requires.scoped in
     let fits : IsThread tree new words = record { front = c.requires.thread.front; place = c.requires.place; below = c.requires.thread.below; globals = c.requires.thread.globals } in
     made-so tree _ (called tree running place (call_tree c.args.call.now)) words new (Ok (move.Asks (Ask.Spawn call.function argument))) (ap (λ (k : Call). called tree running place (call_tree k)) call.is)
-    (value-used tree running words new (valued running (expr_tree call.argument)) (λ argument. asks running call.site place (spawn_of call.function argument)) argument (Ok (move.Asks (Ask.Spawn call.function argument))) (sym c.in_ok-argument-in-Spawn.ensures)
+    (value-used tree running words new (valued running (expr_tree call.argument.value)) (λ argument. asks running call.site place (spawn_of call.function argument)) argument (Ok (move.Asks (Ask.Spawn call.function argument)))
+    (sym (rw c.deref-in-Spawn.ensures at c.in_ok-argument-in-Spawn.ensures))
     (refl, fits, (signed-count tree call.function h.scoped.0, h.scoped.1)))
 
 pub returns-in_err-asked-in-Modelled : goal.returns-in_err-asked-in-Modelled

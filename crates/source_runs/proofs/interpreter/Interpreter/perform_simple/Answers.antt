@@ -58,13 +58,13 @@ pub assign-requires-in-SetLocalElement-clause-place : goal.assign-requires-in-Se
 assign-requires-in-SetLocalElement-clause-place c = let h = rw c.in-SetLocalElement.is at c.requires.scoped in h.scoped.0
 
 pub assign-requires-in-SetLocalElement-clause-scoped : goal.assign-requires-in-SetLocalElement-clause-scoped
-assign-requires-in-SetLocalElement-clause-scoped c = let h = rw c.in-SetLocalElement.is at c.requires.scoped in record { scope = h.scope; scoped = h.scoped.3 }
+assign-requires-in-SetLocalElement-clause-scoped c = let h = rw c.in-SetLocalElement.is at c.requires.scoped in record { scope = h.scope; scoped = rw c.deref-in-SetLocalElement.ensures h.scoped.3 }
 
 pub assign-requires-in-SetGlobalElement-clause-place : goal.assign-requires-in-SetGlobalElement-clause-place
 assign-requires-in-SetGlobalElement-clause-place c = let h = rw c.in-SetGlobalElement.is at c.requires.scoped in globals-there (tree_of c.args.self.now) _ h.scoped.0
 
 pub assign-requires-in-SetGlobalElement-clause-scoped : goal.assign-requires-in-SetGlobalElement-clause-scoped
-assign-requires-in-SetGlobalElement-clause-scoped c = let h = rw c.in-SetGlobalElement.is at c.requires.scoped in record { scope = h.scope; scoped = h.scoped.2 }
+assign-requires-in-SetGlobalElement-clause-scoped c = let h = rw c.in-SetGlobalElement.is at c.requires.scoped in record { scope = h.scope; scoped = rw c.deref-in-SetGlobalElement-2.ensures h.scoped.2 }
 
 pub returns-in-DeclareWith : goal.returns-in-DeclareWith
 returns-in-DeclareWith c =
@@ -107,7 +107,7 @@ returns-in_err-index-in-SetLocalElement c =
     let running = running_of tree thread words in
     let rest = to_do thread.front.items.items in
     let p = err_from_is_err_and c.from_residual.result c.from_residual.ensures.1 in
-    made-so tree _ (does tree running (simple_tree c.args.simple.now)) words thread c.from_residual.result (ap (λ s. does tree running (simple_tree s)) c.in-SetLocalElement.is) (trap-from tree running words thread (valued running (expr_tree c.in-SetLocalElement.index.value)) (λ i. assigns tree running (source.InLocalElement c.in-SetLocalElement.array i) (right_tree c.in-SetLocalElement.value)) _ c.from_residual.result p.0 p.1 p.2 (sym (rw c.deref.ensures at c.in_err-index-in-SetLocalElement.ensures)) refl)
+    made-so tree _ (does tree running (simple_tree c.args.simple.now)) words thread c.from_residual.result (ap (λ s. does tree running (simple_tree s)) c.in-SetLocalElement.is) (trap-from tree running words thread (valued running (expr_tree c.in-SetLocalElement.index.value)) (λ i. assigns tree running (source.InLocalElement c.in-SetLocalElement.array i) (right_tree c.in-SetLocalElement.value.value)) _ c.from_residual.result p.0 p.1 p.2 (sym (rw c.deref.ensures at c.in_err-index-in-SetLocalElement.ensures)) refl)
 
 pub returns-in_ok-index-in-SetLocalElement : goal.returns-in_ok-index-in-SetLocalElement
 returns-in_ok-index-in-SetLocalElement c =
@@ -117,7 +117,7 @@ returns-in_ok-index-in-SetLocalElement c =
     let running = running_of tree thread words in
     let rest = to_do thread.front.items.items in
     let call = c.assign-in-SetLocalElement in
-    made-so tree _ (does tree running (simple_tree c.args.simple.now)) call.new.globals.items call.new.thread call.result (ap (λ s. does tree running (simple_tree s)) c.in-SetLocalElement.is) (value-used tree running call.new.globals.items call.new.thread (valued running (expr_tree c.in-SetLocalElement.index.value)) (λ i. assigns tree running (source.InLocalElement c.in-SetLocalElement.array i) (right_tree c.in-SetLocalElement.value)) c.in_ok-index-in-SetLocalElement.index call.result (sym (rw c.deref.ensures at c.in_ok-index-in-SetLocalElement.ensures)) call.ensures)
+    made-so tree _ (does tree running (simple_tree c.args.simple.now)) call.new.globals.items call.new.thread call.result (ap (λ s. does tree running (simple_tree s)) c.in-SetLocalElement.is) (value-used tree running call.new.globals.items call.new.thread (valued running (expr_tree c.in-SetLocalElement.index.value)) (λ i. assigns tree running (source.InLocalElement c.in-SetLocalElement.array i) (right_tree c.in-SetLocalElement.value.value)) c.in_ok-index-in-SetLocalElement.index call.result (sym (rw c.deref.ensures at c.in_ok-index-in-SetLocalElement.ensures)) (rw c.deref-in-SetLocalElement.ensures at call.ensures))
 
 pub returns-in_err-index-in-SetGlobalElement : goal.returns-in_err-index-in-SetGlobalElement
 returns-in_err-index-in-SetGlobalElement c =
@@ -127,7 +127,7 @@ returns-in_err-index-in-SetGlobalElement c =
     let running = running_of tree thread words in
     let rest = to_do thread.front.items.items in
     let p = err_from_is_err_and c.from_residual-in_err-index-in-SetGlobalElement.result c.from_residual-in_err-index-in-SetGlobalElement.ensures.1 in
-    made-so tree _ (does tree running (simple_tree c.args.simple.now)) words thread c.from_residual-in_err-index-in-SetGlobalElement.result (ap (λ s. does tree running (simple_tree s)) c.in-SetGlobalElement.is) (trap-from tree running words thread (valued running (expr_tree c.in-SetGlobalElement.index.value)) (λ i. assigns tree running (source.InGlobalElement c.in-SetGlobalElement.array i) (right_tree c.in-SetGlobalElement.value)) _ c.from_residual-in_err-index-in-SetGlobalElement.result p.0 p.1 p.2 (sym (rw c.deref-in-SetGlobalElement.ensures at c.in_err-index-in-SetGlobalElement.ensures)) refl)
+    made-so tree _ (does tree running (simple_tree c.args.simple.now)) words thread c.from_residual-in_err-index-in-SetGlobalElement.result (ap (λ s. does tree running (simple_tree s)) c.in-SetGlobalElement.is) (trap-from tree running words thread (valued running (expr_tree c.in-SetGlobalElement.index.value)) (λ i. assigns tree running (source.InGlobalElement c.in-SetGlobalElement.array i) (right_tree c.in-SetGlobalElement.value.value)) _ c.from_residual-in_err-index-in-SetGlobalElement.result p.0 p.1 p.2 (sym (rw c.deref-in-SetGlobalElement.ensures at c.in_err-index-in-SetGlobalElement.ensures)) refl)
 
 pub returns-in_ok-index-in-SetGlobalElement : goal.returns-in_ok-index-in-SetGlobalElement
 returns-in_ok-index-in-SetGlobalElement c =
@@ -137,7 +137,7 @@ returns-in_ok-index-in-SetGlobalElement c =
     let running = running_of tree thread words in
     let rest = to_do thread.front.items.items in
     let call = c.assign-in-SetGlobalElement in
-    made-so tree _ (does tree running (simple_tree c.args.simple.now)) call.new.globals.items call.new.thread call.result (ap (λ s. does tree running (simple_tree s)) c.in-SetGlobalElement.is) (value-used tree running call.new.globals.items call.new.thread (valued running (expr_tree c.in-SetGlobalElement.index.value)) (λ i. assigns tree running (source.InGlobalElement c.in-SetGlobalElement.array i) (right_tree c.in-SetGlobalElement.value)) c.in_ok-index-in-SetGlobalElement.index call.result (sym (rw c.deref-in-SetGlobalElement.ensures at c.in_ok-index-in-SetGlobalElement.ensures)) call.ensures)
+    made-so tree _ (does tree running (simple_tree c.args.simple.now)) call.new.globals.items call.new.thread call.result (ap (λ s. does tree running (simple_tree s)) c.in-SetGlobalElement.is) (value-used tree running call.new.globals.items call.new.thread (valued running (expr_tree c.in-SetGlobalElement.index.value)) (λ i. assigns tree running (source.InGlobalElement c.in-SetGlobalElement.array i) (right_tree c.in-SetGlobalElement.value.value)) c.in_ok-index-in-SetGlobalElement.index call.result (sym (rw c.deref-in-SetGlobalElement.ensures at c.in_ok-index-in-SetGlobalElement.ensures)) (rw c.deref-in-SetGlobalElement-2.ensures at call.ensures))
 
 pub call-requires-clause-scoped : goal.call-requires-clause-scoped
 call-requires-clause-scoped c = let h = rw c.in-Call.is at c.requires.scoped in record { scope = h.scope; scoped = h.scoped }
