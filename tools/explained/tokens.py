@@ -9,14 +9,15 @@ KEYWORDS = set(
     "auto break case char const continue default do double else enum extern float for goto if inline int long register restrict return short signed sizeof static struct"
     " switch typedef union unsigned void volatile while _Alignas _Alignof _Atomic _Bool _Complex _Generic _Imaginary _Noreturn _Static_assert _Thread_local".split()
 )
-# the crate's table of the modelled calls other than `spawn`; tools/install puts it beside the tools
-TABLE = os.path.join(os.path.dirname(os.path.realpath(__file__)), "../../crates/cap_word/src/modelled_calls.rt")
+HERE = os.path.dirname(os.path.realpath(__file__))
+# the crate's table of the modelled calls other than `spawn`; tools/install puts a copy beside this file
+TABLES = [os.path.join(HERE, it) for it in ("modelled_calls.rt", "../../crates/cap_word/src/modelled_calls.rt")]
 
 
 def modelled_calls():
     """The modelled calls with the number of their arguments, in the order of the table but that a
     name stands behind the one that it begins with."""
-    with open(TABLE) as file:
+    with open(next(filter(os.path.exists, TABLES))) as file:
         text = file.read()
     names = re.findall(r'ModelledCall::(\w+) => "(\w+)"', text)
     arms = re.findall(r"([\w:|\s]+) => (\d+),", text[text.index("fn parameters") : text.index("fn gives_result")])
