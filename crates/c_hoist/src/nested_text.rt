@@ -15,11 +15,11 @@ ghost use Rattle.c_hoist.specs.NestedText.{IsHoistedTo, IsRefusedHoisted, ReadsN
 use c_lex::lex;
 use c_parse::parse_nested;
 use c_scope::SourceError;
-use c_tree::{Program, RawItem, RawProgram};
+use c_tree::{Program, RawFunction, RawItem, RawProgram, RawStmt};
 use call_numbers::numbers_by_places;
-use call_places::add_places_of_calls;
-use hoist_rules::hoist_item;
-use scope_rules::{Resolver, ScopeError};
+use call_places::add_places_of_calls_in;
+use hoist_rules::{Receiver, hoist_body};
+use scope_rules::{FunctionResolver, Resolver, ScopeError};
 use std::alloc::{AllocError, Global};
 
 /// Returns the program of a source of at most 1,048,576 bytes, which may have calls inside expressions everywhere
@@ -67,33 +67,59 @@ struct Rewriting {
     places: Vec<u32>,
 }
 
+// The same in the middle of a definition.
+#[derive(Drop)]
+struct FunctionRewriting {
+    resolver: FunctionResolver,
+    places: Vec<u32>,
+}
+
+impl Receiver for FunctionRewriting {
+    fn take(self, statement: &RawStmt) -> Result<FunctionRewriting, AllocError> {
+        let FunctionRewriting {
+            mut resolver,
+            mut places,
+        } = self;
+        add_places_of_calls_in(&mut places, statement)?;
+        resolver.statement(statement)?;
+        Ok(FunctionRewriting { resolver, places })
+    }
+}
+
 impl Rewriting {
-    // One more item. It is freed before it is resolved, and what it is rewritten to behind that.
-    fn item(&mut self, alloc: Global, raw: RawItem) -> Result<(), AllocError>
-        requires { IsItemForWhole (raw_item_tree raw) }
-        ensures read { OnOk result ((all read : List RawItemTree) → HasRead self.old.resolver all read → HasRead self.new.resolver all (read ++ item_hoisted (raw_item_tree raw) ∷ [])) }
-        ensures places { OnOk result (self.new.places.items ≡ self.old.places.items ++ item_places is_call (item_hoisted (raw_item_tree raw))) }
+    // One more definition.
+    fn function(self, alloc: Global, raw: &RawFunction) -> Result<Rewriting, AllocError> {
+        let Rewriting { resolver, places } = self;
+        let resolver = resolver.begin(alloc, raw.gives, &raw.name, &raw.params)?;
+        let begun = FunctionRewriting { resolver, places };
+        let ended = hoist_body(alloc, &raw.body, begun)?;
+        let FunctionRewriting { resolver, places } = ended;
+        let resolver = resolver.end()?;
+        Ok(Rewriting { resolver, places })
+    }
+
+    // One more item. It is freed when it was resolved.
+    fn item(mut self, alloc: Global, raw: RawItem) -> Result<Rewriting, AllocError>
     {
-        let hoisted = hoist_item(alloc, &raw)?;
-        add_places_of_calls(&mut self.places, &hoisted)?;
-        drop(raw);
-        self.resolver.item(&hoisted)?;
-        Ok(())
+        match raw {
+            RawItem::Function(function) => self.function(alloc, &function),
+            _ => {
+                self.resolver.item(&raw)?;
+                Ok(self)
+            }
+        }
     }
 }
 
 // What the items make, each of which is rewritten and resolved before the next is, and freed.
 fn rewritten(alloc: Global, raw: Vec<RawItem>) -> Result<Rewriting, AllocError>
-    requires { AreForPartsWhole (raw_item_trees raw.items) }
-    ensures read { IfOk result (λ w. HasRead w.resolver (items_hoisted (raw_item_trees raw.items)) (items_hoisted (raw_item_trees raw.items))) }
-    ensures places { IfOk result (λ w. w.places.items ≡ items_places is_call (items_hoisted (raw_item_trees raw.items))) }
 {
     let mut rewritten = Rewriting {
         resolver: Resolver::new(alloc, &raw)?,
         places: Vec::new(alloc),
     };
     for item in raw {
-        rewritten.item(alloc, item)?;
+        rewritten = rewritten.item(alloc, item)?;
     }
     Ok(rewritten)
 }

@@ -7,16 +7,17 @@ ghost use Rattle.hoist_parts.specs.Expressions.{in_block, is_true};
 ghost use Rattle.hoist_parts.specs.Chains.{chain_tree, condition_by};
 
 use crate::built::boxed_pair;
-use crate::hoisting::{Hoisting, fitted};
+use crate::hoisting::Hoisting;
+use crate::receivers::{Receiver, Statements};
 use c_tree::{Infix, RawExpr, RawStmt};
 use hoist_parts::{Chain, condition_by, is_true, used};
 use std::alloc::AllocError;
 
-impl Hoisting {
+impl<R: Receiver + Drop> Hoisting<R> {
     /// Appends `int h = l != 0;` for the next new name and a left operand, and returns the name's number.
     pub(crate) fn declare_truth(&mut self, left: Chain) -> Result<u32, AllocError>
         ensures number { IfOk result (λ k. k ≡ self.old.next) }
-        ensures before { OnOk result (map raw_stmt_tree self.new.statements.items ≡ map raw_stmt_tree self.old.statements.items ++ declared_as self.old.next (is_true (chain_tree left)) ∷ []) }
+        ensures before { OnOk result (self.new.statements ≡ self.old.statements ++ declared_as self.old.next (is_true (chain_tree left)) ∷ []) }
         ensures next { OnOk result (self.new.next ≡ self.old.next + 1) }
     {
         let alloc = self.alloc;
@@ -37,7 +38,7 @@ impl Hoisting {
     /// Appends `int h;` for the next new name, and returns its number.
     pub(crate) fn declare_next(&mut self) -> Result<u32, AllocError>
         ensures number { IfOk result (λ k. k ≡ self.old.next) }
-        ensures before { OnOk result (map raw_stmt_tree self.new.statements.items ≡ map raw_stmt_tree self.old.statements.items ++ declared self.old.next ∷ []) }
+        ensures before { OnOk result (self.new.statements ≡ self.old.statements ++ declared self.old.next ∷ []) }
         ensures next { OnOk result (self.new.next ≡ self.old.next + 1) }
     {
         let number = self.number()?;
@@ -49,16 +50,16 @@ impl Hoisting {
     /// with a number.
     pub(crate) fn set_in_block(
         &mut self,
-        outer: Vec<RawStmt>,
+        outer: Statements<R>,
         number: u32,
         value: RawExpr,
     ) -> Result<RawStmt, AllocError>
-        ensures block { IfOk result (λ s. raw_stmt_tree s ≡ in_block (map raw_stmt_tree self.old.statements.items ++ set_to number (raw_expr_tree value) ∷ [])) }
+        ensures block { IfOk result (λ s. raw_stmt_tree s ≡ in_block (self.old.statements ++ set_to number (raw_expr_tree value) ∷ [])) }
         ensures outer { OnOk result (self.new.statements ≡ outer) }
         ensures next { OnOk result (self.new.next ≡ self.old.next) }
     {
         match self.set(number, value) {
-            Ok(()) => Ok(RawStmt::Block(fitted(self.leave(outer)))),
+            Ok(()) => Ok(RawStmt::Block(self.leave(outer)?)),
             Err(error) => {
                 drop(outer);
                 Err(error)
@@ -73,7 +74,7 @@ impl Hoisting {
         number: u32,
         block: RawStmt,
     ) -> Result<(), AllocError>
-        ensures statements { OnOk result (map raw_stmt_tree self.new.statements.items ≡ map raw_stmt_tree self.old.statements.items ++ RawIf (condition_by operator number) (raw_stmt_tree block) ∷ []) }
+        ensures statements { OnOk result (self.new.statements ≡ self.old.statements ++ RawIf (condition_by operator number) (raw_stmt_tree block) ∷ []) }
         ensures next { OnOk result (self.new.next ≡ self.old.next) }
     {
         let alloc = self.alloc;
@@ -91,13 +92,13 @@ impl Hoisting {
     /// is what remains of r, and returns the remaining expression.
     pub(crate) fn decide(
         &mut self,
-        outer: Vec<RawStmt>,
+        outer: Statements<R>,
         operator: Infix,
         number: u32,
         value: RawExpr,
     ) -> Result<Chain, AllocError>
         ensures left { IfOk result (λ c. chain_tree c ≡ used number) }
-        ensures before { OnOk result (map raw_stmt_tree self.new.statements.items ≡ map raw_stmt_tree outer.items ++ RawIf (condition_by operator number) (in_block (map raw_stmt_tree self.old.statements.items ++ set_to number (is_true (raw_expr_tree value)) ∷ [])) ∷ []) }
+        ensures before { OnOk result (self.new.statements ≡ outer ++ RawIf (condition_by operator number) (in_block (self.old.statements ++ set_to number (is_true (raw_expr_tree value)) ∷ [])) ∷ []) }
         ensures next { OnOk result (self.new.next ≡ self.old.next) }
     {
         let alloc = self.alloc;
@@ -125,7 +126,7 @@ impl Hoisting {
         second: RawStmt,
     ) -> Result<RawExpr, AllocError>
         ensures left { IfOk result (λ e. raw_expr_tree e ≡ used number) }
-        ensures before { OnOk result (map raw_stmt_tree self.new.statements.items ≡ map raw_stmt_tree self.old.statements.items ++ RawIfElse (raw_expr_tree condition) (raw_stmt_tree first) (raw_stmt_tree second) ∷ []) }
+        ensures before { OnOk result (self.new.statements ≡ self.old.statements ++ RawIfElse (raw_expr_tree condition) (raw_stmt_tree first) (raw_stmt_tree second) ∷ []) }
         ensures next { OnOk result (self.new.next ≡ self.old.next) }
     {
         let alloc = self.alloc;

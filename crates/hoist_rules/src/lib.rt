@@ -17,7 +17,8 @@ mod examples;
 mod expressions;
 mod for_parts;
 mod hoisting;
-mod programs;
+mod functions;
+mod receivers;
 mod simples;
 mod statements;
 
@@ -26,4 +27,5 @@ pub use examples::{
     indexes_go_before, left_parts_have_names, logical_operators_decide, loops_test_calls,
     spawned_function_stays, tables_go_before, whole_calls_stay,
 };
-pub use programs::hoist_item;
+pub use functions::hoist_body;
+pub use receivers::Receiver;

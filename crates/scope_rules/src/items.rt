@@ -19,9 +19,10 @@ use crate::meanings::{Found, Meaning, function_of};
 use crate::names::Names;
 use crate::places::Place;
 use crate::simples::{bind, check_declared, check_size, number};
+use crate::statements::Scope;
 use c_tree::{
-    Function, GlobalFact, ModelledCall, Name, RawFunction, RawItem, RawPrototype, RawTable, Stmt,
-    TableFact,
+    Function, GlobalFact, ModelledCall, Name, RawFunction, RawItem, RawPrototype, RawStmt, RawTable,
+    Stmt, TableFact,
 };
 use std::alloc::{AllocError, Global};
 use std::mem;
@@ -37,6 +38,16 @@ pub struct Items {
     /// The maximum number of words that a function so far declares, without its parameters; at most
     /// 65,537.
     pub locals: u32,
+}
+
+/// A definition whose body isn't at its end.
+#[derive(Drop)]
+pub struct Begun {
+    pub name: Vec<u8>,
+    pub gives: bool,
+    pub params: usize,
+    pub scope: Scope,
+    pub body: Vec<Stmt>,
 }
 
 // Notes the faults of a global's or a table's name with this meaning so far.
@@ -230,18 +241,13 @@ impl Place {
         Ok(())
     }
 
-    // The parameters and the body of a definition whose name is already in scope.
-    fn function_body(&mut self, raw: &RawFunction) -> Result<Vec<Stmt>, AllocError>
-        ensures tree { IfOk result (λ ss. stmt_trees ss.items ≡ stmts_of (params_after (unsized (spot_of self.old)) (map name_tree raw.now.params.items)) (raw_stmt_trees raw.now.body.items)) }
-        ensures place { OnOk result (spot_of self.new ≡ left (spot_of self.old) (stmts_after (params_after (unsized (spot_of self.old)) (map name_tree raw.now.params.items)) (raw_stmt_trees raw.now.body.items))) }
-        ensures faults { OnOk result (self.new.least ≡ least_of self.old.least (params_faults (unsized (spot_of self.old)) (map name_tree raw.now.params.items) ++ stmts_faults raw.now.gives false (params_after (unsized (spot_of self.old)) (map name_tree raw.now.params.items)) (raw_stmt_trees raw.now.body.items))) }
+    // Enters the scope of a definition whose name is already in scope, with its parameters.
+    fn enter_function(&mut self, params: &[Name]) -> Result<Scope, AllocError>
     {
         self.sizes.clear();
         let scope = self.enter();
-        self.params(&raw.params)?;
-        let body = self.stmts(raw.gives, false, &raw.body);
-        self.leave(scope);
-        body
+        self.params(params)?;
+        Ok(scope)
     }
 }
 
@@ -390,40 +396,79 @@ impl Items {
         Ok(())
     }
 
-    // A definition.
-    fn function(&mut self, raw: &RawFunction) -> Result<(), AllocError>
-        ensures sofar { OnOk result (sofar_of self.new ≡ item_after self.old.definitions (sofar_of self.old) (raw_item_tree (RawItem.Function raw.now))) }
-        ensures definitions { OnOk result (self.new.definitions ≡ self.old.definitions) }
-        ensures faults { OnOk result (self.new.place.least ≡ least_of self.old.place.least (item_faults self.old.definitions (sofar_of self.old) (raw_item_tree (RawItem.Function raw.now)))) }
-        ensures counted { OnOk result (IsCounted self.old → IsCounted self.new) }
+    // Begins a definition: its name and its parameters.
+    pub fn begin(
+        &mut self,
+        gives: bool,
+        name: &Name,
+        params: &[Name],
+    ) -> Result<Begun, AllocError>
     {
         let alloc = self.place.alloc;
-        let name = &raw.name;
-        let params = raw.params.len();
+        let count = params.len();
         let definition = self.definitions.find(&name.text);
         let found = self.place.names.find(&name.text);
         let least = &mut self.place.least;
-        check_function(least, true, raw.gives, params, name.at, found);
-        check_main(least, name, params);
+        check_function(least, true, gives, count, name.at, found);
+        check_main(least, name, count);
         let meaning = Meaning::Function {
             function: function_of(definition),
-            gives: raw.gives,
-            params,
+            gives,
+            params: count,
             defined: true,
         };
         bind(&mut self.place.names, &name.text, meaning)?;
         let text = Vec::from_slice(alloc, &name.text)?;
-        let (text, body) = both(text, self.place.function_body(raw))?;
-        let sizes = mem::replace(&mut self.place.sizes, Vec::new(alloc));
+        let (text, scope) = both(text, self.place.enter_function(params))?;
+        Ok(Begun {
+            name: text,
+            gives,
+            params: count,
+            scope,
+            body: Vec::new(alloc),
+        })
+    }
+
+    // One more statement of its body.
+    pub fn statement(&mut self, begun: &mut Begun, raw: &RawStmt) -> Result<(), AllocError>
+    {
+        let body = mem::replace(&mut begun.body, Vec::new(self.place.alloc));
+        begun.body = self.place.next_statement(begun.gives, body, raw)?;
+        Ok(())
+    }
+
+    // Its end.
+    pub fn end(&mut self, begun: Begun) -> Result<(), AllocError>
+    {
+        let Begun {
+            name,
+            gives,
+            params,
+            scope,
+            mut body,
+        } = begun;
+        self.place.leave(scope);
+        body.shrink_to_fit();
+        let sizes = mem::replace(&mut self.place.sizes, Vec::new(self.place.alloc));
         self.locals = larger(self.locals, declared_words(&sizes, params));
         self.functions.push(Function {
-            name: text,
+            name,
             params: number(params),
-            gives: raw.gives,
+            gives,
             sizes,
             body,
         })?;
         Ok(())
+    }
+
+    // A definition.
+    fn function(&mut self, raw: &RawFunction) -> Result<(), AllocError>
+    {
+        let mut begun = self.begin(raw.gives, &raw.name, &raw.params)?;
+        for stmt in &raw.body {
+            self.statement(&mut begun, stmt)?;
+        }
+        self.end(begun)
     }
 
     /// Resolves one more item.

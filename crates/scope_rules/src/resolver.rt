@@ -21,11 +21,11 @@ ghost use Rattle.scope_rules.specs.Outcomes.{IsResolved, IsRefused, IsNoMemory, 
 
 use crate::errors::ScopeError;
 use crate::faults::{Fault, Rule};
-use crate::items::{Items, definitions};
+use crate::items::{Begun, Items, definitions};
 use crate::limits::{global_words, most_params, table_members};
 use crate::meanings::function_of;
 use crate::numbering::number_functions;
-use c_tree::{Function, GlobalFact, Program, RawItem, RawProgram, TableFact};
+use c_tree::{Function, GlobalFact, Name, Program, RawItem, RawProgram, RawStmt, TableFact};
 use cap_word::Which;
 use std::alloc::{AllocError, Global};
 
@@ -227,6 +227,21 @@ impl Resolver {
         Ok(())
     }
 
+    /// Begins a definition.
+    pub fn begin(
+        self,
+        alloc: Global,
+        gives: bool,
+        name: &Name,
+        params: &[Name],
+    ) -> Result<FunctionResolver, AllocError>
+    {
+        let mut items = self.items;
+        let begun = items.begin(gives, name, params)?;
+        let parts = Box::new(alloc, FunctionParts { items, begun })?;
+        Ok(FunctionResolver { parts })
+    }
+
     // The program of the source with these numbers of its calls, or its refusal.
     fn decide(self, alloc: Global, numbers: &[u32]) -> Result<Program, ScopeError>
         requires { CanNumber self numbers.now }
@@ -256,5 +271,34 @@ impl Resolver {
             Ok(program) => Ok(program),
             Err(refusal) => Err(refusal),
         }
+    }
+}
+
+#[derive(Drop)]
+struct FunctionParts {
+    items: Items,
+    begun: Begun,
+}
+
+/// A source that is resolved item by item, in the middle of a definition.
+#[derive(Drop)]
+pub struct FunctionResolver {
+    parts: Box<FunctionParts>,
+}
+
+impl FunctionResolver {
+    /// One more statement of the body.
+    pub fn statement(&mut self, raw: &RawStmt) -> Result<(), AllocError>
+    {
+        let FunctionParts { items, begun } = &mut *self.parts;
+        items.statement(begun, raw)
+    }
+
+    /// The end of the body.
+    pub fn end(self) -> Result<Resolver, AllocError>
+    {
+        let FunctionParts { mut items, begun } = *self.parts;
+        items.end(begun)?;
+        Ok(Resolver { items })
     }
 }

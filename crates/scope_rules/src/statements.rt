@@ -293,4 +293,24 @@ impl Place {
         }
         Ok(stmts)
     }
+
+    /// Resolves one more statement of the outermost block of a function. Beyond the limit of calls no statement is
+    /// kept.
+    pub fn next_statement(
+        &mut self,
+        gives: bool,
+        mut body: Vec<Stmt>,
+        raw: &RawStmt,
+    ) -> Result<Vec<Stmt>, AllocError>
+    {
+        let stmt = self.stmt(gives, false, raw)?;
+        if self.site > 65_535 {
+            drop(stmt);
+            drop(body);
+            Ok(Vec::new(self.alloc))
+        } else {
+            body.push(stmt)?;
+            Ok(body)
+        }
+    }
 }
