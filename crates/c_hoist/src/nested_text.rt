@@ -15,11 +15,10 @@ ghost use Rattle.c_hoist.specs.NestedText.{IsHoistedTo, IsRefusedHoisted, ReadsN
 use c_lex::lex;
 use c_parse::parse_nested;
 use c_scope::SourceError;
-use c_tree::{Program, RawFunction, RawItem, RawProgram, RawStmt};
+use c_tree::{Program, RawFunction, RawItem, RawProgram};
 use call_numbers::numbers_by_places;
-use call_places::add_places_of_calls_in;
 use hoist_rules::{Receiver, hoist_body};
-use scope_rules::{FunctionResolver, Resolver, ScopeError};
+use scope_rules::{Resolver, ScopeError};
 use std::alloc::{AllocError, Global};
 
 /// Returns the program of a source of at most 1,048,576 bytes, which may have calls inside expressions everywhere
@@ -67,33 +66,14 @@ struct Rewriting {
     places: Vec<u32>,
 }
 
-// The same in the middle of a definition.
-#[derive(Drop)]
-struct FunctionRewriting {
-    resolver: FunctionResolver,
-    places: Vec<u32>,
-}
-
-impl Receiver for FunctionRewriting {
-    fn take(self, statement: &RawStmt) -> Result<FunctionRewriting, AllocError> {
-        let FunctionRewriting {
-            mut resolver,
-            mut places,
-        } = self;
-        add_places_of_calls_in(&mut places, statement)?;
-        resolver.statement(statement)?;
-        Ok(FunctionRewriting { resolver, places })
-    }
-}
-
 impl Rewriting {
     // One more definition.
     fn function(self, alloc: Global, raw: &RawFunction) -> Result<Rewriting, AllocError> {
         let Rewriting { resolver, places } = self;
         let resolver = resolver.begin(alloc, raw.gives, &raw.name, &raw.params)?;
-        let begun = FunctionRewriting { resolver, places };
+        let begun = Receiver { resolver, places };
         let ended = hoist_body(alloc, &raw.body, begun)?;
-        let FunctionRewriting { resolver, places } = ended;
+        let Receiver { resolver, places } = ended;
         let resolver = resolver.end()?;
         Ok(Rewriting { resolver, places })
     }

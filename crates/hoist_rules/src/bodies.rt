@@ -1,12 +1,13 @@
 // Bodies, and the loop of a `while` whose condition contains a call.
-ghost use Rattle.std.specs.Prelude.{◌≡◌, [], ◌∷◌, ◌++◌, map, IfOk, OnOk};
+ghost use Rattle.std.specs.Prelude.{◌≡◌, [], ◌∷◌, map, IfOk, OnOk};
 ghost use Rattle.c_tree.specs.RawTrees.{RawNumber, RawIf, RawWhile, RawBreak};
 ghost use Rattle.c_tree.specs.RawViews.{raw_expr_tree, raw_stmt_tree};
 ghost use Rattle.hoist_parts.specs.Expressions.{is_false, in_block};
 ghost use Rattle.hoist_parts.specs.Statements.{as_body};
+ghost use Rattle.hoist_rules.specs.Receivers.{listed, so_far, then_all};
 
 use crate::hoisting::Hoisting;
-use crate::receivers::{Receiver, Statements};
+use crate::receivers::Statements;
 use c_tree::{RawExpr, RawStmt};
 use hoist_parts::is_false;
 use std::alloc::{AllocError, Global};
@@ -33,10 +34,10 @@ pub(crate) fn ends_unless(alloc: Global, condition: RawExpr) -> Result<RawStmt, 
     Ok(RawStmt::If { condition, then })
 }
 
-impl<R: Receiver + Drop> Hoisting<R> {
+impl Hoisting {
     /// Returns the body of the statements since `enter` returned `outer`, in a box.
-    pub(crate) fn leave_body(&mut self, outer: Statements<R>) -> Result<Box<RawStmt>, AllocError>
-        ensures body { IfOk result (λ s. raw_stmt_tree s.value ≡ as_body self.old.statements) }
+    pub(crate) fn leave_body(&mut self, outer: Statements) -> Result<Box<RawStmt>, AllocError>
+        ensures body { IfOk result (λ s. raw_stmt_tree s.value ≡ as_body (listed (so_far self.old.statements))) }
         ensures outer { OnOk result (self.new.statements ≡ outer) }
         ensures next { OnOk result (self.new.next ≡ self.old.next) }
     {
@@ -46,8 +47,8 @@ impl<R: Receiver + Drop> Hoisting<R> {
     }
 
     /// Appends that body to the statements of `outer`.
-    pub(crate) fn push_body(&mut self, outer: Statements<R>) -> Result<(), AllocError>
-        ensures statements { OnOk result (self.new.statements ≡ outer ++ as_body self.old.statements ∷ []) }
+    pub(crate) fn push_body(&mut self, outer: Statements) -> Result<(), AllocError>
+        ensures statements { OnOk result (so_far self.new.statements ≡ then_all (so_far outer) (as_body (listed (so_far self.old.statements)) ∷ [])) }
         ensures next { self.new.next ≡ self.old.next }
     {
         let body = as_body(self.leave(outer)?);
@@ -56,8 +57,8 @@ impl<R: Receiver + Drop> Hoisting<R> {
 
     /// Appends `while (1) { .. }`, with the statements since `enter` returned `outer`, to those of
     /// `outer`.
-    pub(crate) fn push_loop(&mut self, outer: Statements<R>) -> Result<(), AllocError>
-        ensures statements { OnOk result (self.new.statements ≡ outer ++ RawWhile (RawNumber 1) (in_block self.old.statements) ∷ []) }
+    pub(crate) fn push_loop(&mut self, outer: Statements) -> Result<(), AllocError>
+        ensures statements { OnOk result (so_far self.new.statements ≡ then_all (so_far outer) (RawWhile (RawNumber 1) (in_block (listed (so_far self.old.statements))) ∷ [])) }
         ensures next { self.new.next ≡ self.old.next }
     {
         let alloc = self.alloc;

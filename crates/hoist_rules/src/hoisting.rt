@@ -1,9 +1,10 @@
 // The state of the rewriting of a function.
-ghost use Rattle.std.specs.Prelude.{◌≡◌, ◌+◌, ◌++◌, ◌∷◌, [], map, IfOk, OnOk};
+ghost use Rattle.std.specs.Prelude.{◌≡◌, ◌+◌, ◌∷◌, [], map, IfOk, OnOk};
 ghost use Rattle.c_tree.specs.RawViews.{raw_expr_tree, raw_stmt_tree};
 ghost use Rattle.hoist_parts.specs.NewNames.{used, declared, declared_as, set_to};
+ghost use Rattle.hoist_rules.specs.Receivers.{Gathered, so_far, then_all};
 
-use crate::receivers::{Receiver, Statements};
+use crate::receivers::Statements;
 use c_tree::{RawExpr, RawSimple, RawStmt};
 use hoist_parts::{new_name, used};
 use std::alloc::{AllocError, Global};
@@ -11,13 +12,13 @@ use std::mem;
 
 /// The statements of the block so far, and the number of the next new name of the function.
 #[derive(Drop)]
-pub(crate) struct Hoisting<R> {
+pub(crate) struct Hoisting {
     pub(crate) alloc: Global,
     pub(crate) next: u32,
-    pub(crate) statements: Statements<R>,
+    pub(crate) statements: Statements,
 }
 
-impl<R: Receiver + Drop> Hoisting<R> {
+impl Hoisting {
     /// Returns the number of the next new name. There are always fewer than 2^32.
     pub(crate) fn number(&mut self) -> Result<u32, AllocError>
         ensures number { IfOk result (λ k. k ≡ self.old.next) }
@@ -37,7 +38,7 @@ impl<R: Receiver + Drop> Hoisting<R> {
 
     /// Appends a statement.
     pub(crate) fn push(&mut self, statement: RawStmt) -> Result<(), AllocError>
-        ensures statements { OnOk result (self.new.statements ≡ self.old.statements ++ raw_stmt_tree statement ∷ []) }
+        ensures statements { OnOk result (so_far self.new.statements ≡ then_all (so_far self.old.statements) (raw_stmt_tree statement ∷ [])) }
         ensures next { self.new.next ≡ self.old.next }
         ensures alloc { self.new.alloc ≡ self.old.alloc }
     {
@@ -49,7 +50,7 @@ impl<R: Receiver + Drop> Hoisting<R> {
 
     /// Appends `int h = value;` for the new name with a number.
     pub(crate) fn declare_as(&mut self, number: u32, value: RawExpr) -> Result<(), AllocError>
-        ensures statements { OnOk result (self.new.statements ≡ self.old.statements ++ declared_as number (raw_expr_tree value) ∷ []) }
+        ensures statements { OnOk result (so_far self.new.statements ≡ then_all (so_far self.old.statements) (declared_as number (raw_expr_tree value) ∷ [])) }
         ensures next { self.new.next ≡ self.old.next }
         ensures alloc { self.new.alloc ≡ self.old.alloc }
     {
@@ -59,7 +60,7 @@ impl<R: Receiver + Drop> Hoisting<R> {
 
     /// Appends `int h;` for the new name with a number.
     pub(crate) fn declare(&mut self, number: u32) -> Result<(), AllocError>
-        ensures statements { OnOk result (self.new.statements ≡ self.old.statements ++ declared number ∷ []) }
+        ensures statements { OnOk result (so_far self.new.statements ≡ then_all (so_far self.old.statements) (declared number ∷ [])) }
         ensures next { self.new.next ≡ self.old.next }
         ensures alloc { self.new.alloc ≡ self.old.alloc }
     {
@@ -69,7 +70,7 @@ impl<R: Receiver + Drop> Hoisting<R> {
 
     /// Appends `h = value;` for the new name with a number.
     pub(crate) fn set(&mut self, number: u32, value: RawExpr) -> Result<(), AllocError>
-        ensures statements { OnOk result (self.new.statements ≡ self.old.statements ++ set_to number (raw_expr_tree value) ∷ []) }
+        ensures statements { OnOk result (so_far self.new.statements ≡ then_all (so_far self.old.statements) (set_to number (raw_expr_tree value) ∷ [])) }
         ensures next { self.new.next ≡ self.old.next }
         ensures alloc { self.new.alloc ≡ self.old.alloc }
     {
@@ -80,7 +81,7 @@ impl<R: Receiver + Drop> Hoisting<R> {
     /// Declares a new name for a part of an expression, and returns the name's value.
     pub(crate) fn name_part(&mut self, part: RawExpr) -> Result<RawExpr, AllocError>
         ensures value { IfOk result (λ e. raw_expr_tree e ≡ used self.old.next) }
-        ensures statements { OnOk result (self.new.statements ≡ self.old.statements ++ declared_as self.old.next (raw_expr_tree part) ∷ []) }
+        ensures statements { OnOk result (so_far self.new.statements ≡ then_all (so_far self.old.statements) (declared_as self.old.next (raw_expr_tree part) ∷ [])) }
         ensures next { OnOk result (self.new.next ≡ self.old.next + 1) }
         ensures alloc { self.new.alloc ≡ self.old.alloc }
     {
@@ -90,9 +91,9 @@ impl<R: Receiver + Drop> Hoisting<R> {
     }
 
     /// Begins a block, and returns the statements so far, which are passed to `leave`.
-    pub(crate) fn enter(&mut self) -> Statements<R>
+    pub(crate) fn enter(&mut self) -> Statements
         ensures result { result ≡ self.old.statements }
-        ensures statements { self.new.statements ≡ [] }
+        ensures statements { so_far self.new.statements ≡ Gathered [] }
         ensures next { self.new.next ≡ self.old.next }
         ensures alloc { self.new.alloc ≡ self.old.alloc }
     {
@@ -101,8 +102,8 @@ impl<R: Receiver + Drop> Hoisting<R> {
     }
 
     /// Ends a block, and returns its statements; the statements before it are continued.
-    pub(crate) fn leave(&mut self, outer: Statements<R>) -> Result<Vec<RawStmt>, AllocError>
-        ensures result { IfOk result (λ ss. map raw_stmt_tree ss.items ≡ self.old.statements) }
+    pub(crate) fn leave(&mut self, outer: Statements) -> Result<Vec<RawStmt>, AllocError>
+        ensures result { IfOk result (λ ss. so_far self.old.statements ≡ Gathered (map raw_stmt_tree ss.items)) }
         ensures statements { self.new.statements ≡ outer }
         ensures next { self.new.next ≡ self.old.next }
         ensures alloc { self.new.alloc ≡ self.old.alloc }

@@ -8,7 +8,7 @@
 // empty bodies are examples: they have no effect at run time, and their contracts are theorems. The
 // order of evaluation is CapC's; the operators are those of ISO/IEC 9899:2018, clauses 6.5.13 to
 // 6.5.15.
-#![tactic(auto)]
+#![tactic(auto, using(crate::proofs::Followed::following))]
 
 mod bodies;
 mod branches;

@@ -1,25 +1,25 @@
 // The rewriting of statements.
-ghost use Rattle.std.specs.Prelude.{◌≡◌, ◌+◌, true, false, ◌++◌, map, IfOk, OnOk};
+ghost use Rattle.std.specs.Prelude.{◌≡◌, ◌+◌, true, false, map, IfOk, OnOk};
 ghost use Rattle.c_tree.specs.RawTrees.{RawWhile};
 ghost use Rattle.c_tree.specs.RawViews.{raw_expr_tree, raw_stmt_tree, raw_stmt_trees};
 ghost use Rattle.c_tree.specs.WholeForParts.{IsForWhole, AreForsWhole};
 ghost use Rattle.hoist_parts.specs.Calls.{holds_call};
 ghost use Rattle.hoist_parts.specs.Expressions.{names_in};
 ghost use Rattle.hoist_parts.specs.Statements.{stmt_names, stmts_names, as_body, turn_of, hoisted, all_hoisted};
+ghost use Rattle.hoist_rules.specs.Receivers.{so_far, then_all};
 
 use crate::bodies::ends_unless;
 use crate::hoisting::Hoisting;
-use crate::receivers::Receiver;
 use c_tree::{RawExpr, RawStmt};
 use hoist_parts::holds_call;
 use std::alloc::AllocError;
 
-impl<R: Receiver + Drop> Hoisting<R> {
+impl Hoisting {
     /// Appends the statements that replace one.
     #[cycle(statements)]
     fn statement(&mut self, raw: &RawStmt) -> Result<(), AllocError>
         requires { IsForWhole (raw_stmt_tree raw.now) }
-        ensures statements { OnOk result (self.new.statements ≡ self.old.statements ++ hoisted self.old.next (raw_stmt_tree raw.now)) }
+        ensures statements { OnOk result (so_far self.new.statements ≡ then_all (so_far self.old.statements) (hoisted self.old.next (raw_stmt_tree raw.now))) }
         ensures next { OnOk result (self.new.next ≡ self.old.next + stmt_names (raw_stmt_tree raw.now)) }
     {
         match raw {
@@ -98,7 +98,7 @@ impl<R: Receiver + Drop> Hoisting<R> {
     #[cycle(statements)]
     pub(crate) fn statements(&mut self, raw: &[RawStmt]) -> Result<(), AllocError>
         requires { AreForsWhole (raw_stmt_trees raw.now) }
-        ensures statements { OnOk result (self.new.statements ≡ self.old.statements ++ all_hoisted self.old.next (raw_stmt_trees raw.now)) }
+        ensures statements { OnOk result (so_far self.new.statements ≡ then_all (so_far self.old.statements) (all_hoisted self.old.next (raw_stmt_trees raw.now))) }
         ensures next { OnOk result (self.new.next ≡ self.old.next + stmts_names (raw_stmt_trees raw.now)) }
     {
         for stmt in raw {
@@ -148,7 +148,7 @@ impl<R: Receiver + Drop> Hoisting<R> {
     fn while_loop(&mut self, body: &RawStmt, condition: &RawExpr) -> Result<(), AllocError>
         requires calling { holds_call (raw_expr_tree condition.now) ≡ false }
         requires parts { IsForWhole (raw_stmt_tree body.now) }
-        ensures statements { OnOk result (self.new.statements ≡ self.old.statements ++ hoisted self.old.next (RawWhile (raw_expr_tree condition.now) (raw_stmt_tree body.now))) }
+        ensures statements { OnOk result (so_far self.new.statements ≡ then_all (so_far self.old.statements) (hoisted self.old.next (RawWhile (raw_expr_tree condition.now) (raw_stmt_tree body.now)))) }
         ensures next { OnOk result (self.new.next ≡ self.old.next + stmt_names (RawWhile (raw_expr_tree condition.now) (raw_stmt_tree body.now))) }
     {
         let condition = self.kept(condition)?;
@@ -166,7 +166,7 @@ impl<R: Receiver + Drop> Hoisting<R> {
     fn while_calling(&mut self, body: &RawStmt, condition: &RawExpr) -> Result<(), AllocError>
         requires calling { holds_call (raw_expr_tree condition.now) ≡ true }
         requires parts { IsForWhole (raw_stmt_tree body.now) }
-        ensures statements { OnOk result (self.new.statements ≡ self.old.statements ++ hoisted self.old.next (RawWhile (raw_expr_tree condition.now) (raw_stmt_tree body.now))) }
+        ensures statements { OnOk result (so_far self.new.statements ≡ then_all (so_far self.old.statements) (hoisted self.old.next (RawWhile (raw_expr_tree condition.now) (raw_stmt_tree body.now)))) }
         ensures next { OnOk result (self.new.next ≡ self.old.next + stmt_names (RawWhile (raw_expr_tree condition.now) (raw_stmt_tree body.now))) }
     {
         let outer = self.enter();
@@ -183,7 +183,7 @@ impl<R: Receiver + Drop> Hoisting<R> {
     #[cycle(statements)]
     fn turn(&mut self, body: &RawStmt, condition: &RawExpr) -> Result<(), AllocError>
         requires { IsForWhole (raw_stmt_tree body.now) }
-        ensures statements { OnOk result (self.new.statements ≡ self.old.statements ++ turn_of self.old.next (raw_expr_tree condition.now) (as_body (hoisted (self.old.next + names_in (raw_expr_tree condition.now)) (raw_stmt_tree body.now)))) }
+        ensures statements { OnOk result (so_far self.new.statements ≡ then_all (so_far self.old.statements) (turn_of self.old.next (raw_expr_tree condition.now) (as_body (hoisted (self.old.next + names_in (raw_expr_tree condition.now)) (raw_stmt_tree body.now))))) }
         ensures next { OnOk result (self.new.next ≡ self.old.next + names_in (raw_expr_tree condition.now) + stmt_names (raw_stmt_tree body.now)) }
     {
         let alloc = self.alloc;

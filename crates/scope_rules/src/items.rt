@@ -1,16 +1,18 @@
 // Declarations and definitions outside functions.
 
-ghost use Rattle.std.specs.Prelude.{◌≡◌, ◌∷◌, ◌++◌, [], None, false, IfOk, OnOk, map, option_map, length};
+ghost use Rattle.std.specs.Prelude.{◌≡◌, ◌-◌, ◌∷◌, ◌++◌, [], None, true, false, IfOk, OnOk, map, option_map, length, drop, sum, max};
 ghost use Rattle.c_tree.specs.RawViews.{name_tree, raw_stmt_trees, raw_item_tree, raw_item_trees};
-ghost use Rattle.c_tree.specs.Views.{stmt_trees};
+ghost use Rattle.c_tree.specs.Views.{stmt_trees, function_tree};
+ghost use Rattle.c_tree.specs.Temporaries.{capped};
 ghost use Rattle.scope_rules.specs.Names.{find};
 ghost use Rattle.scope_rules.specs.Statements.{left, stmts_after, stmts_faults, stmts_of};
 ghost use Rattle.scope_rules.specs.Faults.{least_of};
 ghost use Rattle.scope_rules.specs.Expressions.{use_faults};
 ghost use Rattle.scope_rules.specs.Meanings.{is_member, function_of};
 ghost use Rattle.scope_rules.specs.Places.{spot_of};
-ghost use Rattle.scope_rules.specs.Items.{outer_faults, differ, repeated_faults, function_faults, main_faults, is_missing, is_defined, with_function, param_faults, param_bound, prototype_faults, params_faults, params_after, members_faults, members_of, with_definition, with_definitions, definitions, modelled_names, at_start, with_global, item_faults, item_after, items_faults, items_after, function_left, unsized};
+ghost use Rattle.scope_rules.specs.Items.{outer_faults, differ, repeated_faults, function_faults, main_faults, is_missing, is_defined, with_function, param_faults, param_bound, prototype_faults, params_faults, params_after, members_faults, members_of, with_definition, with_definitions, definitions, modelled_names, at_start, with_global, item_faults, item_after, items_faults, items_after, function_left, unsized, body_spot};
 ghost use Rattle.scope_rules.specs.ItemViews.{sofar_of, IsCounted};
+ghost use Rattle.scope_rules.specs.Heads.{head_faults};
 
 use crate::faults::{Fault, Rule, note, note_if};
 use crate::held::both;
@@ -21,8 +23,8 @@ use crate::places::Place;
 use crate::simples::{bind, check_declared, check_size, number};
 use crate::statements::Scope;
 use c_tree::{
-    Function, GlobalFact, ModelledCall, Name, RawFunction, RawItem, RawPrototype, RawStmt, RawTable,
-    Stmt, TableFact,
+    Function, GlobalFact, ModelledCall, Name, RawFunction, RawItem, RawPrototype, RawTable, Stmt,
+    TableFact,
 };
 use std::alloc::{AllocError, Global};
 use std::mem;
@@ -40,7 +42,8 @@ pub struct Items {
     pub locals: u32,
 }
 
-/// A definition whose body isn't at its end.
+/// A definition whose body isn't at its end: its head, the scope that it entered, and the statements so far that are
+/// kept.
 #[derive(Drop)]
 pub struct Begun {
     pub name: Vec<u8>,
@@ -241,13 +244,88 @@ impl Place {
         Ok(())
     }
 
-    // Enters the scope of a definition whose name is already in scope, with its parameters.
+    // The parameters and the body of a definition whose name is already in scope.
+    fn function_body(&mut self, raw: &RawFunction) -> Result<Vec<Stmt>, AllocError>
+        ensures tree { IfOk result (λ ss. stmt_trees ss.items ≡ stmts_of (params_after (unsized (spot_of self.old)) (map name_tree raw.now.params.items)) (raw_stmt_trees raw.now.body.items)) }
+        ensures place { OnOk result (spot_of self.new ≡ left (spot_of self.old) (stmts_after (params_after (unsized (spot_of self.old)) (map name_tree raw.now.params.items)) (raw_stmt_trees raw.now.body.items))) }
+        ensures faults { OnOk result (self.new.least ≡ least_of self.old.least (params_faults (unsized (spot_of self.old)) (map name_tree raw.now.params.items) ++ stmts_faults raw.now.gives false (params_after (unsized (spot_of self.old)) (map name_tree raw.now.params.items)) (raw_stmt_trees raw.now.body.items))) }
+    {
+        self.sizes.clear();
+        let scope = self.enter();
+        self.params(&raw.params)?;
+        let body = self.stmts(raw.gives, false, &raw.body);
+        self.leave(scope);
+        body
+    }
+}
+
+impl Place {
+    // The head of a definition: its name is in scope from here on.
+    fn head(
+        &mut self,
+        definitions: &Names,
+        gives: bool,
+        name: &Name,
+        params: usize,
+    ) -> Result<(), AllocError>
+        ensures place { OnOk result (spot_of self.new ≡ record (spot_of self.old) { names = with_function definitions.now self.old.names gives (name_tree name.now) params true }) }
+        ensures faults { OnOk result (self.new.least ≡ least_of self.old.least (function_faults true gives params name.now.at (find name.now.text.items self.old.names) ++ main_faults (name_tree name.now) params)) }
+    {
+        let definition = definitions.find(&name.text);
+        let found = self.names.find(&name.text);
+        check_function(&mut self.least, true, gives, params, name.at, found);
+        check_main(&mut self.least, name, params);
+        let meaning = Meaning::Function {
+            function: function_of(definition),
+            gives,
+            params,
+            defined: true,
+        };
+        bind(&mut self.names, &name.text, meaning)
+    }
+
+    // Enters the scope of a definition, with its parameters.
     fn enter_function(&mut self, params: &[Name]) -> Result<Scope, AllocError>
+        ensures place { OnOk result (spot_of self.new ≡ params_after (unsized (spot_of self.old)) (map name_tree params.now)) }
+        ensures faults { OnOk result (self.new.least ≡ least_of self.old.least (params_faults (unsized (spot_of self.old)) (map name_tree params.now))) }
+        ensures outer { IfOk result (λ s. s.outer ≡ self.old.outer) }
+        ensures count { IfOk result (λ s. s.count ≡ length self.old.names) }
     {
         self.sizes.clear();
         let scope = self.enter();
         self.params(params)?;
         Ok(scope)
+    }
+
+    /// Begins a definition, in a source with these definitions.
+    pub fn begin(
+        &mut self,
+        definitions: &Names,
+        gives: bool,
+        name: &Name,
+        params: &[Name],
+    ) -> Result<Begun, AllocError>
+        ensures place { OnOk result (spot_of self.new ≡ body_spot definitions.now (spot_of self.old) gives (name_tree name.now) (map name_tree params.now)) }
+        ensures faults { OnOk result (self.new.least ≡ least_of self.old.least (head_faults definitions.now (spot_of self.old) gives (name_tree name.now) (map name_tree params.now))) }
+        ensures named { IfOk result (λ b. b.name.items ≡ name.now.text.items) }
+        ensures given { IfOk result (λ b. b.gives ≡ gives) }
+        ensures taken { IfOk result (λ b. b.params ≡ length params.now) }
+        ensures outer { IfOk result (λ b. b.scope.outer ≡ self.old.outer) }
+        ensures inner { IfOk result (λ b. b.scope.count ≡ length (with_function definitions.now self.old.names gives (name_tree name.now) (length params.now) true)) }
+        ensures body { IfOk result (λ b. b.body.items ≡ []) }
+    {
+        let alloc = self.alloc;
+        let count = params.len();
+        self.head(definitions, gives, name, count)?;
+        let text = Vec::from_slice(alloc, &name.text)?;
+        let (text, scope) = both(text, self.enter_function(params))?;
+        Ok(Begun {
+            name: text,
+            gives,
+            params: count,
+            scope,
+            body: Vec::new(alloc),
+        })
     }
 }
 
@@ -396,49 +474,51 @@ impl Items {
         Ok(())
     }
 
-    // Begins a definition: its name and its parameters.
-    pub fn begin(
-        &mut self,
-        gives: bool,
-        name: &Name,
-        params: &[Name],
-    ) -> Result<Begun, AllocError>
+    // A definition.
+    fn function(&mut self, raw: &RawFunction) -> Result<(), AllocError>
+        ensures sofar { OnOk result (sofar_of self.new ≡ item_after self.old.definitions (sofar_of self.old) (raw_item_tree (RawItem.Function raw.now))) }
+        ensures definitions { OnOk result (self.new.definitions ≡ self.old.definitions) }
+        ensures faults { OnOk result (self.new.place.least ≡ least_of self.old.place.least (item_faults self.old.definitions (sofar_of self.old) (raw_item_tree (RawItem.Function raw.now)))) }
+        ensures counted { OnOk result (IsCounted self.old → IsCounted self.new) }
     {
         let alloc = self.place.alloc;
-        let count = params.len();
+        let name = &raw.name;
+        let params = raw.params.len();
         let definition = self.definitions.find(&name.text);
         let found = self.place.names.find(&name.text);
         let least = &mut self.place.least;
-        check_function(least, true, gives, count, name.at, found);
-        check_main(least, name, count);
+        check_function(least, true, raw.gives, params, name.at, found);
+        check_main(least, name, params);
         let meaning = Meaning::Function {
             function: function_of(definition),
-            gives,
-            params: count,
+            gives: raw.gives,
+            params,
             defined: true,
         };
         bind(&mut self.place.names, &name.text, meaning)?;
         let text = Vec::from_slice(alloc, &name.text)?;
-        let (text, scope) = both(text, self.place.enter_function(params))?;
-        Ok(Begun {
+        let (text, body) = both(text, self.place.function_body(raw))?;
+        let sizes = mem::replace(&mut self.place.sizes, Vec::new(alloc));
+        self.locals = larger(self.locals, declared_words(&sizes, params));
+        self.functions.push(Function {
             name: text,
-            gives,
-            params: count,
-            scope,
-            body: Vec::new(alloc),
-        })
-    }
-
-    // One more statement of its body.
-    pub fn statement(&mut self, begun: &mut Begun, raw: &RawStmt) -> Result<(), AllocError>
-    {
-        let body = mem::replace(&mut begun.body, Vec::new(self.place.alloc));
-        begun.body = self.place.next_statement(begun.gives, body, raw)?;
+            params: number(params),
+            gives: raw.gives,
+            sizes,
+            body,
+        })?;
         Ok(())
     }
 
-    // Its end.
+    /// Ends a definition.
     pub fn end(&mut self, begun: Begun) -> Result<(), AllocError>
+        ensures place { OnOk result (spot_of self.new.place ≡ record (spot_of self.old.place) { names = drop (length self.old.place.names - begun.scope.count) self.old.place.names; outer = begun.scope.outer; sizes = [] }) }
+        ensures faults { OnOk result (self.new.place.least ≡ self.old.place.least) }
+        ensures definitions { OnOk result (self.new.definitions ≡ self.old.definitions) }
+        ensures globals { OnOk result (self.new.globals ≡ self.old.globals) }
+        ensures tables { OnOk result (self.new.tables ≡ self.old.tables) }
+        ensures functions { OnOk result (map function_tree self.new.functions.items ≡ map function_tree self.old.functions.items ++ record { name = begun.name.items; params = capped begun.params; gives = begun.gives; sizes = self.old.place.sizes.items; body = stmt_trees begun.body.items } ∷ []) }
+        ensures locals { OnOk result (self.new.locals ≡ max self.old.locals (capped (sum (drop begun.params self.old.place.sizes.items)))) }
     {
         let Begun {
             name,
@@ -459,16 +539,6 @@ impl Items {
             body,
         })?;
         Ok(())
-    }
-
-    // A definition.
-    fn function(&mut self, raw: &RawFunction) -> Result<(), AllocError>
-    {
-        let mut begun = self.begin(raw.gives, &raw.name, &raw.params)?;
-        for stmt in &raw.body {
-            self.statement(&mut begun, stmt)?;
-        }
-        self.end(begun)
     }
 
     /// Resolves one more item.
