@@ -42,9 +42,13 @@ pub then_passed : (r : Received) (ys : List RawStmtTree) → then_all (Passed r)
 unfolding then_all
 then_passed r ys = refl
 
+pub listed_gathered : (xs : List RawStmtTree) → listed (Gathered xs) ≡ xs
+unfolding listed
+listed_gathered xs = refl
+
 -- a list is the gathered statements and those after them
 pub listed_then : (s : SoFar) (ys zs : List RawStmtTree) → then_all s ys ≡ Gathered zs → listed s ++ ys ≡ zs
-unfolding then_all
+unfolding then_all listed
 listed_then (Gathered ss) ys zs e = cc
 listed_then (Passed r) ys zs e = cc
 
@@ -56,4 +60,4 @@ followed s t u xs ys zs ht hu e = hu ∙ (ap (λ x. then_all x ys) ht ∙ (then_
 pub then_pushed : (s t u : SoFar) (a : List RawStmtTree) (x y : RawStmtTree) → t ≡ then_all s a → u ≡ then_all t (x ∷ []) → x ≡ y → u ≡ then_all s (a ++ y ∷ [])
 then_pushed s t u a x y ht hu hx = hu ∙ (λ i. then_all (ht i) (hx i ∷ [])) ∙ then_then s a (y ∷ [])
 
-pub ruleset following = (common_steps, then_then, then_none, then_gathered)
+pub ruleset following = (common_steps, then_then, then_none, then_gathered, listed_gathered)

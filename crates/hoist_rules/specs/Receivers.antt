@@ -29,7 +29,7 @@ so_far (Statements.Gathered ss) = Gathered (map raw_stmt_tree ss.items)
 so_far (Statements.Passed r) = Passed (received r)
 
 -- the gathered statements
-abbrev pub listed : SoFar → List RawStmtTree
+unfoldable pub listed : SoFar → List RawStmtTree
 listed (Gathered ss) = ss
 listed (Passed r) = []
 
