@@ -1,4 +1,4 @@
-use Rattle.std.proofs.Common.{◌∙◌, ap}
+use Rattle.std.proofs.Common.{◌∙◌, ap, None}
 use Rattle.c_tree.specs.RawViews.{raw_item_trees}
 use Rattle.scope_rules.specs.Faults.{least_of}
 use Rattle.scope_rules.specs.Items.{at_start, items_after, items_faults}
@@ -15,5 +15,5 @@ returns c =
     let read = c.in_ok-items-2.ensures in
     read_all c.items.new.self is defs read.definitions (begun.definitions ∙ c.in_ok-definitions.ensures)
     (read.sofar ∙ ap (λ x. items_after defs x is) begun.sofar)
-    (read.faults ∙ (ap (λ x. least_of x (items_faults defs (sofar_of first) is)) begun.faults ∙ ap (λ x. least_of _ (items_faults defs x is)) begun.sofar))
+    (read.faults ∙ (ap (λ x. least_of x (items_faults defs (sofar_of first) is)) begun.faults ∙ ap (λ x. least_of None (items_faults defs x is)) begun.sofar))
     (read.counted begun.counted)
