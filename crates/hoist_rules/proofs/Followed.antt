@@ -52,9 +52,8 @@ unfolding then_all listed
 listed_then (Gathered ss) ys zs e = cc
 listed_then (Passed r) ys zs e = cc
 
--- some, and then some more
-pub followed : (s t u : SoFar) (xs ys zs : List RawStmtTree) → t ≡ then_all s xs → u ≡ then_all t ys → xs ++ ys ≡ zs → u ≡ then_all s zs
-followed s t u xs ys zs ht hu e = hu ∙ (ap (λ x. then_all x ys) ht ∙ (then_then s xs ys ∙ ap (then_all s) e))
+pub passed_same : (r s : Received) → Passed r ≡ Passed s → r ≡ s
+passed_same r s e = cc
 
 -- some, and then one more
 pub then_pushed : (s t u : SoFar) (a : List RawStmtTree) (x y : RawStmtTree) → t ≡ then_all s a → u ≡ then_all t (x ∷ []) → x ≡ y → u ≡ then_all s (a ++ y ∷ [])

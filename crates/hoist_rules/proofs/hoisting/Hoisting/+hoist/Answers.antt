@@ -1,10 +1,12 @@
 use Rattle.std.proofs.Common.{◌≡◌, ◌+◌, [], ◌∷◌, ◌++◌, ◌∙◌, map, drop, nat_lt, sym, ap, arith}
 use Rattle.std.proofs.lemmas.List.{map_push, drop_all}
+use Rattle.std.proofs.lemmas.Result.{on_ok_weaker}
 use Rattle.c_tree.specs.RawTrees.{RawConditional, RawCall, RawTableCall}
 use Rattle.c_tree.specs.RawViews.{name_tree, raw_expr_tree, raw_expr_trees, raw_chained}
 use Rattle.c_tree.proofs.Cuts.{drop_at}
-use Rattle.c_tree.proofs.RawExprEquations.{raw_operand_tree, raw_expr_tree-Chain, raw_expr_tree-Conditional, raw_expr_tree-Call, raw_expr_tree-TableCall}
+use Rattle.c_tree.proofs.RawExprEquations.{raw_operand_tree, raw_expr_tree-Number, raw_expr_tree-Name, raw_expr_tree-Chain, raw_expr_tree-Conditional, raw_expr_tree-Call, raw_expr_tree-TableCall}
 use Rattle.hoist_parts.specs.Arguments.{calls_among}
+use Rattle.hoist_parts.specs.Expressions.{before}
 use Rattle.hoist_parts.specs.Chains.{chain_tree, operand_trees}
 use Rattle.hoist_parts.proofs.NoCalls.{no_left, no_before, no_names}
 use Rattle.hoist_rules.specs.Receivers.{so_far, then_all}
@@ -137,3 +139,29 @@ expression-returns-in_ok-choice-in-Ok-kept-2-clause-next t c =
     let seen : raw_expr_tree c.args.raw.now ≡ RawConditional condition first second = ap raw_expr_tree c.in-Conditional.is ∙ raw_expr_tree-Conditional c.in-Conditional.condition c.in-Conditional.then c.in-Conditional.otherwise in
     calling.kept_names c.args.self.now.next _ _ _ _ (raw_expr_tree c.args.raw.now) condition first second _ _ _ seen (ap raw_expr_tree c.deref-in-Conditional-3.ensures) (ap raw_expr_tree c.deref-in-Conditional.ensures) (ap raw_expr_tree c.deref-in-Conditional-2.ensures)
     c.either_holds_call-is_branched.ensures c.if-is_branched.false c.in_ok-condition-in-Conditional.ensures.next c.in-Ok-kept.ensures.next c.in-Ok-kept-2.ensures.next
+
+pub expression-returns-in-Number-clause-before : goal.expression-returns-in-Number-clause-before
+expression-returns-in-Number-clause-before t c =
+    let s = so_far c.args.self.now.statements in
+    sym (then_none s) ∙ ap (λ e. then_all s (before c.args.self.now.next e)) (sym (ap raw_expr_tree c.in-Number.is ∙ raw_expr_tree-Number c.in-Number.value))
+
+pub expression-returns-in_ok-copied-in-Name-clause-before : goal.expression-returns-in_ok-copied-in-Name-clause-before
+expression-returns-in_ok-copied-in-Name-clause-before t c =
+    let s = so_far c.args.self.now.statements in
+    sym (then_none s) ∙ ap (λ e. then_all s (before c.args.self.now.next e)) (sym (ap raw_expr_tree c.in-Name.is ∙ raw_expr_tree-Name c.in-Name.name))
+
+pub expression-returns-in_Ok-second-in-Conditional-clause-before : goal.expression-returns-in_Ok-second-in-Conditional-clause-before
+expression-returns-in_Ok-second-in-Conditional-clause-before t c =
+    let condition = raw_expr_tree c.in-Conditional.condition.value in
+    let first = raw_expr_tree c.in-Conditional.then.value in
+    let second = raw_expr_tree c.in-Conditional.otherwise.value in
+    let seen : raw_expr_tree c.args.raw.now ≡ RawConditional condition first second = ap raw_expr_tree c.in-Conditional.is ∙ raw_expr_tree-Conditional c.in-Conditional.condition c.in-Conditional.then c.in-Conditional.otherwise in
+    let test = c.in_ok-condition-in-Conditional.ensures in
+    let one = c.in_Ok-first-in-Conditional.ensures in
+    let other = c.in_Ok-second-in-Conditional.ensures in
+    on_ok_weaker c.choose.result
+    (λ h. calling.chosen_pushed c.args.self.now.next _ _ _ _ _ (raw_expr_tree c.args.raw.now) condition first second _ _ _ _ _ _ _ _ (so_far c.args.self.now.statements) (so_far c.expression-in-Conditional.new.self.statements)
+    (so_far c.branch-second.new.self.statements) _ seen (ap raw_expr_tree c.deref-in-Conditional-3.ensures)
+    (ap raw_expr_tree c.deref-in-Conditional.ensures) (ap raw_expr_tree c.deref-then-is_branched.ensures) (ap raw_expr_tree c.deref-in-Conditional-2.ensures) (ap raw_expr_tree c.deref-then-is_branched-2.ensures)
+    c.either_holds_call-is_branched.ensures c.if-is_branched.true test.left test.before test.next
+    c.in-Ok.ensures.number (ap so_far (other.outer ∙ one.outer) ∙ c.in-Ok.ensures.before) c.in-Ok.ensures.next one.block one.next other.block h) c.choose.ensures.before
