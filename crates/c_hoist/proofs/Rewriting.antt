@@ -1,13 +1,17 @@
 -- A source that is rewritten and read item by item.
-use Rattle.std.proofs.Common.{◌≡◌, refl, sym, ap, ◌∙◌, List, [], ◌∷◌, ◌++◌, append_assoc, append-nil, None}
-use Rattle.c_tree.specs.RawTrees.{RawItemTree, RawGlobal, RawGlobalArray, RawTableItem, RawPrototypeItem, RawFunctionItem}
+use Rattle.std.proofs.Common.{◌≡◌, refl, sym, ap, subst, ◌∙◌, Bool, List, [], ◌∷◌, ◌++◌, append_assoc, append-nil, None}
+use Rattle.c_tree.specs.RawTrees.{NameTree, RawStmtTree, RawStmtTrees, RawItemTree, RawGlobal, RawGlobalArray, RawTableItem, RawPrototypeItem, RawFunctionItem}
 use Rattle.grammar_laws.specs.Nested.{is_call}
-use Rattle.grammar_laws.specs.Places.{item_places, items_places}
+use Rattle.grammar_laws.specs.Places.{stmts_places, item_places, items_places}
+use Rattle.call_places.proofs.NoNames.{no_declared}
 use Rattle.scope_rules.specs.declared.resolver.Resolver.{Resolver}
 use Rattle.scope_rules.specs.Names.{Binding}
 use Rattle.scope_rules.specs.Faults.{least_of}
 use Rattle.scope_rules.specs.Items.{with_definition, with_definitions, definitions, at_start, items_after, items_faults}
-use Rattle.scope_rules.specs.Reading.{HasRead}
+use Rattle.scope_rules.specs.ItemViews.{sofar_of}
+use Rattle.scope_rules.specs.Making.{Making, IsMaking, with_statements}
+use Rattle.scope_rules.specs.Reading.{Agrees, HasRead}
+use Rattle.scope_rules.proofs.Makings.{next_statements}
 use Rattle.hoist_parts.specs.Statements.{item_hoisted, items_hoisted}
 
 definition_kept : (ds : List Binding) (i : RawItemTree) → with_definition ds (item_hoisted i) ≡ with_definition ds i
@@ -27,7 +31,7 @@ read_of_hoisted r is read h =
     let e : definitions is ≡ definitions (items_hoisted is) = sym (definitions_kept [] is) in
     record {
       defined = h.defined ∙ e;
-      sofar = h.sofar ∙ ap (λ ds. items_after ds at_start read) e;
+      sofar = subst (λ ds. Agrees (sofar_of r.items) (items_after ds at_start read)) e h.sofar;
       faults = h.faults ∙ ap (λ ds. least_of None (items_faults ds at_start read)) e;
       counted = h.counted;
     }
@@ -37,3 +41,12 @@ pub places_of_one_more : (is : List RawItemTree) (i : RawItemTree) → items_pla
 places_of_one_more [] i = append-nil (item_places is_call i)
 places_of_one_more (j ∷ is) i =
     ap (λ ps. item_places is_call j ++ ps) (places_of_one_more is i) ∙ sym (append_assoc (item_places is_call j) (items_places is_call is) (item_places is_call i))
+
+-- a definition, after its statements
+pub all_statements : (m e : Making) (all read : List RawItemTree) (gives : Bool) (n : NameTree) (params : List NameTree) (ss : List RawStmtTree)
+    → e ≡ with_statements m ss → IsMaking m all read gives n params [] → IsMaking e all read gives n params ss
+all_statements m e all read gives n params ss same h = subst (λ x. IsMaking x all read gives n params ss) (sym same) (next_statements m all read gives n params [] ss h)
+
+-- the places of its calls are those of its statements
+pub places_of_function : (gives : Bool) (n : NameTree) (params : List NameTree) (body : RawStmtTrees) → item_places is_call (RawFunctionItem gives n params body) ≡ stmts_places is_call body
+places_of_function gives n params body = ap (λ x. x ++ stmts_places is_call body) (no_declared params)

@@ -4,8 +4,8 @@ ghost use Rattle.c_tree.specs.RawTrees.{RawItemTree};
 ghost use Rattle.c_tree.specs.Trees.{ProgramTree};
 ghost use Rattle.c_tree.specs.ProgramView.{program_tree};
 ghost use Rattle.c_tree.specs.RawProgramView.{raw_program_tree};
-ghost use Rattle.c_tree.specs.RawViews.{raw_item_tree, raw_item_trees};
-ghost use Rattle.c_tree.specs.WholeForParts.{IsItemForWhole, AreForPartsWhole};
+ghost use Rattle.c_tree.specs.RawViews.{raw_stmt_trees, raw_item_tree, raw_item_trees};
+ghost use Rattle.c_tree.specs.WholeForParts.{AreForsWhole, IsItemForWhole, AreForPartsWhole};
 ghost use Rattle.grammar_laws.specs.Nested.{is_call};
 ghost use Rattle.grammar_laws.specs.Places.{item_places, items_places};
 ghost use Rattle.scope_rules.specs.Reading.{HasRead};
@@ -15,10 +15,10 @@ ghost use Rattle.c_hoist.specs.NestedText.{IsHoistedTo, IsRefusedHoisted, ReadsN
 use c_lex::lex;
 use c_parse::parse_nested;
 use c_scope::SourceError;
-use c_tree::{Program, RawItem, RawProgram};
+use c_tree::{Program, RawFunction, RawItem, RawProgram};
 use call_numbers::numbers_by_places;
 use call_places::add_places_of_calls;
-use hoist_rules::hoist_item;
+use hoist_rules::{Receiver, hoist_body};
 use scope_rules::{Resolver, ScopeError};
 use std::alloc::{AllocError, Global};
 
@@ -68,17 +68,48 @@ struct Rewriting {
 }
 
 impl Rewriting {
-    // One more item. It is freed before it is resolved, and what it is rewritten to behind that.
-    fn item(&mut self, alloc: Global, raw: RawItem) -> Result<(), AllocError>
-        requires { IsItemForWhole (raw_item_tree raw) }
-        ensures read { OnOk result ((all read : List RawItemTree) → HasRead self.old.resolver all read → HasRead self.new.resolver all (read ++ item_hoisted (raw_item_tree raw) ∷ [])) }
-        ensures places { OnOk result (self.new.places.items ≡ self.old.places.items ++ item_places is_call (item_hoisted (raw_item_tree raw))) }
+    // One more definition, whose statements are resolved as soon as they are made.
+    fn function(self, alloc: Global, raw: &RawFunction) -> Result<Rewriting, AllocError>
+        requires { AreForsWhole (raw_stmt_trees raw.now.body.items) }
+        ensures read { IfOk result (λ w. (all read : List RawItemTree) → HasRead self.resolver all read → HasRead w.resolver all (read ++ item_hoisted (raw_item_tree (RawItem.Function raw.now)) ∷ [])) }
+        ensures places { IfOk result (λ w. w.places.items ≡ self.places.items ++ item_places is_call (item_hoisted (raw_item_tree (RawItem.Function raw.now)))) }
     {
-        let hoisted = hoist_item(alloc, &raw)?;
-        add_places_of_calls(&mut self.places, &hoisted)?;
-        drop(raw);
-        self.resolver.item(&hoisted)?;
-        Ok(())
+        let Rewriting { resolver, places } = self;
+        let resolver = resolver.begin(alloc, raw.gives, &raw.name, &raw.params)?;
+        let begun = Receiver { resolver, places };
+        let ended = hoist_body(alloc, &raw.body, begun)?;
+        let Receiver { resolver, places } = ended;
+        let resolver = resolver.end()?;
+        Ok(Rewriting { resolver, places })
+    }
+
+    // One more item other than a definition, which stays the same.
+    fn kept(self, raw: &RawItem) -> Result<Rewriting, AllocError>
+        ensures read { IfOk result (λ w. (all read : List RawItemTree) → HasRead self.resolver all read → HasRead w.resolver all (read ++ raw_item_tree raw.now ∷ [])) }
+        ensures places { IfOk result (λ w. w.places.items ≡ self.places.items ++ item_places is_call (raw_item_tree raw.now)) }
+    {
+        let Rewriting {
+            mut resolver,
+            mut places,
+        } = self;
+        add_places_of_calls(&mut places, raw)?;
+        resolver.item(raw)?;
+        Ok(Rewriting { resolver, places })
+    }
+
+    // One more item, which is freed behind that.
+    fn item(self, alloc: Global, raw: RawItem) -> Result<Rewriting, AllocError>
+        requires { IsItemForWhole (raw_item_tree raw) }
+        ensures read { IfOk result (λ w. (all read : List RawItemTree) → HasRead self.resolver all read → HasRead w.resolver all (read ++ item_hoisted (raw_item_tree raw) ∷ [])) }
+        ensures places { IfOk result (λ w. w.places.items ≡ self.places.items ++ item_places is_call (item_hoisted (raw_item_tree raw))) }
+    {
+        match &raw {
+            RawItem::Function(function) => self.function(alloc, function),
+            RawItem::Global { .. }
+            | RawItem::GlobalArray { .. }
+            | RawItem::Table(_)
+            | RawItem::Prototype(_) => self.kept(&raw),
+        }
     }
 }
 
@@ -93,7 +124,7 @@ fn rewritten(alloc: Global, raw: Vec<RawItem>) -> Result<Rewriting, AllocError>
         places: Vec::new(alloc),
     };
     for item in raw {
-        rewritten.item(alloc, item)?;
+        rewritten = rewritten.item(alloc, item)?;
     }
     Ok(rewritten)
 }

@@ -159,6 +159,17 @@ fn add_step(places: &mut Vec<u32>, step: &Option<RawSimple>) -> Result<(), Alloc
     }
 }
 
+/// Adds the places of the calls of one statement, in the order of the tree.
+///
+/// # Errors
+///
+/// Memory ran out.
+pub fn add_places_of_calls_in(places: &mut Vec<u32>, stmt: &RawStmt) -> Result<(), AllocError>
+    ensures { OnOk result (places.new.items ≡ places.old.items ++ stmt_places is_call (raw_stmt_tree stmt.now)) }
+{
+    add_stmt(places, stmt)
+}
+
 #[cycle(stmts)]
 fn add_stmt(places: &mut Vec<u32>, stmt: &RawStmt) -> Result<(), AllocError>
     ensures { OnOk result (places.new.items ≡ places.old.items ++ stmt_places is_call (raw_stmt_tree stmt.now)) }

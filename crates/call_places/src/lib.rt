@@ -10,4 +10,4 @@
 
 mod calls;
 
-pub use calls::{add_places_of_calls, places_of_calls};
+pub use calls::{add_places_of_calls, add_places_of_calls_in, places_of_calls};

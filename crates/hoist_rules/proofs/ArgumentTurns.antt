@@ -6,6 +6,8 @@ use Rattle.c_tree.specs.RawViews.{raw_arguments}
 use Rattle.hoist_parts.specs.Calls.{holds_call, hold_call}
 use Rattle.hoist_parts.specs.Expressions.{one_if, arguments_names, arguments_left, arguments_before}
 use Rattle.hoist_parts.specs.Arguments.{calls_among, passed_left, passed_before, passed_after}
+use Rattle.hoist_rules.specs.Receivers.{SoFar, then_all}
+use Rattle.hoist_rules.proofs.Followed.{then_then}
 
 -- expressions, and then arguments
 abbrev pub then_trees : List RawExprTree → RawExprTrees → RawExprTrees
@@ -56,14 +58,14 @@ turn_left stays later k n xs x e es whole hl hx hn h =
     ∙ ap (then_trees xs) (sym (one_left stays k e es))
     ∙ h
 
-pub turn_before : (stays later : Bool) (k n : ℕ) (e : RawExprTree) (es : RawExprTrees) (s t whole : List RawStmtTree) →
-    later ≡ hold_call es → t ≡ s ++ passed_before stays later k e → n ≡ passed_after stays later k e →
-    s ++ arguments_before stays k (And e es) ≡ whole → t ++ arguments_before false n es ≡ whole
+pub turn_before : (stays later : Bool) (k n : ℕ) (e : RawExprTree) (es : RawExprTrees) (s t whole : SoFar) →
+    later ≡ hold_call es → t ≡ then_all s (passed_before stays later k e) → n ≡ passed_after stays later k e →
+    then_all s (arguments_before stays k (And e es)) ≡ whole → then_all t (arguments_before false n es) ≡ whole
 turn_before stays later k n e es s t whole hl ht hn h =
-    (λ i. ht i ++ arguments_before false (hn i) es)
-    ∙ append_assoc s (passed_before stays later k e) (arguments_before false (passed_after stays later k e) es)
-    ∙ ap (λ b. s ++ (passed_before stays b k e ++ arguments_before false (passed_after stays b k e) es)) hl
-    ∙ ap (λ b. s ++ b) (sym (one_before stays k e es))
+    (λ i. then_all (ht i) (arguments_before false (hn i) es))
+    ∙ then_then s (passed_before stays later k e) (arguments_before false (passed_after stays later k e) es)
+    ∙ ap (λ b. then_all s (passed_before stays b k e ++ arguments_before false (passed_after stays b k e) es)) hl
+    ∙ ap (then_all s) (sym (one_before stays k e es))
     ∙ h
 
 pub turn_after : (stays later : Bool) (k n whole : ℕ) (e : RawExprTree) (es : RawExprTrees) →

@@ -5,3 +5,4 @@ pub mod Pushes
 pub mod BodyTurns
 pub mod OperatorTurns
 pub mod CallTurns
+pub mod Followed

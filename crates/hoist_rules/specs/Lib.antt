@@ -1,1 +1,2 @@
 pub mod HoistExamples
+pub mod Receivers

@@ -1,11 +1,13 @@
 // Bodies, and the loop of a `while` whose condition contains a call.
-ghost use Rattle.std.specs.Prelude.{◌≡◌, [], ◌∷◌, ◌++◌, map, IfOk, OnOk};
+ghost use Rattle.std.specs.Prelude.{◌≡◌, [], ◌∷◌, map, IfOk, OnOk};
 ghost use Rattle.c_tree.specs.RawTrees.{RawNumber, RawIf, RawWhile, RawBreak};
 ghost use Rattle.c_tree.specs.RawViews.{raw_expr_tree, raw_stmt_tree};
 ghost use Rattle.hoist_parts.specs.Expressions.{is_false, in_block};
 ghost use Rattle.hoist_parts.specs.Statements.{as_body};
+ghost use Rattle.hoist_rules.specs.Receivers.{listed, so_far, then_all};
 
-use crate::hoisting::{Hoisting, fitted};
+use crate::hoisting::Hoisting;
+use crate::receivers::Statements;
 use c_tree::{RawExpr, RawStmt};
 use hoist_parts::is_false;
 use std::alloc::{AllocError, Global};
@@ -15,7 +17,7 @@ fn as_body(mut statements: Vec<RawStmt>) -> RawStmt
     ensures { raw_stmt_tree result ≡ as_body (map raw_stmt_tree statements.items) }
 {
     if 1 < statements.len() {
-        return RawStmt::Block(fitted(statements));
+        return RawStmt::Block(statements);
     }
     match statements.pop() {
         Some(one) => one,
@@ -34,33 +36,33 @@ pub(crate) fn ends_unless(alloc: Global, condition: RawExpr) -> Result<RawStmt, 
 
 impl Hoisting {
     /// Returns the body of the statements since `enter` returned `outer`, in a box.
-    pub(crate) fn leave_body(&mut self, outer: Vec<RawStmt>) -> Result<Box<RawStmt>, AllocError>
-        ensures body { IfOk result (λ s. raw_stmt_tree s.value ≡ as_body (map raw_stmt_tree self.old.statements.items)) }
-        ensures outer { self.new.statements ≡ outer }
-        ensures next { self.new.next ≡ self.old.next }
+    pub(crate) fn leave_body(&mut self, outer: Statements) -> Result<Box<RawStmt>, AllocError>
+        ensures body { IfOk result (λ s. raw_stmt_tree s.value ≡ as_body (listed (so_far self.old.statements))) }
+        ensures outer { OnOk result (self.new.statements ≡ outer) }
+        ensures next { OnOk result (self.new.next ≡ self.old.next) }
     {
         let alloc = self.alloc;
-        let body = as_body(self.leave(outer));
+        let body = as_body(self.leave(outer)?);
         Ok(Box::new(alloc, body)?)
     }
 
     /// Appends that body to the statements of `outer`.
-    pub(crate) fn push_body(&mut self, outer: Vec<RawStmt>) -> Result<(), AllocError>
-        ensures statements { OnOk result (map raw_stmt_tree self.new.statements.items ≡ map raw_stmt_tree outer.items ++ as_body (map raw_stmt_tree self.old.statements.items) ∷ []) }
+    pub(crate) fn push_body(&mut self, outer: Statements) -> Result<(), AllocError>
+        ensures statements { OnOk result (so_far self.new.statements ≡ then_all (so_far outer) (as_body (listed (so_far self.old.statements)) ∷ [])) }
         ensures next { self.new.next ≡ self.old.next }
     {
-        let body = as_body(self.leave(outer));
+        let body = as_body(self.leave(outer)?);
         self.push(body)
     }
 
     /// Appends `while (1) { .. }`, with the statements since `enter` returned `outer`, to those of
     /// `outer`.
-    pub(crate) fn push_loop(&mut self, outer: Vec<RawStmt>) -> Result<(), AllocError>
-        ensures statements { OnOk result (map raw_stmt_tree self.new.statements.items ≡ map raw_stmt_tree outer.items ++ RawWhile (RawNumber 1) (in_block (map raw_stmt_tree self.old.statements.items)) ∷ []) }
+    pub(crate) fn push_loop(&mut self, outer: Statements) -> Result<(), AllocError>
+        ensures statements { OnOk result (so_far self.new.statements ≡ then_all (so_far outer) (RawWhile (RawNumber 1) (in_block (listed (so_far self.old.statements))) ∷ [])) }
         ensures next { self.new.next ≡ self.old.next }
     {
         let alloc = self.alloc;
-        let turn = RawStmt::Block(fitted(self.leave(outer)));
+        let turn = RawStmt::Block(self.leave(outer)?);
         let body = Box::new(alloc, turn)?;
         let condition = RawExpr::Number(1);
         self.push(RawStmt::While { condition, body })

@@ -1,13 +1,15 @@
 // The statements before a logical operator and a conditional: a new name, and a branch that sets it.
-ghost use Rattle.std.specs.Prelude.{◌≡◌, ◌+◌, [], ◌∷◌, ◌++◌, map, IfOk, OnOk};
+ghost use Rattle.std.specs.Prelude.{◌≡◌, ◌+◌, [], ◌∷◌, ◌++◌, IfOk, OnOk};
 ghost use Rattle.c_tree.specs.RawTrees.{RawIf, RawIfElse};
 ghost use Rattle.c_tree.specs.RawViews.{raw_expr_tree, raw_stmt_tree};
 ghost use Rattle.hoist_parts.specs.NewNames.{used, declared, declared_as, set_to};
 ghost use Rattle.hoist_parts.specs.Expressions.{in_block, is_true};
 ghost use Rattle.hoist_parts.specs.Chains.{chain_tree, condition_by};
+ghost use Rattle.hoist_rules.specs.Receivers.{listed, so_far, then_all};
 
 use crate::built::boxed_pair;
-use crate::hoisting::{Hoisting, fitted};
+use crate::hoisting::Hoisting;
+use crate::receivers::Statements;
 use c_tree::{Infix, RawExpr, RawStmt};
 use hoist_parts::{Chain, condition_by, is_true, used};
 use std::alloc::AllocError;
@@ -16,7 +18,7 @@ impl Hoisting {
     /// Appends `int h = l != 0;` for the next new name and a left operand, and returns the name's number.
     pub(crate) fn declare_truth(&mut self, left: Chain) -> Result<u32, AllocError>
         ensures number { IfOk result (λ k. k ≡ self.old.next) }
-        ensures before { OnOk result (map raw_stmt_tree self.new.statements.items ≡ map raw_stmt_tree self.old.statements.items ++ declared_as self.old.next (is_true (chain_tree left)) ∷ []) }
+        ensures before { OnOk result (so_far self.new.statements ≡ then_all (so_far self.old.statements) (declared_as self.old.next (is_true (chain_tree left)) ∷ [])) }
         ensures next { OnOk result (self.new.next ≡ self.old.next + 1) }
     {
         let alloc = self.alloc;
@@ -37,7 +39,7 @@ impl Hoisting {
     /// Appends `int h;` for the next new name, and returns its number.
     pub(crate) fn declare_next(&mut self) -> Result<u32, AllocError>
         ensures number { IfOk result (λ k. k ≡ self.old.next) }
-        ensures before { OnOk result (map raw_stmt_tree self.new.statements.items ≡ map raw_stmt_tree self.old.statements.items ++ declared self.old.next ∷ []) }
+        ensures before { OnOk result (so_far self.new.statements ≡ then_all (so_far self.old.statements) (declared self.old.next ∷ [])) }
         ensures next { OnOk result (self.new.next ≡ self.old.next + 1) }
     {
         let number = self.number()?;
@@ -49,16 +51,16 @@ impl Hoisting {
     /// with a number.
     pub(crate) fn set_in_block(
         &mut self,
-        outer: Vec<RawStmt>,
+        outer: Statements,
         number: u32,
         value: RawExpr,
     ) -> Result<RawStmt, AllocError>
-        ensures block { IfOk result (λ s. raw_stmt_tree s ≡ in_block (map raw_stmt_tree self.old.statements.items ++ set_to number (raw_expr_tree value) ∷ [])) }
+        ensures block { IfOk result (λ s. raw_stmt_tree s ≡ in_block (listed (so_far self.old.statements) ++ set_to number (raw_expr_tree value) ∷ [])) }
         ensures outer { OnOk result (self.new.statements ≡ outer) }
         ensures next { OnOk result (self.new.next ≡ self.old.next) }
     {
         match self.set(number, value) {
-            Ok(()) => Ok(RawStmt::Block(fitted(self.leave(outer)))),
+            Ok(()) => Ok(RawStmt::Block(self.leave(outer)?)),
             Err(error) => {
                 drop(outer);
                 Err(error)
@@ -73,7 +75,7 @@ impl Hoisting {
         number: u32,
         block: RawStmt,
     ) -> Result<(), AllocError>
-        ensures statements { OnOk result (map raw_stmt_tree self.new.statements.items ≡ map raw_stmt_tree self.old.statements.items ++ RawIf (condition_by operator number) (raw_stmt_tree block) ∷ []) }
+        ensures statements { OnOk result (so_far self.new.statements ≡ then_all (so_far self.old.statements) (RawIf (condition_by operator number) (raw_stmt_tree block) ∷ [])) }
         ensures next { OnOk result (self.new.next ≡ self.old.next) }
     {
         let alloc = self.alloc;
@@ -91,13 +93,13 @@ impl Hoisting {
     /// is what remains of r, and returns the remaining expression.
     pub(crate) fn decide(
         &mut self,
-        outer: Vec<RawStmt>,
+        outer: Statements,
         operator: Infix,
         number: u32,
         value: RawExpr,
     ) -> Result<Chain, AllocError>
         ensures left { IfOk result (λ c. chain_tree c ≡ used number) }
-        ensures before { OnOk result (map raw_stmt_tree self.new.statements.items ≡ map raw_stmt_tree outer.items ++ RawIf (condition_by operator number) (in_block (map raw_stmt_tree self.old.statements.items ++ set_to number (is_true (raw_expr_tree value)) ∷ [])) ∷ []) }
+        ensures before { OnOk result (so_far self.new.statements ≡ then_all (so_far outer) (RawIf (condition_by operator number) (in_block (listed (so_far self.old.statements) ++ set_to number (is_true (raw_expr_tree value)) ∷ [])) ∷ [])) }
         ensures next { OnOk result (self.new.next ≡ self.old.next) }
     {
         let alloc = self.alloc;
@@ -125,7 +127,7 @@ impl Hoisting {
         second: RawStmt,
     ) -> Result<RawExpr, AllocError>
         ensures left { IfOk result (λ e. raw_expr_tree e ≡ used number) }
-        ensures before { OnOk result (map raw_stmt_tree self.new.statements.items ≡ map raw_stmt_tree self.old.statements.items ++ RawIfElse (raw_expr_tree condition) (raw_stmt_tree first) (raw_stmt_tree second) ∷ []) }
+        ensures before { OnOk result (so_far self.new.statements ≡ then_all (so_far self.old.statements) (RawIfElse (raw_expr_tree condition) (raw_stmt_tree first) (raw_stmt_tree second) ∷ [])) }
         ensures next { OnOk result (self.new.next ≡ self.old.next) }
     {
         let alloc = self.alloc;

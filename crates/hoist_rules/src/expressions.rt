@@ -1,11 +1,12 @@
 // The rewriting of an expression.
-ghost use Rattle.std.specs.Prelude.{◌≡◌, ◌+◌, false, [], ◌∷◌, ◌++◌, map, IfOk, OnOk};
+ghost use Rattle.std.specs.Prelude.{◌≡◌, ◌+◌, false, [], ◌∷◌, ◌++◌, IfOk, OnOk};
 ghost use Rattle.c_tree.specs.RawViews.{name_tree, raw_expr_tree, raw_expr_trees, raw_stmt_tree};
 ghost use Rattle.hoist_parts.specs.NewNames.{set_to};
 ghost use Rattle.hoist_parts.specs.Calls.{is_named, is_spawn, holds_call};
 ghost use Rattle.hoist_parts.specs.Chains.{chain_tree, operand_trees, operand_left, operand_before, operand_after, operands_left, operands_before, operands_after};
 ghost use Rattle.hoist_parts.specs.Arguments.{passed_left, passed_before, passed_after};
 ghost use Rattle.hoist_parts.specs.Expressions.{one_if, names_in, arguments_names, in_block, part_after, part_or, part_named, left_of, arguments_left, call_left, before, arguments_before};
+ghost use Rattle.hoist_rules.specs.Receivers.{so_far, then_all};
 
 use crate::built::{call_of, choice, copied, element, parenthesized, table_call_of};
 use crate::hoisting::Hoisting;
@@ -20,7 +21,7 @@ impl Hoisting {
     // A left operand, under a new name or as it is.
     fn named_left(&mut self, left: Chain, is_named: bool) -> Result<Chain, AllocError>
         ensures left { IfOk result (λ c. chain_tree c ≡ part_or is_named self.old.next (chain_tree left)) }
-        ensures before { OnOk result (map raw_stmt_tree self.new.statements.items ≡ map raw_stmt_tree self.old.statements.items ++ part_named is_named self.old.next (chain_tree left)) }
+        ensures before { OnOk result (so_far self.new.statements ≡ then_all (so_far self.old.statements) (part_named is_named self.old.next (chain_tree left))) }
         ensures next { OnOk result (self.new.next ≡ self.old.next + one_if is_named) }
     {
         if !is_named {
@@ -35,7 +36,7 @@ impl Hoisting {
     // What remains of a part, under a new name or as it is.
     fn named_part(&mut self, part: RawExpr, is_named: bool) -> Result<RawExpr, AllocError>
         ensures left { IfOk result (λ e. raw_expr_tree e ≡ part_or is_named self.old.next (raw_expr_tree part)) }
-        ensures before { OnOk result (map raw_stmt_tree self.new.statements.items ≡ map raw_stmt_tree self.old.statements.items ++ part_named is_named self.old.next (raw_expr_tree part)) }
+        ensures before { OnOk result (so_far self.new.statements ≡ then_all (so_far self.old.statements) (part_named is_named self.old.next (raw_expr_tree part))) }
         ensures next { OnOk result (self.new.next ≡ self.old.next + one_if is_named) }
     {
         if !is_named {
@@ -50,7 +51,7 @@ impl Hoisting {
     #[cycle(hoist)]
     pub(crate) fn expression(&mut self, raw: &RawExpr) -> Result<RawExpr, AllocError>
         ensures left { IfOk result (λ e. raw_expr_tree e ≡ left_of self.old.next (raw_expr_tree raw.now)) }
-        ensures before { OnOk result (map raw_stmt_tree self.new.statements.items ≡ map raw_stmt_tree self.old.statements.items ++ before self.old.next (raw_expr_tree raw.now)) }
+        ensures before { OnOk result (so_far self.new.statements ≡ then_all (so_far self.old.statements) (before self.old.next (raw_expr_tree raw.now))) }
         ensures next { OnOk result (self.new.next ≡ self.old.next + names_in (raw_expr_tree raw.now)) }
     {
         let alloc = self.alloc;
@@ -157,7 +158,7 @@ impl Hoisting {
         rest: &[(Infix, RawExpr)],
     ) -> Result<Chain, AllocError>
         ensures left { IfOk result (λ c. chain_tree c ≡ operands_left self.old.next is_alone (chain_tree left) (operand_trees rest.now)) }
-        ensures before { OnOk result (map raw_stmt_tree self.new.statements.items ≡ map raw_stmt_tree self.old.statements.items ++ operands_before self.old.next is_alone (chain_tree left) (operand_trees rest.now)) }
+        ensures before { OnOk result (so_far self.new.statements ≡ then_all (so_far self.old.statements) (operands_before self.old.next is_alone (chain_tree left) (operand_trees rest.now))) }
         ensures next { OnOk result (self.new.next ≡ operands_after self.old.next is_alone (operand_trees rest.now)) }
     {
         for (operator, operand) in rest {
@@ -178,7 +179,7 @@ impl Hoisting {
         right: &RawExpr,
     ) -> Result<Chain, AllocError>
         ensures left { IfOk result (λ c. chain_tree c ≡ operand_left self.old.next operator is_alone (chain_tree left) (raw_expr_tree right.now)) }
-        ensures before { OnOk result (map raw_stmt_tree self.new.statements.items ≡ map raw_stmt_tree self.old.statements.items ++ operand_before self.old.next operator is_alone (chain_tree left) (raw_expr_tree right.now)) }
+        ensures before { OnOk result (so_far self.new.statements ≡ then_all (so_far self.old.statements) (operand_before self.old.next operator is_alone (chain_tree left) (raw_expr_tree right.now))) }
         ensures next { OnOk result (self.new.next ≡ operand_after self.old.next operator is_alone (raw_expr_tree right.now)) }
     {
         let is_calling = holds_call(right);
@@ -225,7 +226,7 @@ impl Hoisting {
     pub(crate) fn kept(&mut self, raw: &RawExpr) -> Result<RawExpr, AllocError>
         requires { holds_call (raw_expr_tree raw.now) ≡ false }
         ensures kept { IfOk result (λ e. raw_expr_tree e ≡ raw_expr_tree raw.now) }
-        ensures outer { OnOk result (map raw_stmt_tree self.new.statements.items ≡ map raw_stmt_tree self.old.statements.items) }
+        ensures outer { OnOk result (so_far self.new.statements ≡ so_far self.old.statements) }
         ensures next { OnOk result (self.new.next ≡ self.old.next) }
     {
         Ok(self.expression(raw)?)
@@ -235,7 +236,7 @@ impl Hoisting {
     #[cycle(hoist)]
     pub(crate) fn part(&mut self, is_later_call: bool, raw: &RawExpr) -> Result<RawExpr, AllocError>
         ensures left { IfOk result (λ e. raw_expr_tree e ≡ part_or (is_named is_later_call (raw_expr_tree raw.now)) (self.old.next + names_in (raw_expr_tree raw.now)) (left_of self.old.next (raw_expr_tree raw.now))) }
-        ensures before { OnOk result (map raw_stmt_tree self.new.statements.items ≡ map raw_stmt_tree self.old.statements.items ++ before self.old.next (raw_expr_tree raw.now) ++ part_named (is_named is_later_call (raw_expr_tree raw.now)) (self.old.next + names_in (raw_expr_tree raw.now)) (left_of self.old.next (raw_expr_tree raw.now))) }
+        ensures before { OnOk result (so_far self.new.statements ≡ then_all (so_far self.old.statements) (before self.old.next (raw_expr_tree raw.now) ++ part_named (is_named is_later_call (raw_expr_tree raw.now)) (self.old.next + names_in (raw_expr_tree raw.now)) (left_of self.old.next (raw_expr_tree raw.now)))) }
         ensures next { OnOk result (self.new.next ≡ part_after self.old.next is_later_call (raw_expr_tree raw.now)) }
     {
         let part = self.expression(raw)?;
@@ -250,7 +251,7 @@ impl Hoisting {
         raw: &[RawExpr],
     ) -> Result<Vec<RawExpr>, AllocError>
         ensures left { IfOk result (λ es. raw_expr_trees es.items ≡ arguments_left is_first_kept self.old.next (raw_expr_trees raw.now)) }
-        ensures before { OnOk result (map raw_stmt_tree self.new.statements.items ≡ map raw_stmt_tree self.old.statements.items ++ arguments_before is_first_kept self.old.next (raw_expr_trees raw.now)) }
+        ensures before { OnOk result (so_far self.new.statements ≡ then_all (so_far self.old.statements) (arguments_before is_first_kept self.old.next (raw_expr_trees raw.now))) }
         ensures next { OnOk result (self.new.next ≡ self.old.next + arguments_names is_first_kept (raw_expr_trees raw.now)) }
     {
         let mut arguments = Vec::with_capacity(self.alloc, raw.len())?;
@@ -275,7 +276,7 @@ impl Hoisting {
         raw: &RawExpr,
     ) -> Result<RawExpr, AllocError>
         ensures left { IfOk result (λ e. raw_expr_tree e ≡ passed_left stays is_later_call self.old.next (raw_expr_tree raw.now)) }
-        ensures before { OnOk result (map raw_stmt_tree self.new.statements.items ≡ map raw_stmt_tree self.old.statements.items ++ passed_before stays is_later_call self.old.next (raw_expr_tree raw.now)) }
+        ensures before { OnOk result (so_far self.new.statements ≡ then_all (so_far self.old.statements) (passed_before stays is_later_call self.old.next (raw_expr_tree raw.now))) }
         ensures next { OnOk result (self.new.next ≡ passed_after stays is_later_call self.old.next (raw_expr_tree raw.now)) }
     {
         if !stays {
@@ -293,7 +294,7 @@ impl Hoisting {
     /// Rewrites a call: appends the statements before its arguments, and returns the call itself.
     pub(crate) fn call(&mut self, name: &Name, arguments: &[RawExpr]) -> Result<RawExpr, AllocError>
         ensures left { IfOk result (λ e. raw_expr_tree e ≡ call_left self.old.next (name_tree name.now) (raw_expr_trees arguments.now)) }
-        ensures before { OnOk result (map raw_stmt_tree self.new.statements.items ≡ map raw_stmt_tree self.old.statements.items ++ arguments_before (is_spawn (name_tree name.now)) self.old.next (raw_expr_trees arguments.now)) }
+        ensures before { OnOk result (so_far self.new.statements ≡ then_all (so_far self.old.statements) (arguments_before (is_spawn (name_tree name.now)) self.old.next (raw_expr_trees arguments.now))) }
         ensures next { OnOk result (self.new.next ≡ self.old.next + arguments_names (is_spawn (name_tree name.now)) (raw_expr_trees arguments.now)) }
     {
         let alloc = self.alloc;

@@ -1,7 +1,8 @@
 // The parts in the parentheses of a `for`, whose calls are whole: they stay the same.
 ghost use Rattle.std.specs.Prelude.{◌≡◌, map, option_map, IfOk, OnOk};
-ghost use Rattle.c_tree.specs.RawViews.{raw_expr_tree, raw_simple_tree, raw_stmt_tree};
+ghost use Rattle.c_tree.specs.RawViews.{raw_expr_tree, raw_simple_tree};
 ghost use Rattle.c_tree.specs.WholeCalls.{IsSimpleWhole, AreSimplesWhole, IsConditionWhole, IsStepWhole};
+ghost use Rattle.hoist_rules.specs.Receivers.{so_far};
 
 use crate::built::with_next;
 use crate::hoisting::Hoisting;
@@ -17,7 +18,7 @@ impl Hoisting {
         ensures init { IfOk result (λ p. map raw_simple_tree p.value.init.items ≡ map raw_simple_tree raw.now.init.items) }
         ensures condition { IfOk result (λ p. option_map raw_expr_tree p.value.condition ≡ option_map raw_expr_tree raw.now.condition) }
         ensures step { IfOk result (λ p. option_map raw_simple_tree p.value.step ≡ option_map raw_simple_tree raw.now.step) }
-        ensures outer { OnOk result (map raw_stmt_tree self.new.statements.items ≡ map raw_stmt_tree self.old.statements.items) }
+        ensures outer { OnOk result (so_far self.new.statements ≡ so_far self.old.statements) }
         ensures next { OnOk result (self.new.next ≡ self.old.next) }
     {
         let parts = self.kept_parts(raw)?;
@@ -32,7 +33,7 @@ impl Hoisting {
         ensures init { IfOk result (λ p. map raw_simple_tree p.init.items ≡ map raw_simple_tree raw.now.init.items) }
         ensures condition { IfOk result (λ p. option_map raw_expr_tree p.condition ≡ option_map raw_expr_tree raw.now.condition) }
         ensures step { IfOk result (λ p. option_map raw_simple_tree p.step ≡ option_map raw_simple_tree raw.now.step) }
-        ensures outer { OnOk result (map raw_stmt_tree self.new.statements.items ≡ map raw_stmt_tree self.old.statements.items) }
+        ensures outer { OnOk result (so_far self.new.statements ≡ so_far self.old.statements) }
         ensures next { OnOk result (self.new.next ≡ self.old.next) }
     {
         let init = self.kept_simples(&raw.init)?;
@@ -61,7 +62,7 @@ impl Hoisting {
     fn kept_simple(&mut self, raw: &RawSimple) -> Result<RawSimple, AllocError>
         requires { IsSimpleWhole (raw_simple_tree raw.now) }
         ensures kept { IfOk result (λ s. raw_simple_tree s ≡ raw_simple_tree raw.now) }
-        ensures outer { OnOk result (map raw_stmt_tree self.new.statements.items ≡ map raw_stmt_tree self.old.statements.items) }
+        ensures outer { OnOk result (so_far self.new.statements ≡ so_far self.old.statements) }
         ensures next { OnOk result (self.new.next ≡ self.old.next) }
     {
         Ok(self.simple(raw)?)
@@ -70,7 +71,7 @@ impl Hoisting {
     fn kept_simples(&mut self, raw: &[RawSimple]) -> Result<Vec<RawSimple>, AllocError>
         requires { AreSimplesWhole (map raw_simple_tree raw.now) }
         ensures kept { IfOk result (λ ss. map raw_simple_tree ss.items ≡ map raw_simple_tree raw.now) }
-        ensures outer { OnOk result (map raw_stmt_tree self.new.statements.items ≡ map raw_stmt_tree self.old.statements.items) }
+        ensures outer { OnOk result (so_far self.new.statements ≡ so_far self.old.statements) }
         ensures next { OnOk result (self.new.next ≡ self.old.next) }
     {
         let mut kept = Vec::new(self.alloc);
@@ -83,7 +84,7 @@ impl Hoisting {
     fn kept_condition(&mut self, raw: &Option<RawExpr>) -> Result<Option<RawExpr>, AllocError>
         requires { IsConditionWhole (option_map raw_expr_tree raw.now) }
         ensures kept { IfOk result (λ c. option_map raw_expr_tree c ≡ option_map raw_expr_tree raw.now) }
-        ensures outer { OnOk result (map raw_stmt_tree self.new.statements.items ≡ map raw_stmt_tree self.old.statements.items) }
+        ensures outer { OnOk result (so_far self.new.statements ≡ so_far self.old.statements) }
         ensures next { OnOk result (self.new.next ≡ self.old.next) }
     {
         match raw {
@@ -95,7 +96,7 @@ impl Hoisting {
     fn kept_step(&mut self, raw: &Option<RawSimple>) -> Result<Option<RawSimple>, AllocError>
         requires { IsStepWhole (option_map raw_simple_tree raw.now) }
         ensures kept { IfOk result (λ s. option_map raw_simple_tree s ≡ option_map raw_simple_tree raw.now) }
-        ensures outer { OnOk result (map raw_stmt_tree self.new.statements.items ≡ map raw_stmt_tree self.old.statements.items) }
+        ensures outer { OnOk result (so_far self.new.statements ≡ so_far self.old.statements) }
         ensures next { OnOk result (self.new.next ≡ self.old.next) }
     {
         match raw {

@@ -1,14 +1,16 @@
 // Moves calls inside expressions before their statements.
 //
-// `hoist_item` takes an item of a source in which every call in the parentheses of a `for` is whole,
-// and returns one in which every call is whole. A call that isn't whole goes before its statement,
-// as the declaration of a new name; so does what is evaluated before it, so evaluation stays from
-// left to right (`hoist_parts`: specs/Expressions.antt, Statements.antt). New names begin with a
-// digit. `c_hoist` uses it between the tree and the program of a source. The public functions with
+// `hoist_body` takes the body of a function in which every call in the parentheses of a `for` is
+// whole, and rewrites it to statements in which every call is whole. A call that isn't whole goes
+// before its statement, as the declaration of a new name; so does what is evaluated before it, so
+// evaluation stays from left to right (`hoist_parts`: specs/Expressions.antt, Statements.antt). New
+// names begin with a digit. The statements of the outermost block are passed to a `Receiver` one by
+// one, which resolves them (`scope_rules`): one expression may become more statements than memory
+// should hold. `c_hoist` uses it between the tree and the program of a source. The public functions with
 // empty bodies are examples: they have no effect at run time, and their contracts are theorems. The
 // order of evaluation is CapC's; the operators are those of ISO/IEC 9899:2018, clauses 6.5.13 to
 // 6.5.15.
-#![tactic(auto)]
+#![tactic(auto, using(crate::proofs::Followed::following))]
 
 mod bodies;
 mod branches;
@@ -17,7 +19,8 @@ mod examples;
 mod expressions;
 mod for_parts;
 mod hoisting;
-mod programs;
+mod functions;
+mod receivers;
 mod simples;
 mod statements;
 
@@ -26,4 +29,5 @@ pub use examples::{
     indexes_go_before, left_parts_have_names, logical_operators_decide, loops_test_calls,
     spawned_function_stays, tables_go_before, whole_calls_stay,
 };
-pub use programs::hoist_item;
+pub use functions::hoist_body;
+pub use receivers::Receiver;

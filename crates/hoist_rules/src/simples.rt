@@ -5,6 +5,7 @@ ghost use Rattle.c_tree.specs.RawViews.{raw_expr_tree, raw_simple_tree, raw_stmt
 ghost use Rattle.hoist_parts.specs.Calls.{holds_call, holds_nested, is_named};
 ghost use Rattle.hoist_parts.specs.Expressions.{names_in, part_after, part_or, part_named, left_of, before, index_left, argument_left};
 ghost use Rattle.hoist_parts.specs.Statements.{returned_names, returned_before, returned_left, value_names, value_left, value_before, table_before, simple_names, simple_left, simple_before};
+ghost use Rattle.hoist_rules.specs.Receivers.{so_far, then_all};
 
 use crate::built::{both, copied, table_call_of, table_calling};
 use crate::hoisting::Hoisting;
@@ -16,7 +17,7 @@ impl Hoisting {
     /// Rewrites a right side or a returned value, which may be a call itself.
     pub(crate) fn value(&mut self, raw: &RawExpr) -> Result<RawExpr, AllocError>
         ensures left { IfOk result (λ e. raw_expr_tree e ≡ value_left self.old.next (raw_expr_tree raw.now)) }
-        ensures before { OnOk result (map raw_stmt_tree self.new.statements.items ≡ map raw_stmt_tree self.old.statements.items ++ value_before self.old.next (raw_expr_tree raw.now)) }
+        ensures before { OnOk result (so_far self.new.statements ≡ then_all (so_far self.old.statements) (value_before self.old.next (raw_expr_tree raw.now))) }
         ensures next { OnOk result (self.new.next ≡ self.old.next + value_names (raw_expr_tree raw.now)) }
     {
         let alloc = self.alloc;
@@ -49,7 +50,7 @@ impl Hoisting {
     ) -> Result<(Box<RawExpr>, RawExpr), AllocError>
         ensures index { IfOk result (λ p. raw_expr_tree p.0.value ≡ part_or (is_named (holds_nested (raw_expr_tree value.now)) (raw_expr_tree index.now)) (self.old.next + names_in (raw_expr_tree index.now)) (left_of self.old.next (raw_expr_tree index.now))) }
         ensures value { IfOk result (λ p. raw_expr_tree p.1 ≡ value_left (part_after self.old.next (holds_nested (raw_expr_tree value.now)) (raw_expr_tree index.now)) (raw_expr_tree value.now)) }
-        ensures before { OnOk result (map raw_stmt_tree self.new.statements.items ≡ map raw_stmt_tree self.old.statements.items ++ (before self.old.next (raw_expr_tree index.now) ++ part_named (is_named (holds_nested (raw_expr_tree value.now)) (raw_expr_tree index.now)) (self.old.next + names_in (raw_expr_tree index.now)) (left_of self.old.next (raw_expr_tree index.now)) ++ value_before (part_after self.old.next (holds_nested (raw_expr_tree value.now)) (raw_expr_tree index.now)) (raw_expr_tree value.now))) }
+        ensures before { OnOk result (so_far self.new.statements ≡ then_all (so_far self.old.statements) ((before self.old.next (raw_expr_tree index.now) ++ part_named (is_named (holds_nested (raw_expr_tree value.now)) (raw_expr_tree index.now)) (self.old.next + names_in (raw_expr_tree index.now)) (left_of self.old.next (raw_expr_tree index.now)) ++ value_before (part_after self.old.next (holds_nested (raw_expr_tree value.now)) (raw_expr_tree index.now)) (raw_expr_tree value.now)))) }
         ensures next { OnOk result (self.new.next ≡ part_after self.old.next (holds_nested (raw_expr_tree value.now)) (raw_expr_tree index.now) + value_names (raw_expr_tree value.now)) }
     {
         let index = self.part(holds_nested(value), index)?;
@@ -65,7 +66,7 @@ impl Hoisting {
     ) -> Result<(RawExpr, RawExpr), AllocError>
         ensures index { IfOk result (λ p. raw_expr_tree p.0 ≡ index_left self.old.next (raw_expr_tree index.now) (raw_expr_tree argument.now)) }
         ensures argument { IfOk result (λ p. raw_expr_tree p.1 ≡ argument_left self.old.next (raw_expr_tree index.now) (raw_expr_tree argument.now)) }
-        ensures before { OnOk result (map raw_stmt_tree self.new.statements.items ≡ map raw_stmt_tree self.old.statements.items ++ table_before self.old.next (raw_expr_tree index.now) (raw_expr_tree argument.now)) }
+        ensures before { OnOk result (so_far self.new.statements ≡ then_all (so_far self.old.statements) (table_before self.old.next (raw_expr_tree index.now) (raw_expr_tree argument.now))) }
         ensures next { OnOk result (self.new.next ≡ part_after self.old.next (holds_call (raw_expr_tree argument.now)) (raw_expr_tree index.now) + names_in (raw_expr_tree argument.now)) }
     {
         let index = self.part(holds_call(argument), index)?;
@@ -75,7 +76,7 @@ impl Hoisting {
     /// Rewrites a declaration, an assignment or a call.
     pub(crate) fn simple(&mut self, raw: &RawSimple) -> Result<RawSimple, AllocError>
         ensures left { IfOk result (λ s. raw_simple_tree s ≡ simple_left self.old.next (raw_simple_tree raw.now)) }
-        ensures before { OnOk result (map raw_stmt_tree self.new.statements.items ≡ map raw_stmt_tree self.old.statements.items ++ simple_before self.old.next (raw_simple_tree raw.now)) }
+        ensures before { OnOk result (so_far self.new.statements ≡ then_all (so_far self.old.statements) (simple_before self.old.next (raw_simple_tree raw.now))) }
         ensures next { OnOk result (self.new.next ≡ self.old.next + simple_names (raw_simple_tree raw.now)) }
     {
         let alloc = self.alloc;
@@ -132,7 +133,7 @@ impl Hoisting {
         at: u32,
         value: &Option<RawExpr>,
     ) -> Result<RawStmt, AllocError>
-        ensures statements { IfOk result (λ s. map raw_stmt_tree self.new.statements.items ≡ map raw_stmt_tree self.old.statements.items ++ returned_before self.old.next (option_map raw_expr_tree value.now)) }
+        ensures statements { IfOk result (λ s. so_far self.new.statements ≡ then_all (so_far self.old.statements) (returned_before self.old.next (option_map raw_expr_tree value.now))) }
         ensures left { IfOk result (λ s. raw_stmt_tree s ≡ RawReturn at (returned_left self.old.next (option_map raw_expr_tree value.now))) }
         ensures next { OnOk result (self.new.next ≡ self.old.next + returned_names (option_map raw_expr_tree value.now)) }
     {

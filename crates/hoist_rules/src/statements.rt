@@ -1,14 +1,15 @@
 // The rewriting of statements.
-ghost use Rattle.std.specs.Prelude.{◌≡◌, ◌+◌, true, false, ◌++◌, map, IfOk, OnOk};
+ghost use Rattle.std.specs.Prelude.{◌≡◌, ◌+◌, true, false, map, IfOk, OnOk};
 ghost use Rattle.c_tree.specs.RawTrees.{RawWhile};
 ghost use Rattle.c_tree.specs.RawViews.{raw_expr_tree, raw_stmt_tree, raw_stmt_trees};
 ghost use Rattle.c_tree.specs.WholeForParts.{IsForWhole, AreForsWhole};
 ghost use Rattle.hoist_parts.specs.Calls.{holds_call};
 ghost use Rattle.hoist_parts.specs.Expressions.{names_in};
 ghost use Rattle.hoist_parts.specs.Statements.{stmt_names, stmts_names, as_body, turn_of, hoisted, all_hoisted};
+ghost use Rattle.hoist_rules.specs.Receivers.{so_far, then_all};
 
 use crate::bodies::ends_unless;
-use crate::hoisting::{Hoisting, fitted};
+use crate::hoisting::Hoisting;
 use c_tree::{RawExpr, RawStmt};
 use hoist_parts::holds_call;
 use std::alloc::AllocError;
@@ -18,7 +19,7 @@ impl Hoisting {
     #[cycle(statements)]
     fn statement(&mut self, raw: &RawStmt) -> Result<(), AllocError>
         requires { IsForWhole (raw_stmt_tree raw.now) }
-        ensures statements { OnOk result (map raw_stmt_tree self.new.statements.items ≡ map raw_stmt_tree self.old.statements.items ++ hoisted self.old.next (raw_stmt_tree raw.now)) }
+        ensures statements { OnOk result (so_far self.new.statements ≡ then_all (so_far self.old.statements) (hoisted self.old.next (raw_stmt_tree raw.now))) }
         ensures next { OnOk result (self.new.next ≡ self.old.next + stmt_names (raw_stmt_tree raw.now)) }
     {
         match raw {
@@ -93,25 +94,35 @@ impl Hoisting {
         }
     }
 
-    /// Returns the statements of a block.
+    /// Appends the statements that replace some, one after another.
     #[cycle(statements)]
-    pub(crate) fn block(&mut self, raw: &[RawStmt]) -> Result<Vec<RawStmt>, AllocError>
+    pub(crate) fn statements(&mut self, raw: &[RawStmt]) -> Result<(), AllocError>
+        requires { AreForsWhole (raw_stmt_trees raw.now) }
+        ensures statements { OnOk result (so_far self.new.statements ≡ then_all (so_far self.old.statements) (all_hoisted self.old.next (raw_stmt_trees raw.now))) }
+        ensures next { OnOk result (self.new.next ≡ self.old.next + stmts_names (raw_stmt_trees raw.now)) }
+    {
+        for stmt in raw {
+            self.statement(stmt)?;
+        }
+        Ok(())
+    }
+
+    // The statements of a block.
+    #[cycle(statements)]
+    fn block(&mut self, raw: &[RawStmt]) -> Result<Vec<RawStmt>, AllocError>
         requires { AreForsWhole (raw_stmt_trees raw.now) }
         ensures statements { IfOk result (λ ss. map raw_stmt_tree ss.items ≡ all_hoisted self.old.next (raw_stmt_trees raw.now)) }
         ensures outer { OnOk result (self.new.statements ≡ self.old.statements) }
         ensures next { OnOk result (self.new.next ≡ self.old.next + stmts_names (raw_stmt_trees raw.now)) }
     {
         let outer = self.enter();
-        for stmt in raw {
-            match self.statement(stmt) {
-                Ok(()) => {}
-                Err(error) => {
-                    drop(outer);
-                    return Err(error);
-                }
+        match self.statements(raw) {
+            Ok(()) => self.leave(outer),
+            Err(error) => {
+                drop(outer);
+                Err(error)
             }
         }
-        Ok(fitted(self.leave(outer)))
     }
 
     // A body: a block, unless exactly one statement replaces it.
@@ -137,7 +148,7 @@ impl Hoisting {
     fn while_loop(&mut self, body: &RawStmt, condition: &RawExpr) -> Result<(), AllocError>
         requires calling { holds_call (raw_expr_tree condition.now) ≡ false }
         requires parts { IsForWhole (raw_stmt_tree body.now) }
-        ensures statements { OnOk result (map raw_stmt_tree self.new.statements.items ≡ map raw_stmt_tree self.old.statements.items ++ hoisted self.old.next (RawWhile (raw_expr_tree condition.now) (raw_stmt_tree body.now))) }
+        ensures statements { OnOk result (so_far self.new.statements ≡ then_all (so_far self.old.statements) (hoisted self.old.next (RawWhile (raw_expr_tree condition.now) (raw_stmt_tree body.now)))) }
         ensures next { OnOk result (self.new.next ≡ self.old.next + stmt_names (RawWhile (raw_expr_tree condition.now) (raw_stmt_tree body.now))) }
     {
         let condition = self.kept(condition)?;
@@ -155,7 +166,7 @@ impl Hoisting {
     fn while_calling(&mut self, body: &RawStmt, condition: &RawExpr) -> Result<(), AllocError>
         requires calling { holds_call (raw_expr_tree condition.now) ≡ true }
         requires parts { IsForWhole (raw_stmt_tree body.now) }
-        ensures statements { OnOk result (map raw_stmt_tree self.new.statements.items ≡ map raw_stmt_tree self.old.statements.items ++ hoisted self.old.next (RawWhile (raw_expr_tree condition.now) (raw_stmt_tree body.now))) }
+        ensures statements { OnOk result (so_far self.new.statements ≡ then_all (so_far self.old.statements) (hoisted self.old.next (RawWhile (raw_expr_tree condition.now) (raw_stmt_tree body.now)))) }
         ensures next { OnOk result (self.new.next ≡ self.old.next + stmt_names (RawWhile (raw_expr_tree condition.now) (raw_stmt_tree body.now))) }
     {
         let outer = self.enter();
@@ -172,7 +183,7 @@ impl Hoisting {
     #[cycle(statements)]
     fn turn(&mut self, body: &RawStmt, condition: &RawExpr) -> Result<(), AllocError>
         requires { IsForWhole (raw_stmt_tree body.now) }
-        ensures statements { OnOk result (map raw_stmt_tree self.new.statements.items ≡ map raw_stmt_tree self.old.statements.items ++ turn_of self.old.next (raw_expr_tree condition.now) (as_body (hoisted (self.old.next + names_in (raw_expr_tree condition.now)) (raw_stmt_tree body.now)))) }
+        ensures statements { OnOk result (so_far self.new.statements ≡ then_all (so_far self.old.statements) (turn_of self.old.next (raw_expr_tree condition.now) (as_body (hoisted (self.old.next + names_in (raw_expr_tree condition.now)) (raw_stmt_tree body.now))))) }
         ensures next { OnOk result (self.new.next ≡ self.old.next + names_in (raw_expr_tree condition.now) + stmt_names (raw_stmt_tree body.now)) }
     {
         let alloc = self.alloc;

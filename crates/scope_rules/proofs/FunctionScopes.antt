@@ -11,7 +11,7 @@ use Rattle.scope_rules.specs.Items.{unsized, params_after, params_faults}
 use Rattle.scope_rules.proofs.Least.{least_of_then}
 use Rattle.scope_rules.proofs.Scopes.{Extends, same_names, then_extends, bound_extends, stmts_extends, leaves}
 
-params_extends : (s : Spot) (ns : List NameTree) → Extends (params_after s ns).names s.names
+pub params_extends : (s : Spot) (ns : List NameTree) → Extends (params_after s ns).names s.names
 params_extends s [] = same_names s.names
 params_extends s (n ∷ ns) = then_extends s.names (with_variable s n false 1).names (params_after (with_variable s n false 1) ns).names (bound_extends s.names n.text (Meaning.Local (next_variable s) false)) (params_extends (with_variable s n false 1) ns)
 

@@ -24,10 +24,10 @@ rank_small Rule.Kind = omega arith
 less : (a b : ℕ) → nat_lt a b ≡ true → a < b
 less a b h = grind (arith, nat_tests)
 
-is_less : (a b : ℕ) → a < b → true ≡ nat_lt a b
+pub is_less : (a b : ℕ) → a < b → true ≡ nat_lt a b
 is_less a b h = grind (arith, nat_tests)
 
-is_not_less : (a b : ℕ) → b ≤ a → false ≡ nat_lt a b
+pub is_not_less : (a b : ℕ) → b ≤ a → false ≡ nat_lt a b
 is_not_less a b h = grind (arith, nat_tests)
 
 above : (a b : ℕ) → nat_lt a b ≡ false → nat_eq a b ≡ false → b < a

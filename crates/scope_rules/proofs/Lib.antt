@@ -36,3 +36,6 @@ pub mod NumberedLists
 pub mod Made
 pub mod ReadItems
 pub mod HeldValues
+pub mod Agreeing
+pub mod Exceeded
+pub mod Makings

@@ -1,10 +1,11 @@
 -- From what the code found to what the source is.
-use Rattle.std.proofs.Common.{ℕ, ◌≡◌, refl, sym, ap, subst, ◌∙◌, true, List, [], Option, Some, None}
+use Rattle.std.proofs.Common.{ℕ, ◌≡◌, ◌≤◌, refl, sym, ap, subst, ◌∙◌, true, List, [], Option, Some, None}
 use Rattle.std.specs.Prelude.{codes}
 use Rattle.cap_word.specs.declared.limits.Which.{Which}
 use Rattle.c_tree.specs.RawTrees.{RawItemTree}
 use Rattle.c_tree.specs.RawTemporaries.{AreWithinTemporaries}
 use Rattle.c_tree.specs.Trees.{ProgramTree}
+use Rattle.c_tree.specs.Temporaries.{capped}
 use Rattle.c_tree.specs.WellScoped.{IsWellScoped}
 use Rattle.scope_rules.specs.declared.faults.Fault.{Fault}
 use Rattle.scope_rules.specs.declared.meanings.Found.{Found}
@@ -13,20 +14,21 @@ use Rattle.scope_rules.specs.Names.{Binding, find}
 use Rattle.scope_rules.specs.Meanings.{function_of}
 use Rattle.scope_rules.specs.Faults.{least_of}
 use Rattle.scope_rules.specs.Items.{Sofar, definitions, faults_of, parts_of, program_of, has_main}
-use Rattle.scope_rules.specs.Limits.{exceeded}
+use Rattle.scope_rules.specs.Limits.{exceeded, most_locals}
+use Rattle.scope_rules.specs.ItemViews.{exceeded_with}
+use Rattle.scope_rules.specs.Reading.{Agrees}
+use Rattle.scope_rules.proofs.Exceeded.{tree_from, same_sofar, same_exceeded, within_calls}
+use Rattle.scope_rules.proofs.Sites.{all_numbered}
 use Rattle.scope_rules.specs.Outcomes.{IsResolved, IsRefused}
 use Rattle.scope_rules.proofs.LeastFaults.{none_is_none}
 use Rattle.scope_rules.proofs.WellScopedPrograms.{well_scoped}
-
-abbrev pub tree_from : Sofar → ℕ → ProgramTree
-tree_from w main = record { functions = w.functions; globals = w.globals; tables = w.tables; main = main }
 
 pub same_program : (is : List RawItemTree) (w : Sofar) (ds : List Binding) (o : Option Found) → w ≡ parts_of is → ds ≡ definitions is → o ≡ find (codes "main") ds
     → tree_from w (function_of o) ≡ program_of is
 same_program is w ds o e d f = ap (λ x. tree_from x (function_of o)) e ∙ ap (λ x. tree_from (parts_of is) (function_of x)) (f ∙ ap (λ x. find (codes "main") x) d)
 
 module _ (is : List RawItemTree) (w : Sofar) (ds : List Binding) (o : Option Found) (least : Option Fault)
-    (e : w ≡ parts_of is) (d : ds ≡ definitions is) (f : o ≡ find (codes "main") ds) (l : least ≡ least_of None (faults_of is)) (n : least ≡ None) where
+    (e : Agrees w (parts_of is)) (d : ds ≡ definitions is) (f : o ≡ find (codes "main") ds) (l : least ≡ least_of None (faults_of is)) (n : least ≡ None) where
   rules_hold : faults_of is ≡ []
   rules_hold = none_is_none (faults_of is) (sym l ∙ n)
 
@@ -40,12 +42,20 @@ module _ (is : List RawItemTree) (w : Sofar) (ds : List Binding) (o : Option Fou
       let g : find (codes "main") (definitions is) ≡ Some m = sym (f ∙ ap (λ x. find (codes "main") x) d) ∙ h in
       rw g refl
 
-  pub over_limit : (m : Found) (which : Which) → o ≡ Some m → exceeded (tree_from w (function_of o)) ≡ Some which → IsRefused is (ScopeError.Limit which)
-  over_limit m which h x = (rules_hold, main_holds m h, sym (ap exceeded (same_program is w ds o e d f)) ∙ x)
+  module _ (sites locals : ℕ) (s : sites ≡ w.spot.site) (c : sites ≤ 65535 → locals ≡ capped (most_locals w.functions)) where
+    same_limits : exceeded_with sites locals (tree_from w (function_of o)) ≡ exceeded (program_of is)
+    same_limits =
+        let at : sites ≡ (parts_of is).spot.site = s ∙ ap (λ x. x.site) e.spot in
+        same_exceeded w (parts_of is) (function_of o) sites locals e at (at ∙ (all_numbered is).site) c ∙ ap exceeded (same_program is (parts_of is) ds o refl d f)
 
-  pub is_resolved : (m : Found) → o ≡ Some m → exceeded (tree_from w (function_of o)) ≡ None → IsResolved is (tree_from w (function_of o))
-  is_resolved m h x = record { rules = rules_hold; main = main_holds m h; limits = sym (ap exceeded (same_program is w ds o e d f)) ∙ x; tree = same_program is w ds o e d f }
+    same_items : exceeded_with sites locals (tree_from w (function_of o)) ≡ None → w ≡ parts_of is
+    same_items x = same_sofar w (parts_of is) e (subst (λ k. k ≤ 65535) (s ∙ ap (λ y. y.site) e.spot) (within_calls sites locals (tree_from w (function_of o)) x))
 
-  pub is_well_scoped : (m : Found) → o ≡ Some m → exceeded (tree_from w (function_of o)) ≡ None → AreWithinTemporaries is → IsWellScoped (tree_from w (function_of o))
-  is_well_scoped m h x t =
-      subst IsWellScoped (sym (same_program is w ds o e d f)) (well_scoped is rules_hold (main_holds m h) (sym (ap exceeded (same_program is w ds o e d f)) ∙ x) t)
+    pub over_limit : (m : Found) (which : Which) → o ≡ Some m → exceeded_with sites locals (tree_from w (function_of o)) ≡ Some which → IsRefused is (ScopeError.Limit which)
+    over_limit m which h x = (rules_hold, main_holds m h, sym same_limits ∙ x)
+
+    pub is_resolved : (m : Found) → o ≡ Some m → exceeded_with sites locals (tree_from w (function_of o)) ≡ None → IsResolved is (tree_from w (function_of o))
+    is_resolved m h x = record { rules = rules_hold; main = main_holds m h; limits = sym same_limits ∙ x; tree = same_program is w ds o (same_items x) d f }
+
+    pub is_well_scoped : (m : Found) → o ≡ Some m → exceeded_with sites locals (tree_from w (function_of o)) ≡ None → AreWithinTemporaries is → IsWellScoped (tree_from w (function_of o))
+    is_well_scoped m h x t = subst IsWellScoped (sym (same_program is w ds o (same_items x) d f)) (well_scoped is rules_hold (main_holds m h) (sym same_limits ∙ x) t)

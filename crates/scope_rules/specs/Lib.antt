@@ -13,4 +13,7 @@ pub mod ItemViews
 pub mod Limits
 pub mod Outcomes
 pub mod Numbered
+pub mod Heads
+pub mod Kept
+pub mod Making
 pub mod Reading

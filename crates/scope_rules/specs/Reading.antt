@@ -1,5 +1,5 @@
 -- A source that is resolved item by item.
-use Rattle.std.specs.Prelude.{ℕ, ◌≡◌, List, None, length}
+use Rattle.std.specs.Prelude.{ℕ, ◌≡◌, ◌≤◌, List, None, length}
 use Rattle.c_tree.specs.RawTrees.{RawItemTree}
 use Rattle.c_tree.specs.RawTemporaries.{AreWithinTemporaries}
 use Rattle.c_tree.specs.TextOrder.{program_sites}
@@ -8,15 +8,23 @@ use Rattle.c_tree.specs.WholeCalls.{AreCallsWhole}
 use Rattle.scope_rules.specs.declared.items.Items.{Items}
 use Rattle.scope_rules.specs.declared.resolver.Resolver.{Resolver}
 use Rattle.scope_rules.specs.Faults.{least_of}
-use Rattle.scope_rules.specs.Items.{definitions, at_start, items_after, items_faults, program_of}
+use Rattle.scope_rules.specs.Items.{Sofar, definitions, at_start, items_after, items_faults, program_of}
 use Rattle.scope_rules.specs.ItemViews.{sofar_of, IsCounted}
+
+-- the same items, but functions are only counted beyond the limit of calls
+pub record Agrees (w v : Sofar) : Type 0 where
+  pub spot : w.spot ≡ v.spot
+  pub globals : w.globals ≡ v.globals
+  pub tables : w.tables ≡ v.tables
+  pub count : length w.functions ≡ length v.functions
+  pub functions : v.spot.site ≤ 65535 → w.functions ≡ v.functions
 
 -- these items were resolved, of a source that defines the same functions as `all`
 pub record HaveRead (w : Items) (all read : List RawItemTree) : Type 0 where
   pub defined : w.definitions ≡ definitions all
-  pub sofar : sofar_of w ≡ items_after (definitions all) at_start read
+  pub sofar : Agrees (sofar_of w) (items_after (definitions all) at_start read)
   pub faults : w.place.least ≡ least_of None (items_faults (definitions all) at_start read)
-  pub counted : IsCounted w
+  pub counted : w.place.site ≤ 65535 → IsCounted w
 
 -- all items of a source were resolved, whose statements need no more temporaries than allowed
 pub record AreAllRead (w : Items) : Type 0 where

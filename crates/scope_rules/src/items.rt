@@ -1,16 +1,18 @@
 // Declarations and definitions outside functions.
 
-ghost use Rattle.std.specs.Prelude.{◌≡◌, ◌∷◌, ◌++◌, [], None, false, IfOk, OnOk, map, option_map, length};
+ghost use Rattle.std.specs.Prelude.{◌≡◌, ◌-◌, ◌∷◌, ◌++◌, [], None, true, false, IfOk, OnOk, map, option_map, length, drop, sum, max};
 ghost use Rattle.c_tree.specs.RawViews.{name_tree, raw_stmt_trees, raw_item_tree, raw_item_trees};
-ghost use Rattle.c_tree.specs.Views.{stmt_trees};
+ghost use Rattle.c_tree.specs.Views.{stmt_trees, function_tree};
+ghost use Rattle.c_tree.specs.Temporaries.{capped};
 ghost use Rattle.scope_rules.specs.Names.{find};
 ghost use Rattle.scope_rules.specs.Statements.{left, stmts_after, stmts_faults, stmts_of};
 ghost use Rattle.scope_rules.specs.Faults.{least_of};
 ghost use Rattle.scope_rules.specs.Expressions.{use_faults};
 ghost use Rattle.scope_rules.specs.Meanings.{is_member, function_of};
 ghost use Rattle.scope_rules.specs.Places.{spot_of};
-ghost use Rattle.scope_rules.specs.Items.{outer_faults, differ, repeated_faults, function_faults, main_faults, is_missing, is_defined, with_function, param_faults, param_bound, prototype_faults, params_faults, params_after, members_faults, members_of, with_definition, with_definitions, definitions, modelled_names, at_start, with_global, item_faults, item_after, items_faults, items_after, function_left, unsized};
+ghost use Rattle.scope_rules.specs.Items.{outer_faults, differ, repeated_faults, function_faults, main_faults, is_missing, is_defined, with_function, param_faults, param_bound, prototype_faults, params_faults, params_after, members_faults, members_of, with_definition, with_definitions, definitions, modelled_names, at_start, with_global, item_faults, item_after, items_faults, items_after, function_left, unsized, body_spot};
 ghost use Rattle.scope_rules.specs.ItemViews.{sofar_of, IsCounted};
+ghost use Rattle.scope_rules.specs.Heads.{head_faults};
 
 use crate::faults::{Fault, Rule, note, note_if};
 use crate::held::both;
@@ -19,6 +21,7 @@ use crate::meanings::{Found, Meaning, function_of};
 use crate::names::Names;
 use crate::places::Place;
 use crate::simples::{bind, check_declared, check_size, number};
+use crate::statements::Scope;
 use c_tree::{
     Function, GlobalFact, ModelledCall, Name, RawFunction, RawItem, RawPrototype, RawTable, Stmt,
     TableFact,
@@ -37,6 +40,17 @@ pub struct Items {
     /// The maximum number of words that a function so far declares, without its parameters; at most
     /// 65,537.
     pub locals: u32,
+}
+
+/// A definition whose body isn't at its end: its head, the scope that it entered, and the statements so far that are
+/// kept.
+#[derive(Drop)]
+pub struct Begun {
+    pub name: Vec<u8>,
+    pub gives: bool,
+    pub params: usize,
+    pub scope: Scope,
+    pub body: Vec<Stmt>,
 }
 
 // Notes the faults of a global's or a table's name with this meaning so far.
@@ -245,6 +259,76 @@ impl Place {
     }
 }
 
+impl Place {
+    // The head of a definition: its name is in scope from here on.
+    fn head(
+        &mut self,
+        definitions: &Names,
+        gives: bool,
+        name: &Name,
+        params: usize,
+    ) -> Result<(), AllocError>
+        ensures place { OnOk result (spot_of self.new ≡ record (spot_of self.old) { names = with_function definitions.now self.old.names gives (name_tree name.now) params true }) }
+        ensures faults { OnOk result (self.new.least ≡ least_of self.old.least (function_faults true gives params name.now.at (find name.now.text.items self.old.names) ++ main_faults (name_tree name.now) params)) }
+    {
+        let definition = definitions.find(&name.text);
+        let found = self.names.find(&name.text);
+        check_function(&mut self.least, true, gives, params, name.at, found);
+        check_main(&mut self.least, name, params);
+        let meaning = Meaning::Function {
+            function: function_of(definition),
+            gives,
+            params,
+            defined: true,
+        };
+        bind(&mut self.names, &name.text, meaning)
+    }
+
+    // Enters the scope of a definition, with its parameters.
+    fn enter_function(&mut self, params: &[Name]) -> Result<Scope, AllocError>
+        ensures place { OnOk result (spot_of self.new ≡ params_after (unsized (spot_of self.old)) (map name_tree params.now)) }
+        ensures faults { OnOk result (self.new.least ≡ least_of self.old.least (params_faults (unsized (spot_of self.old)) (map name_tree params.now))) }
+        ensures outer { IfOk result (λ s. s.outer ≡ self.old.outer) }
+        ensures count { IfOk result (λ s. s.count ≡ length self.old.names) }
+    {
+        self.sizes.clear();
+        let scope = self.enter();
+        self.params(params)?;
+        Ok(scope)
+    }
+
+    /// Begins a definition, in a source with these definitions.
+    pub fn begin(
+        &mut self,
+        definitions: &Names,
+        gives: bool,
+        name: &Name,
+        params: &[Name],
+    ) -> Result<Begun, AllocError>
+        ensures place { OnOk result (spot_of self.new ≡ body_spot definitions.now (spot_of self.old) gives (name_tree name.now) (map name_tree params.now)) }
+        ensures faults { OnOk result (self.new.least ≡ least_of self.old.least (head_faults definitions.now (spot_of self.old) gives (name_tree name.now) (map name_tree params.now))) }
+        ensures named { IfOk result (λ b. b.name.items ≡ name.now.text.items) }
+        ensures given { IfOk result (λ b. b.gives ≡ gives) }
+        ensures taken { IfOk result (λ b. b.params ≡ length params.now) }
+        ensures outer { IfOk result (λ b. b.scope.outer ≡ self.old.outer) }
+        ensures inner { IfOk result (λ b. b.scope.count ≡ length (with_function definitions.now self.old.names gives (name_tree name.now) (length params.now) true)) }
+        ensures body { IfOk result (λ b. b.body.items ≡ []) }
+    {
+        let alloc = self.alloc;
+        let count = params.len();
+        self.head(definitions, gives, name, count)?;
+        let text = Vec::from_slice(alloc, &name.text)?;
+        let (text, scope) = both(text, self.enter_function(params))?;
+        Ok(Begun {
+            name: text,
+            gives,
+            params: count,
+            scope,
+            body: Vec::new(alloc),
+        })
+    }
+}
+
 // Adds the function that an item defines, if it defines one.
 fn define(definitions: &mut Names, item: &RawItem) -> Result<(), AllocError>
     ensures { OnOk result (definitions.new ≡ with_definition definitions.old (raw_item_tree item.now)) }
@@ -420,6 +504,37 @@ impl Items {
             name: text,
             params: number(params),
             gives: raw.gives,
+            sizes,
+            body,
+        })?;
+        Ok(())
+    }
+
+    /// Ends a definition.
+    pub fn end(&mut self, begun: Begun) -> Result<(), AllocError>
+        ensures place { OnOk result (spot_of self.new.place ≡ record (spot_of self.old.place) { names = drop (length self.old.place.names - begun.scope.count) self.old.place.names; outer = begun.scope.outer; sizes = [] }) }
+        ensures faults { OnOk result (self.new.place.least ≡ self.old.place.least) }
+        ensures definitions { OnOk result (self.new.definitions ≡ self.old.definitions) }
+        ensures globals { OnOk result (self.new.globals ≡ self.old.globals) }
+        ensures tables { OnOk result (self.new.tables ≡ self.old.tables) }
+        ensures functions { OnOk result (map function_tree self.new.functions.items ≡ map function_tree self.old.functions.items ++ record { name = begun.name.items; params = capped begun.params; gives = begun.gives; sizes = self.old.place.sizes.items; body = stmt_trees begun.body.items } ∷ []) }
+        ensures locals { OnOk result (self.new.locals ≡ max self.old.locals (capped (sum (drop begun.params self.old.place.sizes.items)))) }
+    {
+        let Begun {
+            name,
+            gives,
+            params,
+            scope,
+            mut body,
+        } = begun;
+        self.place.leave(scope);
+        body.shrink_to_fit();
+        let sizes = mem::replace(&mut self.place.sizes, Vec::new(self.place.alloc));
+        self.locals = larger(self.locals, declared_words(&sizes, params));
+        self.functions.push(Function {
+            name,
+            params: number(params),
+            gives,
             sizes,
             body,
         })?;

@@ -28,4 +28,4 @@ mod simples;
 mod statements;
 
 pub use errors::ScopeError;
-pub use resolver::{Resolver, resolve};
+pub use resolver::{FunctionResolver, Resolver, resolve};

@@ -1,33 +1,32 @@
 // From a tree as it is read to a program.
 
-ghost use Rattle.std.specs.Prelude.{◌≡◌, ◌∷◌, ◌++◌, [], ℕ, List, Some, None, Option, IfOk, IfErr, OnOk, MatchResult, ◌⊎◌, map, length};
+ghost use Rattle.std.specs.Prelude.{◌≡◌, ◌∷◌, ◌++◌, [], ℕ, Bool, List, Some, None, Option, IfOk, IfErr, OnOk, MatchResult, ◌⊎◌, map, length};
 ghost use Rattle.cap_word.specs.declared.limits.Which.{Which};
-ghost use Rattle.c_tree.specs.RawTrees.{RawItemTree};
+ghost use Rattle.c_tree.specs.RawTrees.{NameTree, RawStmtTree, RawItemTree, RawFunctionItem};
 ghost use Rattle.c_tree.specs.Trees.{ProgramTree};
 ghost use Rattle.c_tree.specs.Programs.{tree_of};
 ghost use Rattle.c_tree.specs.ProgramView.{program_tree};
 ghost use Rattle.c_tree.specs.RawProgramView.{raw_program_tree};
-ghost use Rattle.c_tree.specs.RawViews.{raw_item_tree, raw_item_trees};
-ghost use Rattle.c_tree.specs.TextOrder.{functions_sites};
-ghost use Rattle.c_tree.specs.Views.{function_tree};
-ghost use Rattle.c_tree.specs.Temporaries.{capped};
+ghost use Rattle.c_tree.specs.RawViews.{name_tree, raw_stmt_tree, raw_in_order, raw_item_tree, raw_item_trees};
 ghost use Rattle.c_tree.specs.WellScoped.{IsWellScoped};
 ghost use Rattle.c_tree.specs.WholeCalls.{AreCallsWhole};
 ghost use Rattle.scope_rules.specs.Numbered.{numbered, IsResolvedBy};
-ghost use Rattle.scope_rules.specs.ItemViews.{IsCounted};
+ghost use Rattle.scope_rules.specs.ItemViews.{exceeded_with};
+ghost use Rattle.scope_rules.specs.Making.{IsMaking, made_by, with_statement};
 ghost use Rattle.scope_rules.specs.Reading.{HaveRead, AreAllRead, HasRead, CanNumber};
-ghost use Rattle.scope_rules.specs.Limits.{exceeded, first_exceeded};
+ghost use Rattle.scope_rules.specs.Limits.{first_exceeded};
 ghost use Rattle.scope_rules.specs.Outcomes.{IsResolved, IsRefused, IsNoMemory, refusal_by};
 
 use crate::errors::ScopeError;
 use crate::faults::{Fault, Rule};
-use crate::items::{Items, definitions};
+use crate::items::{Begun, Items, definitions};
 use crate::limits::{global_words, most_params, table_members};
 use crate::meanings::function_of;
 use crate::numbering::number_functions;
-use c_tree::{Function, GlobalFact, Program, RawItem, RawProgram, TableFact};
+use c_tree::{Function, GlobalFact, Name, Program, RawItem, RawProgram, RawStmt, TableFact};
 use cap_word::Which;
 use std::alloc::{AllocError, Global};
+use std::mem;
 
 // The refusal for a fault.
 fn refusal(fault: Fault) -> ScopeError
@@ -72,9 +71,7 @@ fn first_exceeded(
 
 // The first limit that the items exceed, whatever function is `main`.
 fn exceeded(items: &Items) -> Option<Which>
-    requires sites { items.now.place.site ≡ capped (length (functions_sites (map function_tree items.now.functions.items))) }
-    requires locals { IsCounted items.now }
-    ensures { (main : ℕ) → result ≡ exceeded (tree_of items.now.functions.items items.now.globals.items items.now.tables.items main) }
+    ensures { (main : ℕ) → result ≡ exceeded_with items.now.place.site items.now.locals (tree_of items.now.functions.items items.now.globals.items items.now.tables.items main) }
 {
     let functions = items.functions.len() > 4_096;
     let sites = items.place.site > 65_535;
@@ -227,6 +224,26 @@ impl Resolver {
         Ok(())
     }
 
+    /// A definition begins, with this head. Its body is resolved statement by statement.
+    ///
+    /// # Errors
+    ///
+    /// Memory ran out.
+    pub fn begin(
+        self,
+        alloc: Global,
+        gives: bool,
+        name: &Name,
+        params: &[Name],
+    ) -> Result<FunctionResolver, AllocError>
+        ensures { IfOk result (λ r. (all read : List RawItemTree) → HasRead self all read → IsMaking (made_by r) all read gives (name_tree name.now) (map name_tree params.now) []) }
+    {
+        let mut items = self.items;
+        let begun = items.place.begin(&items.definitions, gives, name, params)?;
+        let parts = Box::new(alloc, FunctionParts { items, begun })?;
+        Ok(FunctionResolver { parts })
+    }
+
     // The program of the source with these numbers of its calls, or its refusal.
     fn decide(self, alloc: Global, numbers: &[u32]) -> Result<Program, ScopeError>
         requires { CanNumber self numbers.now }
@@ -256,5 +273,49 @@ impl Resolver {
             Ok(program) => Ok(program),
             Err(refusal) => Err(refusal),
         }
+    }
+}
+
+// The items before a definition, and what is known of the definition.
+#[derive(Drop)]
+struct FunctionParts {
+    items: Items,
+    begun: Begun,
+}
+
+/// A source in the middle of a definition, whose body is resolved statement by statement, so a statement can be freed
+/// before the next one is built.
+#[derive(Drop)]
+pub struct FunctionResolver {
+    parts: Box<FunctionParts>,
+}
+
+impl FunctionResolver {
+    /// One more statement of the body was read.
+    ///
+    /// # Errors
+    ///
+    /// Memory ran out.
+    pub fn statement(&mut self, raw: &RawStmt) -> Result<(), AllocError>
+        ensures { OnOk result (made_by self.new ≡ with_statement (made_by self.old) (raw_stmt_tree raw.now)) }
+    {
+        let FunctionParts { items, begun } = &mut *self.parts;
+        let body = mem::replace(&mut begun.body, Vec::new(items.place.alloc));
+        begun.body = items.place.next_statement(begun.gives, body, raw)?;
+        Ok(())
+    }
+
+    /// The body is at its end.
+    ///
+    /// # Errors
+    ///
+    /// Memory ran out.
+    pub fn end(self) -> Result<Resolver, AllocError>
+        ensures { IfOk result (λ r. (all read : List RawItemTree) (gives : Bool) (n : NameTree) (params : List NameTree) (ss : List RawStmtTree) →
+            IsMaking (made_by self) all read gives n params ss → HasRead r all (read ++ RawFunctionItem gives n params (raw_in_order ss) ∷ [])) }
+    {
+        let FunctionParts { mut items, begun } = Box::into_inner(self.parts);
+        items.end(begun)?;
+        Ok(Resolver { items })
     }
 }

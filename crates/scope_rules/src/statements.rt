@@ -1,11 +1,12 @@
 // Statements and the scopes in them.
 
-ghost use Rattle.std.specs.Prelude.{◌≡◌, ◌∷◌, ◌++◌, ◌-◌, IfOk, OnOk, map, option_map, length, drop};
+ghost use Rattle.std.specs.Prelude.{◌≡◌, ◌∷◌, ◌++◌, ◌-◌, false, IfOk, OnOk, map, option_map, length, drop};
 ghost use Rattle.c_tree.specs.RawViews.{raw_expr_tree, raw_simple_tree, raw_stmt_tree, raw_stmt_trees};
 ghost use Rattle.c_tree.specs.Views.{expr_tree, right_tree, simple_tree, stmt_tree, stmt_trees};
 ghost use Rattle.scope_rules.specs.Faults.{least_of};
 ghost use Rattle.scope_rules.specs.Expressions.{expr_faults, expr_of};
 ghost use Rattle.scope_rules.specs.Places.{spot_of};
+ghost use Rattle.scope_rules.specs.Kept.{kept_with};
 ghost use Rattle.scope_rules.specs.Simples.{simple_of, simples_of, simples_after};
 ghost use Rattle.scope_rules.specs.Statements.{inside, left, condition_faults, step_kind, step_faults, step_after, parts_faults, return_faults, returned_of, returned_after, stmt_after, stmts_after, stmt_faults, stmts_faults, stmt_of, stmts_of};
 
@@ -14,7 +15,7 @@ use crate::faults::{Fault, Rule, note, note_if};
 use crate::held::{both, boxed, with_next};
 use crate::places::Place;
 use c_tree::{Expr, ForParts, RawExpr, RawForParts, RawSimple, RawStmt, RightSide, Simple, Stmt};
-use std::alloc::AllocError;
+use std::alloc::{AllocError, Global};
 
 // Notes the fault of a step of a `for` that declares a name.
 fn check_step(least: &mut Option<Fault>, raw: &RawSimple)
@@ -292,5 +293,40 @@ impl Place {
             stmts = with_next(stmts, self.stmt(gives, loops, stmt))?;
         }
         Ok(stmts)
+    }
+
+    /// Resolves one more statement of the outermost block of a function. Beyond the limit of calls no statement is kept,
+    /// since the source is refused.
+    pub fn next_statement(
+        &mut self,
+        gives: bool,
+        body: Vec<Stmt>,
+        raw: &RawStmt,
+    ) -> Result<Vec<Stmt>, AllocError>
+        ensures tree { IfOk result (λ ss. map stmt_tree ss.items ≡ kept_with (stmt_after (spot_of self.old) (raw_stmt_tree raw.now)).site (map stmt_tree body.items) (stmt_of (spot_of self.old) (raw_stmt_tree raw.now))) }
+        ensures place { OnOk result (spot_of self.new ≡ stmt_after (spot_of self.old) (raw_stmt_tree raw.now)) }
+        ensures faults { OnOk result (self.new.least ≡ least_of self.old.least (stmt_faults gives false (spot_of self.old) (raw_stmt_tree raw.now))) }
+    {
+        let stmt = self.stmt(gives, false, raw)?;
+        Ok(kept_with(self.alloc, self.site, body, stmt)?)
+    }
+}
+
+// Statements and one more, before the site with this number.
+fn kept_with(
+    alloc: Global,
+    site: u32,
+    mut body: Vec<Stmt>,
+    stmt: Stmt,
+) -> Result<Vec<Stmt>, AllocError>
+    ensures { IfOk result (λ ss. map stmt_tree ss.items ≡ kept_with site (map stmt_tree body.items) (stmt_tree stmt)) }
+{
+    if site > 65_535 {
+        drop(body);
+        drop(stmt);
+        Ok(Vec::new(alloc))
+    } else {
+        body.push(stmt)?;
+        Ok(body)
     }
 }

@@ -1,13 +1,11 @@
-use Rattle.std.proofs.Common.{◌≡◌, ◌∙◌, sym, ap, subst, length}
-use Rattle.c_tree.specs.TextOrder.{functions_sites}
-use Rattle.c_tree.specs.Temporaries.{capped}
+use Rattle.std.proofs.Common.{◌≡◌, ◌∙◌, refl, sym, ap, subst}
 use Rattle.c_tree.specs.WellScoped.{IsWellScoped}
 use Rattle.scope_rules.specs.Meanings.{function_of}
 use Rattle.scope_rules.specs.ItemViews.{sofar_of}
 use Rattle.scope_rules.specs.Outcomes.{IsResolved, IsRefused}
 use Rattle.scope_rules.proofs.LeastFaults.{refused}
-use Rattle.scope_rules.proofs.Sites.{all_numbered}
-use Rattle.scope_rules.proofs.Resolved.{tree_from, no_main, over_limit, is_resolved, is_well_scoped}
+use Rattle.scope_rules.proofs.Exceeded.{tree_from}
+use Rattle.scope_rules.proofs.Resolved.{no_main, over_limit, is_resolved, is_well_scoped}
 use Rattle.scope_rules.proofs.resolver.resolved_parts.Goals as goal
 
 pub returns-in-Some-clause-refused : goal.returns-in-Some-clause-refused
@@ -18,16 +16,10 @@ returns-in_default-find-clause-refused c = λ is h.
     let w = c.args.items in
     no_main is (sofar_of w) w.definitions c.find.result w.place.least h.sofar h.defined c.find.ensures h.faults c.in_default.is c.in_default-find.is
 
-pub exceeded-requires-clause-sites : goal.exceeded-requires-clause-sites
-exceeded-requires-clause-sites c = subst (λ w. w.spot.site ≡ capped (length (functions_sites w.functions))) (sym c.requires.read.sofar) (all_numbered c.requires.source).site
-
-pub exceeded-requires-clause-locals : goal.exceeded-requires-clause-locals
-exceeded-requires-clause-locals c = c.requires.read.counted
-
 pub returns-in-Some-exceeded-clause-refused : goal.returns-in-Some-exceeded-clause-refused
 returns-in-Some-exceeded-clause-refused c = λ is h.
     let w = c.args.items in
-    over_limit is (sofar_of w) w.definitions c.find.result w.place.least h.sofar h.defined c.find.ensures h.faults c.in_default.is c.in-Some-find.main c.in-Some-exceeded.which c.in-Some-find.is
+    over_limit is (sofar_of w) w.definitions c.find.result w.place.least h.sofar h.defined c.find.ensures h.faults c.in_default.is w.place.site w.locals refl h.counted c.in-Some-find.main c.in-Some-exceeded.which c.in-Some-find.is
     (sym (c.exceeded.ensures (function_of c.find.result)) ∙ c.in-Some-exceeded.is)
 
 pub returns-clause-scoped : goal.returns-clause-scoped
@@ -37,7 +29,7 @@ returns-clause-scoped c =
     let w = c.args.items in
     let m : c.function_of.result ≡ function_of c.find.result = c.function_of.ensures ∙ sym (ap function_of c.in-Some-find.is) in
     subst (λ z. IsWellScoped (tree_from (sofar_of w) z)) (sym m)
-    (is_well_scoped is (sofar_of w) w.definitions c.find.result w.place.least h.sofar h.defined c.find.ensures h.faults c.in_default.is c.in-Some-find.main c.in-Some-find.is
+    (is_well_scoped is (sofar_of w) w.definitions c.find.result w.place.least h.sofar h.defined c.find.ensures h.faults c.in_default.is w.place.site w.locals refl h.counted c.in-Some-find.main c.in-Some-find.is
     (sym (c.exceeded.ensures (function_of c.find.result)) ∙ c.in_default-exceeded.is) c.requires.within)
 
 pub returns-clause-resolved : goal.returns-clause-resolved
@@ -45,5 +37,5 @@ returns-clause-resolved c = λ is h.
     let w = c.args.items in
     let m : c.function_of.result ≡ function_of c.find.result = c.function_of.ensures ∙ sym (ap function_of c.in-Some-find.is) in
     subst (λ z. IsResolved is (tree_from (sofar_of w) z)) (sym m)
-    (is_resolved is (sofar_of w) w.definitions c.find.result w.place.least h.sofar h.defined c.find.ensures h.faults c.in_default.is c.in-Some-find.main c.in-Some-find.is
+    (is_resolved is (sofar_of w) w.definitions c.find.result w.place.least h.sofar h.defined c.find.ensures h.faults c.in_default.is w.place.site w.locals refl h.counted c.in-Some-find.main c.in-Some-find.is
     (sym (c.exceeded.ensures (function_of c.find.result)) ∙ c.in_default-exceeded.is))

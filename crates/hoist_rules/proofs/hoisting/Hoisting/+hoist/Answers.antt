@@ -1,12 +1,16 @@
-use Rattle.std.proofs.Common.{◌≡◌, ◌+◌, [], ◌∷◌, ◌++◌, ◌∙◌, map, drop, nat_lt, sym, ap, append-nil, arith}
+use Rattle.std.proofs.Common.{◌≡◌, ◌+◌, [], ◌∷◌, ◌++◌, ◌∙◌, map, drop, nat_lt, sym, ap, arith}
 use Rattle.std.proofs.lemmas.List.{map_push, drop_all}
+use Rattle.std.proofs.lemmas.Result.{on_ok_weaker}
 use Rattle.c_tree.specs.RawTrees.{RawConditional, RawCall, RawTableCall}
-use Rattle.c_tree.specs.RawViews.{name_tree, raw_expr_tree, raw_expr_trees, raw_stmt_tree, raw_chained}
+use Rattle.c_tree.specs.RawViews.{name_tree, raw_expr_tree, raw_expr_trees, raw_chained}
 use Rattle.c_tree.proofs.Cuts.{drop_at}
-use Rattle.c_tree.proofs.RawExprEquations.{raw_operand_tree, raw_expr_tree-Chain, raw_expr_tree-Conditional, raw_expr_tree-Call, raw_expr_tree-TableCall}
+use Rattle.c_tree.proofs.RawExprEquations.{raw_operand_tree, raw_expr_tree-Number, raw_expr_tree-Name, raw_expr_tree-Chain, raw_expr_tree-Conditional, raw_expr_tree-Call, raw_expr_tree-TableCall}
 use Rattle.hoist_parts.specs.Arguments.{calls_among}
+use Rattle.hoist_parts.specs.Expressions.{before}
 use Rattle.hoist_parts.specs.Chains.{chain_tree, operand_trees}
 use Rattle.hoist_parts.proofs.NoCalls.{no_left, no_before, no_names}
+use Rattle.hoist_rules.specs.Receivers.{so_far, then_all}
+use Rattle.hoist_rules.proofs.Followed.{then_none}
 use Rattle.hoist_rules.proofs.Operands as operand
 use Rattle.hoist_rules.proofs.CallTurns as calling
 use Rattle.hoist_rules.proofs.OperatorTurns as joined
@@ -33,7 +37,7 @@ expression-returns-in_ok-whole-in-Chain-clause-before t c =
     ap raw_expr_tree c.in-Chain.is ∙ raw_expr_tree-Chain first rest ∙ ap (raw_chained (raw_expr_tree first.value)) (sym (operand.operands_seen rest.items)) in
     let made = rw (c.of-left.ensures, c.deref-in-Chain-3.ensures.value) at c.in_ok-chain-in-Chain.ensures.before in
     operand.chain_before c.args.self.now.next c.expression-in-Chain.new.self.next c.is_left_alone.result (raw_expr_tree c.args.raw.now) (raw_expr_tree first.value) l (operand_trees rest.items)
-    (map raw_stmt_tree c.args.self.now.statements.items) (map raw_stmt_tree c.expression-in-Chain.new.self.statements.items) (map raw_stmt_tree c.operands.new.self.statements.items)
+    (so_far c.args.self.now.statements) (so_far c.expression-in-Chain.new.self.statements) (so_far c.operands.new.self.statements)
     whole (rw (← c.deref-in-Chain.ensures) c.in_ok-operand-in-Chain.ensures.left) (rw (← c.deref-in-Chain.ensures) c.in_ok-operand-in-Chain.ensures.next) (rw (← c.deref-in-Chain-2.ensures) c.is_left_alone.ensures)
     (rw (← c.deref-in-Chain.ensures) c.in_ok-operand-in-Chain.ensures.before) made
 
@@ -93,8 +97,8 @@ kept-returns-clause-kept t c = c.in_ok-expression.ensures.left ∙ no_left c.arg
 
 pub kept-returns-clause-outer : goal.kept-returns-clause-outer
 kept-returns-clause-outer t c =
-    let before = map raw_stmt_tree c.args.self.now.statements.items in
-    c.in_ok-expression.ensures.before ∙ ap (λ b. before ++ b) (no_before c.args.self.now.next (raw_expr_tree c.args.raw.now) c.requires) ∙ append-nil before
+    let before = so_far c.args.self.now.statements in
+    c.in_ok-expression.ensures.before ∙ ap (then_all before) (no_before c.args.self.now.next (raw_expr_tree c.args.raw.now) c.requires) ∙ then_none before
 
 pub kept-returns-clause-next : goal.kept-returns-clause-next
 kept-returns-clause-next t c = let none = no_names (raw_expr_tree c.args.raw.now) c.requires in omega (arith, c.in_ok-expression.ensures.next, none)
@@ -106,14 +110,14 @@ operand-returns-in_ok-with-in-Ok-expression-clause-left t c =
 
 pub operand-returns-in_ok-with-in-Ok-expression-clause-before : goal.operand-returns-in_ok-with-in-Ok-expression-clause-before
 operand-returns-in_ok-with-in-Ok-expression-clause-before t c =
-    joined.plain_before c.args.self.now.next _ c.args.operator _ c.args.is_alone _ (chain_tree c.args.left) (raw_expr_tree c.args.right.now) (map raw_stmt_tree c.args.self.now.statements.items) _ _
+    joined.plain_before c.args.self.now.next _ c.args.operator _ c.args.is_alone _ (chain_tree c.args.left) (raw_expr_tree c.args.right.now) (so_far c.args.self.now.statements) _ _
     c.holds_call-is_calling.ensures (sym c.is_branching.ensures ∙ c.if-is_branching.false) c.needs_name.ensures c.in_ok-left.ensures.next c.in_ok-left.ensures.before c.in-Ok-expression.ensures.before
 
 pub expression-returns-in_ok-name_part-in-Call-clause-before : goal.expression-returns-in_ok-name_part-in-Call-clause-before
 expression-returns-in_ok-name_part-in-Call-clause-before t c =
     let seen : raw_expr_tree c.args.raw.now ≡ RawCall (name_tree c.in-Call.name) (raw_expr_trees c.in-Call.arguments.items) = ap raw_expr_tree c.in-Call.is ∙ raw_expr_tree-Call c.in-Call.name c.in-Call.arguments in
     let made = c.in_ok-arguments-in-Call.ensures in
-    calling.call_pushed c.args.self.now.next _ _ (raw_expr_tree c.args.raw.now) _ (name_tree c.in-Call.name) (raw_expr_trees c.in-Call.arguments.items) _ _ (map raw_stmt_tree c.args.self.now.statements.items) _ _
+    calling.call_pushed c.args.self.now.next _ _ (raw_expr_tree c.args.raw.now) _ (name_tree c.in-Call.name) (raw_expr_trees c.in-Call.arguments.items) _ _ (so_far c.args.self.now.statements) _ _
     seen c.is_spawn.ensures (ap raw_expr_trees c.deref-in-Call.ensures.value) made.left made.before made.next c.in_ok-call-in-Call.ensures c.in_ok-name_part-in-Call.ensures.statements
 
 pub expression-returns-in_ok-name_part-in-Ok-expression-clause-before : goal.expression-returns-in_ok-name_part-in-Ok-expression-clause-before
@@ -123,7 +127,7 @@ expression-returns-in_ok-name_part-in-Ok-expression-clause-before t c =
     let seen : raw_expr_tree c.args.raw.now ≡ RawTableCall (name_tree c.in-TableCall.name) i e = ap raw_expr_tree c.in-TableCall.is ∙ raw_expr_tree-TableCall c.in-TableCall.name c.in-TableCall.index c.in-TableCall.argument in
     let part = c.in_ok-index-in-TableCall.ensures in
     let rest = c.in-Ok-expression.ensures in
-    calling.table_pushed c.args.self.now.next _ _ _ (raw_expr_tree c.args.raw.now) _ (name_tree c.in-TableCall.name) i e _ _ _ _ _ (map raw_stmt_tree c.args.self.now.statements.items) _ _ _
+    calling.table_pushed c.args.self.now.next _ _ _ (raw_expr_tree c.args.raw.now) _ (name_tree c.in-TableCall.name) i e _ _ _ _ _ (so_far c.args.self.now.statements) _ _ _
     seen (ap raw_expr_tree c.deref-in-TableCall.ensures) (ap raw_expr_tree c.deref-in-TableCall-3.ensures) (ap raw_expr_tree c.deref-in-TableCall-2.ensures) c.holds_call.ensures part.left part.before part.next rest.left rest.before rest.next c.in_ok-call-in-Ok-expression.ensures
     c.in_ok-name_part-in-Ok-expression.ensures.statements
 
@@ -135,3 +139,29 @@ expression-returns-in_ok-choice-in-Ok-kept-2-clause-next t c =
     let seen : raw_expr_tree c.args.raw.now ≡ RawConditional condition first second = ap raw_expr_tree c.in-Conditional.is ∙ raw_expr_tree-Conditional c.in-Conditional.condition c.in-Conditional.then c.in-Conditional.otherwise in
     calling.kept_names c.args.self.now.next _ _ _ _ (raw_expr_tree c.args.raw.now) condition first second _ _ _ seen (ap raw_expr_tree c.deref-in-Conditional-3.ensures) (ap raw_expr_tree c.deref-in-Conditional.ensures) (ap raw_expr_tree c.deref-in-Conditional-2.ensures)
     c.either_holds_call-is_branched.ensures c.if-is_branched.false c.in_ok-condition-in-Conditional.ensures.next c.in-Ok-kept.ensures.next c.in-Ok-kept-2.ensures.next
+
+pub expression-returns-in-Number-clause-before : goal.expression-returns-in-Number-clause-before
+expression-returns-in-Number-clause-before t c =
+    let s = so_far c.args.self.now.statements in
+    sym (then_none s) ∙ ap (λ e. then_all s (before c.args.self.now.next e)) (sym (ap raw_expr_tree c.in-Number.is ∙ raw_expr_tree-Number c.in-Number.value))
+
+pub expression-returns-in_ok-copied-in-Name-clause-before : goal.expression-returns-in_ok-copied-in-Name-clause-before
+expression-returns-in_ok-copied-in-Name-clause-before t c =
+    let s = so_far c.args.self.now.statements in
+    sym (then_none s) ∙ ap (λ e. then_all s (before c.args.self.now.next e)) (sym (ap raw_expr_tree c.in-Name.is ∙ raw_expr_tree-Name c.in-Name.name))
+
+pub expression-returns-in_Ok-second-in-Conditional-clause-before : goal.expression-returns-in_Ok-second-in-Conditional-clause-before
+expression-returns-in_Ok-second-in-Conditional-clause-before t c =
+    let condition = raw_expr_tree c.in-Conditional.condition.value in
+    let first = raw_expr_tree c.in-Conditional.then.value in
+    let second = raw_expr_tree c.in-Conditional.otherwise.value in
+    let seen : raw_expr_tree c.args.raw.now ≡ RawConditional condition first second = ap raw_expr_tree c.in-Conditional.is ∙ raw_expr_tree-Conditional c.in-Conditional.condition c.in-Conditional.then c.in-Conditional.otherwise in
+    let test = c.in_ok-condition-in-Conditional.ensures in
+    let one = c.in_Ok-first-in-Conditional.ensures in
+    let other = c.in_Ok-second-in-Conditional.ensures in
+    on_ok_weaker c.choose.result
+    (λ h. calling.chosen_pushed c.args.self.now.next _ _ _ _ _ (raw_expr_tree c.args.raw.now) condition first second _ _ _ _ _ _ _ _ (so_far c.args.self.now.statements) (so_far c.expression-in-Conditional.new.self.statements)
+    (so_far c.branch-second.new.self.statements) _ seen (ap raw_expr_tree c.deref-in-Conditional-3.ensures)
+    (ap raw_expr_tree c.deref-in-Conditional.ensures) (ap raw_expr_tree c.deref-then-is_branched.ensures) (ap raw_expr_tree c.deref-in-Conditional-2.ensures) (ap raw_expr_tree c.deref-then-is_branched-2.ensures)
+    c.either_holds_call-is_branched.ensures c.if-is_branched.true test.left test.before test.next
+    c.in-Ok.ensures.number (ap so_far (other.outer ∙ one.outer) ∙ c.in-Ok.ensures.before) c.in-Ok.ensures.next one.block one.next other.block h) c.choose.ensures.before

@@ -1,11 +1,12 @@
-use Rattle.std.proofs.Common.{◌≡◌, ◌+◌, ◌++◌, ◌∙◌, [], map, vec_len, sym, ap, subst}
+use Rattle.std.proofs.Common.{◌≡◌, ◌+◌, ◌∙◌, [], map, vec_len, sym, ap, subst}
 use Rattle.std.specs.Prelude.{IfOk, OnOk}
 use Rattle.c_tree.specs.RawTrees.{RawExprTree}
-use Rattle.c_tree.specs.RawViews.{raw_expr_tree, raw_stmt_tree, raw_chained}
+use Rattle.c_tree.specs.RawViews.{raw_expr_tree, raw_chained}
 use Rattle.c_tree.proofs.RawExprEquations.{raw_operand_tree, raw_expr_tree-Chain}
 use Rattle.hoist_parts.specs.Expressions.{names_in, left_of, before}
 use Rattle.hoist_parts.specs.Statements.{value_names, value_left, value_before}
 use Rattle.hoist_parts.proofs.HeldChains.{some_mapped, some_chain}
+use Rattle.hoist_rules.specs.Receivers.{so_far, then_all}
 use Rattle.hoist_rules.proofs.ValueChains.{joined_value_left, joined_value_before, joined_value_names}
 use Rattle.hoist_rules.proofs.hoisting.Hoisting.+value.Goals as goal
 
@@ -29,7 +30,7 @@ returns-else-is_empty-clause-before t c =
     let same : raw_expr_tree c.args.raw.now ≡ raw_chained (raw_expr_tree first.value) (map raw_operand_tree rest.items) = ap raw_expr_tree c.in-Chain.is ∙ raw_expr_tree-Chain first rest in
     let P : RawExprTree → Type 0 = λ e. before k e ≡ value_before k e in
     let equal : before k (raw_expr_tree c.args.raw.now) ≡ value_before k (raw_expr_tree c.args.raw.now) = subst P (sym same) (some_chain P (joined_value_before k) (raw_expr_tree first.value) (map raw_operand_tree rest.items) some) in
-    subst (λ x. OnOk c.expression.result (map raw_stmt_tree c.expression.new.self.statements.items ≡ map raw_stmt_tree c.args.self.now.statements.items ++ x)) equal c.expression.ensures.before
+    subst (λ x. OnOk c.expression.result (so_far c.expression.new.self.statements ≡ then_all (so_far c.args.self.now.statements) x)) equal c.expression.ensures.before
 
 pub returns-else-is_empty-clause-next : goal.returns-else-is_empty-clause-next
 returns-else-is_empty-clause-next t c =

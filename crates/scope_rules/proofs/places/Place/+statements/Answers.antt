@@ -14,7 +14,8 @@ use Rattle.scope_rules.proofs.Cuts.{drop_at}
 use Rattle.scope_rules.proofs.Least.{least_of_append, least_of_then}
 use Rattle.scope_rules.proofs.Scopes.{Extends, stmt_extends, stmts_extends, leaves}
 use Rattle.scope_rules.proofs.HeldValues.{boxed_fact, both_fact, pushed_view, pushed_fact}
-use Rattle.scope_rules.proofs.StmtLists.{stmts_list, stmts_listed}
+use Rattle.scope_rules.specs.Making.{stmts_list}
+use Rattle.scope_rules.proofs.StmtLists.{stmts_listed}
 use Rattle.scope_rules.proofs.ForLoops.{for_place, for_faults}
 use Rattle.scope_rules.proofs.places.Place.+statements.Goals as goal
 

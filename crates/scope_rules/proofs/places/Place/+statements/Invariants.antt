@@ -4,7 +4,7 @@ use Rattle.c_tree.specs.RawViews.{raw_stmt_tree, raw_stmt_trees}
 use Rattle.scope_rules.specs.Faults.{least_of}
 use Rattle.scope_rules.specs.Places.{spot_of}
 use Rattle.scope_rules.specs.Statements.{stmts_after, stmts_faults}
-use Rattle.scope_rules.proofs.StmtLists.{stmts_list}
+use Rattle.scope_rules.specs.Making.{stmts_list}
 use Rattle.scope_rules.proofs.places.Place.+statements.Given as goal
 
 abbrev pub invariant-stmts-loop-stmt : goal.invariant-stmts-loop-stmt

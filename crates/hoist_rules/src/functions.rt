@@ -1,0 +1,35 @@
+// The rewriting of a function.
+ghost use Rattle.std.specs.Prelude.{◌≡◌, IfOk};
+ghost use Rattle.c_tree.specs.RawViews.{raw_stmt_trees};
+ghost use Rattle.c_tree.specs.WholeForParts.{AreForsWhole};
+ghost use Rattle.hoist_parts.specs.Statements.{all_hoisted};
+ghost use Rattle.hoist_rules.specs.Receivers.{received, then_received};
+
+use crate::hoisting::Hoisting;
+use crate::receivers::{Receiver, Statements};
+use c_tree::RawStmt;
+use std::alloc::{AllocError, Global};
+
+/// Passes the statements that replace the body of a function to the receiver, one after another, and returns it. Every
+/// call in them is whole: each call of the body that isn't goes before its statement, as the declaration of a name that
+/// no source has, and so does what is evaluated before it. The new names are numbered from 0.
+///
+/// # Errors
+///
+/// Memory ran out.
+pub fn hoist_body(
+    alloc: Global,
+    body: &[RawStmt],
+    receiver: Receiver,
+) -> Result<Receiver, AllocError>
+    requires { AreForsWhole (raw_stmt_trees body.now) }
+    ensures { IfOk result (λ r. received r ≡ then_received (received receiver) (all_hoisted 0 (raw_stmt_trees body.now))) }
+{
+    let mut hoisting = Hoisting {
+        alloc,
+        next: 0,
+        statements: Statements::Passed(receiver),
+    };
+    hoisting.statements(body)?;
+    hoisting.statements.receiver()
+}

@@ -1,0 +1,19 @@
+use Rattle.std.proofs.Common.{◌∙◌, ap, None}
+use Rattle.c_tree.specs.RawViews.{raw_item_trees}
+use Rattle.scope_rules.specs.Faults.{least_of}
+use Rattle.scope_rules.specs.Items.{at_start, items_after, items_faults}
+use Rattle.scope_rules.specs.ItemViews.{sofar_of}
+use Rattle.scope_rules.proofs.ReadItems.{read_all}
+use Rattle.scope_rules.proofs.resolver.read_items.Goals as goal
+
+pub returns : goal.returns
+returns c =
+    let is = raw_item_trees c.args.raw.now in
+    let first = c.in_ok-items.items in
+    let defs = first.definitions in
+    let begun = c.in_ok-items.ensures in
+    let read = c.in_ok-items-2.ensures in
+    read_all c.items.new.self is defs read.definitions (begun.definitions ∙ c.in_ok-definitions.ensures)
+    (read.sofar ∙ ap (λ x. items_after defs x is) begun.sofar)
+    (read.faults ∙ (ap (λ x. least_of x (items_faults defs (sofar_of first) is)) begun.faults ∙ ap (λ x. least_of None (items_faults defs x is)) begun.sofar))
+    (read.counted begun.counted)
