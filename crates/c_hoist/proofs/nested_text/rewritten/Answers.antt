@@ -31,9 +31,9 @@ loop-item-preserved c =
     let one = item_hoisted (raw_item_tree c.in-Some.item) in
     let read = c.loop-item.invariant.0 in (
       read ++ one ∷ [],
-      c.in_ok-item.ensures.read (raw_item_trees c.args.raw.items) read c.loop-item.invariant.1,
+      c.in_ok-rewritten.ensures.read (raw_item_trees c.args.raw.items) read c.loop-item.invariant.1,
       append_assoc read (one ∷ []) (items_hoisted rest) ∙ (sym (ap (λ xs. read ++ items_hoisted (raw_item_trees xs)) steps.0) ∙ c.loop-item.invariant.2),
-      c.in_ok-item.ensures.places ∙ (ap (λ ps. ps ++ item_places is_call one) c.loop-item.invariant.3 ∙ sym (places_of_one_more read one)),
+      c.in_ok-rewritten.ensures.places ∙ (ap (λ ps. ps ++ item_places is_call one) c.loop-item.invariant.3 ∙ sym (places_of_one_more read one)),
       (subst (λ xs. AreForPartsWhole (raw_item_trees xs)) steps.0 c.loop-item.invariant.4).1,
       omega (arith, ap length steps.0, steps.1, c.loop-item.invariant.5),
     )
