@@ -1,7 +1,7 @@
 -- Arguments that are taken one after another leave what the rewriting of all leaves.
-use Rattle.std.proofs.Common.{ℕ, ◌+◌, ◌≡◌, refl, sym, ap, ◌∙◌, Bool, true, false, ◌||◌, nat_lt, List, [], ◌∷◌, ◌++◌, append_assoc, arith}
+use Rattle.std.proofs.Common.{ℕ, ◌+◌, ◌≡◌, refl, sym, ap, ◌∙◌, Bool, true, false, ◌||◌, nat_lt, List, [], ◌∷◌, ◌++◌, arith}
 use Rattle.std.proofs.lemmas.Bool.Decides.{nat_tests}
-use Rattle.c_tree.specs.RawTrees.{RawExprTree, RawExprTrees, NoExprs, And, RawStmtTree}
+use Rattle.c_tree.specs.RawTrees.{RawExprTree, RawExprTrees, NoExprs, And}
 use Rattle.c_tree.specs.RawViews.{raw_arguments}
 use Rattle.hoist_parts.specs.Calls.{holds_call, hold_call}
 use Rattle.hoist_parts.specs.Expressions.{one_if, arguments_names, arguments_left, arguments_before}

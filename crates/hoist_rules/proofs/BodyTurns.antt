@@ -1,5 +1,5 @@
 -- A turn over the statements of a block.
-use Rattle.std.proofs.Common.{ℕ, ◌+◌, ◌≡◌, ◌∙◌, List, ◌++◌, append_assoc, arith}
+use Rattle.std.proofs.Common.{ℕ, ◌+◌, ◌≡◌, ◌∙◌, arith}
 use Rattle.c_tree.specs.RawTrees.{RawStmtTree, RawStmtTrees, RawThen}
 use Rattle.hoist_parts.specs.Statements.{stmt_names, stmts_names, hoisted, all_hoisted}
 use Rattle.hoist_rules.specs.Receivers.{SoFar, then_all}

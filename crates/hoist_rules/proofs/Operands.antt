@@ -2,7 +2,7 @@
 use Rattle.std.proofs.Common.{ℕ, ◌+◌, ◌≡◌, refl, sym, ap, ◌∙◌, Bool, false, not, ◌&&◌, List, [], ◌∷◌, ◌++◌, map, append_assoc, append-nil, arith}
 use Rattle.c_tree.specs.declared.operators.Infix.{Infix}
 use Rattle.c_tree.specs.declared.raw_expressions.RawExpr.{RawExpr}
-use Rattle.c_tree.specs.RawTrees.{RawExprTree, RawStmtTree}
+use Rattle.c_tree.specs.RawTrees.{RawExprTree}
 use Rattle.c_tree.specs.RawViews.{raw_joined, raw_chained}
 use Rattle.c_tree.proofs.RawExprEquations.{raw_operand_tree}
 use Rattle.hoist_parts.specs.Calls.{holds_call, is_left_alone}

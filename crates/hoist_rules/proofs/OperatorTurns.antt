@@ -1,7 +1,7 @@
 -- One operator and its right operand, where that isn't evaluated in a branch: as any other operator.
-use Rattle.std.proofs.Common.{ℕ, ◌+◌, ◌≡◌, refl, sym, ap, ◌∙◌, Bool, false, not, ◌&&◌, List, ◌++◌, append_assoc}
+use Rattle.std.proofs.Common.{ℕ, ◌+◌, ◌≡◌, refl, sym, ap, ◌∙◌, Bool, false, not, ◌&&◌, ◌++◌}
 use Rattle.c_tree.specs.declared.operators.Infix.{Infix}
-use Rattle.c_tree.specs.RawTrees.{RawExprTree, RawStmtTree}
+use Rattle.c_tree.specs.RawTrees.{RawExprTree}
 use Rattle.c_tree.specs.RawViews.{raw_joined}
 use Rattle.hoist_parts.specs.Calls.{holds_call}
 use Rattle.hoist_parts.specs.Expressions.{one_if, part_or, part_named, left_of, before}

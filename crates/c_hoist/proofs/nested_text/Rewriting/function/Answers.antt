@@ -1,7 +1,5 @@
-use Rattle.std.proofs.Common.{◌≡◌, sym, ap, subst, ◌∙◌, List, [], ◌∷◌, ◌++◌, map}
+use Rattle.std.proofs.Common.{sym, ap, subst, ◌∙◌, [], ◌++◌, map}
 use Rattle.c_tree.specs.RawViews.{name_tree, raw_in_order, raw_stmt_trees}
-use Rattle.grammar_laws.specs.Nested.{is_call}
-use Rattle.grammar_laws.specs.Places.{stmts_places}
 use Rattle.scope_rules.specs.Making.{IsMaking, made_by}
 use Rattle.hoist_parts.specs.Statements.{all_hoisted}
 use Rattle.c_hoist.proofs.Rewriting.{all_statements, places_of_function}
