@@ -1,7 +1,7 @@
 """Calls inside expressions: in conditions, in indices, in arguments, wide, deep, and as many as
 there may be. What each puts follows from docs/LANGUAGE.md: evaluation is from left to right, and
 each call takes a name of the function's frame."""
-from .form import case, puts, refused
+from .form import MEGABYTES, case, puts, refused
 
 # `next` puts each number that it returns, so the order of calls is seen.
 HEAD = (
@@ -119,6 +119,19 @@ def site_cases():
     yield refused("a megabyte of calls in conditions of for", head + b"for(;f(0););" * 87_000 + b"}", f"source: NestedCall at {len(head) + 5}")
 
 
+def joined_cases():
+    """A megabyte of calls joined into one expression. In the outermost block of a function its parts
+    are resolved as soon as they are made, and none is kept beyond the limit of calls."""
+    head, streamed = b"int f() { return 1; } int g(int x) { return x; } int main() { ", 160
+    for operator in (b"&&", b"||"):
+        joined = operator.join([b"f()"] * 209_000)
+        for name, statement, megabytes in (
+            ("returned", b"return %s;", streamed), ("as an argument", b"g(%s);", streamed), ("declared", b"int x = %s;", streamed), ("in the condition of an if", b"if (%s) g(0);", streamed),
+            ("in an inner block", b"{ g(%s); }", MEGABYTES), ("in the condition of a while", b"while (%s) ;", MEGABYTES),
+        ):
+            yield refused(f"a megabyte of calls joined by {operator.decode()}, {name}", head + statement % joined + b" return 0; }", "source: Limit sites", megabytes=megabytes)
+
+
 def cases():
-    for group in (order_cases, stop_cases, refusal_cases, deep_cases, wide_cases, site_cases):
+    for group in (order_cases, stop_cases, refusal_cases, deep_cases, wide_cases, site_cases, joined_cases):
         yield from group()
