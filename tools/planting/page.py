@@ -36,7 +36,7 @@ def table():
             " report out of memory, which may happen at any time (`put_all`, `CleanSink` and `CleanShelf` of `cap_io`);"
             " return needs that are always met, which costs time alone (`Needs::of` and `ReadyTree::needs` of `ready_tree`);"
             " or are in `report_text`: a text may end early if memory runs out, and what `escaped` and `quoted` append is only tested (docs/PROOFS.md).",
-            "`others` counts those that weren't judged: they don't compile, take too long, or miss only a callee's `requires`.",
+            "`others` counts those that weren't judged: they don't compile, take too long, miss only a callee's `requires`, or weren't reached within three to ten minutes a crate.",
             "",
         ]
         heads = "Crate", "functions", "untested", "without a clause", "wrong bodies", "refused", "met", "others"
