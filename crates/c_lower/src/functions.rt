@@ -55,8 +55,11 @@ fn body_code(alloc: Global, t: u32, body: &[Stmt]) -> Result<Vec<Op>, AllocError
     Ok(code)
 }
 
-/// The flat code of one function of a program, as `lower` gives it. A function of more than 2^32 operations is
-/// a want of memory.
+/// Returns the flat code of one function of a program, the same as in the result of `lower`.
+///
+/// # Errors
+///
+/// Memory ran out. A function of more than 2^32 operations is reported the same way.
 pub fn lower_function(alloc: Global, function: &Function) -> Result<FlatFunction, AllocError>
     requires small { function_temporaries (function_tree function.now) ≤ 65536 }
     requires few { length (function_tree function.now).sizes ≤ 65536 }

@@ -30,9 +30,12 @@ pub fn sorted_graph(
     Ok(CallGraph::new(weights, tables, sites, main))
 }
 
-/// The call graph of a flat program with these weights, one for each function. Each call of a function or a
-/// table is a site, and a spawn is none; the sites stand in order of their numbers. More than 2^32 functions
-/// count as want of memory.
+/// Returns the call graph of a flat program with these weights, one for each function. Each call of a function or a
+/// table is a site, and a spawn isn't. The sites are in the order of their numbers.
+///
+/// # Errors
+///
+/// Memory ran out. More than 2^32 functions are reported the same way.
 pub fn graph(alloc: Global, flat: &FlatProgram, weights: &[u32]) -> Result<CallGraph, AllocError>
     requires { length weights.now ≡ length (program_code flat.now).functions }
     ensures weights { IfOk result (λ graph. graph.weights ≡ weights.now) }

@@ -7,7 +7,7 @@ ghost use Rattle.checkpoint_place.specs.KnownTables.{AreAmong, AreKnownAmong, Is
 use call_graph::{Callees, Target};
 use std::alloc::{AllocError, Global};
 
-/// The greatest bound of these functions, or 0 where there is none. It takes no memory.
+/// Returns the greatest bound of these functions, or 0 if there are none. It allocates nothing.
 pub fn greatest_of(functions: &[u32], bounds: &[u32]) -> u32
     requires { AllByRecursion (λ f. f < length bounds.now) functions.now }
     ensures { result ≡ greatest (slice_index bounds.now) functions.now }

@@ -1,13 +1,11 @@
 -- Items that agree up to the limit of calls agree after one more.
-use Rattle.std.proofs.Common.{ℕ, ◌≡◌, ◌≤◌, refl, sym, ap, ◌∙◌, true, false, List, [], ◌∷◌, ◌++◌, length, length-append, arith}
+use Rattle.std.proofs.Common.{◌≡◌, ◌≤◌, refl, true, false, List, [], ◌∷◌, ◌++◌, length, length-append, arith}
 use Rattle.c_tree.specs.RawTrees.{RawItemTree, RawGlobal, RawGlobalArray, RawTableItem, RawPrototypeItem, RawFunctionItem}
 use Rattle.c_tree.specs.Temporaries.{capped}
-use Rattle.scope_rules.specs.declared.faults.Fault.{Fault}
 use Rattle.scope_rules.specs.declared.meanings.Meaning.{Meaning}
 use Rattle.scope_rules.specs.Names.{Binding, find}
-use Rattle.scope_rules.specs.Places.{Spot}
 use Rattle.scope_rules.specs.Simples.{bound}
-use Rattle.scope_rules.specs.Statements.{stmts_after, stmts_of}
+use Rattle.scope_rules.specs.Statements.{stmts_after}
 use Rattle.scope_rules.specs.Items.{Sofar, definitions, at_start, is_defined, with_function, members_of, body_spot, function_left, function_tree_of, item_faults, item_after, items_after}
 use Rattle.scope_rules.specs.Reading.{Agrees}
 use Rattle.scope_rules.proofs.Growth.{stmts_grown}

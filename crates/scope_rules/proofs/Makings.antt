@@ -1,20 +1,18 @@
 -- A definition that is resolved statement by statement: one more statement, and its end.
-use Rattle.std.proofs.Common.{ℕ, ◌≡◌, ◌≤◌, ◌-◌, refl, sym, ap, subst, ◌∙◌, Bool, true, false, List, [], ◌∷◌, ◌++◌, append_assoc, append-nil, length, length-append, drop, map, sum, max, None, Option, arith}
-use Rattle.std.specs.Prelude.{nat_lt, if◌then◌else◌}
+use Rattle.std.proofs.Common.{ℕ, ◌≡◌, ◌≤◌, ◌-◌, refl, sym, ap, subst, ◌∙◌, Bool, true, false, List, [], ◌∷◌, ◌++◌, append_assoc, append-nil, length, length-append, drop, map, sum, max, None, arith}
 use Rattle.c_tree.specs.RawTrees.{NameTree, RawStmtTree, RawItemTree, RawFunctionItem}
 use Rattle.c_tree.specs.RawViews.{raw_in_order}
 use Rattle.c_tree.specs.Trees.{StmtTree, FunctionTree}
 use Rattle.c_tree.specs.TextOrder.{stmts_names}
 use Rattle.c_tree.specs.Views.{in_order, function_tree, table_row}
 use Rattle.c_tree.specs.Temporaries.{capped}
-use Rattle.scope_rules.specs.declared.faults.Fault.{Fault}
 use Rattle.scope_rules.specs.declared.items.Items.{Items}
 use Rattle.scope_rules.specs.Names.{Binding, find}
 use Rattle.scope_rules.specs.Faults.{least_of}
 use Rattle.scope_rules.specs.Limits.{most_locals}
 use Rattle.scope_rules.specs.Places.{Spot, spot_of}
 use Rattle.scope_rules.specs.Statements.{stmt_of, stmt_after, stmt_faults, stmts_of, stmts_after, stmts_faults}
-use Rattle.scope_rules.specs.Items.{Sofar, definitions, at_start, item_after, item_faults, items_after, items_faults, function_faults, main_faults, params_faults, params_after, with_function, params_spot, body_spot, unsized, function_tree_of}
+use Rattle.scope_rules.specs.Items.{Sofar, definitions, at_start, item_after, items_faults, function_faults, main_faults, params_faults, with_function, params_spot, function_tree_of}
 use Rattle.scope_rules.specs.ItemViews.{sofar_of, IsCounted}
 use Rattle.scope_rules.specs.Making.{Making, IsMaking, with_statement, with_statements, stmts_list, items_read, body_start}
 use Rattle.scope_rules.specs.Heads.{head_faults}

@@ -4,7 +4,6 @@ use Rattle.std.specs.Prelude.{codes}
 use Rattle.cap_word.specs.declared.limits.Which.{Which}
 use Rattle.c_tree.specs.RawTrees.{RawItemTree}
 use Rattle.c_tree.specs.RawTemporaries.{AreWithinTemporaries}
-use Rattle.c_tree.specs.Trees.{ProgramTree}
 use Rattle.c_tree.specs.Temporaries.{capped}
 use Rattle.c_tree.specs.WellScoped.{IsWellScoped}
 use Rattle.scope_rules.specs.declared.faults.Fault.{Fault}

@@ -1,5 +1,5 @@
 -- A definition that is resolved statement by statement.
-use Rattle.std.specs.Prelude.{ℕ, ◌≡◌, ◌≤◌, Bool, true, false, List, [], ◌∷◌, ◌++◌, map, length, Option, None}
+use Rattle.std.specs.Prelude.{ℕ, ◌≡◌, ◌≤◌, Bool, true, false, List, [], ◌∷◌, map, length, Option, None}
 use Rattle.c_tree.specs.RawTrees.{NameTree, RawStmtTree, RawItemTree}
 use Rattle.c_tree.specs.RawViews.{raw_in_order}
 use Rattle.c_tree.specs.Trees.{StmtTree}
@@ -10,7 +10,7 @@ use Rattle.scope_rules.specs.declared.items.Items.{Items}
 use Rattle.scope_rules.specs.declared.items.Begun.{Begun}
 use Rattle.scope_rules.specs.declared.resolver.FunctionResolver.{FunctionResolver}
 use Rattle.scope_rules.specs.declared.statements.Scope.{Scope}
-use Rattle.scope_rules.specs.Names.{Binding, find}
+use Rattle.scope_rules.specs.Names.{Binding}
 use Rattle.scope_rules.specs.Faults.{least_of}
 use Rattle.scope_rules.specs.Limits.{most_locals}
 use Rattle.scope_rules.specs.Places.{Spot}

@@ -39,9 +39,12 @@ fn weights(alloc: Global, functions: &[FlatFunction]) -> Result<Vec<u32>, AllocE
     Ok(list)
 }
 
-/// The plan of a call graph for paths of at most `max_path` bytes, with the graph and its back edges. It refuses
-/// with `FrameTooLarge` only where a frame exceeds `max_path` or 2,032 bytes, and names the first such function;
-/// where there is one, the answer is that refusal or want of memory.
+/// Returns the plan of a call graph for paths of at most `max_path` bytes, with the graph and its back edges.
+///
+/// # Errors
+///
+/// `FrameTooLarge`, with the first function whose frame exceeds `max_path` or 2,032 bytes; `Memory` if an allocation
+/// fails.
 pub fn plan_of_graph(alloc: Global, graph: CallGraph, max_path: u32) -> Result<Planned, PlaceError>
     ensures refused { IfErr result (λ error. (error ≡ Memory) ⊎ (refusal_from max_path 0 graph.weights ≡ Some error)) }
     ensures graph { IfOk result (λ planned. planned.graph ≡ graph) }
@@ -58,9 +61,12 @@ pub fn plan_of_graph(alloc: Global, graph: CallGraph, max_path: u32) -> Result<P
     })
 }
 
-/// The plan of a program of flat code for paths of at most `max_path` bytes, with its call graph and its back
-/// edges. It refuses with `FrameTooLarge` only where a frame exceeds `max_path` or 2,032 bytes, and names the
-/// first such function; where there is one, the answer is that refusal or want of memory.
+/// Returns the plan of a program of flat code for paths of at most `max_path` bytes, with its call graph and its back
+/// edges.
+///
+/// # Errors
+///
+/// Those of `plan_of_graph`.
 pub fn plan_of(alloc: Global, flat: &FlatProgram, max_path: u32) -> Result<Planned, PlaceError>
     ensures refused { IfErr result (λ error. (error ≡ Memory) ⊎ (refusal_from max_path 0 (weights_of (program_code flat.now)) ≡ Some error)) }
     ensures graph { IfOk result (λ planned. IsGraphOf (program_code flat.now) planned.graph) }

@@ -1,5 +1,4 @@
-use Rattle.std.proofs.Common.{◌∙◌, sym, subst}
-use Rattle.scope_rules.specs.Items.{at_start}
+use Rattle.std.proofs.Common.{◌∙◌, subst}
 use Rattle.scope_rules.specs.ItemViews.{sofar_of}
 use Rattle.scope_rules.specs.Reading.{Agrees}
 use Rattle.scope_rules.proofs.Agreeing.{agrees}
