@@ -8,9 +8,8 @@ use Rattle.std.proofs.lemmas.Slice.Eq.{bytes_eq-Decides}
 use Rattle.cap_word.specs.Rows.{row, width, with_word, with_zeros}
 use Rattle.scope_rules.specs.declared.meanings.Meaning.{Meaning}
 use Rattle.scope_rules.specs.declared.meanings.Found.{Found}
-use Rattle.scope_rules.specs.Names.{Binding, find}
+use Rattle.scope_rules.specs.Names.{Binding, find, is_fixed, bound}
 use Rattle.scope_rules.specs.Meanings.{is_modelled, table_in, table_of, callee_in, callee_of}
-use Rattle.scope_rules.specs.Simples.{is_fixed, bound}
 use Rattle.hoist_parts.specs.NewNames.{new_name}
 use Rattle.hoist_parts.proofs.Names.{BeginsWithDigit, new_begins}
 use Rattle.hoist_meaning.specs.SourceNames.{IsSourceName}

@@ -4,10 +4,10 @@ use Rattle.std.proofs.Common.{ℕ, ◌+◌, ◌≤◌, ◌≡◌, refl, sym, ap,
 use Rattle.c_tree.specs.RawTrees.{NameTree, RawSimpleTree, RawDeclareScalar, RawDeclareArray, RawDeclareWith, RawSet, RawSetElement, RawCalling, RawTableCalling}
 use Rattle.scope_rules.specs.declared.meanings.Meaning.{Meaning}
 use Rattle.scope_rules.specs.declared.meanings.Found.{Found}
-use Rattle.scope_rules.specs.Names.{find}
+use Rattle.scope_rules.specs.Names.{find, is_fixed, bound}
 use Rattle.scope_rules.specs.Meanings.{is_modelled}
 use Rattle.scope_rules.specs.Places.{Spot}
-use Rattle.scope_rules.specs.Simples.{is_fixed, bound, with_variable, simple_after}
+use Rattle.scope_rules.specs.Simples.{with_variable, simple_after}
 use Rattle.deep_mean.specs.Naming as deep
 use Rattle.hoist_parts.specs.Statements.{simple_left}
 use Rattle.hoist_meaning.specs.SourceNames.{IsSourceName, IsSimpleNamed}

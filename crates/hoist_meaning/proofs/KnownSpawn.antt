@@ -6,9 +6,9 @@ use Rattle.std.proofs.lemmas.Slice.Eq.{bytes_eq-Decides}
 use Rattle.c_tree.specs.RawTrees.{NameTree, RawExprTree, RawSimpleTree, RawDeclareScalar, RawDeclareArray, RawDeclareWith, RawSet, RawSetElement, RawCalling, RawTableCalling, RawStmtTree, RawStmtTrees, RawDo, RawEmpty, RawBlock, RawIf, RawIfElse, RawWhile, RawFor, RawBreak, RawContinue, RawReturn, NoRawStmts, RawThen}
 use Rattle.c_tree.specs.RawViews.{raw_in_order}
 use Rattle.scope_rules.specs.declared.meanings.Meaning.{Meaning}
-use Rattle.scope_rules.specs.Names.{Binding, find}
+use Rattle.scope_rules.specs.Names.{Binding, find, is_fixed, bound}
 use Rattle.scope_rules.specs.Places.{Spot}
-use Rattle.scope_rules.specs.Simples.{is_fixed, bound, with_variable, simple_after, simples_after}
+use Rattle.scope_rules.specs.Simples.{with_variable, simple_after, simples_after}
 use Rattle.scope_rules.specs.Statements.{step_after, returned_after, stmt_after, stmts_after, stmt_faults, stmts_faults}
 use Rattle.scope_rules.specs.Items.{params_after}
 use Rattle.scope_rules.proofs.NoFaults.{both_none}

@@ -9,10 +9,10 @@ use Rattle.c_tree.specs.RawTrees.{NameTree, RawItemTree, RawGlobal, RawGlobalArr
 use Rattle.c_tree.specs.Temporaries.{capped}
 use Rattle.scope_rules.specs.declared.meanings.Meaning.{Meaning}
 use Rattle.scope_rules.specs.declared.meanings.Found.{Found}
-use Rattle.scope_rules.specs.Names.{Binding, find}
+use Rattle.scope_rules.specs.Names.{Binding, find, is_fixed, bound}
 use Rattle.scope_rules.specs.Meanings.{function_of, callee_in, callee_of}
 use Rattle.scope_rules.specs.Places.{Spot}
-use Rattle.scope_rules.specs.Simples.{is_fixed, bound, next_variable, with_variable}
+use Rattle.scope_rules.specs.Simples.{next_variable, with_variable}
 use Rattle.scope_rules.specs.Items.{modelled, with_calls, modelled_names, is_defined, with_function, params_after, params_spot, body_spot}
 use Rattle.deep_mean.specs.Naming as deep
 use Rattle.deep_mean.specs.Naming.{DeepSofar, is_spawn_by}

@@ -8,10 +8,9 @@ use Rattle.c_tree.specs.Trees.{ProgramTree}
 use Rattle.c_mean.specs.Frames.{function_at}
 use Rattle.scope_rules.specs.declared.meanings.Meaning.{Meaning}
 use Rattle.scope_rules.specs.declared.meanings.Found.{Found}
-use Rattle.scope_rules.specs.Names.{Binding, find}
+use Rattle.scope_rules.specs.Names.{Binding, find, is_fixed, bound}
 use Rattle.scope_rules.specs.Meanings.{callee_in, callee_of}
 use Rattle.scope_rules.specs.Places.{Spot}
-use Rattle.scope_rules.specs.Simples.{is_fixed, bound}
 use Rattle.deep_mean.specs.DeepTrees.{DeepProgram}
 use Rattle.deep_mean.specs.Naming.{is_spawn_by}
 use Rattle.hoist_parts.specs.Calls.{holds_call, hold_call, holds_nested, is_named, is_spawn}

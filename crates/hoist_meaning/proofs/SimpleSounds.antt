@@ -7,12 +7,12 @@ use Rattle.c_tree.specs.Trees as tree
 use Rattle.c_tree.specs.Trees.{ExprTree, RightTree, ProgramTree}
 use Rattle.c_mean.specs.Frames.{Place, InLocal, InGlobal, Nowhere, function_at}
 use Rattle.scope_rules.specs.declared.meanings.Variable.{Variable}
-use Rattle.scope_rules.specs.Names.{find}
+use Rattle.scope_rules.specs.Names.{find, is_fixed}
 use Rattle.scope_rules.specs.Meanings.{is_scalar, is_array, variable_of}
 use Rattle.scope_rules.specs.Expressions.{scalar_faults, array_faults, expr_faults, listed, expr_of}
 use Rattle.scope_rules.specs.Calls.{right_faults, right_of, call_of, table_call_of}
 use Rattle.scope_rules.specs.Places.{Spot}
-use Rattle.scope_rules.specs.Simples.{is_fixed, next_variable, declare_faults, simple_faults, set_scalar, set_element}
+use Rattle.scope_rules.specs.Simples.{next_variable, declare_faults, simple_faults, set_scalar, set_element}
 use Rattle.scope_rules.specs.Simples as tree_simples
 use Rattle.scope_rules.specs.Numbered.{simple_numbered, right_numbered, call_numbered}
 use Rattle.scope_rules.proofs.NoFaults.{both_none}

@@ -8,8 +8,7 @@ use Rattle.c_tree.specs.Trees.{FunctionTree, ProgramTree}
 use Rattle.c_tree.specs.Trees as tree
 use Rattle.c_tree.specs.Temporaries.{capped}
 use Rattle.scope_rules.specs.declared.meanings.Meaning.{Meaning}
-use Rattle.scope_rules.specs.Names.{Binding, find}
-use Rattle.scope_rules.specs.Simples.{bound}
+use Rattle.scope_rules.specs.Names.{Binding, find, bound}
 use Rattle.scope_rules.specs.Items.{Sofar, with_definition, with_definitions, with_function, is_defined, members_of, body_spot, function_tree_of, item_after, items_after}
 use Rattle.scope_rules.specs.Numbered.{function_numbered}
 use Rattle.deep_mean.specs.DeepTrees.{DeepFunction}

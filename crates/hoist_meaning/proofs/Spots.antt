@@ -5,7 +5,6 @@ use Rattle.c_tree.specs.RawTrees.{RawExprTree, RawExprTrees, RawNumber, RawName,
 use Rattle.c_tree.specs.Temporaries.{capped}
 use Rattle.scope_rules.specs.declared.meanings.Meaning.{Meaning}
 use Rattle.scope_rules.specs.Places.{Spot}
-use Rattle.scope_rules.specs.Simples.{bound}
 use Rattle.scope_rules.specs.Statements.{inside, left, stmt_after}
 use Rattle.hoist_parts.specs.NewNames.{new_name, used, declared, declared_as, set_to}
 use Rattle.hoist_parts.specs.Calls.{holds_call, hold_call, is_named, is_spawn}

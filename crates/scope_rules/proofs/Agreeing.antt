@@ -3,8 +3,7 @@ use Rattle.std.proofs.Common.{◌≡◌, ◌≤◌, refl, true, false, List, [],
 use Rattle.c_tree.specs.RawTrees.{RawItemTree, RawGlobal, RawGlobalArray, RawTableItem, RawPrototypeItem, RawFunctionItem}
 use Rattle.c_tree.specs.Temporaries.{capped}
 use Rattle.scope_rules.specs.declared.meanings.Meaning.{Meaning}
-use Rattle.scope_rules.specs.Names.{Binding, find}
-use Rattle.scope_rules.specs.Simples.{bound}
+use Rattle.scope_rules.specs.Names.{Binding, find, bound}
 use Rattle.scope_rules.specs.Statements.{stmts_after}
 use Rattle.scope_rules.specs.Items.{Sofar, definitions, at_start, is_defined, with_function, members_of, body_spot, function_left, function_tree_of, item_faults, item_after, items_after}
 use Rattle.scope_rules.specs.Reading.{Agrees}

@@ -7,10 +7,10 @@ use Rattle.c_tree.specs.Temporaries.{capped}
 use Rattle.scope_rules.specs.declared.faults.Rule.{Rule}
 use Rattle.scope_rules.specs.declared.meanings.Meaning.{Meaning}
 use Rattle.scope_rules.specs.declared.meanings.Found.{Found}
-use Rattle.scope_rules.specs.Names.{Binding, find}
+use Rattle.scope_rules.specs.Names.{Binding, find, is_fixed, bound}
 use Rattle.scope_rules.specs.Faults.{broken}
 use Rattle.scope_rules.specs.Meanings.{is_modelled, function_of}
-use Rattle.scope_rules.specs.Simples.{size_faults, is_fixed, bound}
+use Rattle.scope_rules.specs.Simples.{size_faults}
 use Rattle.scope_rules.specs.Statements.{stmts_faults}
 use Rattle.scope_rules.specs.Items.{Sofar, with_definition, with_definitions, outer_in, outer_faults, differ, repeated_faults, function_faults, main_faults, is_missing, is_defined, with_function, prototype_faults, params_faults, members_faults, params_spot, body_spot, item_faults, item_after, items_faults, items_after}
 use Rattle.scope_rules.proofs.NoFaults.{both_none, not_broken, not_false, neither, same_number}

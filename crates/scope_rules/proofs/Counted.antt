@@ -1,8 +1,5 @@
 -- The words that functions declare, as they are counted.
-use Rattle.std.proofs.Common.{ℕ, zero, suc, ◌≡◌, refl, sym, ap, ◌∙◌, List, [], ◌∷◌, ◌++◌, length, drop, map, sum, max, arith}
-use Rattle.std.proofs.lemmas.List.{map-append}
-use Rattle.c_tree.specs.declared.facts.Function.{Function}
-use Rattle.c_tree.specs.Views.{function_tree}
+use Rattle.std.proofs.Common.{ℕ, zero, suc, ◌≡◌, refl, ap, ◌∙◌, List, [], ◌∷◌, ◌++◌, length, drop, sum, max, arith}
 use Rattle.c_tree.specs.RawTrees.{NameTree, RawStmtTrees}
 use Rattle.c_tree.specs.Trees.{FunctionTree}
 use Rattle.c_tree.specs.TextOrder.{stmts_names}
@@ -25,12 +22,6 @@ counted_more fs f old here new a b c = let k = locals_more fs f in omega arith
 drop_scalars : (n : ℕ) (ws : List ℕ) → drop n (scalars n ++ ws) ≡ ws
 drop_scalars zero ws = refl
 drop_scalars (suc n) ws = drop_scalars n ws
-
-pub counted_push : (fs : List Function) (f : Function) (more : List Function) (old here new : ℕ) → more ≡ fs ++ f ∷ []
-    → old ≡ capped (most_locals (map function_tree fs)) → here ≡ capped (sum (declared_words (function_tree f))) → new ≡ max old here → new ≡ capped (most_locals (map function_tree more))
-counted_push fs f more old here new e a b c =
-    counted_more (map function_tree fs) (function_tree f) old here new a b c
-    ∙ ap (λ x. capped (most_locals x)) (sym (ap (map function_tree) e ∙ map-append function_tree fs (f ∷ [])))
 
 pub body_words : (s : Spot) (ps : List NameTree) (body : RawStmtTrees)
     → drop (length ps) (stmts_after (params_after (unsized s) ps) body).sizes ≡ words (stmts_names (stmts_of (params_after (unsized s) ps) body))

@@ -12,13 +12,13 @@ use Rattle.scope_rules.specs.declared.faults.Rule.{Rule}
 use Rattle.scope_rules.specs.declared.meanings.Meaning.{Meaning}
 use Rattle.scope_rules.specs.declared.meanings.Found.{Found}
 use Rattle.scope_rules.specs.declared.meanings.Variable.{Variable}
-use Rattle.scope_rules.specs.Names.{Binding, find}
+use Rattle.scope_rules.specs.Names.{Binding, find, is_fixed, bound}
 use Rattle.scope_rules.specs.Faults.{broken}
 use Rattle.scope_rules.specs.Meanings.{is_callable, is_void, takes, is_wrong_count, variable_of, callee_in, callee_of}
 use Rattle.scope_rules.specs.Expressions.{scalar_faults, array_faults, expr_faults, listed, scalar_value, element_value, expr_of, exprs_of}
 use Rattle.scope_rules.specs.Calls.{call_name_faults, arguments_faults, call_faults, right_faults, call_by, call_of, right_of, spawn_of}
 use Rattle.scope_rules.specs.Places.{Spot}
-use Rattle.scope_rules.specs.Simples.{is_fixed, bound, declare_faults, simple_faults, set_scalar, set_element, simple_of, simple_after, simples_faults, simples_of, simples_after}
+use Rattle.scope_rules.specs.Simples.{declare_faults, simple_faults, set_scalar, set_element, simple_of, simple_after, simples_faults, simples_of, simples_after}
 use Rattle.scope_rules.specs.Statements.{inside, left, condition_faults, step_kind, step_faults, step_after, return_faults, returned_of, stmt_after, stmt_faults, stmts_faults, stmt_of, stmts_of}
 use Rattle.scope_rules.proofs.NoFaults.{both_none, not_broken}
 use Rattle.scope_rules.proofs.ScopedCalls.{Known, known_call, right_count}

@@ -14,11 +14,10 @@ use Rattle.c_tree.specs.WellScoped.{signature_of, signature_at, Context, IsFunct
 use Rattle.scope_rules.specs.declared.faults.Rule.{Rule}
 use Rattle.scope_rules.specs.declared.meanings.Meaning.{Meaning}
 use Rattle.scope_rules.specs.declared.meanings.Found.{Found}
-use Rattle.scope_rules.specs.Names.{Binding, find}
+use Rattle.scope_rules.specs.Names.{Binding, find, is_fixed, bound}
 use Rattle.scope_rules.specs.Faults.{broken}
 use Rattle.scope_rules.specs.Meanings.{is_member, function_in, function_of}
 use Rattle.scope_rules.specs.Expressions.{use_faults}
-use Rattle.scope_rules.specs.Simples.{is_fixed, bound}
 use Rattle.scope_rules.specs.Statements.{stmts_of}
 use Rattle.scope_rules.specs.Items.{Sofar, with_definition, with_definitions, is_missing, is_defined, with_function, outer_faults, members_faults, members_of, body_spot, function_tree_of, item_faults, item_after, items_faults, items_after}
 use Rattle.scope_rules.specs.Limits.{most_params}

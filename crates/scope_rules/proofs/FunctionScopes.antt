@@ -1,38 +1,43 @@
--- A function: what is in scope after its parameters and its body, and the rules that they break.
-use Rattle.std.proofs.Common.{◌≡◌, ◌-◌, ◌++◌, ℕ, sym, ap, ◌∙◌, subst, Bool, false, List, [], ◌∷◌, length, drop, Option}
-use Rattle.c_tree.specs.RawTrees.{NameTree, RawStmtTrees}
-use Rattle.scope_rules.specs.declared.faults.Fault.{Fault}
+-- A function: what is in scope after its parameters and after its body, and the rules that its parts break.
+use Rattle.std.proofs.Common.{ℕ, ◌≡◌, ◌-◌, ◌++◌, ap, ◌∙◌, Bool, true, false, List, [], ◌∷◌, length, drop, append_assoc}
+use Rattle.c_tree.specs.RawTrees.{NameTree, RawStmtTrees, RawFunctionItem}
 use Rattle.scope_rules.specs.declared.meanings.Meaning.{Meaning}
-use Rattle.scope_rules.specs.Faults.{least_of}
+use Rattle.scope_rules.specs.Names.{Binding, find}
 use Rattle.scope_rules.specs.Places.{Spot}
 use Rattle.scope_rules.specs.Simples.{next_variable, with_variable}
-use Rattle.scope_rules.specs.Statements.{left, stmts_after, stmts_faults}
-use Rattle.scope_rules.specs.Items.{unsized, params_after, params_faults}
-use Rattle.scope_rules.proofs.Least.{least_of_then}
-use Rattle.scope_rules.proofs.Scopes.{Extends, same_names, then_extends, bound_extends, stmts_extends, leaves}
+use Rattle.scope_rules.specs.Statements.{stmts_after, stmts_faults}
+use Rattle.scope_rules.specs.Items.{Sofar, params_after, params_faults, params_spot, body_spot, with_function, function_left, function_faults, main_faults, item_faults}
+use Rattle.scope_rules.specs.Heads.{head_faults}
+use Rattle.scope_rules.proofs.Scopes.{Extends, same_names, then_extends, bound_extends, stmts_extends, names_left}
 
 pub params_extends : (s : Spot) (ns : List NameTree) → Extends (params_after s ns).names s.names
 params_extends s [] = same_names s.names
 params_extends s (n ∷ ns) = then_extends s.names (with_variable s n false 1).names (params_after (with_variable s n false 1) ns).names (bound_extends s.names n.text (Meaning.Local (next_variable s) false)) (params_extends (with_variable s n false 1) ns)
 
-module _ (s a b m : Spot) (ps : List NameTree) (body : RawStmtTrees) (ea : a ≡ unsized s) (eb : b ≡ params_after a ps) (em : m ≡ stmts_after b body) where
-  at_body : b ≡ params_after (unsized s) ps
-  at_body = eb ∙ ap (λ x. params_after x ps) ea
+module _ (defs : List Binding) (w : Sofar) (gives : Bool) (n : NameTree) (params : List NameTree) (body : RawStmtTrees) where
+  abbrev start : Spot
+  start = body_spot defs w.spot gives n params
 
-  at_end : m ≡ stmts_after (params_after (unsized s) ps) body
-  at_end = em ∙ ap (λ x. stmts_after x body) at_body
+  abbrev last : Spot
+  last = stmts_after start body
 
-  pub function_place : (e : Spot) (count outer : ℕ) → count ≡ length s.names → outer ≡ s.outer
-      → e ≡ record m { names = drop (length m.names - count) m.names; outer = outer } → e ≡ left s (stmts_after (params_after (unsized s) ps) body)
-  function_place e count outer c o h =
-      let x : Extends (stmts_after (params_after (unsized s) ps) body).names s.names =
-      then_extends s.names (params_after (unsized s) ps).names (stmts_after (params_after (unsized s) ps) body).names (params_extends (unsized s) ps) (stmts_extends (params_after (unsized s) ps) body) in
-      let z : Extends m.names s.names = subst (λ y. Extends y.names s.names) (sym at_end) x in
-      leaves s m e count outer c o z h ∙ ap (λ y. left s y) at_end
+  abbrev known : List Binding
+  known = with_function defs w.spot.names gives n (length params) true
 
-  pub function_faults : (gives : Bool) (o la lb lm : Option Fault) → la ≡ o → lb ≡ least_of la (params_faults a ps) → lm ≡ least_of lb (stmts_faults gives false b body)
-      → lm ≡ least_of o (params_faults (unsized s) ps ++ stmts_faults gives false (params_after (unsized s) ps) body)
-  function_faults gives o la lb lm fa fb fm =
-      least_of_then o lb lm (params_faults (unsized s) ps) (stmts_faults gives false (params_after (unsized s) ps) body)
-      (fb ∙ (ap (λ x. least_of x (params_faults a ps)) fa ∙ ap (λ x. least_of o (params_faults x ps)) ea))
-      (fm ∙ ap (λ x. least_of lb (stmts_faults gives false x body)) at_body)
+  in_scope : Extends last.names known
+  in_scope = then_extends known start.names last.names (params_extends (params_spot defs w.spot gives n params) params) (stmts_extends start body)
+
+  pub spot_ended : (e : Spot) (count outer : ℕ) → e ≡ last → count ≡ length known → outer ≡ w.spot.outer
+      → record e { names = drop (length e.names - count) e.names; outer = outer; sizes = [] } ≡ function_left w.spot known last
+  spot_ended e count outer h c o =
+      ap (λ (x : Spot). record x { names = drop (length x.names - count) x.names; outer = outer; sizes = [] }) h
+      ∙ (ap (λ x. record last { names = x; outer = outer; sizes = [] }) (names_left known last.names count c in_scope)
+      ∙ ap (λ x. record last { names = known; outer = x; sizes = [] }) o)
+
+  pub faults_joined : head_faults defs w.spot gives n params ++ stmts_faults gives false start body ≡ item_faults defs w (RawFunctionItem gives n params body)
+  faults_joined =
+      let ff = function_faults true gives (length params) n.at (find n.text w.spot.names) in
+      let fm = main_faults n (length params) in
+      let fp = params_faults (params_spot defs w.spot gives n params) params in
+      let fs = stmts_faults gives false start body in
+      append_assoc ff (fm ++ fp) fs ∙ ap (λ x. ff ++ x) (append_assoc fm fp fs)

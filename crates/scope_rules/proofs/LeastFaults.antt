@@ -21,7 +21,7 @@ rank_small Rule.Twice = omega arith
 rank_small Rule.Arity = omega arith
 rank_small Rule.Kind = omega arith
 
-less : (a b : ℕ) → nat_lt a b ≡ true → a < b
+pub less : (a b : ℕ) → nat_lt a b ≡ true → a < b
 less a b h = grind (arith, nat_tests)
 
 pub is_less : (a b : ℕ) → a < b → true ≡ nat_lt a b

@@ -28,6 +28,7 @@ pub mod MainFunctions
 pub mod WellScopedPrograms
 pub mod Counted
 pub mod LeastFaults
+pub mod OrderOfFaults
 pub mod NumberedPrograms
 pub mod Resolved
 pub mod OneOutcome

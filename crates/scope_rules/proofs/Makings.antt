@@ -7,12 +7,12 @@ use Rattle.c_tree.specs.TextOrder.{stmts_names}
 use Rattle.c_tree.specs.Views.{in_order, function_tree, table_row}
 use Rattle.c_tree.specs.Temporaries.{capped}
 use Rattle.scope_rules.specs.declared.items.Items.{Items}
-use Rattle.scope_rules.specs.Names.{Binding, find}
+use Rattle.scope_rules.specs.Names.{Binding}
 use Rattle.scope_rules.specs.Faults.{least_of}
 use Rattle.scope_rules.specs.Limits.{most_locals}
 use Rattle.scope_rules.specs.Places.{Spot, spot_of}
 use Rattle.scope_rules.specs.Statements.{stmt_of, stmt_after, stmt_faults, stmts_of, stmts_after, stmts_faults}
-use Rattle.scope_rules.specs.Items.{Sofar, definitions, at_start, item_after, items_faults, function_faults, main_faults, params_faults, with_function, params_spot, function_tree_of}
+use Rattle.scope_rules.specs.Items.{Sofar, definitions, at_start, item_after, item_faults, items_faults, with_function, function_tree_of}
 use Rattle.scope_rules.specs.ItemViews.{sofar_of, IsCounted}
 use Rattle.scope_rules.specs.Making.{Making, IsMaking, with_statement, with_statements, stmts_list, items_read, body_start}
 use Rattle.scope_rules.specs.Heads.{head_faults}
@@ -20,13 +20,12 @@ use Rattle.scope_rules.specs.Kept.{kept_with}
 use Rattle.scope_rules.specs.Reading.{Agrees, HaveRead}
 use Rattle.scope_rules.proofs.Agreeing.{few_sites}
 use Rattle.scope_rules.proofs.Counted.{counted_more, body_words}
-use Rattle.scope_rules.proofs.FunctionScopes.{params_extends}
+use Rattle.scope_rules.proofs.FunctionScopes.{spot_ended, faults_joined}
 use Rattle.scope_rules.proofs.Growth.{stmt_grown, stmts_grown, words}
 use Rattle.scope_rules.proofs.Least.{least_of_append}
 use Rattle.scope_rules.proofs.LeastFaults.{is_not_less}
 use Rattle.scope_rules.proofs.Programs.{body_site}
 use Rattle.scope_rules.proofs.ReadItems.{after_one_more, faults_of_one_more}
-use Rattle.scope_rules.proofs.Scopes.{Extends, then_extends, stmts_extends, names_left}
 use Rattle.scope_rules.proofs.StmtLists.{stmts_listed}
 
 -- ---- statements and one more
@@ -149,18 +148,8 @@ module _ (m : Making) (w : Items) (all read : List RawItemTree) (gives : Bool) (
   abbrev made : FunctionTree
   made = function_tree_of start gives n params (raw_in_order ss)
 
-  in_scope : Extends last.names known
-  in_scope = then_extends known start.names last.names (params_extends (params_spot defs past.spot gives n params) params) (stmts_extends start (raw_in_order ss))
-
-  names_after : drop (length last.names - m.scope.count) last.names ≡ known
-  names_after = names_left known last.names m.scope.count h.inner in_scope
-
   spot_after : spot_of w.place ≡ (item_after defs past item).spot
-  spot_after =
-      d.spot
-      ∙ (ap (λ (x : Spot). record x { names = drop (length x.names - m.scope.count) x.names; outer = m.scope.outer; sizes = [] }) h.spot
-      ∙ (ap (λ x. record last { names = x; outer = m.scope.outer; sizes = [] }) names_after
-      ∙ ap (λ x. record last { names = known; outer = x; sizes = [] }) h.outer))
+  spot_after = d.spot ∙ spot_ended defs past gives n params (raw_in_order ss) m.sofar.spot m.scope.count m.scope.outer h.spot h.inner h.outer
 
   within_past : last.site ≤ 65535 → past.spot.site ≤ 65535
   within_past f = body_few all read gives n params ss f
@@ -191,16 +180,13 @@ module _ (m : Making) (w : Items) (all read : List RawItemTree) (gives : Bool) (
   faults_after : w.place.least ≡ least_of None (items_faults defs at_start (read ++ item ∷ []))
   faults_after =
       let a = items_faults defs at_start read in
-      let ff = function_faults true gives (length params) n.at (find n.text past.spot.names) in
-      let fm = main_faults n (length params) in
-      let fp = params_faults (params_spot defs past.spot gives n params) params in
+      let head = head_faults defs past.spot gives n params in
       let fs = stmts_faults gives false start (raw_in_order ss) in
-      let joined : (ff ++ (fm ++ fp)) ++ fs ≡ ff ++ (fm ++ (fp ++ fs)) = append_assoc ff (fm ++ fp) fs ∙ ap (λ x. ff ++ x) (append_assoc fm fp fs) in
       d.least
       ∙ (h.least
-      ∙ (sym (least_of_append (least_of None a) (ff ++ (fm ++ fp)) fs)
-      ∙ (ap (least_of (least_of None a)) joined
-      ∙ (sym (least_of_append None a (ff ++ (fm ++ (fp ++ fs))))
+      ∙ (sym (least_of_append (least_of None a) head fs)
+      ∙ (ap (least_of (least_of None a)) (faults_joined defs past gives n params (raw_in_order ss))
+      ∙ (sym (least_of_append None a (item_faults defs past item))
       ∙ ap (least_of None) (sym (faults_of_one_more defs at_start read item))))))
 
   counted_after : w.place.site ≤ 65535 → IsCounted w

@@ -10,12 +10,12 @@ use Rattle.c_tree.specs.WellScoped.{Context, visible, IsExprScoped, IsRightScope
 use Rattle.scope_rules.specs.declared.faults.Rule.{Rule}
 use Rattle.scope_rules.specs.declared.meanings.Meaning.{Meaning}
 use Rattle.scope_rules.specs.declared.meanings.Variable.{Variable}
-use Rattle.scope_rules.specs.Names.{find}
+use Rattle.scope_rules.specs.Names.{find, is_fixed}
 use Rattle.scope_rules.specs.Meanings.{is_scalar, is_array, variable_in, variable_of}
 use Rattle.scope_rules.specs.Expressions.{scalar_faults, array_faults, expr_faults, listed, expr_of}
 use Rattle.scope_rules.specs.Calls.{right_faults, right_of, right_after}
 use Rattle.scope_rules.specs.Places.{Spot}
-use Rattle.scope_rules.specs.Simples.{is_fixed, declare_faults, size_faults, next_variable, with_variable, simple_faults, set_scalar, set_element, simple_of, simple_after, simples_faults, simples_of, simples_after}
+use Rattle.scope_rules.specs.Simples.{declare_faults, size_faults, next_variable, with_variable, simple_faults, set_scalar, set_element, simple_of, simple_after, simples_faults, simples_of, simples_after}
 use Rattle.scope_rules.proofs.NoFaults.{both_none, not_broken, neither, not_less, Used, used}
 use Rattle.scope_rules.proofs.Fits.{MeaningFits, AllFit, find_fits, all_fit_more, all_fit_bound}
 use Rattle.scope_rules.proofs.ScopedExprs.{expr_scoped}

@@ -11,12 +11,12 @@ use Rattle.scope_rules.specs.declared.faults.Rule.{Rule}
 use Rattle.scope_rules.specs.declared.faults.Fault.{Fault}
 use Rattle.scope_rules.specs.declared.meanings.Meaning.{Meaning}
 use Rattle.scope_rules.specs.declared.meanings.Found.{Found}
-use Rattle.scope_rules.specs.Names.{Binding, find}
+use Rattle.scope_rules.specs.Names.{Binding, find, bound}
 use Rattle.scope_rules.specs.Faults.{fault, broken}
 use Rattle.scope_rules.specs.Meanings.{is_member, function_of}
 use Rattle.scope_rules.specs.Expressions.{use_faults}
 use Rattle.scope_rules.specs.Places.{Spot}
-use Rattle.scope_rules.specs.Simples.{declared_faults, declare_faults, size_faults, bound, with_variable}
+use Rattle.scope_rules.specs.Simples.{declared_faults, declare_faults, size_faults, with_variable}
 use Rattle.scope_rules.specs.Statements.{inside, stmts_after, stmts_faults, stmts_of}
 
 abbrev pub modelled : ModelledCall → Binding

@@ -7,7 +7,7 @@ use Rattle.c_tree.specs.Views.{stmt_tree}
 use Rattle.c_tree.specs.Temporaries.{capped}
 use Rattle.scope_rules.specs.declared.faults.Fault.{Fault}
 use Rattle.scope_rules.specs.declared.items.Items.{Items}
-use Rattle.scope_rules.specs.declared.items.Begun.{Begun}
+use Rattle.scope_rules.specs.declared.functions.Begun.{Begun}
 use Rattle.scope_rules.specs.declared.resolver.FunctionResolver.{FunctionResolver}
 use Rattle.scope_rules.specs.declared.statements.Scope.{Scope}
 use Rattle.scope_rules.specs.Names.{Binding}

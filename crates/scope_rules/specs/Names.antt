@@ -1,5 +1,5 @@
 -- The names in scope at a place, and their meanings there.
-use Rattle.std.specs.Prelude.{ℕ, ◌≡◌, ◌≢◌, List, [], ◌∷◌, length, map, Option, Some, None, if◌then◌else◌}
+use Rattle.std.specs.Prelude.{ℕ, Bool, false, ◌≡◌, ◌≢◌, List, [], ◌∷◌, length, map, Option, Some, None, if◌then◌else◌}
 use Rattle.std.specs.Str.{bytes_eq}
 use Rattle.std.specs.Cmp.Lexicographic.{slice_cmp}
 use Rattle.std.specs.Ordering.{nat_cmp}
@@ -8,6 +8,7 @@ use Rattle.std.specs.Global.{Vec}
 use Rattle.scope_rules.specs.declared.meanings.Meaning.{Meaning}
 use Rattle.scope_rules.specs.declared.meanings.Found.{Found}
 use Rattle.scope_rules.specs.declared.names.Declared.{Declared}
+use Rattle.scope_rules.specs.Meanings.{is_modelled}
 
 -- a name in scope, and its meaning
 pub record Binding : Type 0 where
@@ -19,6 +20,14 @@ pub record Binding : Type 0 where
 abbrev pub find : List ℕ → List Binding → Option Found
 find t [] = None
 find t (b ∷ bs) = if bytes_eq b.text t then Some (record { position = length bs; meaning = b.meaning }) else find t bs
+
+-- the names with one more, which hides its earlier meaning; a modelled call's name keeps its meaning
+abbrev pub is_fixed : Option Found → Bool
+is_fixed None = false
+is_fixed (Some f) = is_modelled f.meaning
+
+abbrev pub bound : List Binding → List ℕ → Meaning → List Binding
+bound names t m = if is_fixed (find t names) then names else record { text = t; meaning = m } ∷ names
 
 abbrev pub binding_of : Declared → Binding
 binding_of d = record { text = d.text.items; meaning = d.found.meaning }

@@ -1,6 +1,6 @@
 -- Declarations, assignments and calls: the rules that they break, their trees with numbers in place of names, and the
 -- scope after them.
-use Rattle.std.specs.Prelude.{ℕ, Bool, true, false, not, ◌||◌, nat_lt, List, [], ◌∷◌, ◌++◌, length, Option, Some, None, if◌then◌else◌}
+use Rattle.std.specs.Prelude.{ℕ, Bool, true, false, not, ◌||◌, nat_lt, List, [], ◌∷◌, ◌++◌, length, Option, Some, None}
 use Rattle.c_tree.specs.RawTrees.{NameTree, RawExprTree, RawSimpleTree, RawDeclareScalar, RawDeclareArray, RawDeclareWith, RawSet, RawSetElement, RawCalling, RawTableCalling}
 use Rattle.c_tree.specs.Trees.{ExprTree, RightTree, SimpleTree, DeclareScalar, DeclareArray, DeclareWith, SetLocal, SetGlobal, SetLocalElement, SetGlobalElement, Calling}
 use Rattle.c_tree.specs.Temporaries.{capped}
@@ -9,7 +9,7 @@ use Rattle.scope_rules.specs.declared.faults.Fault.{Fault}
 use Rattle.scope_rules.specs.declared.meanings.Meaning.{Meaning}
 use Rattle.scope_rules.specs.declared.meanings.Variable.{Variable}
 use Rattle.scope_rules.specs.declared.meanings.Found.{Found}
-use Rattle.scope_rules.specs.Names.{Binding, find}
+use Rattle.scope_rules.specs.Names.{find, bound}
 use Rattle.scope_rules.specs.Faults.{broken}
 use Rattle.scope_rules.specs.Meanings.{is_modelled, variable_of}
 use Rattle.scope_rules.specs.Expressions.{scalar_faults, array_faults, expr_faults, listed, expr_of}
@@ -27,14 +27,6 @@ declare_faults s n = declared_faults (find n.text s.names) s.outer n.at
 -- an array breaks Kind if it has no word or more than 65,536
 abbrev pub size_faults : NameTree → ℕ → List Fault
 size_faults n size = broken (nat_lt size 1 || nat_lt 65536 size) n.at Rule.Kind
-
--- the names with one more, which hides its earlier meaning; a modelled call's name keeps its meaning
-abbrev pub is_fixed : Option Found → Bool
-is_fixed None = false
-is_fixed (Some f) = is_modelled f.meaning
-
-abbrev pub bound : List Binding → List ℕ → Meaning → List Binding
-bound names t m = if is_fixed (find t names) then names else record { text = t; meaning = m } ∷ names
 
 -- the number of the next variable
 abbrev pub next_variable : Spot → ℕ

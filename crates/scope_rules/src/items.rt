@@ -1,33 +1,25 @@
 // Declarations and definitions outside functions.
 
-ghost use Rattle.std.specs.Prelude.{◌≡◌, ◌-◌, ◌∷◌, ◌++◌, [], None, true, false, IfOk, OnOk, map, option_map, length, drop, sum, max};
-ghost use Rattle.c_tree.specs.RawViews.{name_tree, raw_stmt_trees, raw_item_tree, raw_item_trees};
-ghost use Rattle.c_tree.specs.Views.{stmt_trees, function_tree};
-ghost use Rattle.c_tree.specs.Temporaries.{capped};
+ghost use Rattle.std.specs.Prelude.{◌≡◌, ◌++◌, None, false, IfOk, OnOk, map, option_map, length};
+ghost use Rattle.c_tree.specs.RawViews.{name_tree, raw_item_tree, raw_item_trees};
 ghost use Rattle.scope_rules.specs.Names.{find};
-ghost use Rattle.scope_rules.specs.Statements.{left, stmts_after, stmts_faults, stmts_of};
 ghost use Rattle.scope_rules.specs.Faults.{least_of};
 ghost use Rattle.scope_rules.specs.Expressions.{use_faults};
 ghost use Rattle.scope_rules.specs.Meanings.{is_member, function_of};
 ghost use Rattle.scope_rules.specs.Places.{spot_of};
-ghost use Rattle.scope_rules.specs.Items.{outer_faults, differ, repeated_faults, function_faults, main_faults, is_missing, is_defined, with_function, param_faults, param_bound, prototype_faults, params_faults, params_after, members_faults, members_of, with_definition, with_definitions, definitions, modelled_names, at_start, with_global, item_faults, item_after, items_faults, items_after, function_left, unsized, body_spot};
+ghost use Rattle.scope_rules.specs.Items.{outer_faults, is_missing, is_defined, param_faults, param_bound, prototype_faults, members_faults, members_of, with_definition, with_definitions, definitions, modelled_names, at_start, with_global, item_faults, item_after, items_faults, items_after};
 ghost use Rattle.scope_rules.specs.ItemViews.{sofar_of, IsCounted};
-ghost use Rattle.scope_rules.specs.Heads.{head_faults};
 
 use crate::faults::{Fault, Rule, note, note_if};
-use crate::held::both;
-use crate::limits::{declared_words, larger};
+use crate::functions::{check_function, check_main};
 use crate::meanings::{Found, Meaning, function_of};
 use crate::names::Names;
 use crate::places::Place;
-use crate::simples::{bind, check_declared, check_size, number};
-use crate::statements::Scope;
+use crate::simples::{check_declared, check_size, number};
 use c_tree::{
-    Function, GlobalFact, ModelledCall, Name, RawFunction, RawItem, RawPrototype, RawTable, Stmt,
-    TableFact,
+    Function, GlobalFact, ModelledCall, Name, RawItem, RawPrototype, RawTable, TableFact,
 };
 use std::alloc::{AllocError, Global};
-use std::mem;
 
 /// The resolved items so far, and the functions that the source defines.
 #[derive(Drop)]
@@ -40,17 +32,6 @@ pub struct Items {
     /// The maximum number of words that a function so far declares, without its parameters; at most
     /// 65,537.
     pub locals: u32,
-}
-
-/// A definition whose body isn't at its end: its head, the scope that it entered, and the statements so far that are
-/// kept.
-#[derive(Drop)]
-pub struct Begun {
-    pub name: Vec<u8>,
-    pub gives: bool,
-    pub params: usize,
-    pub scope: Scope,
-    pub body: Vec<Stmt>,
 }
 
 // Notes the faults of a global's or a table's name with this meaning so far.
@@ -66,57 +47,6 @@ fn check_outer(least: &mut Option<Fault>, found: Option<Found>, at: u32)
             | Meaning::Function { .. } => note(least, at, Rule::Twice),
         }
     }
-}
-
-// Whether two results differ.
-fn differ(gives: bool, other: bool) -> bool
-    ensures { result ≡ differ gives other }
-{
-    if gives { !other } else { other }
-}
-
-// Notes the faults of a prototype or a definition of a name with this meaning so far.
-fn check_function(
-    least: &mut Option<Fault>,
-    defining: bool,
-    gives: bool,
-    params: usize,
-    at: u32,
-    found: Option<Found>,
-)
-    ensures { least.new ≡ least_of least.old (function_faults defining gives params at found) }
-{
-    let Some(found) = found else {
-        return;
-    };
-    match found.meaning {
-        Meaning::Local { .. } | Meaning::Global { .. } | Meaning::Table { .. } => {
-            note(least, at, Rule::Twice);
-        }
-        Meaning::Function {
-            gives: earlier,
-            params: count,
-            defined,
-            ..
-        } => {
-            note_if(least, defining && defined, at, Rule::Twice);
-            note_if(
-                least,
-                differ(earlier, gives) || count != params,
-                at,
-                Rule::Arity,
-            );
-        }
-        Meaning::Modelled(_) | Meaning::Spawn => note(least, at, Rule::Kind),
-    }
-}
-
-// `main` with parameters.
-fn check_main(least: &mut Option<Fault>, name: &Name, params: usize)
-    ensures { least.new ≡ least_of least.old (main_faults (name_tree name.now) params) }
-{
-    let is_main = name.text.as_slice() == b"main".as_slice();
-    note_if(least, is_main && params != 0, name.at, Rule::Kind);
 }
 
 // Whether a name has no meaning.
@@ -157,12 +87,13 @@ fn prototype_name(
     match param {
         None => Ok(()),
         Some(name) => {
-            check_declared(least, names.find(&name.text), outer, name.at);
             let meaning = Meaning::Local {
                 variable: 0,
                 array: false,
             };
-            bind(names, &name.text, meaning)
+            let earlier = names.bind(&name.text, meaning)?;
+            check_declared(least, earlier, outer, name.at);
+            Ok(())
         }
     }
 }
@@ -231,102 +162,6 @@ impl Place {
     {
         prototype_names(&mut self.names, &mut self.least, raw)
     }
-
-    // The parameters of a definition.
-    fn params(&mut self, raw: &[Name]) -> Result<(), AllocError>
-        ensures place { OnOk result (spot_of self.new ≡ params_after (spot_of self.old) (map name_tree raw.now)) }
-        ensures faults { OnOk result (self.new.least ≡ least_of self.old.least (params_faults (spot_of self.old) (map name_tree raw.now))) }
-    {
-        for name in raw {
-            self.check_declare(name);
-            self.declare(name, false, 1)?;
-        }
-        Ok(())
-    }
-
-    // The parameters and the body of a definition whose name is already in scope.
-    fn function_body(&mut self, raw: &RawFunction) -> Result<Vec<Stmt>, AllocError>
-        ensures tree { IfOk result (λ ss. stmt_trees ss.items ≡ stmts_of (params_after (unsized (spot_of self.old)) (map name_tree raw.now.params.items)) (raw_stmt_trees raw.now.body.items)) }
-        ensures place { OnOk result (spot_of self.new ≡ left (spot_of self.old) (stmts_after (params_after (unsized (spot_of self.old)) (map name_tree raw.now.params.items)) (raw_stmt_trees raw.now.body.items))) }
-        ensures faults { OnOk result (self.new.least ≡ least_of self.old.least (params_faults (unsized (spot_of self.old)) (map name_tree raw.now.params.items) ++ stmts_faults raw.now.gives false (params_after (unsized (spot_of self.old)) (map name_tree raw.now.params.items)) (raw_stmt_trees raw.now.body.items))) }
-    {
-        self.sizes.clear();
-        let scope = self.enter();
-        self.params(&raw.params)?;
-        let body = self.stmts(raw.gives, false, &raw.body);
-        self.leave(scope);
-        body
-    }
-}
-
-impl Place {
-    // The head of a definition: its name is in scope from here on.
-    fn head(
-        &mut self,
-        definitions: &Names,
-        gives: bool,
-        name: &Name,
-        params: usize,
-    ) -> Result<(), AllocError>
-        ensures place { OnOk result (spot_of self.new ≡ record (spot_of self.old) { names = with_function definitions.now self.old.names gives (name_tree name.now) params true }) }
-        ensures faults { OnOk result (self.new.least ≡ least_of self.old.least (function_faults true gives params name.now.at (find name.now.text.items self.old.names) ++ main_faults (name_tree name.now) params)) }
-    {
-        let definition = definitions.find(&name.text);
-        let found = self.names.find(&name.text);
-        check_function(&mut self.least, true, gives, params, name.at, found);
-        check_main(&mut self.least, name, params);
-        let meaning = Meaning::Function {
-            function: function_of(definition),
-            gives,
-            params,
-            defined: true,
-        };
-        bind(&mut self.names, &name.text, meaning)
-    }
-
-    // Enters the scope of a definition, with its parameters.
-    fn enter_function(&mut self, params: &[Name]) -> Result<Scope, AllocError>
-        ensures place { OnOk result (spot_of self.new ≡ params_after (unsized (spot_of self.old)) (map name_tree params.now)) }
-        ensures faults { OnOk result (self.new.least ≡ least_of self.old.least (params_faults (unsized (spot_of self.old)) (map name_tree params.now))) }
-        ensures outer { IfOk result (λ s. s.outer ≡ self.old.outer) }
-        ensures count { IfOk result (λ s. s.count ≡ length self.old.names) }
-    {
-        self.sizes.clear();
-        let scope = self.enter();
-        self.params(params)?;
-        Ok(scope)
-    }
-
-    /// Begins a definition, in a source with these definitions.
-    pub fn begin(
-        &mut self,
-        definitions: &Names,
-        gives: bool,
-        name: &Name,
-        params: &[Name],
-    ) -> Result<Begun, AllocError>
-        ensures place { OnOk result (spot_of self.new ≡ body_spot definitions.now (spot_of self.old) gives (name_tree name.now) (map name_tree params.now)) }
-        ensures faults { OnOk result (self.new.least ≡ least_of self.old.least (head_faults definitions.now (spot_of self.old) gives (name_tree name.now) (map name_tree params.now))) }
-        ensures named { IfOk result (λ b. b.name.items ≡ name.now.text.items) }
-        ensures given { IfOk result (λ b. b.gives ≡ gives) }
-        ensures taken { IfOk result (λ b. b.params ≡ length params.now) }
-        ensures outer { IfOk result (λ b. b.scope.outer ≡ self.old.outer) }
-        ensures inner { IfOk result (λ b. b.scope.count ≡ length (with_function definitions.now self.old.names gives (name_tree name.now) (length params.now) true)) }
-        ensures body { IfOk result (λ b. b.body.items ≡ []) }
-    {
-        let alloc = self.alloc;
-        let count = params.len();
-        self.head(definitions, gives, name, count)?;
-        let text = Vec::from_slice(alloc, &name.text)?;
-        let (text, scope) = both(text, self.enter_function(params))?;
-        Ok(Begun {
-            name: text,
-            gives,
-            params: count,
-            scope,
-            body: Vec::new(alloc),
-        })
-    }
 }
 
 // Adds the function that an item defines, if it defines one.
@@ -341,7 +176,8 @@ fn define(definitions: &mut Names, item: &RawItem) -> Result<(), AllocError>
                 params: function.params.len(),
                 defined: true,
             };
-            definitions.declare(&function.name.text, meaning)
+            definitions.declare(&function.name.text, meaning)?;
+            Ok(())
         }
         RawItem::Global { .. }
         | RawItem::GlobalArray { .. }
@@ -418,11 +254,8 @@ impl Items {
         ensures counted { OnOk result (IsCounted self.old → IsCounted self.new) }
     {
         let global = number(self.globals.len());
-        bind(
-            &mut self.place.names,
-            &name.text,
-            Meaning::Global { global, array },
-        )?;
+        let meaning = Meaning::Global { global, array };
+        self.place.names.bind(&name.text, meaning)?;
         self.globals.push(GlobalFact { words, start })?;
         Ok(())
     }
@@ -439,11 +272,9 @@ impl Items {
         note_if(&mut self.place.least, is_wrong, raw.name.at, Rule::Arity);
         let members = self.place.table_members(&raw.members)?;
         let table = number(self.tables.len());
-        bind(
-            &mut self.place.names,
-            &raw.name.text,
-            Meaning::Table { table },
-        )?;
+        self.place
+            .names
+            .bind(&raw.name.text, Meaning::Table { table })?;
         self.tables.push(TableFact { members })?;
         Ok(())
     }
@@ -469,75 +300,8 @@ impl Items {
             params,
             defined: is_defined(found),
         };
-        bind(&mut self.place.names, &name.text, meaning)?;
+        self.place.names.bind(&name.text, meaning)?;
         self.place.prototype_params(&raw.params)?;
-        Ok(())
-    }
-
-    // A definition.
-    fn function(&mut self, raw: &RawFunction) -> Result<(), AllocError>
-        ensures sofar { OnOk result (sofar_of self.new ≡ item_after self.old.definitions (sofar_of self.old) (raw_item_tree (RawItem.Function raw.now))) }
-        ensures definitions { OnOk result (self.new.definitions ≡ self.old.definitions) }
-        ensures faults { OnOk result (self.new.place.least ≡ least_of self.old.place.least (item_faults self.old.definitions (sofar_of self.old) (raw_item_tree (RawItem.Function raw.now)))) }
-        ensures counted { OnOk result (IsCounted self.old → IsCounted self.new) }
-    {
-        let alloc = self.place.alloc;
-        let name = &raw.name;
-        let params = raw.params.len();
-        let definition = self.definitions.find(&name.text);
-        let found = self.place.names.find(&name.text);
-        let least = &mut self.place.least;
-        check_function(least, true, raw.gives, params, name.at, found);
-        check_main(least, name, params);
-        let meaning = Meaning::Function {
-            function: function_of(definition),
-            gives: raw.gives,
-            params,
-            defined: true,
-        };
-        bind(&mut self.place.names, &name.text, meaning)?;
-        let text = Vec::from_slice(alloc, &name.text)?;
-        let (text, body) = both(text, self.place.function_body(raw))?;
-        let sizes = mem::replace(&mut self.place.sizes, Vec::new(alloc));
-        self.locals = larger(self.locals, declared_words(&sizes, params));
-        self.functions.push(Function {
-            name: text,
-            params: number(params),
-            gives: raw.gives,
-            sizes,
-            body,
-        })?;
-        Ok(())
-    }
-
-    /// Ends a definition.
-    pub fn end(&mut self, begun: Begun) -> Result<(), AllocError>
-        ensures place { OnOk result (spot_of self.new.place ≡ record (spot_of self.old.place) { names = drop (length self.old.place.names - begun.scope.count) self.old.place.names; outer = begun.scope.outer; sizes = [] }) }
-        ensures faults { OnOk result (self.new.place.least ≡ self.old.place.least) }
-        ensures definitions { OnOk result (self.new.definitions ≡ self.old.definitions) }
-        ensures globals { OnOk result (self.new.globals ≡ self.old.globals) }
-        ensures tables { OnOk result (self.new.tables ≡ self.old.tables) }
-        ensures functions { OnOk result (map function_tree self.new.functions.items ≡ map function_tree self.old.functions.items ++ record { name = begun.name.items; params = capped begun.params; gives = begun.gives; sizes = self.old.place.sizes.items; body = stmt_trees begun.body.items } ∷ []) }
-        ensures locals { OnOk result (self.new.locals ≡ max self.old.locals (capped (sum (drop begun.params self.old.place.sizes.items)))) }
-    {
-        let Begun {
-            name,
-            gives,
-            params,
-            scope,
-            mut body,
-        } = begun;
-        self.place.leave(scope);
-        body.shrink_to_fit();
-        let sizes = mem::replace(&mut self.place.sizes, Vec::new(self.place.alloc));
-        self.locals = larger(self.locals, declared_words(&sizes, params));
-        self.functions.push(Function {
-            name,
-            params: number(params),
-            gives,
-            sizes,
-            body,
-        })?;
         Ok(())
     }
 

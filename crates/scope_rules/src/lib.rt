@@ -16,6 +16,7 @@ mod errors;
 mod expressions;
 mod faults;
 mod forms;
+mod functions;
 mod held;
 mod items;
 mod limits;

@@ -1,12 +1,16 @@
 // The names in scope, as a map from a name to its meaning and a list of the meanings that declarations hid.
 
-ghost use Rattle.std.specs.Prelude.{◌≡◌, ◌<◌, ◌≤◌, ◌-◌, List, [], ◌∷◌, map, reverse, length, drop, IfOk, OnOk};
-ghost use Rattle.scope_rules.specs.Names.{Binding, find, binding_of, AreLinked, Finds, IsThere, Changes};
+ghost use Rattle.std.specs.Prelude.{◌≡◌, ◌<◌, ◌≤◌, ◌-◌, List, [], ◌∷◌, map, reverse, length, drop, Some, IfSome, IfOk, OnOk};
+ghost use Rattle.scope_rules.specs.Names.{Binding, find, binding_of, AreLinked, Finds, IsThere, Changes, bound, is_fixed};
 
 use crate::meanings::{Found, Meaning};
 use std::alloc::{AllocError, Global};
 use std::collections::BTreeMap;
 use std::marker::Model;
+
+// How many of the latest names are compared with a name before it is looked up in the map. Most names that the
+// rewriting of calls inside expressions declares are used right behind their declarations.
+const RECENT: usize = 4;
 
 // A name that was declared, and its meaning before.
 #[derive(Drop)]
@@ -29,6 +33,16 @@ fn restore(found: &mut BTreeMap<Vec<u8>, Found>, text: Vec<u8>, hidden: Option<F
         None => {
             found.remove(text.as_slice());
         }
+    }
+}
+
+// Whether a name with this meaning can't be declared.
+fn is_fixed(found: Option<Found>) -> bool
+    ensures { result ≡ is_fixed found }
+{
+    match found {
+        Some(found) => found.meaning.is_modelled(),
+        None => false,
     }
 }
 
@@ -67,36 +81,51 @@ impl Names {
         self.declared.len()
     }
 
+    // Returns the meaning of a name, if it is among the latest.
+    fn find_recent(&self, text: &[u8]) -> Option<Found>
+        ensures { IfSome result (λ found. find text.now self.now ≡ Some found) }
+    {
+        let mut left = self.declared.len();
+        let others = left.saturating_sub(RECENT);
+        while others < left {
+            left -= 1;
+            let latest = &self.declared[left];
+            if latest.text.as_slice() == text {
+                return Some(latest.found);
+            }
+        }
+        None
+    }
+
     /// Returns the meaning of a name, if it is in scope.
     pub fn find(&self, text: &[u8]) -> Option<Found>
         ensures { result ≡ find text.now self.now }
     {
-        self.found.get(text).copied()
+        match self.find_recent(text) {
+            Some(found) => Some(found),
+            None => self.found.get(text).copied(),
+        }
     }
 
-    /// Declares a name, which hides its earlier meaning.
-    pub fn declare(&mut self, text: &[u8], meaning: Meaning) -> Result<(), AllocError>
-        ensures { OnOk result (self.new ≡ record { text = text.now; meaning = meaning } ∷ self.old) }
+    /// Declares a name, which hides its earlier meaning, and returns that meaning.
+    pub fn declare(&mut self, text: &[u8], meaning: Meaning) -> Result<Option<Found>, AllocError>
+        ensures names { OnOk result (self.new ≡ record { text = text.now; meaning = meaning } ∷ self.old) }
+        ensures earlier { IfOk result (λ earlier. earlier ≡ find text.now self.old) }
     {
         let key = Vec::from_slice(self.alloc, text)?;
+        let text = Vec::from_slice(self.alloc, text)?;
+        self.declared.reserve(1)?;
         let found = Found {
             position: self.declared.len(),
             meaning,
         };
-        let hidden = self.found.get(text).copied();
-        let text = Vec::from_slice(self.alloc, text)?;
+        let hidden = self.found.insert(key, found)?;
         self.declared.push(Declared {
             text,
             found,
             hidden,
         })?;
-        match self.found.insert(key, found) {
-            Ok(_) => Ok(()),
-            Err(failed) => {
-                self.declared.pop();
-                Err(AllocError::from(failed))
-            }
-        }
+        Ok(hidden)
     }
 
     /// Returns these names and one more, which hides its earlier meaning.
@@ -116,6 +145,18 @@ impl Names {
             let Declared { text, hidden, .. } = last;
             restore(&mut self.found, text, hidden);
         }
+    }
+
+    /// Declares a name, unless it is that of a modelled call, which keeps its meaning. Returns the earlier meaning.
+    pub fn bind(&mut self, text: &[u8], meaning: Meaning) -> Result<Option<Found>, AllocError>
+        ensures names { OnOk result (self.new ≡ bound self.old text.now meaning) }
+        ensures earlier { IfOk result (λ earlier. earlier ≡ find text.now self.old) }
+    {
+        let earlier = self.declare(text, meaning)?;
+        if is_fixed(earlier) {
+            self.forget();
+        }
+        Ok(earlier)
     }
 
     /// Removes names until `count` are left.

@@ -19,7 +19,8 @@ ghost use Rattle.scope_rules.specs.Outcomes.{IsResolved, IsRefused, IsNoMemory, 
 
 use crate::errors::ScopeError;
 use crate::faults::{Fault, Rule};
-use crate::items::{Begun, Items, definitions};
+use crate::functions::Begun;
+use crate::items::{Items, definitions};
 use crate::limits::{global_words, most_params, table_members};
 use crate::meanings::function_of;
 use crate::numbering::number_functions;
@@ -295,7 +296,7 @@ impl FunctionResolver {
     ///
     /// # Errors
     ///
-    /// Memory ran out.
+    /// Memory ran out. The statements before are lost then, so all that is left is to drop the resolver.
     pub fn statement(&mut self, raw: &RawStmt) -> Result<(), AllocError>
         ensures { OnOk result (made_by self.new ≡ with_statement (made_by self.old) (raw_stmt_tree raw.now)) }
     {

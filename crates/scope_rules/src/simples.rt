@@ -5,16 +5,14 @@ ghost use Rattle.c_tree.specs.RawTrees.{RawDeclareWith, RawSetElement};
 ghost use Rattle.c_tree.specs.RawViews.{name_tree, raw_expr_tree, raw_simple_tree};
 ghost use Rattle.c_tree.specs.Views.{expr_tree, right_tree, simple_tree};
 ghost use Rattle.c_tree.specs.Temporaries.{capped};
-ghost use Rattle.scope_rules.specs.Names.{find};
 ghost use Rattle.scope_rules.specs.Faults.{least_of};
 ghost use Rattle.scope_rules.specs.Places.{spot_of};
-ghost use Rattle.scope_rules.specs.Simples.{declared_faults, declare_faults, size_faults, bound, is_fixed, next_variable, with_variable, set_scalar, set_element, simple_faults, simple_of, simple_after, simples_faults, simples_of, simples_after};
+ghost use Rattle.scope_rules.specs.Simples.{declared_faults, declare_faults, size_faults, next_variable, with_variable, set_scalar, set_element, simple_faults, simple_of, simple_after, simples_faults, simples_of, simples_after};
 
 use crate::expressions::{array, expr, scalar};
 use crate::faults::{Fault, Rule, note_if};
 use crate::held::{both, boxed, with_next};
 use crate::meanings::{Found, Meaning, Variable};
-use crate::names::Names;
 use crate::places::Place;
 use c_tree::{Expr, Name, RawExpr, RawSimple, RightSide, Simple};
 use std::alloc::AllocError;
@@ -34,18 +32,6 @@ pub fn check_size(least: &mut Option<Fault>, name: &Name, words: u32)
     ensures { least.new ≡ least_of least.old (size_faults (name_tree name.now) words) }
 {
     note_if(least, words < 1 || 65_536 < words, name.at, Rule::Kind);
-}
-
-/// Puts a name into scope, unless it is that of a modelled call.
-pub fn bind(names: &mut Names, text: &[u8], meaning: Meaning) -> Result<(), AllocError>
-    ensures { OnOk result (names.new ≡ bound names.old text.now meaning) }
-{
-    if let Some(found) = names.find(text) {
-        if found.meaning.is_modelled() {
-            return Ok(());
-        }
-    }
-    names.declare(text, meaning)
 }
 
 /// Returns a count as the next number, up to 65,537.
@@ -84,18 +70,16 @@ fn element_set(array: Variable, index: Box<Expr>, value: Box<RightSide>) -> Simp
 }
 
 impl Place {
-    // Declares a variable of this many words, and returns its number.
+    /// Declares a variable of this many words, and returns its number.
     pub fn declare(&mut self, name: &Name, array: bool, words: u32) -> Result<u32, AllocError>
         ensures number { IfOk result (λ x. x ≡ next_variable (spot_of self.old)) }
         ensures place { OnOk result (spot_of self.new ≡ with_variable (spot_of self.old) (name_tree name.now) array words) }
-        ensures faults { self.new.least ≡ self.old.least }
+        ensures faults { OnOk result (self.new.least ≡ least_of self.old.least (declare_faults (spot_of self.old) (name_tree name.now))) }
     {
         let variable = number(self.sizes.len());
-        bind(
-            &mut self.names,
-            &name.text,
-            Meaning::Local { variable, array },
-        )?;
+        let meaning = Meaning::Local { variable, array };
+        let earlier = self.names.bind(&name.text, meaning)?;
+        check_declared(&mut self.least, earlier, self.outer, name.at);
         self.sizes.push(words)?;
         Ok(variable)
     }
@@ -105,18 +89,9 @@ impl Place {
         ensures before { IfOk result (λ p. p.0 ≡ before) }
         ensures number { IfOk result (λ p. p.1 ≡ next_variable (spot_of self.old)) }
         ensures place { OnOk result (spot_of self.new ≡ with_variable (spot_of self.old) (name_tree name.now) false 1) }
-        ensures faults { self.new.least ≡ self.old.least }
+        ensures faults { OnOk result (self.new.least ≡ least_of self.old.least (declare_faults (spot_of self.old) (name_tree name.now))) }
     {
         both(before, self.declare(name, false, 1))
-    }
-
-    // Notes the faults of a name that is declared here.
-    pub fn check_declare(&mut self, name: &Name)
-        ensures place { spot_of self.new ≡ spot_of self.old }
-        ensures faults { self.new.least ≡ least_of self.old.least (declare_faults (spot_of self.old) (name_tree name.now)) }
-    {
-        let found = self.names.find(&name.text);
-        check_declared(&mut self.least, found, self.outer, name.at);
     }
 
     // A declaration of one name with its initialiser, in which the name isn't in scope yet.
@@ -125,7 +100,6 @@ impl Place {
         ensures place { OnOk result (spot_of self.new ≡ simple_after (spot_of self.old) (RawDeclareWith (name_tree name.now) (raw_expr_tree initial.now))) }
         ensures faults { OnOk result (self.new.least ≡ least_of self.old.least (simple_faults (spot_of self.old) (RawDeclareWith (name_tree name.now) (raw_expr_tree initial.now)))) }
     {
-        self.check_declare(name);
         let value = self.right(initial)?;
         match self.then_declare(value, name) {
             Ok((value, variable)) => Ok(Simple::DeclareWith { variable, value }),
@@ -161,24 +135,20 @@ impl Place {
         ensures faults { OnOk result (self.new.least ≡ least_of self.old.least (simple_faults (spot_of self.old) (raw_simple_tree raw.now))) }
     {
         match raw {
-            RawSimple::DeclareScalar { name } => {
-                self.check_declare(name);
-                match self.declare(name, false, 1) {
-                    Ok(variable) => Ok(Simple::DeclareScalar { variable }),
-                    Err(error) => Err(error),
-                }
-            }
-            RawSimple::DeclareArray { name, words } => {
-                self.check_declare(name);
-                check_size(&mut self.least, name, *words);
-                match self.declare(name, true, *words) {
-                    Ok(variable) => Ok(Simple::DeclareArray {
+            RawSimple::DeclareScalar { name } => match self.declare(name, false, 1) {
+                Ok(variable) => Ok(Simple::DeclareScalar { variable }),
+                Err(error) => Err(error),
+            },
+            RawSimple::DeclareArray { name, words } => match self.declare(name, true, *words) {
+                Ok(variable) => {
+                    check_size(&mut self.least, name, *words);
+                    Ok(Simple::DeclareArray {
                         variable,
                         words: *words,
-                    }),
-                    Err(error) => Err(error),
+                    })
                 }
-            }
+                Err(error) => Err(error),
+            },
             RawSimple::DeclareWith { name, value } => self.declare_with(name, value),
             RawSimple::Set { name, value } => {
                 let variable = scalar(&self.names, &mut self.least, name);

@@ -1,70 +1,112 @@
-use Rattle.std.proofs.Common.{rules, ◌≡◌, ◌++◌, ◌∙◌, sym, ap, map, length, drop, sum, true, false, List}
+use Rattle.std.proofs.Common.{◌≡◌, ◌∙◌, ◌++◌, ◌∷◌, [], List, sym, ap, map, length, drop, sum, Bool, true, false}
 use Rattle.std.proofs.lemmas.List.{length-map}
+use Rattle.c_tree.specs.RawTrees.{NameTree, RawStmtTrees, RawFunctionItem}
 use Rattle.c_tree.specs.RawViews.{name_tree, raw_stmt_trees}
-use Rattle.c_tree.specs.Views.{stmt_trees}
+use Rattle.c_tree.specs.Views.{stmt_trees, function_tree, table_row}
 use Rattle.c_tree.specs.TextOrder.{stmts_names}
 use Rattle.c_tree.specs.Temporaries.{capped}
-use Rattle.scope_rules.specs.declared.meanings.Meaning.{Meaning}
-use Rattle.scope_rules.specs.Names.{Binding, find}
 use Rattle.scope_rules.specs.Faults.{least_of}
-use Rattle.scope_rules.specs.Meanings.{function_of}
-use Rattle.scope_rules.specs.Simples.{bound}
-use Rattle.scope_rules.specs.Places.{Spot}
+use Rattle.scope_rules.specs.Heads.{head_faults}
+use Rattle.scope_rules.specs.ItemViews.{sofar_of}
+use Rattle.scope_rules.specs.Items.{Sofar, with_function, body_spot, function_tree_of, item_after}
+use Rattle.scope_rules.specs.Limits.{most_locals}
+use Rattle.scope_rules.specs.Names.{Binding}
+use Rattle.scope_rules.specs.Places.{Spot, spot_of}
 use Rattle.scope_rules.specs.Statements.{stmts_after, stmts_faults, stmts_of}
-use Rattle.scope_rules.specs.Items.{unsized, params_after, params_faults, function_faults, main_faults, with_function}
+use Rattle.scope_rules.proofs.Counted.{counted_more, body_words}
+use Rattle.scope_rules.proofs.FunctionScopes.{spot_ended, faults_joined}
 use Rattle.scope_rules.proofs.Growth.{words}
-use Rattle.scope_rules.proofs.Least.{least_of_then}
-use Rattle.scope_rules.proofs.Counted.{counted_push, body_words}
+use Rattle.scope_rules.proofs.Least.{least_of_append}
 use Rattle.scope_rules.proofs.items.Items.function.Goals as goal
+
+module _ (c : goal.In_ok-end) where
+  abbrev defs : List Binding
+  defs = c.args.self.now.definitions
+
+  abbrev past : Sofar
+  past = sofar_of c.args.self.now
+
+  abbrev gives : Bool
+  gives = c.args.raw.now.gives
+
+  abbrev n : NameTree
+  n = name_tree c.args.raw.now.name
+
+  abbrev params : List NameTree
+  params = map name_tree c.args.raw.now.params.items
+
+  abbrev body : RawStmtTrees
+  body = raw_stmt_trees c.args.raw.now.body.items
+
+  abbrev start : Spot
+  start = body_spot defs past.spot gives n params
+
+  abbrev last : Spot
+  last = stmts_after start body
+
+  begun : spot_of c.begin.new.self ≡ start
+  begun = c.in_ok-begun.ensures.place ∙ ap (λ x. body_spot defs past.spot gives n (map name_tree x)) c.deref.ensures.value
+
+  begun_faults : c.begin.new.self.least ≡ least_of c.args.self.now.place.least (head_faults defs past.spot gives n params)
+  begun_faults = c.in_ok-begun.ensures.faults ∙ ap (λ x. least_of c.args.self.now.place.least (head_faults defs past.spot gives n (map name_tree x))) c.deref.ensures.value
+
+  count : length c.deref.result.now ≡ length params
+  count = ap length c.deref.ensures.value ∙ sym (length-map c.args.raw.now.params.items name_tree)
+
+  resolved : spot_of c.stmts.new.self ≡ last
+  resolved = let h = rw c.in_ok-begun-2.ensures.next at c.stmts.ensures.place in h ∙ (λ k. stmts_after (begun k) (raw_stmt_trees (c.deref-2.ensures.value k)))
+
+  tree : stmt_trees c.in_ok-begun-2.body.items ≡ stmts_of start body
+  tree = let h = rw c.in_ok-begun-2.ensures.next at c.stmts.ensures.tree in h ∙ (λ k. stmts_of (begun k) (raw_stmt_trees (c.deref-2.ensures.value k)))
+
+  all_faults : c.stmts.new.self.least ≡ least_of c.begin.new.self.least (stmts_faults gives false start body)
+  all_faults =
+      let h = rw c.in_ok-begun-2.ensures.next at c.stmts.ensures.faults in
+      h ∙ (λ k. least_of c.begin.new.self.least (stmts_faults gives false (begun k) (raw_stmt_trees (c.deref-2.ensures.value k))))
+
+  name : c.in_ok-begun-2.begun.name.items ≡ n.text
+  name = ap (λ b. b.name.items) c.in_ok-begun-2.ensures.before ∙ c.in_ok-begun.ensures.named
+
+  result : c.in_ok-begun-2.begun.gives ≡ gives
+  result = ap (λ b. b.gives) c.in_ok-begun-2.ensures.before ∙ c.in_ok-begun.ensures.given
+
+  taken : c.in_ok-begun-2.begun.params ≡ length params
+  taken = ap (λ b. b.params) c.in_ok-begun-2.ensures.before ∙ (c.in_ok-begun.ensures.taken ∙ count)
+
+  outer : c.in_ok-begun-2.begun.scope.outer ≡ past.spot.outer
+  outer = ap (λ b. b.scope.outer) c.in_ok-begun-2.ensures.before ∙ c.in_ok-begun.ensures.outer
+
+  inner : c.in_ok-begun-2.begun.scope.count ≡ length (with_function defs past.spot.names gives n (length params) true)
+  inner = ap (λ b. b.scope.count) c.in_ok-begun-2.ensures.before ∙ (c.in_ok-begun.ensures.inner ∙ ap (λ x. length (with_function defs past.spot.names gives n x true)) count)
+
+  functions_after : map function_tree c.end.new.self.functions.items ≡ past.functions ++ function_tree_of start gives n params body ∷ []
+  functions_after = c.in_ok-end.ensures.functions ∙ (λ k. past.functions ++ record { name = name k; params = capped (taken k); gives = result k; sizes = (resolved k).sizes; body = tree k } ∷ [])
+
+  spot_after : spot_of c.end.new.self.place ≡ (item_after defs past (RawFunctionItem gives n params body)).spot
+  spot_after = c.in_ok-end.ensures.place ∙ spot_ended defs past gives n params body (spot_of c.stmts.new.self) c.in_ok-begun-2.begun.scope.count c.in_ok-begun-2.begun.scope.outer resolved inner outer
+
+pub returns-clause-sofar : goal.returns-clause-sofar
+returns-clause-sofar c =
+    let globals = ap (λ v. v.items) c.in_ok-end.ensures.globals in
+    let tables = ap (λ v. map table_row v.items) c.in_ok-end.ensures.tables in
+    λ k. record { spot = spot_after c k; globals = globals k; tables = tables k; functions = functions_after c k }
 
 pub returns-clause-faults : goal.returns-clause-faults
 returns-clause-faults c =
     let old = c.args.self.now.place.least in
-    let o1 = c.check_function.new.least in
-    let o2 = c.check_main.new.least in
-    let o3 = c.function_body.new.self.least in
-    let defs = c.args.self.now.definitions in
-    let names = c.args.self.now.place.names in
-    let raw = c.args.raw.now in
-    let n = name_tree raw.name in
-    let g = raw.gives in
-    let ps = map name_tree raw.params.items in
-    let body = raw_stmt_trees raw.body.items in
-    let k = length ps in
-    let k0 : c.len-params.result ≡ length raw.params.items = search rules in
-    let k1 : c.len-params.result ≡ k = k0 ∙ sym (length-map raw.params.items name_tree) in
-    let d1 : c.find-definition.result ≡ find n.text defs = c.find-definition.ensures ∙ ap (λ t. find t defs) c.deref.ensures.value in
-    let f1 : c.find-found.result ≡ find n.text names = c.find-found.ensures ∙ ap (λ t. find t names) c.deref-2.ensures.value in
-    let b1 : c.bind.new.names ≡ with_function defs names g n k true =
-    c.in_ok-bind.ensures
-    ∙ (ap (λ t. bound names t (Meaning.Function c.function_of.result g c.len-params.result true)) c.deref-3.ensures.value
-    ∙ (ap (λ x. bound names n.text (Meaning.Function x g c.len-params.result true)) (c.function_of.ensures ∙ ap function_of d1)
-    ∙ ap (λ x. bound names n.text (Meaning.Function (function_of (find n.text defs)) g x true)) k1)) in
-    let at = λ (x : List Binding). unsized (record { names = x; outer = c.args.self.now.place.outer; sizes = c.args.self.now.place.sizes.items; site = c.args.self.now.place.site }) in
-    let fd = λ (x : List Binding). params_faults (at x) ps ++ stmts_faults g false (params_after (at x) ps) body in
-    let fb = function_faults true g k n.at (find n.text names) in
-    let fc = main_faults n k in
-    let e1 : o1 ≡ least_of old fb = c.check_function.ensures ∙ (ap (λ x. least_of old (function_faults true g x n.at c.find-found.result)) k1 ∙ ap (λ x. least_of old (function_faults true g k n.at x)) f1) in
-    let e2 : o2 ≡ least_of o1 fc = c.check_main.ensures ∙ ap (λ x. least_of o1 (main_faults n x)) k1 in
-    let names3 = with_function defs names g n k true in
-    let made = rw c.in_ok-text-2.ensures.next at c.function_body.ensures.faults in
-    let e3 : o3 ≡ least_of o2 (fd names3) = made ∙ ap (λ x. least_of o2 (fd x)) b1 in
-    least_of_then old o1 o3 fb (fc ++ fd names3) e1 (least_of_then o1 o2 o3 fc (fd names3) e2 e3)
+    let head = head_faults (defs c) (past c).spot (gives c) (n c) (params c) in
+    let fs = stmts_faults (gives c) false (start c) (body c) in
+    c.in_ok-end.ensures.faults
+    ∙ (all_faults c
+    ∙ (ap (λ x. least_of x fs) (begun_faults c)
+    ∙ (sym (least_of_append old head fs)
+    ∙ ap (least_of old) (faults_joined (defs c) (past c) (gives c) (n c) (params c) (body c)))))
 
 pub returns-clause-counted : goal.returns-clause-counted
 returns-clause-counted c = λ h.
-    let s : Spot = record { names = c.bind.new.names; outer = c.args.self.now.place.outer; sizes = c.args.self.now.place.sizes.items; site = c.args.self.now.place.site } in
-    let ps = map name_tree c.args.raw.now.params.items in
-    let body = raw_stmt_trees c.args.raw.now.body.items in
-    let b = params_after (unsized s) ps in
-    let ws = words (stmts_names (stmts_of b body)) in
-    let place = rw c.in_ok-text-2.ensures.next at c.function_body.ensures.place in
-    let tree = rw c.in_ok-text-2.ensures.next at c.function_body.ensures.tree in
-    let z : c.function_body.new.self.sizes.items ≡ (stmts_after b body).sizes = ap (λ x. x.sizes) place in
-    let k : c.len-params.result ≡ length c.args.raw.now.params.items = search rules in
-    let l : c.len-params.result ≡ length ps = k ∙ sym (length-map c.args.raw.now.params.items name_tree) in
-    let d : c.deref-5.result.now ≡ c.function_body.new.self.sizes.items = c.deref-5.ensures.value ∙ ap (λ v. v.items) c.replace-sizes.ensures.value in
-    let e : drop c.len-params.result c.deref-5.result.now ≡ ws = ap (λ n. drop n c.deref-5.result.now) l ∙ (ap (drop (length ps)) (d ∙ z) ∙ body_words s ps body) in
-    let f : words (stmts_names (stmt_trees c.in_ok-text-2.body.items)) ≡ ws = ap (λ x. words (stmts_names x)) tree in
-    let here : c.declared_words.result ≡ capped (sum (words (stmts_names (stmt_trees c.in_ok-text-2.body.items)))) = c.declared_words.ensures ∙ ap (λ x. capped (sum x)) (e ∙ sym f) in
-    counted_push c.args.self.now.functions.items _ c.push.new.self.items c.args.self.now.locals c.declared_words.result c.larger-self.result c.in_ok-push.ensures.items h here c.larger-self.ensures
+    let made = function_tree_of (start c) (gives c) (n c) (params c) (body c) in
+    let s : Spot = record (past c).spot { names = with_function (defs c) (past c).spot.names (gives c) (n c) (length (params c)) true } in
+    let sizes : drop c.in_ok-begun-2.begun.params c.stmts.new.self.sizes.items ≡ words (stmts_names made.body) =
+        (λ k. drop (taken c k) (resolved c k).sizes) ∙ body_words s (params c) (body c) in
+    counted_more (past c).functions made c.args.self.now.locals (capped (sum (drop c.in_ok-begun-2.begun.params c.stmts.new.self.sizes.items))) c.end.new.self.locals h (ap (λ x. capped (sum x)) sizes) c.in_ok-end.ensures.locals
+    ∙ ap (λ x. capped (most_locals x)) (sym (functions_after c))

@@ -4,10 +4,9 @@ use Rattle.std.proofs.lemmas.List.{length-map}
 use Rattle.c_tree.specs.RawViews.{name_tree}
 use Rattle.scope_rules.specs.declared.faults.Rule.{Rule}
 use Rattle.scope_rules.specs.declared.meanings.Meaning.{Meaning}
-use Rattle.scope_rules.specs.Names.{find}
+use Rattle.scope_rules.specs.Names.{find, bound}
 use Rattle.scope_rules.specs.Faults.{broken, least_of}
 use Rattle.scope_rules.specs.Meanings.{function_of}
-use Rattle.scope_rules.specs.Simples.{bound}
 use Rattle.scope_rules.specs.Items.{is_missing, is_defined, function_faults, main_faults, with_function, prototype_faults}
 use Rattle.scope_rules.proofs.Least.{least_of_then}
 use Rattle.scope_rules.proofs.items.Items.prototype.Goals as goal
@@ -31,8 +30,8 @@ returns-clause-faults c =
     let d1 : c.find-definition.result ≡ find n.text defs = c.find-definition.ensures ∙ ap (λ t. find t defs) c.deref.ensures.value in
     let f1 : c.find-found.result ≡ find n.text names = c.find-found.ensures ∙ ap (λ t. find t names) c.deref-2.ensures.value in
     let m1 : c.is_missing.result ≡ is_missing (find n.text defs) = c.is_missing.ensures ∙ ap is_missing d1 in
-    let b1 : c.bind.new.names ≡ with_function defs names g n k (is_defined (find n.text names)) =
-    c.in_ok-bind.ensures
+    let b1 : c.bind.new.self ≡ with_function defs names g n k (is_defined (find n.text names)) =
+    c.in_ok-bind.ensures.names
     ∙ (ap (λ t. bound names t (Meaning.Function c.function_of.result g c.len-params.result c.is_defined.result)) c.deref-3.ensures.value
     ∙ (ap (λ x. bound names n.text (Meaning.Function x g c.len-params.result c.is_defined.result)) (c.function_of.ensures ∙ ap function_of d1)
     ∙ (ap (λ x. bound names n.text (Meaning.Function (function_of (find n.text defs)) g x c.is_defined.result)) k1

@@ -1,4 +1,4 @@
-use Rattle.std.proofs.Common.{◌≡◌, ◌∷◌, ◌+◌, ◌∙◌, ap, map, drop}
+use Rattle.std.proofs.Common.{◌≡◌, ◌∷◌, ◌+◌, map, drop}
 use Rattle.std.specs.Prelude.{false}
 use Rattle.c_tree.specs.RawViews.{name_tree}
 use Rattle.scope_rules.specs.Places.{spot_of}
@@ -16,8 +16,8 @@ loop-name-preserved c =
     let s = spot_of c.loop-name.self in
     let n = name_tree item in
     let cut : drop i raw ≡ item ∷ drop (i + 1) raw = drop_at raw i item c.loop-name-test.true c.name-item.is in
-    let e = c.in_ok-declare.ensures.place ∙ ap (λ z. with_variable z n false 1) c.check_declare.ensures.place in
-    let f = c.in_ok-declare.ensures.faults ∙ c.check_declare.ensures.faults in
+    let e = c.in_ok-declare.ensures.place in
+    let f = c.in_ok-declare.ensures.faults in
     record {
       place = rw e (rw cut at c.loop-name.invariant.place);
       faults = rw (e, f, ← least_of_append c.loop-name.self.least (declare_faults s n) (params_faults (with_variable s n false 1) (map name_tree (drop (i + 1) raw)))) (rw cut at c.loop-name.invariant.faults);
