@@ -37,13 +37,16 @@ one_refused t x y = one_refusal (items_hoisted t) x y
 pub no_tokens : (source : List ℕ) (e : LexError) → (e ≢ LexError.Memory → IsLexErrorOf source e) → by_lex e ≢ refusals.Memory → IsNestedSourceErrorOf source (by_lex e)
 no_tokens = texts.no_tokens AreForPartsWhole nested_in_fors for_parts_whole for_parts_none IsHoistedTo IsRefusedHoisted one_hoisted never_hoisted one_refused
 
-pub no_tree : (source : List ℕ) (tokens : List Token) (e : ParseError) → AreTokensOf source tokens → (e ≢ ParseError.Memory → IsNestedErrorOf source tokens e) → by_parse e ≢ refusals.Memory → IsNestedSourceErrorOf source (by_parse e)
+pub no_tree : (source : List ℕ) (tokens : List Token) (e : ParseError) →
+    AreTokensOf source tokens → (e ≢ ParseError.Memory → IsNestedErrorOf source tokens e) → by_parse e ≢ refusals.Memory → IsNestedSourceErrorOf source (by_parse e)
 no_tree = texts.no_tree AreForPartsWhole nested_in_fors for_parts_whole for_parts_none IsHoistedTo IsRefusedHoisted one_hoisted never_hoisted one_refused
 
-pub no_program : (source : List ℕ) (tokens : List Token) (tree : List RawItemTree) (e : ScopeError) → AreTokensOf source tokens → IsParsedNested source tokens tree → IsRefusedHoisted tree e → by_scope e ≢ refusals.Memory → IsNestedSourceErrorOf source (by_scope e)
+pub no_program : (source : List ℕ) (tokens : List Token) (tree : List RawItemTree) (e : ScopeError) →
+    AreTokensOf source tokens → IsParsedNested source tokens tree → IsRefusedHoisted tree e → by_scope e ≢ refusals.Memory → IsNestedSourceErrorOf source (by_scope e)
 no_program = texts.no_program AreForPartsWhole nested_in_fors for_parts_whole for_parts_none IsHoistedTo IsRefusedHoisted one_hoisted never_hoisted one_refused
 
-pub reads_as : (source : List ℕ) (tokens : List Token) (tree : List RawItemTree) (p : ProgramTree) → AreTokensOf source tokens → IsParsedNested source tokens tree → IsHoistedTo tree p → ReadsNested source p
+pub reads_as : (source : List ℕ) (tokens : List Token) (tree : List RawItemTree) (p : ProgramTree) →
+    AreTokensOf source tokens → IsParsedNested source tokens tree → IsHoistedTo tree p → ReadsNested source p
 reads_as = texts.reads_as AreForPartsWhole nested_in_fors for_parts_whole for_parts_none IsHoistedTo IsRefusedHoisted one_hoisted never_hoisted one_refused
 
 pub never : (source : List ℕ) (p : ProgramTree) (e : SourceError) → ReadsNested source p → IsNestedSourceErrorOf source e → ⊥

@@ -1,5 +1,5 @@
 // From the bytes of a source to a program.
-ghost use Rattle.std.specs.Prelude.{◌≡◌, ◌≢◌, ◌≤◌, ◌⊎◌, ◌∷◌, ◌++◌, [], List, length, IfOk, OnOk, IfErr, IsErrOf, MatchResult};
+ghost use Rattle.std.specs.Prelude.{◌≡◌, ◌≢◌, ◌≤◌, ◌⊎◌, ◌∷◌, ◌++◌, [], List, length, IfOk, IfErr, IsErrOf, MatchResult};
 ghost use Rattle.c_tree.specs.RawTrees.{RawItemTree};
 ghost use Rattle.c_tree.specs.Trees.{ProgramTree};
 ghost use Rattle.c_tree.specs.ProgramView.{program_tree};
@@ -71,7 +71,8 @@ impl Rewriting {
     // One more definition, whose statements are resolved as soon as they are made.
     fn function(self, alloc: Global, raw: &RawFunction) -> Result<Rewriting, AllocError>
         requires { AreForsWhole (raw_stmt_trees raw.now.body.items) }
-        ensures read { IfOk result (λ w. (all read : List RawItemTree) → HasRead self.resolver all read → HasRead w.resolver all (read ++ item_hoisted (raw_item_tree (RawItem.Function raw.now)) ∷ [])) }
+        ensures read { IfOk result (λ w. (all read : List RawItemTree) → HasRead self.resolver all read →
+            HasRead w.resolver all (read ++ item_hoisted (raw_item_tree (RawItem.Function raw.now)) ∷ [])) }
         ensures places { IfOk result (λ w. w.places.items ≡ self.places.items ++ item_places is_call (item_hoisted (raw_item_tree (RawItem.Function raw.now)))) }
     {
         let Rewriting { resolver, places } = self;

@@ -1,4 +1,4 @@
--- Arguments that are taken one after another leave what the rewriting of all leaves.
+-- The arguments of a call, rewritten one after another.
 use Rattle.std.proofs.Common.{ℕ, ◌+◌, ◌≡◌, refl, sym, ap, ◌∙◌, Bool, true, false, ◌||◌, nat_lt, List, [], ◌∷◌, ◌++◌, arith}
 use Rattle.std.proofs.lemmas.Bool.Decides.{nat_tests}
 use Rattle.c_tree.specs.RawTrees.{RawExprTree, RawExprTrees, NoExprs, And}
@@ -22,7 +22,7 @@ then_none : (xs : List RawExprTree) → then_trees xs NoExprs ≡ raw_arguments 
 then_none [] = refl
 then_none (x ∷ xs) = ap (And x) (then_none xs)
 
--- ---- a later argument holds a call where some do
+-- ---- whether a later argument contains a call, by the number of those that do
 
 some_or : (b h : Bool) (n : ℕ) → nat_lt 0 n ≡ h → nat_lt 0 (one_if b + n) ≡ (b || h)
 some_or true h n e = grind (arith, nat_tests)
@@ -34,11 +34,13 @@ some_hold (And e es) = some_or (holds_call e) (hold_call es) (calls_among es) (s
 
 -- ---- one more argument
 
-one_left : (stays : Bool) (k : ℕ) (e : RawExprTree) (es : RawExprTrees) → arguments_left stays k (And e es) ≡ And (passed_left stays (hold_call es) k e) (arguments_left false (passed_after stays (hold_call es) k e) es)
+one_left : (stays : Bool) (k : ℕ) (e : RawExprTree) (es : RawExprTrees) →
+    arguments_left stays k (And e es) ≡ And (passed_left stays (hold_call es) k e) (arguments_left false (passed_after stays (hold_call es) k e) es)
 one_left true k e es = refl
 one_left false k e es = refl
 
-one_before : (stays : Bool) (k : ℕ) (e : RawExprTree) (es : RawExprTrees) → arguments_before stays k (And e es) ≡ passed_before stays (hold_call es) k e ++ arguments_before false (passed_after stays (hold_call es) k e) es
+one_before : (stays : Bool) (k : ℕ) (e : RawExprTree) (es : RawExprTrees) →
+    arguments_before stays k (And e es) ≡ passed_before stays (hold_call es) k e ++ arguments_before false (passed_after stays (hold_call es) k e) es
 one_before true k e es = refl
 one_before false k e es = refl
 
@@ -46,7 +48,7 @@ one_after : (stays : Bool) (k : ℕ) (e : RawExprTree) (es : RawExprTrees) → k
 one_after true k e es = refl
 one_after false k e es = omega arith
 
--- ---- a turn over the arguments, where `later` says whether one of the rest holds a call
+-- ---- a turn over the arguments, where `later` says whether one of the rest contains a call
 
 pub turn_left : (stays later : Bool) (k n : ℕ) (xs : List RawExprTree) (x e : RawExprTree) (es whole : RawExprTrees) →
     later ≡ hold_call es → x ≡ passed_left stays later k e → n ≡ passed_after stays later k e →

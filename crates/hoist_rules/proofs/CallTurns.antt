@@ -1,40 +1,46 @@
--- A call and a call of a table's member, after what goes before their parts, and a conditional whose chosen parts hold no call.
+-- A call, a call through a table, and a conditional, after the statements before their parts.
 use Rattle.std.proofs.Common.{ℕ, ◌+◌, ◌≡◌, refl, sym, ap, ◌∙◌, Bool, true, false, ◌||◌, List, [], ◌∷◌, ◌++◌, append_assoc, arith}
 use Rattle.c_tree.specs.RawTrees.{NameTree, RawExprTree, RawExprTrees, RawConditional, RawCall, RawTableCall, RawStmtTree, RawIfElse}
 use Rattle.hoist_parts.specs.NewNames.{declared, declared_as, set_to}
-use Rattle.hoist_parts.specs.Calls.{holds_call, is_named, is_spawn}
-use Rattle.hoist_parts.specs.Expressions.{names_in, arguments_names, part_after, part_or, part_named, left_of, arguments_left, call_left, index_left, argument_left, table_call_left, before, arguments_before, in_block}
+use Rattle.hoist_parts.specs.Calls.{holds_call, is_spawn}
+use Rattle.hoist_parts.specs.Expressions.{names_in, arguments_names, part_after, left_of, arguments_left, call_left, index_left, argument_left, table_call_left, before, arguments_before, in_block}
 use Rattle.hoist_parts.specs.Statements.{table_before}
 use Rattle.hoist_parts.proofs.NoCalls.{or_left, or_right, no_names}
+use Rattle.hoist_rules.specs.EarlierParts.{part_left, part_before}
 use Rattle.hoist_rules.specs.Receivers.{SoFar, then_all}
 use Rattle.hoist_rules.proofs.Followed.{then_then, then_pushed}
 
 -- `w` is the expression, `s` what stood before it
 
-pub call_pushed : (k n : ℕ) (b : Bool) (w call : RawExprTree) (name : NameTree) (es fs left : RawExprTrees) (s t u : SoFar) → w ≡ RawCall name es → b ≡ is_spawn name → fs ≡ es →
-    left ≡ arguments_left b k fs → t ≡ then_all s (arguments_before b k fs) → n ≡ k + arguments_names b fs → call ≡ RawCall name left → u ≡ then_all t (declared_as n call ∷ []) → u ≡ then_all s (before k w)
+pub call_pushed : (k n : ℕ) (b : Bool) (w call : RawExprTree) (name : NameTree) (es fs left : RawExprTrees) (s t u : SoFar) →
+    w ≡ RawCall name es → b ≡ is_spawn name → fs ≡ es →
+    left ≡ arguments_left b k fs → t ≡ then_all s (arguments_before b k fs) → n ≡ k + arguments_names b fs →
+    call ≡ RawCall name left → u ≡ then_all t (declared_as n call ∷ []) → u ≡ then_all s (before k w)
 call_pushed k n b w call name es fs left s t u hw hb hf hl ht hn hc hu =
     let made : call ≡ call_left k name es = hc ∙ ap (RawCall name) (hl ∙ (λ i. arguments_left (hb i) k (hf i))) in
     let number : n ≡ k + arguments_names (is_spawn name) es = hn ∙ (λ i. k + arguments_names (hb i) (hf i)) in
     let prior : t ≡ then_all s (arguments_before (is_spawn name) k es) = ht ∙ (λ i. then_all s (arguments_before (hb i) k (hf i))) in
-    then_pushed s t u (arguments_before (is_spawn name) k es) (declared_as n call) (declared_as (k + arguments_names (is_spawn name) es) (call_left k name es)) prior hu (λ i. declared_as (number i) (made i))
+    let named = declared_as (k + arguments_names (is_spawn name) es) (call_left k name es) in
+    then_pushed s t u (arguments_before (is_spawn name) k es) (declared_as n call) named prior hu (λ i. declared_as (number i) (made i))
     ∙ ap (λ e. then_all s (before k e)) (sym hw)
 
 -- the index and the argument are seen as `i1`, `e1` and `e2`
-pub table_pushed : (k m n : ℕ) (b : Bool) (w call : RawExprTree) (name : NameTree) (i e i1 e1 e2 x y : RawExprTree) (s t u v : SoFar) → w ≡ RawTableCall name i e → e1 ≡ e → e2 ≡ e → i1 ≡ i → b ≡ holds_call e1 →
-    x ≡ part_or (is_named b i1) (k + names_in i1) (left_of k i1) → t ≡ then_all s (before k i1 ++ part_named (is_named b i1) (k + names_in i1) (left_of k i1)) → m ≡ part_after k b i1 →
+pub table_pushed : (k m n : ℕ) (b : Bool) (w call : RawExprTree) (name : NameTree) (i e i1 e1 e2 x y : RawExprTree) (s t u v : SoFar) →
+    w ≡ RawTableCall name i e → e1 ≡ e → e2 ≡ e → i1 ≡ i → b ≡ holds_call e1 →
+    x ≡ part_left b k i1 → t ≡ then_all s (part_before b k i1) → m ≡ part_after k b i1 →
     y ≡ left_of m e2 → u ≡ then_all t (before m e2) → n ≡ m + names_in e2 → call ≡ RawTableCall name x y → v ≡ then_all u (declared_as n call ∷ []) → v ≡ then_all s (before k w)
 table_pushed k m n b w call name i e i1 e1 e2 x y s t u v hw h1 h2 hi hb hx ht hm hy hu hn hc hv =
     let calls : b ≡ holds_call e = hb ∙ ap holds_call h1 in
     let at : m ≡ part_after k (holds_call e) i = hm ∙ (λ j. part_after k (calls j) (hi j)) in
-    let index : x ≡ index_left k i e = hx ∙ (λ j. part_or (is_named (calls j) (hi j)) (k + names_in (hi j)) (left_of k (hi j))) in
+    let index : x ≡ index_left k i e = hx ∙ (λ j. part_left (calls j) k (hi j)) in
     let argument : y ≡ argument_left k i e = hy ∙ (λ j. left_of (at j) (h2 j)) in
     let made : call ≡ table_call_left k name i e = hc ∙ (λ j. RawTableCall name (index j) (argument j)) in
     let number : n ≡ part_after k (holds_call e) i + names_in e = hn ∙ (λ j. at j + names_in (h2 j)) in
-    let part : List RawStmtTree = before k i ++ part_named (is_named (holds_call e) i) (k + names_in i) (left_of k i) in
-    let first : t ≡ then_all s part = ht ∙ (λ j. then_all s (before k (hi j) ++ part_named (is_named (calls j) (hi j)) (k + names_in (hi j)) (left_of k (hi j)))) in
+    let part : List RawStmtTree = part_before (holds_call e) k i in
+    let first : t ≡ then_all s part = ht ∙ (λ j. then_all s (part_before (calls j) k (hi j))) in
     let second : u ≡ then_all s (table_before k i e) = hu ∙ (λ j. then_all (first j) (before (at j) (h2 j))) ∙ then_then s part (before (part_after k (holds_call e) i) e) in
-    then_pushed s u v (table_before k i e) (declared_as n call) (declared_as (part_after k (holds_call e) i + names_in e) (table_call_left k name i e)) second hv (λ j. declared_as (number j) (made j))
+    let named = declared_as (part_after k (holds_call e) i + names_in e) (table_call_left k name i e) in
+    then_pushed s u v (table_before k i e) (declared_as n call) named second hv (λ j. declared_as (number j) (made j))
     ∙ ap (λ z. then_all s (before k z)) (sym hw)
 
 -- a conditional, one of whose chosen parts holds a call, after the name that both set; the condition is seen as `c1`, and the
@@ -67,7 +73,8 @@ chosen_pushed k n m o number h w c a b c1 a1 a2 b1 b2 x p q s t u v hw hc ha ha2
     ∙ ap (then_all s) (append_assoc (before k c) (d ∷ []) (r ∷ []) ∙ sym all) ∙ ap (λ e. then_all s (before k e)) (sym hw)
 
 -- the three parts are seen as `c1`, `a1` and `b1`
-pub kept_names : (k n m o : ℕ) (h : Bool) (w c a b c1 a1 b1 : RawExprTree) → w ≡ RawConditional c a b → c1 ≡ c → a1 ≡ a → b1 ≡ b → h ≡ (holds_call a1 || holds_call b1) → h ≡ false → n ≡ k + names_in c1 → m ≡ n → o ≡ m → o ≡ k + names_in w
+pub kept_names : (k n m o : ℕ) (h : Bool) (w c a b c1 a1 b1 : RawExprTree) →
+    w ≡ RawConditional c a b → c1 ≡ c → a1 ≡ a → b1 ≡ b → h ≡ (holds_call a1 || holds_call b1) → h ≡ false → n ≡ k + names_in c1 → m ≡ n → o ≡ m → o ≡ k + names_in w
 kept_names k n m o h w c a b c1 a1 b1 hw hc ha hb held none_held hn hm ho =
     let none : (holds_call a || holds_call b) ≡ false = (λ i. holds_call (sym ha i) || holds_call (sym hb i)) ∙ sym held ∙ none_held in
     let first = no_names a (or_left (holds_call a) (holds_call b) none) in

@@ -1,12 +1,12 @@
 -- Statements so far, followed by more.
-use Rattle.std.proofs.Common.{◌≡◌, refl, ap, ◌∙◌, List, [], ◌∷◌, ◌++◌, append_assoc, append-nil}
+use Rattle.std.proofs.Common.{◌≡◌, refl, ap, ◌∙◌, true, false, List, [], ◌∷◌, ◌++◌, append_assoc, append-nil}
 use Rattle.std.proofs.lemmas.Grind.{common_steps}
 use Rattle.c_tree.specs.RawTrees.{RawStmtTree}
 use Rattle.c_tree.specs.RawViews.{raw_in_order}
 use Rattle.grammar_laws.specs.Nested.{is_call}
 use Rattle.grammar_laws.specs.Places.{stmt_places, stmts_places}
 use Rattle.scope_rules.specs.Making.{Making, with_statement, with_statements}
-use Rattle.hoist_rules.specs.Receivers.{Received, SoFar, Gathered, Passed, then_received, listed, then_all}
+use Rattle.hoist_rules.specs.Receivers.{Received, SoFar, Gathered, Passed, then_received, is_gathered, listed, then_all}
 
 making_then : (m : Making) (xs ys : List RawStmtTree) → with_statements (with_statements m xs) ys ≡ with_statements m (xs ++ ys)
 making_then m [] ys = refl
@@ -46,6 +46,20 @@ pub listed_gathered : (xs : List RawStmtTree) → listed (Gathered xs) ≡ xs
 unfolding listed
 listed_gathered xs = refl
 
+pub gathered_is : (xs : List RawStmtTree) → is_gathered (Gathered xs) ≡ true
+unfolding is_gathered
+gathered_is xs = refl
+
+pub passed_is : (r : Received) → is_gathered (Passed r) ≡ false
+unfolding is_gathered
+passed_is r = refl
+
+-- statements go where those before them went
+pub gathered_then : (s : SoFar) (ys : List RawStmtTree) → is_gathered (then_all s ys) ≡ is_gathered s
+unfolding is_gathered then_all
+gathered_then (Gathered ss) ys = refl
+gathered_then (Passed r) ys = refl
+
 -- a list is the gathered statements and those after them
 pub listed_then : (s : SoFar) (ys zs : List RawStmtTree) → then_all s ys ≡ Gathered zs → listed s ++ ys ≡ zs
 unfolding then_all listed
@@ -59,4 +73,4 @@ passed_same r s e = cc
 pub then_pushed : (s t u : SoFar) (a : List RawStmtTree) (x y : RawStmtTree) → t ≡ then_all s a → u ≡ then_all t (x ∷ []) → x ≡ y → u ≡ then_all s (a ++ y ∷ [])
 then_pushed s t u a x y ht hu hx = hu ∙ (λ i. then_all (ht i) (hx i ∷ [])) ∙ then_then s a (y ∷ [])
 
-pub ruleset following = (common_steps, then_then, then_none, then_gathered, listed_gathered)
+pub ruleset following = (common_steps, then_then, then_none, then_gathered, listed_gathered, gathered_is, passed_is, gathered_then)

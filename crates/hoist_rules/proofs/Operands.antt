@@ -1,4 +1,4 @@
--- Operators that are taken one after another, from the left, leave what the rewriting of the whole leaves.
+-- The operators of a chain, rewritten one after another from the left.
 use Rattle.std.proofs.Common.{ℕ, ◌+◌, ◌≡◌, refl, sym, ap, ◌∙◌, Bool, false, not, ◌&&◌, List, [], ◌∷◌, ◌++◌, map, append_assoc, append-nil, arith}
 use Rattle.c_tree.specs.declared.operators.Infix.{Infix}
 use Rattle.c_tree.specs.declared.raw_expressions.RawExpr.{RawExpr}

@@ -1,4 +1,4 @@
--- One operator and its right operand, where that isn't evaluated in a branch: as any other operator.
+-- One operator and its right operand, if that isn't evaluated in a branch: `&&` and `||` are rewritten as any other.
 use Rattle.std.proofs.Common.{ℕ, ◌+◌, ◌≡◌, refl, sym, ap, ◌∙◌, Bool, false, not, ◌&&◌, ◌++◌}
 use Rattle.c_tree.specs.declared.operators.Infix.{Infix}
 use Rattle.c_tree.specs.RawTrees.{RawExprTree}

@@ -1,2 +1,3 @@
 pub mod HoistExamples
+pub mod EarlierParts
 pub mod Receivers

@@ -1,5 +1,5 @@
 -- The statements of a block so far: gathered in a list, or taken by a receiver.
-use Rattle.std.specs.Prelude.{ℕ, List, [], ◌++◌, map}
+use Rattle.std.specs.Prelude.{ℕ, Bool, true, false, List, [], ◌++◌, map}
 use Rattle.c_tree.specs.RawTrees.{RawStmtTree}
 use Rattle.c_tree.specs.RawViews.{raw_in_order, raw_stmt_tree}
 use Rattle.grammar_laws.specs.Nested.{is_call}
@@ -27,6 +27,11 @@ pub data SoFar : Type 0 where
 abbrev pub so_far : Statements → SoFar
 so_far (Statements.Gathered ss) = Gathered (map raw_stmt_tree ss.items)
 so_far (Statements.Passed r) = Passed (received r)
+
+-- whether they are gathered in a list, as those of an inner block are
+unfoldable pub is_gathered : SoFar → Bool
+is_gathered (Gathered ss) = true
+is_gathered (Passed r) = false
 
 -- the gathered statements
 unfoldable pub listed : SoFar → List RawStmtTree

@@ -1,11 +1,11 @@
 // The statements before a logical operator and a conditional: a new name, and a branch that sets it.
-ghost use Rattle.std.specs.Prelude.{◌≡◌, ◌+◌, [], ◌∷◌, ◌++◌, IfOk, OnOk};
+ghost use Rattle.std.specs.Prelude.{◌≡◌, ◌+◌, true, [], ◌∷◌, ◌++◌, IfOk, OnOk};
 ghost use Rattle.c_tree.specs.RawTrees.{RawIf, RawIfElse};
 ghost use Rattle.c_tree.specs.RawViews.{raw_expr_tree, raw_stmt_tree};
 ghost use Rattle.hoist_parts.specs.NewNames.{used, declared, declared_as, set_to};
 ghost use Rattle.hoist_parts.specs.Expressions.{in_block, is_true};
 ghost use Rattle.hoist_parts.specs.Chains.{chain_tree, condition_by};
-ghost use Rattle.hoist_rules.specs.Receivers.{listed, so_far, then_all};
+ghost use Rattle.hoist_rules.specs.Receivers.{listed, so_far, is_gathered, then_all};
 
 use crate::built::boxed_pair;
 use crate::hoisting::Hoisting;
@@ -55,12 +55,13 @@ impl Hoisting {
         number: u32,
         value: RawExpr,
     ) -> Result<RawStmt, AllocError>
+        requires { is_gathered (so_far self.old.statements) ≡ true }
         ensures block { IfOk result (λ s. raw_stmt_tree s ≡ in_block (listed (so_far self.old.statements) ++ set_to number (raw_expr_tree value) ∷ [])) }
         ensures outer { OnOk result (self.new.statements ≡ outer) }
         ensures next { OnOk result (self.new.next ≡ self.old.next) }
     {
         match self.set(number, value) {
-            Ok(()) => Ok(RawStmt::Block(self.leave(outer)?)),
+            Ok(()) => Ok(RawStmt::Block(self.leave(outer))),
             Err(error) => {
                 drop(outer);
                 Err(error)
@@ -98,8 +99,10 @@ impl Hoisting {
         number: u32,
         value: RawExpr,
     ) -> Result<Chain, AllocError>
+        requires { is_gathered (so_far self.old.statements) ≡ true }
         ensures left { IfOk result (λ c. chain_tree c ≡ used number) }
-        ensures before { OnOk result (so_far self.new.statements ≡ then_all (so_far outer) (RawIf (condition_by operator number) (in_block (listed (so_far self.old.statements) ++ set_to number (is_true (raw_expr_tree value)) ∷ [])) ∷ [])) }
+        ensures before { OnOk result (so_far self.new.statements ≡ then_all (so_far outer)
+            (RawIf (condition_by operator number) (in_block (listed (so_far self.old.statements) ++ set_to number (is_true (raw_expr_tree value)) ∷ [])) ∷ [])) }
         ensures next { OnOk result (self.new.next ≡ self.old.next) }
     {
         let alloc = self.alloc;

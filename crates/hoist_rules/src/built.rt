@@ -16,7 +16,7 @@ pub(crate) fn copied(alloc: Global, name: &Name) -> Result<Name, AllocError>
     })
 }
 
-/// Returns a copy of a name with the value before it.
+/// Returns a copy of a name, and the value that is held.
 pub(crate) fn named<T: Drop>(alloc: Global, name: &Name, held: T) -> Result<(Name, T), AllocError>
     ensures name { IfOk result (λ pair. name_tree pair.0 ≡ name_tree name.now) }
     ensures held { IfOk result (λ pair. pair.1 ≡ held) }
@@ -25,7 +25,7 @@ pub(crate) fn named<T: Drop>(alloc: Global, name: &Name, held: T) -> Result<(Nam
     Ok((name, held))
 }
 
-/// Returns both values, if the next one could be allocated.
+/// Returns both values, or the error if the next one couldn't be allocated.
 pub(crate) fn both<T: Drop, U>(held: T, next: Result<U, AllocError>) -> Result<(T, U), AllocError>
     ensures held { IfOk result (λ pair. pair.0 ≡ held) }
     ensures next { IfOk result (λ pair. next ≡ Ok pair.1) }
@@ -36,7 +36,7 @@ pub(crate) fn both<T: Drop, U>(held: T, next: Result<U, AllocError>) -> Result<(
     }
 }
 
-/// Returns the list with one more element, if it could be allocated.
+/// Returns the list with one more element, or the error if the element couldn't be allocated.
 pub(crate) fn with_next<T: Drop>(
     mut list: Vec<T>,
     next: Result<T, AllocError>,

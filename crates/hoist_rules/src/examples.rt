@@ -2,7 +2,8 @@
 // refused.
 ghost use Rattle.std.specs.Prelude.{◌≡◌, [], ◌∷◌};
 ghost use Rattle.c_tree.specs.declared.operators.BinaryOperator.{BinaryOperator};
-ghost use Rattle.c_tree.specs.RawTrees.{RawName, RawNumber, RawElement, RawParenthesized, RawBinary, RawLogicalAnd, RawLogicalOr, RawConditional, RawTableCall, RawSetElement, RawTableCalling, RawDo, RawBlock, RawIf, RawIfElse, RawWhile, RawBreak, RawContinue};
+ghost use Rattle.c_tree.specs.RawTrees.{RawName, RawNumber, RawParenthesized, RawBinary, RawLogicalAnd, RawLogicalOr, RawConditional, RawTableCall};
+ghost use Rattle.c_tree.specs.RawTrees.{RawSetElement, RawTableCalling, RawDo, RawIf, RawIfElse, RawWhile, RawBreak, RawContinue};
 ghost use Rattle.hoist_parts.specs.NewNames.{used, declared, declared_as, set_to};
 ghost use Rattle.hoist_parts.specs.Expressions.{is_true, is_false, in_block};
 ghost use Rattle.hoist_parts.specs.Statements.{hoisted};
@@ -12,7 +13,8 @@ ghost use Rattle.hoist_rules.specs.HoistExamples.{x, y, i, a, f, g, h, t, put, s
 /// = f(1); int 1 = f(2); return 0 + 1;`.
 pub fn calls_go_before()
     ensures in_argument { hoisted 0 (calls put (plus (call f []) one ∷ [])) ≡ declared_as 0 (call f []) ∷ calls put (plus (used 0) one ∷ []) ∷ [] }
-    ensures in_return { hoisted 0 (returns (plus (call f (one ∷ [])) (call f (two ∷ [])))) ≡ declared_as 0 (call f (one ∷ [])) ∷ declared_as 1 (call f (two ∷ [])) ∷ returns (plus (used 0) (used 1)) ∷ [] }
+    ensures in_return { hoisted 0 (returns (plus (call f (one ∷ [])) (call f (two ∷ [])))) ≡
+        declared_as 0 (call f (one ∷ [])) ∷ declared_as 1 (call f (two ∷ [])) ∷ returns (plus (used 0) (used 1)) ∷ [] }
 {}
 
 /// Example: whole calls stay the same, in `x = f(y);`, `f(x);` and `return f(x);`.
@@ -28,14 +30,16 @@ pub fn whole_calls_stay()
 pub fn left_parts_have_names()
     ensures name { hoisted 0 (sets x (plus (RawName g) (call f []))) ≡ declared_as 0 (RawName g) ∷ declared_as 1 (call f []) ∷ sets x (plus (used 0) (used 1)) ∷ [] }
     ensures number { hoisted 0 (sets x (plus one (call f []))) ≡ declared_as 0 (call f []) ∷ sets x (plus one (used 0)) ∷ [] }
-    ensures parentheses { hoisted 0 (sets x (plus (RawParenthesized (call f [])) (call g []))) ≡ declared_as 0 (call f []) ∷ declared_as 1 (RawParenthesized (used 0)) ∷ declared_as 2 (call g []) ∷ sets x (plus (used 1) (used 2)) ∷ [] }
+    ensures parentheses { hoisted 0 (sets x (plus (RawParenthesized (call f [])) (call g []))) ≡
+        declared_as 0 (call f []) ∷ declared_as 1 (RawParenthesized (used 0)) ∷ declared_as 2 (call g []) ∷ sets x (plus (used 1) (used 2)) ∷ [] }
     ensures right { hoisted 0 (sets x (plus (call f []) (RawName g))) ≡ declared_as 0 (call f []) ∷ sets x (plus (used 0) (RawName g)) ∷ [] }
 {}
 
 /// Example: the statement `f(g(1), x, h(2));` becomes `int 0 = g(1); int 1 = x; int 2 = h(2); f(0, 1, 2);`, and `x =
 /// f(g(y));` becomes `int 0 = g(y); x = f(0);`.
 pub fn arguments_go_before()
-    ensures several { hoisted 0 (calls f (call g (one ∷ []) ∷ RawName x ∷ call h (two ∷ []) ∷ [])) ≡ declared_as 0 (call g (one ∷ [])) ∷ declared_as 1 (RawName x) ∷ declared_as 2 (call h (two ∷ [])) ∷ calls f (used 0 ∷ used 1 ∷ used 2 ∷ []) ∷ [] }
+    ensures several { hoisted 0 (calls f (call g (one ∷ []) ∷ RawName x ∷ call h (two ∷ []) ∷ [])) ≡
+        declared_as 0 (call g (one ∷ [])) ∷ declared_as 1 (RawName x) ∷ declared_as 2 (call h (two ∷ [])) ∷ calls f (used 0 ∷ used 1 ∷ used 2 ∷ []) ∷ [] }
     ensures nested { hoisted 0 (sets x (call f (call g (RawName y ∷ []) ∷ []))) ≡ declared_as 0 (call g (RawName y ∷ [])) ∷ sets x (call f (used 0 ∷ [])) ∷ [] }
 {}
 
@@ -49,14 +53,17 @@ pub fn spawned_function_stays()
 /// Example: the statement `t[i](f(1));` becomes `int 0 = i; int 1 = f(1); t[0](1);`, and `x = t[f()](i) + 1;` becomes
 /// `int 0 = f(); int 1 = t[0](i); x = 1 + 1;`, where the first 1 is the name.
 pub fn tables_go_before()
-    ensures statement { hoisted 0 (RawDo (RawTableCalling t (RawName i) (call f (one ∷ [])))) ≡ declared_as 0 (RawName i) ∷ declared_as 1 (call f (one ∷ [])) ∷ RawDo (RawTableCalling t (used 0) (used 1)) ∷ [] }
-    ensures inside { hoisted 0 (sets x (plus (RawTableCall t (call f []) (RawName i)) one)) ≡ declared_as 0 (call f []) ∷ declared_as 1 (RawTableCall t (used 0) (RawName i)) ∷ sets x (plus (used 1) one) ∷ [] }
+    ensures statement { hoisted 0 (RawDo (RawTableCalling t (RawName i) (call f (one ∷ [])))) ≡
+        declared_as 0 (RawName i) ∷ declared_as 1 (call f (one ∷ [])) ∷ RawDo (RawTableCalling t (used 0) (used 1)) ∷ [] }
+    ensures inside { hoisted 0 (sets x (plus (RawTableCall t (call f []) (RawName i)) one)) ≡
+        declared_as 0 (call f []) ∷ declared_as 1 (RawTableCall t (used 0) (RawName i)) ∷ sets x (plus (used 1) one) ∷ [] }
 {}
 
 /// Example: the statement `a[i] = f() + 2;` becomes `int 0 = i; int 1 = f(); a[0] = 1 + 2;` with the name 1, `a[f()] =
 /// g();` becomes `int 0 = f(); a[0] = g();`, and `a[i] = f();` stays the same.
 pub fn indexes_go_before()
-    ensures index { hoisted 0 (RawDo (RawSetElement a (RawName i) (plus (call f []) two))) ≡ declared_as 0 (RawName i) ∷ declared_as 1 (call f []) ∷ RawDo (RawSetElement a (used 0) (plus (used 1) two)) ∷ [] }
+    ensures index { hoisted 0 (RawDo (RawSetElement a (RawName i) (plus (call f []) two))) ≡
+        declared_as 0 (RawName i) ∷ declared_as 1 (call f []) ∷ RawDo (RawSetElement a (used 0) (plus (used 1) two)) ∷ [] }
     ensures call { hoisted 0 (RawDo (RawSetElement a (call f []) (call g []))) ≡ declared_as 0 (call f []) ∷ RawDo (RawSetElement a (used 0) (call g [])) ∷ [] }
     ensures whole { hoisted 0 (RawDo (RawSetElement a (RawName i) (call f []))) ≡ RawDo (RawSetElement a (RawName i) (call f [])) ∷ [] }
 {}
@@ -76,7 +83,8 @@ pub fn logical_operators_decide()
 /// g(2); 0 = 2 + 1; } y = 0;` with the names 0, 1 and 2, and `x ? y : i` stays the same.
 pub fn conditionals_choose()
     ensures both { hoisted 0 (sets y (RawConditional (RawName x) (call f (one ∷ [])) (plus (call g (two ∷ [])) one))) ≡
-        declared 0 ∷ RawIfElse (RawName x) (in_block (declared_as 1 (call f (one ∷ [])) ∷ set_to 0 (used 1) ∷ [])) (in_block (declared_as 2 (call g (two ∷ [])) ∷ set_to 0 (plus (used 2) one) ∷ [])) ∷ sets y (used 0) ∷ [] }
+        declared 0 ∷ RawIfElse (RawName x) (in_block (declared_as 1 (call f (one ∷ [])) ∷ set_to 0 (used 1) ∷ []))
+        (in_block (declared_as 2 (call g (two ∷ [])) ∷ set_to 0 (plus (used 2) one) ∷ [])) ∷ sets y (used 0) ∷ [] }
     ensures condition { hoisted 0 (sets y (RawConditional (call f []) (RawName x) (RawName i))) ≡ declared_as 0 (call f []) ∷ sets y (RawConditional (used 0) (RawName x) (RawName i)) ∷ [] }
 {}
 
@@ -84,7 +92,8 @@ pub fn conditionals_choose()
 /// x)) break; { if (x) continue; put(x); } }` with the name 0.
 pub fn loops_test_calls()
     ensures { hoisted 0 (RawWhile (RawBinary BinaryOperator.NotEqual (call f []) (RawName x)) (in_block (RawIf (RawName x) (RawContinue 9) ∷ calls put (RawName x ∷ []) ∷ []))) ≡
-        RawWhile one (in_block (declared_as 0 (call f []) ∷ RawIf (is_false (RawBinary BinaryOperator.NotEqual (used 0) (RawName x))) (RawBreak 0) ∷ in_block (RawIf (RawName x) (RawContinue 9) ∷ calls put (RawName x ∷ []) ∷ []) ∷ [])) ∷ [] }
+        RawWhile one (in_block (declared_as 0 (call f []) ∷ RawIf (is_false (RawBinary BinaryOperator.NotEqual (used 0) (RawName x))) (RawBreak 0)
+        ∷ in_block (RawIf (RawName x) (RawContinue 9) ∷ calls put (RawName x ∷ []) ∷ []) ∷ [])) ∷ [] }
 {}
 
 /// Example: a body that isn't a block becomes one if necessary: `if (x) put(f()); else return y;` becomes `if (x) { int

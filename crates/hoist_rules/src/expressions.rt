@@ -2,10 +2,11 @@
 ghost use Rattle.std.specs.Prelude.{◌≡◌, ◌+◌, false, [], ◌∷◌, ◌++◌, IfOk, OnOk};
 ghost use Rattle.c_tree.specs.RawViews.{name_tree, raw_expr_tree, raw_expr_trees, raw_stmt_tree};
 ghost use Rattle.hoist_parts.specs.NewNames.{set_to};
-ghost use Rattle.hoist_parts.specs.Calls.{is_named, is_spawn, holds_call};
+ghost use Rattle.hoist_parts.specs.Calls.{is_spawn, holds_call};
 ghost use Rattle.hoist_parts.specs.Chains.{chain_tree, operand_trees, operand_left, operand_before, operand_after, operands_left, operands_before, operands_after};
 ghost use Rattle.hoist_parts.specs.Arguments.{passed_left, passed_before, passed_after};
 ghost use Rattle.hoist_parts.specs.Expressions.{one_if, names_in, arguments_names, in_block, part_after, part_or, part_named, left_of, arguments_left, call_left, before, arguments_before};
+ghost use Rattle.hoist_rules.specs.EarlierParts.{part_left, part_before};
 ghost use Rattle.hoist_rules.specs.Receivers.{so_far, then_all};
 
 use crate::built::{call_of, choice, copied, element, parenthesized, table_call_of};
@@ -168,8 +169,8 @@ impl Hoisting {
         Ok(left)
     }
 
-    // One operator and its right operand, after a left one that keeps its place or not. If the right operand of `&&` or
-    // `||` contains a call, it is evaluated in a branch.
+    // One operator and its right operand. If `is_alone`, the left operand needs no name. If the right operand of `&&`
+    // or `||` contains a call, it is evaluated in a branch.
     #[cycle(hoist)]
     fn operand(
         &mut self,
@@ -235,8 +236,8 @@ impl Hoisting {
     /// Rewrites a part before others; it gets a name if one of them contains a call.
     #[cycle(hoist)]
     pub(crate) fn part(&mut self, is_later_call: bool, raw: &RawExpr) -> Result<RawExpr, AllocError>
-        ensures left { IfOk result (λ e. raw_expr_tree e ≡ part_or (is_named is_later_call (raw_expr_tree raw.now)) (self.old.next + names_in (raw_expr_tree raw.now)) (left_of self.old.next (raw_expr_tree raw.now))) }
-        ensures before { OnOk result (so_far self.new.statements ≡ then_all (so_far self.old.statements) (before self.old.next (raw_expr_tree raw.now) ++ part_named (is_named is_later_call (raw_expr_tree raw.now)) (self.old.next + names_in (raw_expr_tree raw.now)) (left_of self.old.next (raw_expr_tree raw.now)))) }
+        ensures left { IfOk result (λ e. raw_expr_tree e ≡ part_left is_later_call self.old.next (raw_expr_tree raw.now)) }
+        ensures before { OnOk result (so_far self.new.statements ≡ then_all (so_far self.old.statements) (part_before is_later_call self.old.next (raw_expr_tree raw.now))) }
         ensures next { OnOk result (self.new.next ≡ part_after self.old.next is_later_call (raw_expr_tree raw.now)) }
     {
         let part = self.expression(raw)?;
@@ -294,7 +295,8 @@ impl Hoisting {
     /// Rewrites a call: appends the statements before its arguments, and returns the call itself.
     pub(crate) fn call(&mut self, name: &Name, arguments: &[RawExpr]) -> Result<RawExpr, AllocError>
         ensures left { IfOk result (λ e. raw_expr_tree e ≡ call_left self.old.next (name_tree name.now) (raw_expr_trees arguments.now)) }
-        ensures before { OnOk result (so_far self.new.statements ≡ then_all (so_far self.old.statements) (arguments_before (is_spawn (name_tree name.now)) self.old.next (raw_expr_trees arguments.now))) }
+        ensures before { OnOk result (so_far self.new.statements ≡ then_all (so_far self.old.statements)
+            (arguments_before (is_spawn (name_tree name.now)) self.old.next (raw_expr_trees arguments.now))) }
         ensures next { OnOk result (self.new.next ≡ self.old.next + arguments_names (is_spawn (name_tree name.now)) (raw_expr_trees arguments.now)) }
     {
         let alloc = self.alloc;

@@ -10,13 +10,14 @@ use crate::receivers::{Receiver, Statements};
 use c_tree::RawStmt;
 use std::alloc::{AllocError, Global};
 
-/// Passes the statements that replace the body of a function to the receiver, one after another, and returns it. Every
-/// call in them is whole: each call of the body that isn't goes before its statement, as the declaration of a name that
-/// no source has, and so does what is evaluated before it. The new names are numbered from 0.
+/// Passes the statements that replace the body of a function to the receiver, one after another, and returns the
+/// receiver. Every call in these statements is whole: each call of the body that isn't whole goes before its statement,
+/// as the declaration of a name that no source contains, and so does everything that is evaluated before the call. The
+/// new names are numbered from 0.
 ///
 /// # Errors
 ///
-/// Memory ran out.
+/// Returns `AllocError` if an allocation fails, or if the body needs more than 2^32 - 1 new names.
 pub fn hoist_body(
     alloc: Global,
     body: &[RawStmt],
@@ -31,5 +32,5 @@ pub fn hoist_body(
         statements: Statements::Passed(receiver),
     };
     hoisting.statements(body)?;
-    hoisting.statements.receiver()
+    Ok(hoisting.statements.receiver())
 }

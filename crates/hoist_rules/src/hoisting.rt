@@ -1,8 +1,8 @@
-// The state of the rewriting of a function.
-ghost use Rattle.std.specs.Prelude.{◌≡◌, ◌+◌, ◌∷◌, [], map, IfOk, OnOk};
+// The state while a function is rewritten.
+ghost use Rattle.std.specs.Prelude.{◌≡◌, ◌+◌, true, ◌∷◌, [], map, IfOk, OnOk};
 ghost use Rattle.c_tree.specs.RawViews.{raw_expr_tree, raw_stmt_tree};
 ghost use Rattle.hoist_parts.specs.NewNames.{used, declared, declared_as, set_to};
-ghost use Rattle.hoist_rules.specs.Receivers.{Gathered, so_far, then_all};
+ghost use Rattle.hoist_rules.specs.Receivers.{Gathered, so_far, is_gathered, then_all};
 
 use crate::receivers::Statements;
 use c_tree::{RawExpr, RawSimple, RawStmt};
@@ -19,7 +19,7 @@ pub(crate) struct Hoisting {
 }
 
 impl Hoisting {
-    /// Returns the number of the next new name. There are always fewer than 2^32.
+    /// Returns the number of the next new name, or an `AllocError` after 2^32 - 1 names.
     pub(crate) fn number(&mut self) -> Result<u32, AllocError>
         ensures number { IfOk result (λ k. k ≡ self.old.next) }
         ensures next { OnOk result (self.new.next ≡ self.old.next + 1) }
@@ -101,9 +101,10 @@ impl Hoisting {
         mem::replace(&mut self.statements, inner)
     }
 
-    /// Ends a block, and returns its statements; the statements before it are continued.
-    pub(crate) fn leave(&mut self, outer: Statements) -> Result<Vec<RawStmt>, AllocError>
-        ensures result { IfOk result (λ ss. so_far self.old.statements ≡ Gathered (map raw_stmt_tree ss.items)) }
+    /// Ends a block, and returns its statements. The statements so far are those of `outer` again.
+    pub(crate) fn leave(&mut self, outer: Statements) -> Vec<RawStmt>
+        requires { is_gathered (so_far self.old.statements) ≡ true }
+        ensures result { so_far self.old.statements ≡ Gathered (map raw_stmt_tree result.items) }
         ensures statements { self.new.statements ≡ outer }
         ensures next { self.new.next ≡ self.old.next }
         ensures alloc { self.new.alloc ≡ self.old.alloc }

@@ -1,7 +1,7 @@
-// Where the statements of a function go: into a list, or to the receiver of those of the outermost block.
-ghost use Rattle.std.specs.Prelude.{◌≡◌, [], ◌∷◌, map, IfOk};
+// Where statements go: those of the outermost block to a receiver, and those of an inner block into a list.
+ghost use Rattle.std.specs.Prelude.{◌≡◌, true, false, [], ◌∷◌, map, IfOk};
 ghost use Rattle.c_tree.specs.RawViews.{raw_stmt_tree};
-ghost use Rattle.hoist_rules.specs.Receivers.{Gathered, Passed, received, then_received, so_far, then_all};
+ghost use Rattle.hoist_rules.specs.Receivers.{Gathered, Passed, received, then_received, so_far, is_gathered, then_all};
 
 use c_tree::RawStmt;
 use call_places::add_places_of_calls_in;
@@ -31,7 +31,7 @@ impl Receiver {
     }
 }
 
-/// The statements of a block so far: a list of them, or the receiver of those of the outermost block.
+/// The statements of a block so far: a list of those of an inner block, or the receiver of those of the outermost one.
 #[derive(Drop)]
 pub(crate) enum Statements {
     Gathered(Vec<RawStmt>),
@@ -39,7 +39,7 @@ pub(crate) enum Statements {
 }
 
 impl Statements {
-    /// Returns no statements, of an inner block.
+    /// Returns the statements of an inner block that has none yet.
     pub(crate) fn new(alloc: Global) -> Statements
         ensures { so_far result ≡ Gathered [] }
     {
@@ -60,27 +60,28 @@ impl Statements {
     }
 
     /// Returns the statements of an inner block, without spare capacity: a list that grows by doubling has room for at
-    /// least four, and a branch has two. Those of the outermost block are an `AllocError`: they were passed on.
-    pub(crate) fn gathered(self) -> Result<Vec<RawStmt>, AllocError>
-        ensures { IfOk result (λ ss. so_far self ≡ Gathered (map raw_stmt_tree ss.items)) }
+    /// least four, and a branch has two.
+    pub(crate) fn gathered(self) -> Vec<RawStmt>
+        requires { is_gathered (so_far self) ≡ true }
+        ensures { so_far self ≡ Gathered (map raw_stmt_tree result.items) }
     {
         match self {
             Statements::Gathered(mut statements) => {
                 statements.shrink_to_fit();
-                Ok(statements)
+                statements
             }
-            Statements::Passed(_) => Err(AllocError),
+            Statements::Passed(_) => unreachable!(),
         }
     }
 
-    /// Returns the receiver of the statements of the outermost block. Those of an inner block are an `AllocError`: they
-    /// have none.
-    pub(crate) fn receiver(self) -> Result<Receiver, AllocError>
-        ensures { IfOk result (λ r. so_far self ≡ Passed (received r)) }
+    /// Returns the receiver of the statements of the outermost block.
+    pub(crate) fn receiver(self) -> Receiver
+        requires { is_gathered (so_far self) ≡ false }
+        ensures { so_far self ≡ Passed (received result) }
     {
         match self {
-            Statements::Gathered(_) => Err(AllocError),
-            Statements::Passed(receiver) => Ok(receiver),
+            Statements::Gathered(_) => unreachable!(),
+            Statements::Passed(receiver) => receiver,
         }
     }
 }

@@ -1,10 +1,11 @@
 // The rewriting of declarations, assignments, calls and returned values.
-ghost use Rattle.std.specs.Prelude.{◌≡◌, ◌+◌, ◌++◌, map, option_map, IfOk, OnOk};
+ghost use Rattle.std.specs.Prelude.{◌≡◌, ◌+◌, option_map, IfOk, OnOk};
 ghost use Rattle.c_tree.specs.RawTrees.{RawReturn};
 ghost use Rattle.c_tree.specs.RawViews.{raw_expr_tree, raw_simple_tree, raw_stmt_tree};
-ghost use Rattle.hoist_parts.specs.Calls.{holds_call, holds_nested, is_named};
-ghost use Rattle.hoist_parts.specs.Expressions.{names_in, part_after, part_or, part_named, left_of, before, index_left, argument_left};
+ghost use Rattle.hoist_parts.specs.Calls.{holds_call, holds_nested};
+ghost use Rattle.hoist_parts.specs.Expressions.{names_in, part_after, index_left, argument_left};
 ghost use Rattle.hoist_parts.specs.Statements.{returned_names, returned_before, returned_left, value_names, value_left, value_before, table_before, simple_names, simple_left, simple_before};
+ghost use Rattle.hoist_rules.specs.EarlierParts.{part_left, element_before};
 ghost use Rattle.hoist_rules.specs.Receivers.{so_far, then_all};
 
 use crate::built::{both, copied, table_call_of, table_calling};
@@ -48,9 +49,9 @@ impl Hoisting {
         index: &RawExpr,
         value: &RawExpr,
     ) -> Result<(Box<RawExpr>, RawExpr), AllocError>
-        ensures index { IfOk result (λ p. raw_expr_tree p.0.value ≡ part_or (is_named (holds_nested (raw_expr_tree value.now)) (raw_expr_tree index.now)) (self.old.next + names_in (raw_expr_tree index.now)) (left_of self.old.next (raw_expr_tree index.now))) }
+        ensures index { IfOk result (λ p. raw_expr_tree p.0.value ≡ part_left (holds_nested (raw_expr_tree value.now)) self.old.next (raw_expr_tree index.now)) }
         ensures value { IfOk result (λ p. raw_expr_tree p.1 ≡ value_left (part_after self.old.next (holds_nested (raw_expr_tree value.now)) (raw_expr_tree index.now)) (raw_expr_tree value.now)) }
-        ensures before { OnOk result (so_far self.new.statements ≡ then_all (so_far self.old.statements) ((before self.old.next (raw_expr_tree index.now) ++ part_named (is_named (holds_nested (raw_expr_tree value.now)) (raw_expr_tree index.now)) (self.old.next + names_in (raw_expr_tree index.now)) (left_of self.old.next (raw_expr_tree index.now)) ++ value_before (part_after self.old.next (holds_nested (raw_expr_tree value.now)) (raw_expr_tree index.now)) (raw_expr_tree value.now)))) }
+        ensures before { OnOk result (so_far self.new.statements ≡ then_all (so_far self.old.statements) (element_before self.old.next (raw_expr_tree index.now) (raw_expr_tree value.now))) }
         ensures next { OnOk result (self.new.next ≡ part_after self.old.next (holds_nested (raw_expr_tree value.now)) (raw_expr_tree index.now) + value_names (raw_expr_tree value.now)) }
     {
         let index = self.part(holds_nested(value), index)?;
@@ -90,31 +91,23 @@ impl Hoisting {
             }),
             RawSimple::DeclareWith { name, value } => {
                 let name = copied(alloc, name)?;
-                match both(name, self.value(value)) {
-                    Ok((name, value)) => Ok(RawSimple::DeclareWith { name, value }),
-                    Err(error) => Err(error),
-                }
+                let (name, value) = both(name, self.value(value))?;
+                Ok(RawSimple::DeclareWith { name, value })
             }
             RawSimple::Set { name, value } => {
                 let name = copied(alloc, name)?;
-                match both(name, self.value(value)) {
-                    Ok((name, value)) => Ok(RawSimple::Set { name, value }),
-                    Err(error) => Err(error),
-                }
+                let (name, value) = both(name, self.value(value))?;
+                Ok(RawSimple::Set { name, value })
             }
             RawSimple::SetElement { name, index, value } => {
                 let name = copied(alloc, name)?;
-                match both(name, self.index_and_value(index, value)) {
-                    Ok((name, (index, value))) => Ok(RawSimple::SetElement { name, index, value }),
-                    Err(error) => Err(error),
-                }
+                let (name, (index, value)) = both(name, self.index_and_value(index, value))?;
+                Ok(RawSimple::SetElement { name, index, value })
             }
             RawSimple::Call { name, arguments } => {
                 let called = copied(alloc, name)?;
-                match both(called, self.arguments(is_spawn(name), arguments)) {
-                    Ok((name, arguments)) => Ok(RawSimple::Call { name, arguments }),
-                    Err(error) => Err(error),
-                }
+                let (name, arguments) = both(called, self.arguments(is_spawn(name), arguments))?;
+                Ok(RawSimple::Call { name, arguments })
             }
             RawSimple::TableCall {
                 name,

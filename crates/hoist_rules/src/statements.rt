@@ -94,7 +94,7 @@ impl Hoisting {
         }
     }
 
-    /// Appends the statements that replace some, one after another.
+    /// Appends the statements that replace each statement of a list, in order.
     #[cycle(statements)]
     pub(crate) fn statements(&mut self, raw: &[RawStmt]) -> Result<(), AllocError>
         requires { AreForsWhole (raw_stmt_trees raw.now) }
@@ -107,7 +107,7 @@ impl Hoisting {
         Ok(())
     }
 
-    // The statements of a block.
+    // The statements that replace those of a block.
     #[cycle(statements)]
     fn block(&mut self, raw: &[RawStmt]) -> Result<Vec<RawStmt>, AllocError>
         requires { AreForsWhole (raw_stmt_trees raw.now) }
@@ -117,7 +117,7 @@ impl Hoisting {
     {
         let outer = self.enter();
         match self.statements(raw) {
-            Ok(()) => self.leave(outer),
+            Ok(()) => Ok(self.leave(outer)),
             Err(error) => {
                 drop(outer);
                 Err(error)
@@ -148,7 +148,8 @@ impl Hoisting {
     fn while_loop(&mut self, body: &RawStmt, condition: &RawExpr) -> Result<(), AllocError>
         requires calling { holds_call (raw_expr_tree condition.now) ≡ false }
         requires parts { IsForWhole (raw_stmt_tree body.now) }
-        ensures statements { OnOk result (so_far self.new.statements ≡ then_all (so_far self.old.statements) (hoisted self.old.next (RawWhile (raw_expr_tree condition.now) (raw_stmt_tree body.now)))) }
+        ensures statements { OnOk result (so_far self.new.statements ≡ then_all (so_far self.old.statements)
+            (hoisted self.old.next (RawWhile (raw_expr_tree condition.now) (raw_stmt_tree body.now)))) }
         ensures next { OnOk result (self.new.next ≡ self.old.next + stmt_names (RawWhile (raw_expr_tree condition.now) (raw_stmt_tree body.now))) }
     {
         let condition = self.kept(condition)?;
@@ -161,12 +162,13 @@ impl Hoisting {
         }
     }
 
-    // A `while` whose condition contains a call, which is made in each turn.
+    // A `while` whose condition contains a call, which is evaluated in each iteration.
     #[cycle(statements)]
     fn while_calling(&mut self, body: &RawStmt, condition: &RawExpr) -> Result<(), AllocError>
         requires calling { holds_call (raw_expr_tree condition.now) ≡ true }
         requires parts { IsForWhole (raw_stmt_tree body.now) }
-        ensures statements { OnOk result (so_far self.new.statements ≡ then_all (so_far self.old.statements) (hoisted self.old.next (RawWhile (raw_expr_tree condition.now) (raw_stmt_tree body.now)))) }
+        ensures statements { OnOk result (so_far self.new.statements ≡ then_all (so_far self.old.statements)
+            (hoisted self.old.next (RawWhile (raw_expr_tree condition.now) (raw_stmt_tree body.now)))) }
         ensures next { OnOk result (self.new.next ≡ self.old.next + stmt_names (RawWhile (raw_expr_tree condition.now) (raw_stmt_tree body.now))) }
     {
         let outer = self.enter();
@@ -179,11 +181,12 @@ impl Hoisting {
         }
     }
 
-    // A turn of it: `P(c) if (!c) break; S`.
+    // One iteration of that loop: `P(c) if (!c) break; S`.
     #[cycle(statements)]
     fn turn(&mut self, body: &RawStmt, condition: &RawExpr) -> Result<(), AllocError>
         requires { IsForWhole (raw_stmt_tree body.now) }
-        ensures statements { OnOk result (so_far self.new.statements ≡ then_all (so_far self.old.statements) (turn_of self.old.next (raw_expr_tree condition.now) (as_body (hoisted (self.old.next + names_in (raw_expr_tree condition.now)) (raw_stmt_tree body.now))))) }
+        ensures statements { OnOk result (so_far self.new.statements ≡ then_all (so_far self.old.statements)
+            (turn_of self.old.next (raw_expr_tree condition.now) (as_body (hoisted (self.old.next + names_in (raw_expr_tree condition.now)) (raw_stmt_tree body.now))))) }
         ensures next { OnOk result (self.new.next ≡ self.old.next + names_in (raw_expr_tree condition.now) + stmt_names (raw_stmt_tree body.now)) }
     {
         let alloc = self.alloc;

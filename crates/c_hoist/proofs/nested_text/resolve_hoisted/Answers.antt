@@ -21,7 +21,8 @@ pub finish-requires : goal.finish-requires
 finish-requires c =
     let t = raw_program_tree c.args.raw in
     let whole = items_hoisted_whole t c.requires in
-    let ns = c.deref-2.ensures.value ∙ (c.in-Ok-numbers_by_places.ensures.numbers ∙ (ap ranks (c.deref.ensures.value ∙ c.in-Ok.ensures.places) ∙ ap (λ x. ranks (items_places is_call (items_hoisted x))) c.into_items.ensures)) in
+    let places = c.deref.ensures.value ∙ c.in-Ok.ensures.places ∙ ap (λ x. items_places is_call (items_hoisted x)) c.into_items.ensures in
+    let ns = c.deref-2.ensures.value ∙ c.in-Ok-numbers_by_places.ensures.numbers ∙ ap ranks places in
     record {
       source = items_hoisted t;
       read = subst (λ x. HasRead c.in-Ok.read.resolver (items_hoisted x) (items_hoisted x)) c.into_items.ensures c.in-Ok.ensures.read;
@@ -34,7 +35,8 @@ finish-requires c =
 pub returns-in-Ok-finish-clause-resolved : goal.returns-in-Ok-finish-clause-resolved
 returns-in-Ok-finish-clause-resolved c =
     let t = raw_program_tree c.args.raw in
-    let ns = c.deref-2.ensures.value ∙ (c.in-Ok-numbers_by_places.ensures.numbers ∙ (ap ranks (c.deref.ensures.value ∙ c.in-Ok.ensures.places) ∙ ap (λ x. ranks (items_places is_call (items_hoisted x))) c.into_items.ensures)) in
+    let places = c.deref.ensures.value ∙ c.in-Ok.ensures.places ∙ ap (λ x. items_places is_call (items_hoisted x)) c.into_items.ensures in
+    let ns = c.deref-2.ensures.value ∙ c.in-Ok-numbers_by_places.ensures.numbers ∙ ap ranks places in
     let read = subst (λ x. HasRead c.in-Ok.read.resolver (items_hoisted x) (items_hoisted x)) c.into_items.ensures c.in-Ok.ensures.read in
     subst (λ n. IsResolvedBy n (items_hoisted t) (program_tree c.in-Ok-finish.program)) ns (c.in-Ok-finish.ensures.resolved (items_hoisted t) read)
 

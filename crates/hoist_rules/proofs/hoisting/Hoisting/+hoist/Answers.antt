@@ -25,8 +25,11 @@ expression-returns-in_ok-whole-in-Chain-clause-left t c =
     let whole : raw_expr_tree c.args.raw.now ≡ raw_chained (raw_expr_tree first.value) (operand_trees rest.items) =
     ap raw_expr_tree c.in-Chain.is ∙ raw_expr_tree-Chain first rest ∙ ap (raw_chained (raw_expr_tree first.value)) (sym (operand.operands_seen rest.items)) in
     let made = rw (c.of-left.ensures, c.deref-in-Chain-3.ensures.value) at c.in_ok-chain-in-Chain.ensures.left in
-    operand.chain_left c.args.self.now.next c.expression-in-Chain.new.self.next c.is_left_alone.result (raw_expr_tree c.args.raw.now) (raw_expr_tree first.value) l (chain_tree c.in_ok-chain-in-Chain.chain) (raw_expr_tree c.in_ok-whole-in-Chain.field-0) (operand_trees rest.items)
-    whole (rw (← c.deref-in-Chain.ensures) c.in_ok-operand-in-Chain.ensures.left) (rw (← c.deref-in-Chain.ensures) c.in_ok-operand-in-Chain.ensures.next) (rw (← c.deref-in-Chain-2.ensures) c.is_left_alone.ensures) made c.in_ok-whole-in-Chain.ensures
+    operand.chain_left c.args.self.now.next c.expression-in-Chain.new.self.next c.is_left_alone.result (raw_expr_tree c.args.raw.now) (raw_expr_tree first.value) l
+    (chain_tree c.in_ok-chain-in-Chain.chain) (raw_expr_tree c.in_ok-whole-in-Chain.field-0) (operand_trees rest.items)
+    whole (rw (← c.deref-in-Chain.ensures) c.in_ok-operand-in-Chain.ensures.left)
+    (rw (← c.deref-in-Chain.ensures) c.in_ok-operand-in-Chain.ensures.next) (rw (← c.deref-in-Chain-2.ensures) c.is_left_alone.ensures)
+    made c.in_ok-whole-in-Chain.ensures
 
 pub expression-returns-in_ok-whole-in-Chain-clause-before : goal.expression-returns-in_ok-whole-in-Chain-clause-before
 expression-returns-in_ok-whole-in-Chain-clause-before t c =
@@ -38,7 +41,8 @@ expression-returns-in_ok-whole-in-Chain-clause-before t c =
     let made = rw (c.of-left.ensures, c.deref-in-Chain-3.ensures.value) at c.in_ok-chain-in-Chain.ensures.before in
     operand.chain_before c.args.self.now.next c.expression-in-Chain.new.self.next c.is_left_alone.result (raw_expr_tree c.args.raw.now) (raw_expr_tree first.value) l (operand_trees rest.items)
     (so_far c.args.self.now.statements) (so_far c.expression-in-Chain.new.self.statements) (so_far c.operands.new.self.statements)
-    whole (rw (← c.deref-in-Chain.ensures) c.in_ok-operand-in-Chain.ensures.left) (rw (← c.deref-in-Chain.ensures) c.in_ok-operand-in-Chain.ensures.next) (rw (← c.deref-in-Chain-2.ensures) c.is_left_alone.ensures)
+    whole (rw (← c.deref-in-Chain.ensures) c.in_ok-operand-in-Chain.ensures.left)
+    (rw (← c.deref-in-Chain.ensures) c.in_ok-operand-in-Chain.ensures.next) (rw (← c.deref-in-Chain-2.ensures) c.is_left_alone.ensures)
     (rw (← c.deref-in-Chain.ensures) c.in_ok-operand-in-Chain.ensures.before) made
 
 pub expression-returns-in_ok-whole-in-Chain-clause-next : goal.expression-returns-in_ok-whole-in-Chain-clause-next
@@ -47,8 +51,10 @@ expression-returns-in_ok-whole-in-Chain-clause-next t c =
     let rest = c.in-Chain.rest in
     let whole : raw_expr_tree c.args.raw.now ≡ raw_chained (raw_expr_tree first.value) (operand_trees rest.items) =
     ap raw_expr_tree c.in-Chain.is ∙ raw_expr_tree-Chain first rest ∙ ap (raw_chained (raw_expr_tree first.value)) (sym (operand.operands_seen rest.items)) in
-    operand.chain_after c.args.self.now.next c.expression-in-Chain.new.self.next c.operands.new.self.next c.is_left_alone.result (raw_expr_tree c.args.raw.now) (raw_expr_tree first.value) (operand_trees rest.items)
-    whole (rw (← c.deref-in-Chain.ensures) c.in_ok-operand-in-Chain.ensures.next) (rw (← c.deref-in-Chain-2.ensures) c.is_left_alone.ensures) (rw c.deref-in-Chain-3.ensures.value at c.in_ok-chain-in-Chain.ensures.next)
+    operand.chain_after c.args.self.now.next c.expression-in-Chain.new.self.next c.operands.new.self.next c.is_left_alone.result
+    (raw_expr_tree c.args.raw.now) (raw_expr_tree first.value) (operand_trees rest.items)
+    whole (rw (← c.deref-in-Chain.ensures) c.in_ok-operand-in-Chain.ensures.next) (rw (← c.deref-in-Chain-2.ensures) c.is_left_alone.ensures)
+    (rw c.deref-in-Chain-3.ensures.value at c.in_ok-chain-in-Chain.ensures.next)
 
 pub operands-loop-operator-preserved : goal.operands-loop-operator-preserved
 operands-loop-operator-preserved t c =
@@ -61,7 +67,8 @@ operands-loop-operator-preserved t c =
     let made = c.in_ok-left.ensures in
     record {
       left = operand.turn_left at.self.next c.operand.new.self.next at.is_alone (chain_tree at.left) (chain_tree c.in_ok-left.left) _ p rest made.left made.next (rw cut at at.invariant.left);
-      before = operand.turn_before at.self.next c.operand.new.self.next at.is_alone (chain_tree at.left) (chain_tree c.in_ok-left.left) p rest _ _ _ made.before made.left made.next (rw cut at at.invariant.before);
+      before = operand.turn_before at.self.next c.operand.new.self.next at.is_alone (chain_tree at.left) (chain_tree c.in_ok-left.left) p rest _ _ _
+          made.before made.left made.next (rw cut at at.invariant.before);
       next = operand.turn_after at.self.next c.operand.new.self.next at.is_alone p rest _ made.next (rw cut at at.invariant.next);
     }
 
@@ -80,7 +87,8 @@ arguments-loop-argument-preserved t c =
     let made = c.in_ok-left.ensures in
     record {
       left = rw (c.in_ok-push.ensures.items, map_push raw_expr_tree at.arguments.items c.in_ok-left.left)
-          (argument.turn_left at.stays _ at.self.next c.argument.new.self.next (map raw_expr_tree at.arguments.items) (raw_expr_tree c.in_ok-left.left) e es _ later made.left made.next (rw cut at at.invariant.left));
+          (argument.turn_left at.stays _ at.self.next c.argument.new.self.next (map raw_expr_tree at.arguments.items) (raw_expr_tree c.in_ok-left.left) e es _
+          later made.left made.next (rw cut at at.invariant.left));
       before = argument.turn_before at.stays _ at.self.next c.argument.new.self.next e es _ _ _ later made.before made.next (rw cut at at.invariant.before);
       next = argument.turn_after at.stays _ at.self.next c.argument.new.self.next _ e es later made.next (rw cut at at.invariant.next);
       calls = rest;
@@ -106,7 +114,8 @@ kept-returns-clause-next t c = let none = no_names (raw_expr_tree c.args.raw.now
 pub operand-returns-in_ok-with-in-Ok-expression-clause-left : goal.operand-returns-in_ok-with-in-Ok-expression-clause-left
 operand-returns-in_ok-with-in-Ok-expression-clause-left t c =
     joined.plain_left c.args.self.now.next _ c.args.operator _ c.args.is_alone _ (chain_tree c.args.left) (raw_expr_tree c.args.right.now) _ _ _
-    c.holds_call-is_calling.ensures (sym c.is_branching.ensures ∙ c.if-is_branching.false) c.needs_name.ensures c.in_ok-left.ensures.left c.in_ok-left.ensures.next c.in-Ok-expression.ensures.left c.in_ok-with-in-Ok-expression.ensures
+    c.holds_call-is_calling.ensures (sym c.is_branching.ensures ∙ c.if-is_branching.false) c.needs_name.ensures
+    c.in_ok-left.ensures.left c.in_ok-left.ensures.next c.in-Ok-expression.ensures.left c.in_ok-with-in-Ok-expression.ensures
 
 pub operand-returns-in_ok-with-in-Ok-expression-clause-before : goal.operand-returns-in_ok-with-in-Ok-expression-clause-before
 operand-returns-in_ok-with-in-Ok-expression-clause-before t c =
@@ -115,7 +124,8 @@ operand-returns-in_ok-with-in-Ok-expression-clause-before t c =
 
 pub expression-returns-in_ok-name_part-in-Call-clause-before : goal.expression-returns-in_ok-name_part-in-Call-clause-before
 expression-returns-in_ok-name_part-in-Call-clause-before t c =
-    let seen : raw_expr_tree c.args.raw.now ≡ RawCall (name_tree c.in-Call.name) (raw_expr_trees c.in-Call.arguments.items) = ap raw_expr_tree c.in-Call.is ∙ raw_expr_tree-Call c.in-Call.name c.in-Call.arguments in
+    let seen : raw_expr_tree c.args.raw.now ≡ RawCall (name_tree c.in-Call.name) (raw_expr_trees c.in-Call.arguments.items) =
+    ap raw_expr_tree c.in-Call.is ∙ raw_expr_tree-Call c.in-Call.name c.in-Call.arguments in
     let made = c.in_ok-arguments-in-Call.ensures in
     calling.call_pushed c.args.self.now.next _ _ (raw_expr_tree c.args.raw.now) _ (name_tree c.in-Call.name) (raw_expr_trees c.in-Call.arguments.items) _ _ (so_far c.args.self.now.statements) _ _
     seen c.is_spawn.ensures (ap raw_expr_trees c.deref-in-Call.ensures.value) made.left made.before made.next c.in_ok-call-in-Call.ensures c.in_ok-name_part-in-Call.ensures.statements
@@ -124,20 +134,23 @@ pub expression-returns-in_ok-name_part-in-Ok-expression-clause-before : goal.exp
 expression-returns-in_ok-name_part-in-Ok-expression-clause-before t c =
     let i = raw_expr_tree c.in-TableCall.index.value in
     let e = raw_expr_tree c.in-TableCall.argument.value in
-    let seen : raw_expr_tree c.args.raw.now ≡ RawTableCall (name_tree c.in-TableCall.name) i e = ap raw_expr_tree c.in-TableCall.is ∙ raw_expr_tree-TableCall c.in-TableCall.name c.in-TableCall.index c.in-TableCall.argument in
+    let seen : raw_expr_tree c.args.raw.now ≡ RawTableCall (name_tree c.in-TableCall.name) i e =
+    ap raw_expr_tree c.in-TableCall.is ∙ raw_expr_tree-TableCall c.in-TableCall.name c.in-TableCall.index c.in-TableCall.argument in
     let part = c.in_ok-index-in-TableCall.ensures in
     let rest = c.in-Ok-expression.ensures in
     calling.table_pushed c.args.self.now.next _ _ _ (raw_expr_tree c.args.raw.now) _ (name_tree c.in-TableCall.name) i e _ _ _ _ _ (so_far c.args.self.now.statements) _ _ _
-    seen (ap raw_expr_tree c.deref-in-TableCall.ensures) (ap raw_expr_tree c.deref-in-TableCall-3.ensures) (ap raw_expr_tree c.deref-in-TableCall-2.ensures) c.holds_call.ensures part.left part.before part.next rest.left rest.before rest.next c.in_ok-call-in-Ok-expression.ensures
-    c.in_ok-name_part-in-Ok-expression.ensures.statements
+    seen (ap raw_expr_tree c.deref-in-TableCall.ensures) (ap raw_expr_tree c.deref-in-TableCall-3.ensures) (ap raw_expr_tree c.deref-in-TableCall-2.ensures)
+    c.holds_call.ensures part.left part.before part.next rest.left rest.before rest.next c.in_ok-call-in-Ok-expression.ensures c.in_ok-name_part-in-Ok-expression.ensures.statements
 
 pub expression-returns-in_ok-choice-in-Ok-kept-2-clause-next : goal.expression-returns-in_ok-choice-in-Ok-kept-2-clause-next
 expression-returns-in_ok-choice-in-Ok-kept-2-clause-next t c =
     let condition = raw_expr_tree c.in-Conditional.condition.value in
     let first = raw_expr_tree c.in-Conditional.then.value in
     let second = raw_expr_tree c.in-Conditional.otherwise.value in
-    let seen : raw_expr_tree c.args.raw.now ≡ RawConditional condition first second = ap raw_expr_tree c.in-Conditional.is ∙ raw_expr_tree-Conditional c.in-Conditional.condition c.in-Conditional.then c.in-Conditional.otherwise in
-    calling.kept_names c.args.self.now.next _ _ _ _ (raw_expr_tree c.args.raw.now) condition first second _ _ _ seen (ap raw_expr_tree c.deref-in-Conditional-3.ensures) (ap raw_expr_tree c.deref-in-Conditional.ensures) (ap raw_expr_tree c.deref-in-Conditional-2.ensures)
+    let seen : raw_expr_tree c.args.raw.now ≡ RawConditional condition first second =
+    ap raw_expr_tree c.in-Conditional.is ∙ raw_expr_tree-Conditional c.in-Conditional.condition c.in-Conditional.then c.in-Conditional.otherwise in
+    calling.kept_names c.args.self.now.next _ _ _ _ (raw_expr_tree c.args.raw.now) condition first second _ _ _
+    seen (ap raw_expr_tree c.deref-in-Conditional-3.ensures) (ap raw_expr_tree c.deref-in-Conditional.ensures) (ap raw_expr_tree c.deref-in-Conditional-2.ensures)
     c.either_holds_call-is_branched.ensures c.if-is_branched.false c.in_ok-condition-in-Conditional.ensures.next c.in-Ok-kept.ensures.next c.in-Ok-kept-2.ensures.next
 
 pub expression-returns-in-Number-clause-before : goal.expression-returns-in-Number-clause-before
@@ -155,13 +168,15 @@ expression-returns-in_Ok-second-in-Conditional-clause-before t c =
     let condition = raw_expr_tree c.in-Conditional.condition.value in
     let first = raw_expr_tree c.in-Conditional.then.value in
     let second = raw_expr_tree c.in-Conditional.otherwise.value in
-    let seen : raw_expr_tree c.args.raw.now ≡ RawConditional condition first second = ap raw_expr_tree c.in-Conditional.is ∙ raw_expr_tree-Conditional c.in-Conditional.condition c.in-Conditional.then c.in-Conditional.otherwise in
+    let seen : raw_expr_tree c.args.raw.now ≡ RawConditional condition first second =
+    ap raw_expr_tree c.in-Conditional.is ∙ raw_expr_tree-Conditional c.in-Conditional.condition c.in-Conditional.then c.in-Conditional.otherwise in
     let test = c.in_ok-condition-in-Conditional.ensures in
     let one = c.in_Ok-first-in-Conditional.ensures in
     let other = c.in_Ok-second-in-Conditional.ensures in
     on_ok_weaker c.choose.result
-    (λ h. calling.chosen_pushed c.args.self.now.next _ _ _ _ _ (raw_expr_tree c.args.raw.now) condition first second _ _ _ _ _ _ _ _ (so_far c.args.self.now.statements) (so_far c.expression-in-Conditional.new.self.statements)
-    (so_far c.branch-second.new.self.statements) _ seen (ap raw_expr_tree c.deref-in-Conditional-3.ensures)
-    (ap raw_expr_tree c.deref-in-Conditional.ensures) (ap raw_expr_tree c.deref-then-is_branched.ensures) (ap raw_expr_tree c.deref-in-Conditional-2.ensures) (ap raw_expr_tree c.deref-then-is_branched-2.ensures)
+    (λ h. calling.chosen_pushed c.args.self.now.next _ _ _ _ _ (raw_expr_tree c.args.raw.now) condition first second _ _ _ _ _ _ _ _
+    (so_far c.args.self.now.statements) (so_far c.expression-in-Conditional.new.self.statements) (so_far c.branch-second.new.self.statements) _
+    seen (ap raw_expr_tree c.deref-in-Conditional-3.ensures) (ap raw_expr_tree c.deref-in-Conditional.ensures)
+    (ap raw_expr_tree c.deref-then-is_branched.ensures) (ap raw_expr_tree c.deref-in-Conditional-2.ensures) (ap raw_expr_tree c.deref-then-is_branched-2.ensures)
     c.either_holds_call-is_branched.ensures c.if-is_branched.true test.left test.before test.next
     c.in-Ok.ensures.number (ap so_far (other.outer ∙ one.outer) ∙ c.in-Ok.ensures.before) c.in-Ok.ensures.next one.block one.next other.block h) c.choose.ensures.before

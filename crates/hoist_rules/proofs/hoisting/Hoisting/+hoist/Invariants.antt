@@ -7,7 +7,7 @@ use Rattle.hoist_rules.specs.Receivers.{so_far, then_all}
 use Rattle.hoist_rules.proofs.ArgumentTurns.{then_trees}
 use Rattle.hoist_rules.proofs.hoisting.Hoisting.+hoist.Given as goal
 
--- what is left of the operators so far, with what will be of the rest, is what will be of all
+-- what remains of the operators so far, followed by the rest, is what remains of the whole chain
 abbrev pub invariant-operands-loop-operator : goal.invariant-operands-loop-operator
 invariant-operands-loop-operator l = record {
   left : operands_left l.self.next l.is_alone (chain_tree l.left) (operand_trees (drop l.operator-index l.rest))

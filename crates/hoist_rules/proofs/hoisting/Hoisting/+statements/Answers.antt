@@ -23,7 +23,8 @@ statements-loop-stmt-preserved t c =
     let cut : drop i raw ≡ item ∷ drop (i + 1) raw = drop_at raw i item c.loop-stmt-test.true c.stmt-item.is in
     let made = c.in_ok-statement.ensures in
     record {
-      statements = body.turn_statements at.self.next c.statement.new.self.next (raw_stmt_tree item) ss (so_far at.self.statements) (so_far c.statement.new.self.statements) _ made.statements made.next (rw cut at at.invariant.statements);
+      statements = body.turn_statements at.self.next c.statement.new.self.next (raw_stmt_tree item) ss (so_far at.self.statements) (so_far c.statement.new.self.statements) _
+          made.statements made.next (rw cut at at.invariant.statements);
       next = body.turn_names at.self.next c.statement.new.self.next _ (raw_stmt_tree item) ss made.next (rw cut at at.invariant.next);
       whole = (rw cut at at.invariant.whole).1;
     }
@@ -41,7 +42,8 @@ statement-returns-in_ok-simple-in-Simple-clause-statements t c =
     let seen : raw_stmt_tree c.args.raw.now ≡ RawDo p = ap raw_stmt_tree c.in-Simple.is ∙ raw_stmt_tree-Simple c.in-Simple.simple in
     let made = raw_stmt_tree-Simple c.in_ok-simple-in-Simple.simple ∙ ap RawDo c.in_ok-simple-in-Simple.ensures.left in
     on_ok_weaker c.push.result
-    (λ h. then_pushed s (so_far c.simple.new.self.statements) (so_far c.push.new.self.statements) (simple_before k p) _ _ c.in_ok-simple-in-Simple.ensures.before h made ∙ ap (λ x. then_all s (hoisted k x)) (sym seen)) c.push.ensures.statements
+    (λ h. then_pushed s (so_far c.simple.new.self.statements) (so_far c.push.new.self.statements) (simple_before k p) _ _ c.in_ok-simple-in-Simple.ensures.before h made
+    ∙ ap (λ x. then_all s (hoisted k x)) (sym seen)) c.push.ensures.statements
 
 pub statement-returns-in-Ok-clause-statements : goal.statement-returns-in-Ok-clause-statements
 statement-returns-in-Ok-clause-statements t c =
@@ -54,7 +56,8 @@ statement-returns-in-Ok-clause-statements t c =
     let body = c.in-Ok.ensures.statement ∙ (λ i. as_body (hoisted (test.next i) (raw_stmt_tree (c.deref-in-If.ensures i)))) in
     let made = raw_stmt_tree-If c.in_ok-condition-in-If.condition c.in-Ok.then ∙ (λ i. RawIf (test.left i) (body i)) in
     on_ok_weaker c.push-in-Ok.result
-    (λ h. then_pushed s (so_far c.body.new.self.statements) (so_far c.push-in-Ok.new.self.statements) (before k condition) _ _ (ap so_far c.in-Ok.ensures.outer ∙ test.before) h made ∙ ap (λ x. then_all s (hoisted k x)) (sym seen)) c.push-in-Ok.ensures.statements
+    (λ h. then_pushed s (so_far c.body.new.self.statements) (so_far c.push-in-Ok.new.self.statements) (before k condition) _ _ (ap so_far c.in-Ok.ensures.outer ∙ test.before) h made
+    ∙ ap (λ x. then_all s (hoisted k x)) (sym seen)) c.push-in-Ok.ensures.statements
 
 pub statement-returns-in-Ok-body-2-clause-statements : goal.statement-returns-in-Ok-body-2-clause-statements
 statement-returns-in-Ok-body-2-clause-statements t c =
@@ -70,7 +73,9 @@ statement-returns-in-Ok-body-2-clause-statements t c =
     let last = c.in-Ok-body-2.ensures.statement ∙ (λ i. as_body (hoisted (at i) (raw_stmt_tree (c.deref-in-IfElse-2.ensures i)))) in
     let made = raw_stmt_tree-IfElse c.in_ok-condition-in-IfElse.condition c.in-Ok-body.then c.in-Ok-body-2.otherwise ∙ (λ i. RawIfElse (test.left i) (body i) (last i)) in
     on_ok_weaker c.push-in-Ok-body-2.result
-    (λ h. then_pushed s (so_far c.body-in-IfElse-2.new.self.statements) (so_far c.push-in-Ok-body-2.new.self.statements) (before k condition) _ _ (ap so_far (c.in-Ok-body-2.ensures.outer ∙ c.in-Ok-body.ensures.outer) ∙ test.before) h made ∙ ap (λ x. then_all s (hoisted k x)) (sym seen)) c.push-in-Ok-body-2.ensures.statements
+    (λ h. then_pushed s (so_far c.body-in-IfElse-2.new.self.statements) (so_far c.push-in-Ok-body-2.new.self.statements) (before k condition) _ _
+    (ap so_far (c.in-Ok-body-2.ensures.outer ∙ c.in-Ok-body.ensures.outer) ∙ test.before) h made
+    ∙ ap (λ x. then_all s (hoisted k x)) (sym seen)) c.push-in-Ok-body-2.ensures.statements
 
 pub statement-returns-in_ok-returned-in-Return-clause-statements : goal.statement-returns-in_ok-returned-in-Return-clause-statements
 statement-returns-in_ok-returned-in-Return-clause-statements t c =
@@ -79,4 +84,6 @@ statement-returns-in_ok-returned-in-Return-clause-statements t c =
     let v = option_map raw_expr_tree c.in-Return.value in
     let seen : raw_stmt_tree c.args.raw.now ≡ RawReturn c.in-Return.at v = ap raw_stmt_tree c.in-Return.is ∙ raw_stmt_tree-Return c.in-Return.at c.in-Return.value in
     on_ok_weaker c.push-in-Return.result
-    (λ h. then_pushed s (so_far c.returned.new.self.statements) (so_far c.push-in-Return.new.self.statements) (returned_before k v) _ _ c.in_ok-returned-in-Return.ensures.statements h c.in_ok-returned-in-Return.ensures.left ∙ ap (λ x. then_all s (hoisted k x)) (sym seen)) c.push-in-Return.ensures.statements
+    (λ h. then_pushed s (so_far c.returned.new.self.statements) (so_far c.push-in-Return.new.self.statements) (returned_before k v) _ _
+    c.in_ok-returned-in-Return.ensures.statements h c.in_ok-returned-in-Return.ensures.left
+    ∙ ap (λ x. then_all s (hoisted k x)) (sym seen)) c.push-in-Return.ensures.statements

@@ -18,7 +18,8 @@ returns-else-is_empty-clause-left t c =
     let some : map raw_operand_tree rest.items ≡ [] → ⊥ = some_mapped raw_operand_tree rest.items (vec_len rest) c.is_empty.result c.if-is_empty.false c.is_empty.ensures rest.ok.0 in
     let same : raw_expr_tree c.args.raw.now ≡ raw_chained (raw_expr_tree first.value) (map raw_operand_tree rest.items) = ap raw_expr_tree c.in-Chain.is ∙ raw_expr_tree-Chain first rest in
     let P : RawExprTree → Type 0 = λ e. left_of k e ≡ value_left k e in
-    let equal : left_of k (raw_expr_tree c.args.raw.now) ≡ value_left k (raw_expr_tree c.args.raw.now) = subst P (sym same) (some_chain P (joined_value_left k) (raw_expr_tree first.value) (map raw_operand_tree rest.items) some) in
+    let equal : left_of k (raw_expr_tree c.args.raw.now) ≡ value_left k (raw_expr_tree c.args.raw.now) =
+    subst P (sym same) (some_chain P (joined_value_left k) (raw_expr_tree first.value) (map raw_operand_tree rest.items) some) in
     subst (λ x. IfOk c.expression.result (λ e. raw_expr_tree e ≡ x)) equal c.expression.ensures.left
 
 pub returns-else-is_empty-clause-before : goal.returns-else-is_empty-clause-before
@@ -29,7 +30,8 @@ returns-else-is_empty-clause-before t c =
     let some : map raw_operand_tree rest.items ≡ [] → ⊥ = some_mapped raw_operand_tree rest.items (vec_len rest) c.is_empty.result c.if-is_empty.false c.is_empty.ensures rest.ok.0 in
     let same : raw_expr_tree c.args.raw.now ≡ raw_chained (raw_expr_tree first.value) (map raw_operand_tree rest.items) = ap raw_expr_tree c.in-Chain.is ∙ raw_expr_tree-Chain first rest in
     let P : RawExprTree → Type 0 = λ e. before k e ≡ value_before k e in
-    let equal : before k (raw_expr_tree c.args.raw.now) ≡ value_before k (raw_expr_tree c.args.raw.now) = subst P (sym same) (some_chain P (joined_value_before k) (raw_expr_tree first.value) (map raw_operand_tree rest.items) some) in
+    let equal : before k (raw_expr_tree c.args.raw.now) ≡ value_before k (raw_expr_tree c.args.raw.now) =
+    subst P (sym same) (some_chain P (joined_value_before k) (raw_expr_tree first.value) (map raw_operand_tree rest.items) some) in
     subst (λ x. OnOk c.expression.result (so_far c.expression.new.self.statements ≡ then_all (so_far c.args.self.now.statements) x)) equal c.expression.ensures.before
 
 pub returns-else-is_empty-clause-next : goal.returns-else-is_empty-clause-next
@@ -40,5 +42,6 @@ returns-else-is_empty-clause-next t c =
     let some : map raw_operand_tree rest.items ≡ [] → ⊥ = some_mapped raw_operand_tree rest.items (vec_len rest) c.is_empty.result c.if-is_empty.false c.is_empty.ensures rest.ok.0 in
     let same : raw_expr_tree c.args.raw.now ≡ raw_chained (raw_expr_tree first.value) (map raw_operand_tree rest.items) = ap raw_expr_tree c.in-Chain.is ∙ raw_expr_tree-Chain first rest in
     let P : RawExprTree → Type 0 = λ e. names_in e ≡ value_names e in
-    let equal : names_in (raw_expr_tree c.args.raw.now) ≡ value_names (raw_expr_tree c.args.raw.now) = subst P (sym same) (some_chain P joined_value_names (raw_expr_tree first.value) (map raw_operand_tree rest.items) some) in
+    let equal : names_in (raw_expr_tree c.args.raw.now) ≡ value_names (raw_expr_tree c.args.raw.now) =
+    subst P (sym same) (some_chain P joined_value_names (raw_expr_tree first.value) (map raw_operand_tree rest.items) some) in
     subst (λ x. OnOk c.expression.result (c.expression.new.self.next ≡ k + x)) equal c.expression.ensures.next

@@ -20,7 +20,8 @@ loop-simple-preserved c =
     let cut : drop i raw ≡ item ∷ drop (i + 1) raw = drop_at raw i item c.loop-simple-test.true c.simple-item.is in
     let made = c.kept_simple.ensures in
     record {
-      kept = made_more raw_simple_tree c.kept_simple.result at.kept.items c.in_ok-kept.kept.items (raw_simple_tree item) (map raw_simple_tree (drop (i + 1) raw)) _ c.in_ok-kept.ensures made.kept (rw cut at at.invariant.kept);
+      kept = made_more raw_simple_tree c.kept_simple.result at.kept.items c.in_ok-kept.kept.items (raw_simple_tree item) (map raw_simple_tree (drop (i + 1) raw)) _
+          c.in_ok-kept.ensures made.kept (rw cut at at.invariant.kept);
       outer = made_fact _ _ c.kept_simple.result c.in_ok-kept.ensures made.outer ∙ at.invariant.outer;
       next = made_fact _ _ c.kept_simple.result c.in_ok-kept.ensures made.next ∙ at.invariant.next;
       whole = (rw cut at at.invariant.whole).1;

@@ -11,10 +11,11 @@ use Rattle.hoist_rules.proofs.hoisting.Hoisting.push_loop.Goals as goal
 
 pub returns-clause-statements : goal.returns-clause-statements
 returns-clause-statements c =
-    let made = c.in_ok-leave.field-0 in
+    let made = c.leave.result in
     let ss = map raw_stmt_tree made.items in
-    let held : listed (so_far c.args.self.now.statements) ≡ ss = ap listed c.in_ok-leave.ensures.result ∙ listed_gathered ss in
-    let body : raw_stmt_tree c.in_ok-body.body.value ≡ in_block (listed (so_far c.args.self.now.statements)) = ap raw_stmt_tree c.in_ok-body.ensures.ok ∙ (raw_stmt_tree-Block made ∙ ap in_block (sym held)) in
+    let held : listed (so_far c.args.self.now.statements) ≡ ss = ap listed c.leave.ensures.result ∙ listed_gathered ss in
+    let body : raw_stmt_tree c.in_ok-body.body.value ≡ in_block (listed (so_far c.args.self.now.statements)) =
+    ap raw_stmt_tree c.in_ok-body.ensures.ok ∙ (raw_stmt_tree-Block made ∙ ap in_block (sym held)) in
     on_ok_weaker c.push.result
     (λ h. h ∙ (ap (λ x. then_all (so_far c.leave.new.self.statements) (x ∷ [])) (raw_stmt_tree-While _ c.in_ok-body.body)
-    ∙ (λ i. then_all (so_far (c.in_ok-leave.ensures.statements i)) (RawWhile (raw_expr_tree-Number 1 i) (body i) ∷ [])))) c.push.ensures.statements
+    ∙ (λ i. then_all (so_far (c.leave.ensures.statements i)) (RawWhile (raw_expr_tree-Number 1 i) (body i) ∷ [])))) c.push.ensures.statements

@@ -7,8 +7,9 @@ use Rattle.hoist_rules.specs.Receivers.{so_far}
 use Rattle.hoist_rules.proofs.Followed.{listed_then}
 use Rattle.hoist_rules.proofs.hoisting.Hoisting.set_in_block.Goals as goal
 
-pub returns-in_ok-leave-in-Ok-clause-block : goal.returns-in_ok-leave-in-Ok-clause-block
-returns-in_ok-leave-in-Ok-clause-block c =
-    let made = c.in_ok-leave-in-Ok.field-0 in
-    let all = listed_then (so_far c.args.self.now.statements) (set_to c.args.number (raw_expr_tree c.args.value) ∷ []) (map raw_stmt_tree made.items) (sym c.in-Ok.ensures.statements ∙ c.in_ok-leave-in-Ok.ensures.result) in
+pub returns-in-Ok-clause-block : goal.returns-in-Ok-clause-block
+returns-in-Ok-clause-block c =
+    let made = c.leave.result in
+    let set = set_to c.args.number (raw_expr_tree c.args.value) in
+    let all = listed_then (so_far c.args.self.now.statements) (set ∷ []) (map raw_stmt_tree made.items) (sym c.in-Ok.ensures.statements ∙ c.leave.ensures.result) in
     raw_stmt_tree-Block made ∙ ap in_block (sym all)
