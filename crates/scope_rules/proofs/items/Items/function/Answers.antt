@@ -107,6 +107,6 @@ returns-clause-counted c = λ h.
     let made = function_tree_of (start c) (gives c) (n c) (params c) (body c) in
     let s : Spot = record (past c).spot { names = with_function (defs c) (past c).spot.names (gives c) (n c) (length (params c)) true } in
     let sizes : drop c.in_ok-begun-2.begun.params c.stmts.new.self.sizes.items ≡ words (stmts_names made.body) =
-        (λ k. drop (taken c k) (resolved c k).sizes) ∙ body_words s (params c) (body c) in
+    (λ k. drop (taken c k) (resolved c k).sizes) ∙ body_words s (params c) (body c) in
     counted_more (past c).functions made c.args.self.now.locals (capped (sum (drop c.in_ok-begun-2.begun.params c.stmts.new.self.sizes.items))) c.end.new.self.locals h (ap (λ x. capped (sum x)) sizes) c.in_ok-end.ensures.locals
     ∙ ap (λ x. capped (most_locals x)) (sym (functions_after c))
