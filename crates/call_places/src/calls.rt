@@ -5,7 +5,7 @@ ghost use Rattle.c_tree.specs.RawProgramView.{raw_program_tree};
 ghost use Rattle.grammar_laws.specs.Nested.{is_call};
 ghost use Rattle.grammar_laws.specs.Places.{expr_places, exprs_places, optional_places, simple_places, simples_places, step_places, stmt_places, stmts_places, item_places, items_places};
 
-use c_tree::{RawExpr, RawItem, RawProgram, RawSimple, RawStmt};
+use c_tree::{RawExpr, RawForParts, RawItem, RawProgram, RawSimple, RawStmt};
 use std::alloc::{AllocError, Global};
 
 /// The place of the first byte of the name of each call of a source, in the order of the tree. Of a tree that was read
@@ -168,6 +168,33 @@ pub fn add_places_of_calls_in(places: &mut Vec<u32>, stmt: &RawStmt) -> Result<(
     ensures { OnOk result (places.new.items ≡ places.old.items ++ stmt_places is_call (raw_stmt_tree stmt.now)) }
 {
     add_stmt(places, stmt)
+}
+
+/// Adds the places of the calls of an expression, in the order of the tree.
+///
+/// # Errors
+///
+/// Memory ran out.
+pub fn add_places_of_calls_in_expr(places: &mut Vec<u32>, expr: &RawExpr) -> Result<(), AllocError>
+    ensures { OnOk result (places.new.items ≡ places.old.items ++ expr_places is_call (raw_expr_tree expr.now)) }
+{
+    add_expr(places, expr)
+}
+
+/// Adds the places of the calls in the parentheses of a `for`, in the order of the tree.
+///
+/// # Errors
+///
+/// Memory ran out.
+pub fn add_places_of_calls_in_parts(
+    places: &mut Vec<u32>,
+    parts: &RawForParts,
+) -> Result<(), AllocError>
+    ensures { OnOk result (places.new.items ≡ places.old.items ++ (simples_places is_call (map raw_simple_tree parts.now.init.items) ++ (optional_places is_call (option_map raw_expr_tree parts.now.condition) ++ step_places is_call (option_map raw_simple_tree parts.now.step)))) }
+{
+    add_simples(places, &parts.init)?;
+    add_optional(places, &parts.condition)?;
+    add_step(places, &parts.step)
 }
 
 #[cycle(stmts)]

@@ -10,4 +10,7 @@
 
 mod calls;
 
-pub use calls::{add_places_of_calls, add_places_of_calls_in, places_of_calls};
+pub use calls::{
+    add_places_of_calls, add_places_of_calls_in, add_places_of_calls_in_expr,
+    add_places_of_calls_in_parts, places_of_calls,
+};

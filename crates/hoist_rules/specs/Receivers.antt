@@ -13,32 +13,9 @@ pub record Received : Type 0 where
   pub making : Making
   pub places : List ℕ
 
-abbrev pub received : Receiver → Received
-received r = record { making = made_by r.resolver; places = r.places.items }
+abbrev pub so_far : Receiver → Received
+so_far r = record { making = made_by r.resolver; places = r.places.items }
 
 -- after more statements
-abbrev pub then_received : Received → List RawStmtTree → Received
-then_received r ss = record { making = with_statements r.making ss; places = r.places ++ stmts_places is_call (raw_in_order ss) }
-
-pub data SoFar : Type 0 where
-  Gathered : List RawStmtTree → SoFar
-  Passed : Received → SoFar
-
-abbrev pub so_far : Statements → SoFar
-so_far (Statements.Gathered ss) = Gathered (map raw_stmt_tree ss.items)
-so_far (Statements.Passed r) = Passed (received r)
-
--- whether they are gathered in a list, as those of an inner block are
-unfoldable pub is_gathered : SoFar → Bool
-is_gathered (Gathered ss) = true
-is_gathered (Passed r) = false
-
--- the gathered statements
-unfoldable pub listed : SoFar → List RawStmtTree
-listed (Gathered ss) = ss
-listed (Passed r) = []
-
--- followed by more
-unfoldable pub then_all : SoFar → List RawStmtTree → SoFar
-then_all (Gathered ss) ts = Gathered (ss ++ ts)
-then_all (Passed r) ts = Passed (then_received r ts)
+abbrev pub then_all : Received → List RawStmtTree → Received
+then_all r ss = record { making = with_statements r.making ss; places = r.places ++ stmts_places is_call (raw_in_order ss) }

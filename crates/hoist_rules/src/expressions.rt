@@ -11,11 +11,12 @@ ghost use Rattle.hoist_rules.specs.Receivers.{so_far, then_all};
 
 use crate::built::{call_of, choice, copied, element, parenthesized, table_call_of};
 use crate::hoisting::Hoisting;
-use c_tree::{Infix, Name, RawExpr, RawStmt};
+use c_tree::{Infix, Name, RawExpr};
 use hoist_parts::{
     Chain, calls_after, calls_among, either_holds_call, holds_call, is_branching, is_left_alone,
-    is_spawn, needs_name, unary,
+    is_spawn, needs_name, unary, used,
 };
+use scope_rules::Opening;
 use std::alloc::AllocError;
 
 impl Hoisting {
@@ -44,6 +45,19 @@ impl Hoisting {
             return Ok(part);
         }
         self.name_part(part)
+    }
+}
+
+impl Hoisting {
+    // `int h; if (c)` for the next new name, whose number it returns.
+    fn open_choice(&mut self, condition: RawExpr) -> Result<u32, AllocError> {
+        let number = self.declare_next_before(&condition)?;
+        self.open(Opening::If(&condition))?;
+        Ok(number)
+    }
+
+    fn declare_next_before(&mut self, _condition: &RawExpr) -> Result<u32, AllocError> {
+        self.declare_next()
     }
 }
 
@@ -85,28 +99,7 @@ impl Hoisting {
                 let is_branched = either_holds_call(then, otherwise);
                 let condition = self.expression(condition)?;
                 if is_branched {
-                    let number = match self.declare_next() {
-                        Ok(number) => number,
-                        Err(error) => {
-                            drop(condition);
-                            return Err(error);
-                        }
-                    };
-                    let first = match self.branch(number, then) {
-                        Ok(first) => first,
-                        Err(error) => {
-                            drop(condition);
-                            return Err(error);
-                        }
-                    };
-                    match self.branch(number, otherwise) {
-                        Ok(second) => self.choose(number, condition, first, second),
-                        Err(error) => {
-                            drop(condition);
-                            drop(first);
-                            Err(error)
-                        }
-                    }
+                    self.branches(condition, then, otherwise)
                 } else {
                     let first = match self.kept(then) {
                         Ok(first) => first,
@@ -186,14 +179,9 @@ impl Hoisting {
         let is_calling = holds_call(right);
         if is_branching(operator, is_calling) {
             let number = self.declare_truth(left)?;
-            let outer = self.enter();
-            return match self.expression(right) {
-                Ok(value) => self.decide(outer, operator, number, value),
-                Err(error) => {
-                    drop(outer);
-                    Err(error)
-                }
-            };
+            self.open_decision(operator, number)?;
+            let value = self.expression(right)?;
+            return self.close_decision(number, value);
         }
         let left = self.named_left(left, needs_name(is_calling, is_alone))?;
         match self.expression(right) {
@@ -205,21 +193,29 @@ impl Hoisting {
         }
     }
 
+    // `int h; if (c) { P(a) h = a; } else { P(b) h = b; }` for the next new name. Returns what remains.
+    #[cycle(hoist)]
+    fn branches(
+        &mut self,
+        condition: RawExpr,
+        then: &RawExpr,
+        otherwise: &RawExpr,
+    ) -> Result<RawExpr, AllocError> {
+        let number = self.open_choice(condition)?;
+        self.branch(number, then)?;
+        self.otherwise()?;
+        self.branch(number, otherwise)?;
+        self.close()?;
+        used(self.alloc, number)
+    }
+
     // `{ P(e) h = e; }` for the new name with a number.
     #[cycle(hoist)]
-    fn branch(&mut self, number: u32, e: &RawExpr) -> Result<RawStmt, AllocError>
-        ensures block { IfOk result (λ s. raw_stmt_tree s ≡ in_block (before self.old.next (raw_expr_tree e.now) ++ set_to number (left_of self.old.next (raw_expr_tree e.now)) ∷ [])) }
-        ensures outer { OnOk result (self.new.statements ≡ self.old.statements) }
-        ensures next { OnOk result (self.new.next ≡ self.old.next + names_in (raw_expr_tree e.now)) }
-    {
-        let outer = self.enter();
-        match self.expression(e) {
-            Ok(value) => self.set_in_block(outer, number, value),
-            Err(error) => {
-                drop(outer);
-                Err(error)
-            }
-        }
+    fn branch(&mut self, number: u32, e: &RawExpr) -> Result<(), AllocError> {
+        self.open(Opening::Block)?;
+        let value = self.expression(e)?;
+        self.set(number, value)?;
+        self.close()
     }
 
     /// Returns an expression that contains no call, as it is.

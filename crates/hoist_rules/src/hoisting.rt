@@ -2,20 +2,20 @@
 ghost use Rattle.std.specs.Prelude.{◌≡◌, ◌+◌, true, ◌∷◌, [], map, IfOk, OnOk};
 ghost use Rattle.c_tree.specs.RawViews.{raw_expr_tree, raw_stmt_tree};
 ghost use Rattle.hoist_parts.specs.NewNames.{used, declared, declared_as, set_to};
-ghost use Rattle.hoist_rules.specs.Receivers.{Gathered, so_far, is_gathered, then_all};
+ghost use Rattle.hoist_rules.specs.Receivers.{so_far, then_all};
 
-use crate::receivers::Statements;
+use crate::receivers::Receiver;
 use c_tree::{RawExpr, RawSimple, RawStmt};
 use hoist_parts::{new_name, used};
+use scope_rules::Opening;
 use std::alloc::{AllocError, Global};
-use std::mem;
 
 /// The statements of the block so far, and the number of the next new name of the function.
 #[derive(Drop)]
 pub(crate) struct Hoisting {
     pub(crate) alloc: Global,
     pub(crate) next: u32,
-    pub(crate) statements: Statements,
+    pub(crate) statements: Receiver,
 }
 
 impl Hoisting {
@@ -42,10 +42,7 @@ impl Hoisting {
         ensures next { self.new.next ≡ self.old.next }
         ensures alloc { self.new.alloc ≡ self.old.alloc }
     {
-        let inner = Statements::new(self.alloc);
-        let statements = mem::replace(&mut self.statements, inner);
-        self.statements = statements.with(statement)?;
-        Ok(())
+        self.statements.push(statement)
     }
 
     /// Appends `int h = value;` for the new name with a number.
@@ -90,25 +87,18 @@ impl Hoisting {
         used(self.alloc, number)
     }
 
-    /// Begins a block, and returns the statements so far, which are passed to `leave`.
-    pub(crate) fn enter(&mut self) -> Statements
-        ensures result { result ≡ self.old.statements }
-        ensures statements { so_far self.new.statements ≡ Gathered [] }
-        ensures next { self.new.next ≡ self.old.next }
-        ensures alloc { self.new.alloc ≡ self.old.alloc }
-    {
-        let inner = Statements::new(self.alloc);
-        mem::replace(&mut self.statements, inner)
+    /// Begins a block, or a statement with a body.
+    pub(crate) fn open(&mut self, opening: Opening) -> Result<(), AllocError> {
+        self.statements.open(opening)
     }
 
-    /// Ends a block, and returns its statements. The statements so far are those of `outer` again.
-    pub(crate) fn leave(&mut self, outer: Statements) -> Vec<RawStmt>
-        requires { is_gathered (so_far self.old.statements) ≡ true }
-        ensures result { so_far self.old.statements ≡ Gathered (map raw_stmt_tree result.items) }
-        ensures statements { self.new.statements ≡ outer }
-        ensures next { self.new.next ≡ self.old.next }
-        ensures alloc { self.new.alloc ≡ self.old.alloc }
-    {
-        mem::replace(&mut self.statements, outer).gathered()
+    /// Begins the `else` of the `if` that was begun last.
+    pub(crate) fn otherwise(&mut self) -> Result<(), AllocError> {
+        self.statements.resolver.otherwise()
+    }
+
+    /// Ends the block, or the statement with a body, that was begun last.
+    pub(crate) fn close(&mut self) -> Result<(), AllocError> {
+        self.statements.resolver.close()
     }
 }

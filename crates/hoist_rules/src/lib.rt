@@ -17,7 +17,6 @@ mod branches;
 mod built;
 mod examples;
 mod expressions;
-mod for_parts;
 mod functions;
 mod hoisting;
 mod receivers;

@@ -87,11 +87,14 @@ next_statement m all read gives n params ss t h =
       functions = h.functions;
       counted = h.counted;
       least =
-          ap (λ x. least_of x (stmt_faults m.gives false m.sofar.spot t)) h.least
+          ap (λ x. least_of m.least (stmt_faults m.gives x m.sofar.spot t)) h.outside
+          ∙ (ap (λ x. least_of x (stmt_faults m.gives false m.sofar.spot t)) h.least
           ∙ (ap (λ x. least_of (least_of before (stmts_faults gives false b (raw_in_order ss))) (stmt_faults x false m.sofar.spot t)) h.given
           ∙ (ap (λ x. least_of (least_of before (stmts_faults gives false b (raw_in_order ss))) (stmt_faults gives false x t)) h.spot
           ∙ (sym (least_of_append before (stmts_faults gives false b (raw_in_order ss)) (stmt_faults gives false e t))
-          ∙ ap (least_of before) (sym (faults_last gives false b ss t)))));
+          ∙ ap (least_of before) (sym (faults_last gives false b ss t))))));
+      outside = h.outside;
+      finished = h.finished;
       named = h.named;
       given = h.given;
       taken = h.taken;

@@ -15,5 +15,6 @@ pub mod Outcomes
 pub mod Numbered
 pub mod Heads
 pub mod Kept
+pub mod Openings
 pub mod Making
 pub mod Reading

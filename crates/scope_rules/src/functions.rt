@@ -18,6 +18,7 @@ use crate::items::Items;
 use crate::limits::{declared_words, larger};
 use crate::meanings::{Found, Meaning, function_of};
 use crate::names::Names;
+use crate::openings::Open;
 use crate::places::Place;
 use crate::simples::number;
 use crate::statements::Scope;
@@ -33,7 +34,12 @@ pub struct Begun {
     pub gives: bool,
     pub params: usize,
     pub scope: Scope,
+    /// The statements so far of the block, or of the body, that was begun last.
     pub body: Vec<Stmt>,
+    /// Whether they are in a loop.
+    pub loops: bool,
+    /// The blocks, and the statements with a body, that aren't at their ends.
+    pub unfinished: Vec<Open>,
 }
 
 // Whether two results differ.
@@ -164,6 +170,8 @@ impl Place {
             params: count,
             scope,
             body: Vec::new(alloc),
+            loops: false,
+            unfinished: Vec::new(alloc),
         })
     }
 }
@@ -185,6 +193,7 @@ impl Items {
             params,
             scope,
             mut body,
+            ..
         } = begun;
         self.place.leave(scope);
         body.shrink_to_fit();

@@ -23,10 +23,12 @@ mod limits;
 mod meanings;
 mod names;
 mod numbering;
+mod openings;
 mod places;
 mod resolver;
 mod simples;
 mod statements;
 
 pub use errors::ScopeError;
+pub use openings::Opening;
 pub use resolver::{FunctionResolver, Resolver, resolve};

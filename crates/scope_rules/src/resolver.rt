@@ -12,7 +12,8 @@ ghost use Rattle.c_tree.specs.WellScoped.{IsWellScoped};
 ghost use Rattle.c_tree.specs.WholeCalls.{AreCallsWhole};
 ghost use Rattle.scope_rules.specs.Numbered.{numbered, IsResolvedBy};
 ghost use Rattle.scope_rules.specs.ItemViews.{exceeded_with};
-ghost use Rattle.scope_rules.specs.Making.{IsMaking, made_by, with_statement};
+ghost use Rattle.scope_rules.specs.Openings.{opening_tree};
+ghost use Rattle.scope_rules.specs.Making.{IsMaking, made_by, with_statement, opened, switched, closed};
 ghost use Rattle.scope_rules.specs.Reading.{HaveRead, AreAllRead, HasRead, CanNumber};
 ghost use Rattle.scope_rules.specs.Limits.{first_exceeded};
 ghost use Rattle.scope_rules.specs.Outcomes.{IsResolved, IsRefused, IsNoMemory, refusal_by};
@@ -24,6 +25,8 @@ use crate::items::{Items, definitions};
 use crate::limits::{global_words, most_params, table_members};
 use crate::meanings::function_of;
 use crate::numbering::number_functions;
+use crate::openings::{Head, Open, Opening, body_of};
+use crate::statements::kept_with;
 use c_tree::{Function, GlobalFact, Name, Program, RawItem, RawProgram, RawStmt, TableFact};
 use cap_word::Which;
 use std::alloc::{AllocError, Global};
@@ -302,7 +305,98 @@ impl FunctionResolver {
     {
         let FunctionParts { items, begun } = &mut *self.parts;
         let body = mem::replace(&mut begun.body, Vec::new(items.place.alloc));
-        begun.body = items.place.next_statement(begun.gives, body, raw)?;
+        begun.body = items
+            .place
+            .next_statement(begun.gives, begun.loops, body, raw)?;
+        Ok(())
+    }
+
+    /// A block, or a statement with a body, begins.
+    ///
+    /// # Errors
+    ///
+    /// Memory ran out, as in `statement`.
+    pub fn open(&mut self, opening: Opening) -> Result<(), AllocError>
+        ensures { OnOk result (made_by self.new ≡ opened (opening_tree opening.entry) (made_by self.old)) }
+    {
+        let FunctionParts { items, begun } = &mut *self.parts;
+        let (head, scope) = items.place.head_of(opening)?;
+        let before = mem::replace(&mut begun.body, Vec::new(items.place.alloc));
+        begun.unfinished.push(Open {
+            head,
+            scope,
+            loops: begun.loops,
+            before,
+        })?;
+        begun.loops = opening.is_in_loop(begun.loops);
+        Ok(())
+    }
+
+    /// The `else` of the `if` that began last begins. Does nothing if no `if` began last.
+    ///
+    /// # Errors
+    ///
+    /// Memory ran out, as in `statement`.
+    pub fn otherwise(&mut self) -> Result<(), AllocError>
+        ensures { OnOk result (made_by self.new ≡ switched (made_by self.old)) }
+    {
+        let FunctionParts { items, begun } = &mut *self.parts;
+        let alloc = items.place.alloc;
+        let Some(
+            Open {
+                head,
+                scope,
+                loops,
+                before,
+            },
+        ) = begun.unfinished.pop()
+        else {
+            return Ok(());
+        };
+        let (head, scope) = match head {
+            Head::If(condition) => {
+                let statements = mem::replace(&mut begun.body, Vec::new(alloc));
+                let then = Box::new(alloc, body_of(statements))?;
+                items.place.leave(scope);
+                (Head::Else { condition, then }, items.place.enter())
+            }
+            other => (other, scope),
+        };
+        begun.unfinished.push(Open {
+            head,
+            scope,
+            loops,
+            before,
+        })?;
+        Ok(())
+    }
+
+    /// The block, or the statement with a body, that began last is at its end. Does nothing if none began.
+    ///
+    /// # Errors
+    ///
+    /// Memory ran out, as in `statement`.
+    pub fn close(&mut self) -> Result<(), AllocError>
+        ensures { OnOk result (made_by self.new ≡ closed (made_by self.old)) }
+    {
+        let FunctionParts { items, begun } = &mut *self.parts;
+        let alloc = items.place.alloc;
+        let Some(
+            Open {
+                head,
+                scope,
+                loops,
+                before,
+            },
+        ) = begun.unfinished.pop()
+        else {
+            return Ok(());
+        };
+        let statements = mem::replace(&mut begun.body, Vec::new(alloc));
+        let statement = head.with_body(alloc, statements)?;
+        begun.body = kept_with(alloc, items.place.site, before, statement)?;
+        begun.loops = loops;
+        items.place.leave(scope);
         Ok(())
     }
 

@@ -80,8 +80,8 @@ impl Place {
         both(before, self.step(raw))
     }
 
-    // The parts in the parentheses of a `for`.
-    fn for_parts(&mut self, raw: &RawForParts) -> Result<Box<ForParts>, AllocError>
+    /// Resolves the parts in the parentheses of a `for`.
+    pub fn for_parts(&mut self, raw: &RawForParts) -> Result<Box<ForParts>, AllocError>
         ensures init { IfOk result (λ p. map simple_tree p.value.init.items ≡ simples_of (spot_of self.old) (map raw_simple_tree raw.now.init.items)) }
         ensures condition { IfOk result (λ p. option_map expr_tree p.value.condition ≡ option_map (expr_of (simples_after (spot_of self.old) (map raw_simple_tree raw.now.init.items)).names) (option_map raw_expr_tree raw.now.condition)) }
         ensures step { IfOk result (λ p. option_map simple_tree p.value.step ≡ option_map (simple_of (simples_after (spot_of self.old) (map raw_simple_tree raw.now.init.items))) (option_map raw_simple_tree raw.now.step)) }
@@ -295,25 +295,26 @@ impl Place {
         Ok(stmts)
     }
 
-    /// Resolves one more statement of the outermost block of a function. Beyond the limit of calls no statement is kept,
-    /// since the source is refused.
+    /// Resolves one more statement of a block. Beyond the limit of calls no statement is kept, since the source is
+    /// refused.
     pub fn next_statement(
         &mut self,
         gives: bool,
+        loops: bool,
         body: Vec<Stmt>,
         raw: &RawStmt,
     ) -> Result<Vec<Stmt>, AllocError>
         ensures tree { IfOk result (λ ss. map stmt_tree ss.items ≡ kept_with (stmt_after (spot_of self.old) (raw_stmt_tree raw.now)).site (map stmt_tree body.items) (stmt_of (spot_of self.old) (raw_stmt_tree raw.now))) }
         ensures place { OnOk result (spot_of self.new ≡ stmt_after (spot_of self.old) (raw_stmt_tree raw.now)) }
-        ensures faults { OnOk result (self.new.least ≡ least_of self.old.least (stmt_faults gives false (spot_of self.old) (raw_stmt_tree raw.now))) }
+        ensures faults { OnOk result (self.new.least ≡ least_of self.old.least (stmt_faults gives loops (spot_of self.old) (raw_stmt_tree raw.now))) }
     {
-        let stmt = self.stmt(gives, false, raw)?;
+        let stmt = self.stmt(gives, loops, raw)?;
         Ok(kept_with(self.alloc, self.site, body, stmt)?)
     }
 }
 
-// Statements and one more, before the site with this number.
-fn kept_with(
+/// Returns statements and one more, before the site with this number.
+pub fn kept_with(
     alloc: Global,
     site: u32,
     mut body: Vec<Stmt>,
