@@ -28,6 +28,8 @@ pub mod MainFunctions
 pub mod WellScopedPrograms
 pub mod Counted
 pub mod LeastFaults
+pub mod Past
+pub mod WholeStatements
 pub mod OrderOfFaults
 pub mod NumberedPrograms
 pub mod Resolved

@@ -1,6 +1,6 @@
 // Definitions of functions.
 
-ghost use Rattle.std.specs.Prelude.{◌≡◌, ◌-◌, ◌∷◌, ◌++◌, [], true, IfOk, OnOk, map, length, drop, sum, max};
+ghost use Rattle.std.specs.Prelude.{◌≡◌, ◌-◌, ◌∷◌, ◌++◌, [], true, false, IfOk, OnOk, map, length, drop, sum, max};
 ghost use Rattle.c_tree.specs.declared.raw_items.RawItem.{RawItem};
 ghost use Rattle.c_tree.specs.RawViews.{name_tree, raw_item_tree};
 ghost use Rattle.c_tree.specs.Views.{stmt_trees, function_tree};
@@ -158,6 +158,8 @@ impl Place {
         ensures outer { IfOk result (λ b. b.scope.outer ≡ self.old.outer) }
         ensures inner { IfOk result (λ b. b.scope.count ≡ length (with_function definitions.now self.old.names gives (name_tree name.now) (length params.now) true)) }
         ensures body { IfOk result (λ b. b.body.items ≡ []) }
+        ensures outside { IfOk result (λ b. b.loops ≡ false) }
+        ensures finished { IfOk result (λ b. b.unfinished.items ≡ []) }
     {
         let alloc = self.alloc;
         let count = params.len();
