@@ -6,7 +6,7 @@ use Rattle.c_tree.specs.RawViews.{raw_arguments}
 use Rattle.hoist_parts.specs.Calls.{holds_call, hold_call}
 use Rattle.hoist_parts.specs.Expressions.{one_if, arguments_names, arguments_left, arguments_before}
 use Rattle.hoist_parts.specs.Arguments.{calls_among, passed_left, passed_before, passed_after}
-use Rattle.hoist_rules.specs.Receivers.{SoFar, then_all}
+use Rattle.hoist_rules.specs.Receivers.{Received, then_all}
 use Rattle.hoist_rules.proofs.Followed.{then_then}
 
 -- expressions, and then arguments
@@ -60,7 +60,7 @@ turn_left stays later k n xs x e es whole hl hx hn h =
     ∙ ap (then_trees xs) (sym (one_left stays k e es))
     ∙ h
 
-pub turn_before : (stays later : Bool) (k n : ℕ) (e : RawExprTree) (es : RawExprTrees) (s t whole : SoFar) →
+pub turn_before : (stays later : Bool) (k n : ℕ) (e : RawExprTree) (es : RawExprTrees) (s t whole : Received) →
     later ≡ hold_call es → t ≡ then_all s (passed_before stays later k e) → n ≡ passed_after stays later k e →
     then_all s (arguments_before stays k (And e es)) ≡ whole → then_all t (arguments_before false n es) ≡ whole
 turn_before stays later k n e es s t whole hl ht hn h =

@@ -7,12 +7,12 @@ use Rattle.hoist_parts.specs.Expressions.{names_in, arguments_names, part_after,
 use Rattle.hoist_parts.specs.Statements.{table_before}
 use Rattle.hoist_parts.proofs.NoCalls.{or_left, or_right, no_names}
 use Rattle.hoist_rules.specs.EarlierParts.{part_left, part_before}
-use Rattle.hoist_rules.specs.Receivers.{SoFar, then_all}
+use Rattle.hoist_rules.specs.Receivers.{Received, then_all}
 use Rattle.hoist_rules.proofs.Followed.{then_then, then_pushed}
 
 -- `w` is the expression, `s` what stood before it
 
-pub call_pushed : (k n : ℕ) (b : Bool) (w call : RawExprTree) (name : NameTree) (es fs left : RawExprTrees) (s t u : SoFar) →
+pub call_pushed : (k n : ℕ) (b : Bool) (w call : RawExprTree) (name : NameTree) (es fs left : RawExprTrees) (s t u : Received) →
     w ≡ RawCall name es → b ≡ is_spawn name → fs ≡ es →
     left ≡ arguments_left b k fs → t ≡ then_all s (arguments_before b k fs) → n ≡ k + arguments_names b fs →
     call ≡ RawCall name left → u ≡ then_all t (declared_as n call ∷ []) → u ≡ then_all s (before k w)
@@ -25,7 +25,7 @@ call_pushed k n b w call name es fs left s t u hw hb hf hl ht hn hc hu =
     ∙ ap (λ e. then_all s (before k e)) (sym hw)
 
 -- the index and the argument are seen as `i1`, `e1` and `e2`
-pub table_pushed : (k m n : ℕ) (b : Bool) (w call : RawExprTree) (name : NameTree) (i e i1 e1 e2 x y : RawExprTree) (s t u v : SoFar) →
+pub table_pushed : (k m n : ℕ) (b : Bool) (w call : RawExprTree) (name : NameTree) (i e i1 e1 e2 x y : RawExprTree) (s t u v : Received) →
     w ≡ RawTableCall name i e → e1 ≡ e → e2 ≡ e → i1 ≡ i → b ≡ holds_call e1 →
     x ≡ part_left b k i1 → t ≡ then_all s (part_before b k i1) → m ≡ part_after k b i1 →
     y ≡ left_of m e2 → u ≡ then_all t (before m e2) → n ≡ m + names_in e2 → call ≡ RawTableCall name x y → v ≡ then_all u (declared_as n call ∷ []) → v ≡ then_all s (before k w)
@@ -45,7 +45,7 @@ table_pushed k m n b w call name i e i1 e1 e2 x y s t u v hw h1 h2 hi hb hx ht h
 
 -- a conditional, one of whose chosen parts holds a call, after the name that both set; the condition is seen as `c1`, and the
 -- two parts as `a1` and `a2`, `b1` and `b2`
-pub chosen_pushed : (k n m o number : ℕ) (h : Bool) (w c a b c1 a1 a2 b1 b2 x : RawExprTree) (p q : RawStmtTree) (s t u v : SoFar) →
+pub chosen_pushed : (k n m o number : ℕ) (h : Bool) (w c a b c1 a1 a2 b1 b2 x : RawExprTree) (p q : RawStmtTree) (s t u v : Received) →
     w ≡ RawConditional c a b → c1 ≡ c → a1 ≡ a → a2 ≡ a → b1 ≡ b → b2 ≡ b → h ≡ (holds_call a1 || holds_call b1) → h ≡ true →
     x ≡ left_of k c1 → t ≡ then_all s (before k c1) → n ≡ k + names_in c1 →
     number ≡ n → u ≡ then_all t (declared n ∷ []) → m ≡ n + 1 →

@@ -1,12 +1,18 @@
 -- Statements so far, followed by more.
-use Rattle.std.proofs.Common.{◌≡◌, refl, ap, ◌∙◌, true, false, List, [], ◌∷◌, ◌++◌, append_assoc, append-nil}
+use Rattle.std.proofs.Common.{◌≡◌, refl, ap, ◌∙◌, sym, List, [], ◌∷◌, ◌++◌, append_assoc, append-nil, Option}
 use Rattle.std.proofs.lemmas.Grind.{common_steps}
-use Rattle.c_tree.specs.RawTrees.{RawStmtTree}
+use Rattle.c_tree.specs.RawTrees.{RawExprTree, RawSimpleTree, RawStmtTree, RawIf, RawIfElse, RawWhile, RawFor}
 use Rattle.c_tree.specs.RawViews.{raw_in_order}
 use Rattle.grammar_laws.specs.Nested.{is_call}
-use Rattle.grammar_laws.specs.Places.{stmt_places, stmts_places}
+use Rattle.grammar_laws.specs.Places.{expr_places, stmt_places, stmts_places}
 use Rattle.scope_rules.specs.Making.{Making, with_statement, with_statements}
-use Rattle.hoist_rules.specs.Receivers.{Received, SoFar, Gathered, Passed, then_received, is_gathered, listed, then_all}
+use Rattle.scope_rules.specs.Openings.{OpeningTree, OpenBlock, OpenIf, OpenWhile, OpenFor, raw_body, whole}
+use Rattle.scope_rules.proofs.WholeStatements.{closed_whole, closed_else}
+use Rattle.hoist_parts.specs.Expressions.{in_block}
+use Rattle.hoist_parts.specs.Statements.{as_body}
+use Rattle.hoist_rules.specs.Receivers.{Received, then_received, opening_places, then_all, then_open, then_else, then_close}
+
+-- ---- more statements
 
 making_then : (m : Making) (xs ys : List RawStmtTree) → with_statements (with_statements m xs) ys ≡ with_statements m (xs ++ ys)
 making_then m [] ys = refl
@@ -18,59 +24,78 @@ places_then (x ∷ xs) ys =
     append_assoc (stmt_places is_call x) (stmts_places is_call (raw_in_order xs)) (stmts_places is_call (raw_in_order ys))
     ∙ ap (λ ps. stmt_places is_call x ++ ps) (places_then xs ys)
 
-received_then : (r : Received) (xs ys : List RawStmtTree) → then_received (then_received r xs) ys ≡ then_received r (xs ++ ys)
-received_then r xs ys =
+pub then_then : (r : Received) (xs ys : List RawStmtTree) → then_all (then_all r xs) ys ≡ then_all r (xs ++ ys)
+unfolding then_all
+then_then r xs ys =
     let making = making_then r.making xs ys in
     let places = append_assoc r.places (stmts_places is_call (raw_in_order xs)) (stmts_places is_call (raw_in_order ys)) ∙ ap (λ ps. r.places ++ ps) (places_then xs ys) in
     λ i. record { making = making i; places = places i }
 
-pub then_then : (s : SoFar) (xs ys : List RawStmtTree) → then_all (then_all s xs) ys ≡ then_all s (xs ++ ys)
+pub then_none : (r : Received) → then_all r [] ≡ r
 unfolding then_all
-then_then (Gathered ss) xs ys = ap Gathered (append_assoc ss xs ys)
-then_then (Passed r) xs ys = ap Passed (received_then r xs ys)
-
-pub then_none : (s : SoFar) → then_all s [] ≡ s
-unfolding then_all
-then_none (Gathered ss) = ap Gathered (append-nil ss)
-then_none (Passed r) = let same = append-nil r.places in λ i. Passed (record { making = r.making; places = same i })
-
-pub then_gathered : (xs ys : List RawStmtTree) → then_all (Gathered xs) ys ≡ Gathered (xs ++ ys)
-unfolding then_all
-then_gathered xs ys = refl
-
-pub then_passed : (r : Received) (ys : List RawStmtTree) → then_all (Passed r) ys ≡ Passed (then_received r ys)
-unfolding then_all
-then_passed r ys = refl
-
-pub listed_gathered : (xs : List RawStmtTree) → listed (Gathered xs) ≡ xs
-unfolding listed
-listed_gathered xs = refl
-
-pub gathered_is : (xs : List RawStmtTree) → is_gathered (Gathered xs) ≡ true
-unfolding is_gathered
-gathered_is xs = refl
-
-pub passed_is : (r : Received) → is_gathered (Passed r) ≡ false
-unfolding is_gathered
-passed_is r = refl
-
--- statements go where those before them went
-pub gathered_then : (s : SoFar) (ys : List RawStmtTree) → is_gathered (then_all s ys) ≡ is_gathered s
-unfolding is_gathered then_all
-gathered_then (Gathered ss) ys = refl
-gathered_then (Passed r) ys = refl
-
--- a list is the gathered statements and those after them
-pub listed_then : (s : SoFar) (ys zs : List RawStmtTree) → then_all s ys ≡ Gathered zs → listed s ++ ys ≡ zs
-unfolding then_all listed
-listed_then (Gathered ss) ys zs e = cc
-listed_then (Passed r) ys zs e = cc
-
-pub passed_same : (r s : Received) → Passed r ≡ Passed s → r ≡ s
-passed_same r s e = cc
+then_none r = let same = append-nil r.places in λ i. record { making = r.making; places = same i }
 
 -- some, and then one more
-pub then_pushed : (s t u : SoFar) (a : List RawStmtTree) (x y : RawStmtTree) → t ≡ then_all s a → u ≡ then_all t (x ∷ []) → x ≡ y → u ≡ then_all s (a ++ y ∷ [])
+pub then_pushed : (s t u : Received) (a : List RawStmtTree) (x y : RawStmtTree) → t ≡ then_all s a → u ≡ then_all t (x ∷ []) → x ≡ y → u ≡ then_all s (a ++ y ∷ [])
 then_pushed s t u a x y ht hu hx = hu ∙ (λ i. then_all (ht i) (hx i ∷ [])) ∙ then_then s a (y ∷ [])
 
-pub ruleset following = (common_steps, then_then, then_none, then_gathered, listed_gathered, gathered_is, passed_is, gathered_then)
+-- ---- a block, or a statement with a body
+
+body_places : (ss : List RawStmtTree) → stmts_places is_call (raw_in_order ss) ≡ stmt_places is_call (raw_body ss)
+body_places [] = refl
+body_places (s ∷ []) = append-nil (stmt_places is_call s)
+body_places (s ∷ t ∷ ss) = refl
+
+whole_places : (o : OpeningTree) (ss : List RawStmtTree) → opening_places o ++ stmts_places is_call (raw_in_order ss) ≡ stmt_places is_call (whole o ss) ++ []
+whole_places OpenBlock ss = sym (append-nil (stmts_places is_call (raw_in_order ss)))
+whole_places (OpenIf c) ss = ap (λ ps. expr_places is_call c ++ ps) (body_places ss) ∙ sym (append-nil (expr_places is_call c ++ stmt_places is_call (raw_body ss)))
+whole_places (OpenWhile c) ss = ap (λ ps. expr_places is_call c ++ ps) (body_places ss) ∙ sym (append-nil (expr_places is_call c ++ stmt_places is_call (raw_body ss)))
+whole_places (OpenFor init c step) ss =
+    let o = OpenFor init c step in
+    ap (λ ps. opening_places o ++ ps) (body_places ss)
+    ∙ (search (append_assoc) ∙ sym (append-nil (stmt_places is_call (whole o ss))))
+
+pub closed_then : (o : OpeningTree) (r : Received) (ss : List RawStmtTree) → then_close (then_all (then_open o r) ss) ≡ then_all r (whole o ss ∷ [])
+unfolding then_all then_open then_close
+closed_then o r ss =
+    let making = closed_whole o r.making ss in
+    let places = append_assoc r.places (opening_places o) (stmts_places is_call (raw_in_order ss)) ∙ ap (λ ps. r.places ++ ps) (whole_places o ss) in
+    λ i. record { making = making i; places = places i }
+
+same_body : (ss : List RawStmtTree) → raw_body ss ≡ as_body ss
+same_body [] = refl
+same_body (s ∷ []) = refl
+same_body (s ∷ t ∷ ss) = refl
+
+pub closed_block : (r : Received) (ss : List RawStmtTree) → then_close (then_all (then_open OpenBlock r) ss) ≡ then_all r (in_block ss ∷ [])
+closed_block r ss = closed_then OpenBlock r ss
+
+pub closed_if : (c : RawExprTree) (r : Received) (ss : List RawStmtTree) → then_close (then_all (then_open (OpenIf c) r) ss) ≡ then_all r (RawIf c (as_body ss) ∷ [])
+closed_if c r ss = closed_then (OpenIf c) r ss ∙ ap (λ b. then_all r (RawIf c b ∷ [])) (same_body ss)
+
+pub closed_while : (c : RawExprTree) (r : Received) (ss : List RawStmtTree) → then_close (then_all (then_open (OpenWhile c) r) ss) ≡ then_all r (RawWhile c (as_body ss) ∷ [])
+closed_while c r ss = closed_then (OpenWhile c) r ss ∙ ap (λ b. then_all r (RawWhile c b ∷ [])) (same_body ss)
+
+pub closed_for : (init : List RawSimpleTree) (c : Option RawExprTree) (step : Option RawSimpleTree) (r : Received) (ss : List RawStmtTree)
+    → then_close (then_all (then_open (OpenFor init c step) r) ss) ≡ then_all r (RawFor init c step (as_body ss) ∷ [])
+closed_for init c step r ss = closed_then (OpenFor init c step) r ss ∙ ap (λ b. then_all r (RawFor init c step b ∷ [])) (same_body ss)
+
+else_places : (ps : List Rattle.std.proofs.Common.ℕ) (c : RawExprTree) (ss ts : List RawStmtTree)
+    → ((ps ++ expr_places is_call c) ++ stmts_places is_call (raw_in_order ss)) ++ stmts_places is_call (raw_in_order ts) ≡ ps ++ (stmt_places is_call (RawIfElse c (raw_body ss) (raw_body ts)) ++ [])
+else_places ps c ss ts =
+    let pc = expr_places is_call c in
+    let pa = stmts_places is_call (raw_in_order ss) in
+    let pb = stmts_places is_call (raw_in_order ts) in
+    append_assoc (ps ++ pc) pa pb
+    ∙ (append_assoc ps pc (pa ++ pb)
+    ∙ ap (λ x. ps ++ x) ((λ i. pc ++ (body_places ss i ++ body_places ts i)) ∙ sym (append-nil (stmt_places is_call (RawIfElse c (raw_body ss) (raw_body ts))))))
+
+pub closed_both : (c : RawExprTree) (r : Received) (ss ts : List RawStmtTree)
+    → then_close (then_all (then_else (then_all (then_open (OpenIf c) r) ss)) ts) ≡ then_all r (RawIfElse c (as_body ss) (as_body ts) ∷ [])
+unfolding then_all then_open then_else then_close
+closed_both c r ss ts =
+    let making = closed_else c r.making ss ts in
+    let places = else_places r.places c ss ts in
+    (λ i. record { making = making i; places = places i }) ∙ (λ i. then_received r (RawIfElse c (same_body ss i) (same_body ts i) ∷ []))
+
+pub ruleset following = (common_steps, then_then, then_none, closed_block, closed_if, closed_while, closed_for, closed_both)

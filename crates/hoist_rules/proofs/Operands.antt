@@ -9,7 +9,7 @@ use Rattle.hoist_parts.specs.Calls.{holds_call, is_left_alone}
 use Rattle.hoist_parts.specs.Expressions.{one_if, names_in, part_named, left_of, before}
 use Rattle.hoist_parts.specs.Chains.{operand_trees, operand_left, operand_before, operand_after, operands_left, operands_before, operands_after}
 use Rattle.hoist_parts.proofs.HeldChains.{joined_alone}
-use Rattle.hoist_rules.specs.Receivers.{SoFar, then_all}
+use Rattle.hoist_rules.specs.Receivers.{Received, then_all}
 use Rattle.hoist_rules.proofs.Followed.{then_then}
 
 pub operands_seen : (ps : List (Infix × RawExpr)) → operand_trees ps ≡ map raw_operand_tree ps
@@ -63,7 +63,7 @@ pub chain_left : (k n : ℕ) (alone : Bool) (whole first l c e : RawExprTree) (p
 chain_left k n alone whole first l c e ps hw hl hn ha hc he =
     he ∙ hc ∙ (λ i. operands_left (hn i) (ha i) (hl i) ps) ∙ sym (chained_left k first ps) ∙ ap (left_of k) (sym hw)
 
-pub chain_before : (k n : ℕ) (alone : Bool) (whole first l : RawExprTree) (ps : List (Infix × RawExprTree)) (s t u : SoFar) →
+pub chain_before : (k n : ℕ) (alone : Bool) (whole first l : RawExprTree) (ps : List (Infix × RawExprTree)) (s t u : Received) →
     whole ≡ raw_chained first ps → l ≡ left_of k first → n ≡ k + names_in first → alone ≡ is_left_alone first →
     t ≡ then_all s (before k first) → u ≡ then_all t (operands_before n alone l ps) → u ≡ then_all s (before k whole)
 chain_before k n alone whole first l ps s t u hw hl hn ha ht hu =
@@ -78,7 +78,7 @@ chain_after k n m alone whole first ps hw hn ha hm =
 
 -- ---- a turn over the operators: one more of them, and then the rest
 
-pub turn_before : (k n : ℕ) (alone : Bool) (l c : RawExprTree) (p : Infix × RawExprTree) (ps : List (Infix × RawExprTree)) (s t whole : SoFar) →
+pub turn_before : (k n : ℕ) (alone : Bool) (l c : RawExprTree) (p : Infix × RawExprTree) (ps : List (Infix × RawExprTree)) (s t whole : Received) →
     t ≡ then_all s (operand_before k p.0 alone l p.1) → c ≡ operand_left k p.0 alone l p.1 → n ≡ operand_after k p.0 alone p.1 →
     then_all s (operands_before k alone l (p ∷ ps)) ≡ whole → then_all t (operands_before n false c ps) ≡ whole
 turn_before k n alone l c p ps s t whole ht hc hn h =

@@ -7,7 +7,7 @@ use Rattle.hoist_parts.specs.Calls.{holds_call}
 use Rattle.hoist_parts.specs.Expressions.{one_if, part_or, part_named, left_of, before}
 use Rattle.hoist_parts.specs.Chains.{branches, operand_left, operand_before}
 use Rattle.hoist_parts.proofs.NoCalls.{no_left, no_before}
-use Rattle.hoist_rules.specs.Receivers.{SoFar, then_all}
+use Rattle.hoist_rules.specs.Receivers.{Received, then_all}
 use Rattle.hoist_rules.proofs.Followed.{then_then}
 
 plain_left_is : (k : ℕ) (op : Infix) (alone : Bool) (l r : RawExprTree) → branches op (holds_call r) ≡ false →
@@ -33,7 +33,7 @@ plain_left k n op calling alone b l r x y c hc h hb hx hn hy e =
     let right : y ≡ left_of (k + one_if (holds_call r && not alone)) r = hy ∙ ap (λ m. left_of m r) (hn ∙ ap (λ z. k + one_if z) named) in
     e ∙ (λ i. raw_joined (left i) op (right i)) ∙ plain_left_is k op alone l r (ap (branches op) (sym hc) ∙ h)
 
-pub plain_before : (k n : ℕ) (op : Infix) (calling alone b : Bool) (l r : RawExprTree) (s t u : SoFar) → calling ≡ holds_call r → branches op calling ≡ false → b ≡ (calling && not alone) →
+pub plain_before : (k n : ℕ) (op : Infix) (calling alone b : Bool) (l r : RawExprTree) (s t u : Received) → calling ≡ holds_call r → branches op calling ≡ false → b ≡ (calling && not alone) →
     n ≡ k + one_if b → t ≡ then_all s (part_named b k l) → u ≡ then_all t (before n r) → u ≡ then_all s (operand_before k op alone l r)
 plain_before k n op calling alone b l r s t u hc h hb hn ht hu =
     let named = needs calling alone b r hc hb in

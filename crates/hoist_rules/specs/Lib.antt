@@ -1,3 +1,4 @@
 pub mod HoistExamples
 pub mod EarlierParts
 pub mod Receivers
+pub mod Singles

@@ -1,12 +1,13 @@
 // The statements before a logical operator and a conditional: a new name, and a branch that sets it.
-ghost use Rattle.std.specs.Prelude.{◌≡◌, ◌+◌, true, [], ◌∷◌, ◌++◌, IfOk, OnOk};
-ghost use Rattle.c_tree.specs.RawTrees.{RawIf, RawIfElse};
-ghost use Rattle.c_tree.specs.RawViews.{raw_expr_tree, raw_stmt_tree};
+ghost use Rattle.std.specs.Prelude.{◌≡◌, ◌+◌, [], ◌∷◌, IfOk, OnOk};
+ghost use Rattle.c_tree.specs.RawViews.{raw_expr_tree};
+ghost use Rattle.scope_rules.specs.Openings.{OpenBlock, OpenIf};
 ghost use Rattle.hoist_parts.specs.NewNames.{used, declared, declared_as, set_to};
-ghost use Rattle.hoist_parts.specs.Expressions.{in_block, is_true};
+ghost use Rattle.hoist_parts.specs.Expressions.{is_true};
 ghost use Rattle.hoist_parts.specs.Chains.{chain_tree, condition_by};
-ghost use Rattle.hoist_rules.specs.Receivers.{so_far, then_all};
+ghost use Rattle.hoist_rules.specs.Receivers.{so_far, then_all, then_open, then_close};
 
+use crate::built::both;
 use crate::hoisting::Hoisting;
 use c_tree::{Infix, RawExpr};
 use hoist_parts::{Chain, condition_by, is_true, used};
@@ -47,18 +48,25 @@ impl Hoisting {
     }
 
     /// Begins `if (c) {`, with the condition of a logical operator.
-    pub(crate) fn open_decision(&mut self, operator: Infix, number: u32) -> Result<(), AllocError> {
+    pub(crate) fn open_decision(&mut self, operator: Infix, number: u32) -> Result<(), AllocError>
+        ensures statements { OnOk result (so_far self.new.statements ≡ then_open OpenBlock (then_open (OpenIf (condition_by operator number)) (so_far self.old.statements))) }
+        ensures next { OnOk result (self.new.next ≡ self.old.next) }
+    {
         let condition = condition_by(self.alloc, operator, number)?;
         self.open(Opening::If(&condition))?;
         self.open(Opening::Block)
     }
 
-    /// Appends `h = r != 0; }` and ends the `if`, and returns the remaining expression.
+    /// Appends `h = r != 0; }` for the new name with a number, and ends the `if`. Returns the name's value.
     pub(crate) fn close_decision(
         &mut self,
         number: u32,
         value: RawExpr,
-    ) -> Result<Chain, AllocError> {
+    ) -> Result<Chain, AllocError>
+        ensures left { IfOk result (λ c. chain_tree c ≡ used number) }
+        ensures statements { OnOk result (so_far self.new.statements ≡ then_close (then_close (then_all (so_far self.old.statements) (set_to number (is_true (raw_expr_tree value)) ∷ [])))) }
+        ensures next { OnOk result (self.new.next ≡ self.old.next) }
+    {
         let alloc = self.alloc;
         let truth = is_true(alloc, value)?;
         self.set(number, truth)?;
@@ -66,5 +74,16 @@ impl Hoisting {
         self.close()?;
         let name = used(alloc, number)?;
         Ok(Chain::of(alloc, name))
+    }
+
+    /// Appends `int h; if (c)` for the next new name, whose number it returns.
+    pub(crate) fn open_choice(&mut self, condition: RawExpr) -> Result<u32, AllocError>
+        ensures number { IfOk result (λ k. k ≡ self.old.next) }
+        ensures statements { OnOk result (so_far self.new.statements ≡ then_open (OpenIf (raw_expr_tree condition)) (then_all (so_far self.old.statements) (declared self.old.next ∷ []))) }
+        ensures next { OnOk result (self.new.next ≡ self.old.next + 1) }
+    {
+        let (condition, number) = both(condition, self.declare_next())?;
+        self.open(Opening::If(&condition))?;
+        Ok(number)
     }
 }

@@ -1,7 +1,8 @@
 // The rewriting of an expression.
 ghost use Rattle.std.specs.Prelude.{◌≡◌, ◌+◌, false, [], ◌∷◌, ◌++◌, IfOk, OnOk};
-ghost use Rattle.c_tree.specs.RawViews.{name_tree, raw_expr_tree, raw_expr_trees, raw_stmt_tree};
-ghost use Rattle.hoist_parts.specs.NewNames.{set_to};
+ghost use Rattle.c_tree.specs.RawTrees.{RawIfElse};
+ghost use Rattle.c_tree.specs.RawViews.{name_tree, raw_expr_tree, raw_expr_trees};
+ghost use Rattle.hoist_parts.specs.NewNames.{used, declared, set_to};
 ghost use Rattle.hoist_parts.specs.Calls.{is_spawn, holds_call};
 ghost use Rattle.hoist_parts.specs.Chains.{chain_tree, operand_trees, operand_left, operand_before, operand_after, operands_left, operands_before, operands_after};
 ghost use Rattle.hoist_parts.specs.Arguments.{passed_left, passed_before, passed_after};
@@ -45,19 +46,6 @@ impl Hoisting {
             return Ok(part);
         }
         self.name_part(part)
-    }
-}
-
-impl Hoisting {
-    // `int h; if (c)` for the next new name, whose number it returns.
-    fn open_choice(&mut self, condition: RawExpr) -> Result<u32, AllocError> {
-        let number = self.declare_next_before(&condition)?;
-        self.open(Opening::If(&condition))?;
-        Ok(number)
-    }
-
-    fn declare_next_before(&mut self, _condition: &RawExpr) -> Result<u32, AllocError> {
-        self.declare_next()
     }
 }
 
@@ -200,7 +188,14 @@ impl Hoisting {
         condition: RawExpr,
         then: &RawExpr,
         otherwise: &RawExpr,
-    ) -> Result<RawExpr, AllocError> {
+    ) -> Result<RawExpr, AllocError>
+        ensures left { IfOk result (λ e. raw_expr_tree e ≡ used self.old.next) }
+        ensures statements { OnOk result (so_far self.new.statements ≡ then_all (so_far self.old.statements) (declared self.old.next ∷ RawIfElse (raw_expr_tree condition)
+            (in_block (before (self.old.next + 1) (raw_expr_tree then.now) ++ set_to self.old.next (left_of (self.old.next + 1) (raw_expr_tree then.now)) ∷ []))
+            (in_block (before (self.old.next + 1 + names_in (raw_expr_tree then.now)) (raw_expr_tree otherwise.now)
+            ++ set_to self.old.next (left_of (self.old.next + 1 + names_in (raw_expr_tree then.now)) (raw_expr_tree otherwise.now)) ∷ [])) ∷ [])) }
+        ensures next { OnOk result (self.new.next ≡ self.old.next + 1 + names_in (raw_expr_tree then.now) + names_in (raw_expr_tree otherwise.now)) }
+    {
         let number = self.open_choice(condition)?;
         self.branch(number, then)?;
         self.otherwise()?;
@@ -211,7 +206,11 @@ impl Hoisting {
 
     // `{ P(e) h = e; }` for the new name with a number.
     #[cycle(hoist)]
-    fn branch(&mut self, number: u32, e: &RawExpr) -> Result<(), AllocError> {
+    fn branch(&mut self, number: u32, e: &RawExpr) -> Result<(), AllocError>
+        ensures statements { OnOk result (so_far self.new.statements ≡ then_all (so_far self.old.statements)
+            (in_block (before self.old.next (raw_expr_tree e.now) ++ set_to number (left_of self.old.next (raw_expr_tree e.now)) ∷ []) ∷ [])) }
+        ensures next { OnOk result (self.new.next ≡ self.old.next + names_in (raw_expr_tree e.now)) }
+    {
         self.open(Opening::Block)?;
         let value = self.expression(e)?;
         self.set(number, value)?;

@@ -1,9 +1,8 @@
 // The rewriting of a function.
 ghost use Rattle.std.specs.Prelude.{◌≡◌, IfOk};
 ghost use Rattle.c_tree.specs.RawViews.{raw_stmt_trees};
-ghost use Rattle.c_tree.specs.WholeForParts.{AreForsWhole};
 ghost use Rattle.hoist_parts.specs.Statements.{all_hoisted};
-ghost use Rattle.hoist_rules.specs.Receivers.{so_far, then_all};
+ghost use Rattle.hoist_rules.specs.Receivers.{received, then_received};
 
 use crate::hoisting::Hoisting;
 use crate::receivers::Receiver;
@@ -23,8 +22,7 @@ pub fn hoist_body(
     body: &[RawStmt],
     receiver: Receiver,
 ) -> Result<Receiver, AllocError>
-    requires { AreForsWhole (raw_stmt_trees body.now) }
-    ensures { IfOk result (λ r. so_far r ≡ then_all (so_far receiver) (all_hoisted 0 (raw_stmt_trees body.now))) }
+    ensures { IfOk result (λ r. received r ≡ then_received (received receiver) (all_hoisted 0 (raw_stmt_trees body.now))) }
 {
     let mut hoisting = Hoisting {
         alloc,

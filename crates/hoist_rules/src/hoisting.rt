@@ -1,8 +1,9 @@
 // The state while a function is rewritten.
-ghost use Rattle.std.specs.Prelude.{◌≡◌, ◌+◌, true, ◌∷◌, [], map, IfOk, OnOk};
+ghost use Rattle.std.specs.Prelude.{◌≡◌, ◌+◌, ◌∷◌, [], IfOk, OnOk};
 ghost use Rattle.c_tree.specs.RawViews.{raw_expr_tree, raw_stmt_tree};
 ghost use Rattle.hoist_parts.specs.NewNames.{used, declared, declared_as, set_to};
-ghost use Rattle.hoist_rules.specs.Receivers.{so_far, then_all};
+ghost use Rattle.hoist_rules.specs.Receivers.{so_far, then_all, then_open, then_else, then_close};
+ghost use Rattle.scope_rules.specs.Openings.{opening_tree};
 
 use crate::receivers::Receiver;
 use c_tree::{RawExpr, RawSimple, RawStmt};
@@ -88,17 +89,29 @@ impl Hoisting {
     }
 
     /// Begins a block, or a statement with a body.
-    pub(crate) fn open(&mut self, opening: Opening) -> Result<(), AllocError> {
+    pub(crate) fn open(&mut self, opening: Opening) -> Result<(), AllocError>
+        ensures statements { OnOk result (so_far self.new.statements ≡ then_open (opening_tree opening.entry) (so_far self.old.statements)) }
+        ensures next { self.new.next ≡ self.old.next }
+        ensures alloc { self.new.alloc ≡ self.old.alloc }
+    {
         self.statements.open(opening)
     }
 
     /// Begins the `else` of the `if` that was begun last.
-    pub(crate) fn otherwise(&mut self) -> Result<(), AllocError> {
-        self.statements.resolver.otherwise()
+    pub(crate) fn otherwise(&mut self) -> Result<(), AllocError>
+        ensures statements { OnOk result (so_far self.new.statements ≡ then_else (so_far self.old.statements)) }
+        ensures next { self.new.next ≡ self.old.next }
+        ensures alloc { self.new.alloc ≡ self.old.alloc }
+    {
+        self.statements.otherwise()
     }
 
     /// Ends the block, or the statement with a body, that was begun last.
-    pub(crate) fn close(&mut self) -> Result<(), AllocError> {
-        self.statements.resolver.close()
+    pub(crate) fn close(&mut self) -> Result<(), AllocError>
+        ensures statements { OnOk result (so_far self.new.statements ≡ then_close (so_far self.old.statements)) }
+        ensures next { self.new.next ≡ self.old.next }
+        ensures alloc { self.new.alloc ≡ self.old.alloc }
+    {
+        self.statements.close()
     }
 }

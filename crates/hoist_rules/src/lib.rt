@@ -21,6 +21,7 @@ mod functions;
 mod hoisting;
 mod receivers;
 mod simples;
+mod singles;
 mod statements;
 
 pub use examples::{

@@ -1,7 +1,8 @@
 // The receiver of the statements that replace those of a function.
-ghost use Rattle.std.specs.Prelude.{◌≡◌, [], ◌∷◌, IfOk, OnOk};
+ghost use Rattle.std.specs.Prelude.{◌≡◌, [], ◌∷◌, ◌++◌, OnOk};
 ghost use Rattle.c_tree.specs.RawViews.{raw_stmt_tree};
-ghost use Rattle.hoist_rules.specs.Receivers.{so_far, then_all};
+ghost use Rattle.hoist_rules.specs.Receivers.{opening_places, so_far, then_all, then_open, then_else, then_close};
+ghost use Rattle.scope_rules.specs.Openings.{opening_tree};
 
 use c_tree::RawStmt;
 use call_places::{
@@ -29,14 +30,39 @@ impl Receiver {
     }
 
     /// Begins a block, or a statement with a body.
-    pub(crate) fn open(&mut self, opening: Opening) -> Result<(), AllocError> {
-        match &opening {
-            Opening::Block => {}
-            Opening::If(condition) | Opening::While(condition) => {
-                add_places_of_calls_in_expr(&mut self.places, condition)?;
-            }
-            Opening::For(parts) => add_places_of_calls_in_parts(&mut self.places, parts)?,
-        }
-        self.resolver.open(opening)
+    pub(crate) fn open(&mut self, opening: Opening) -> Result<(), AllocError>
+        ensures { OnOk result (so_far self.new ≡ then_open (opening_tree opening.entry) (so_far self.old)) }
+    {
+        add_places(&mut self.places, opening)?;
+        self.resolver.open(opening)?;
+        Ok(())
+    }
+
+    /// Begins the `else` of the `if` that was begun last.
+    pub(crate) fn otherwise(&mut self) -> Result<(), AllocError>
+        ensures { OnOk result (so_far self.new ≡ then_else (so_far self.old)) }
+    {
+        self.resolver.otherwise()?;
+        Ok(())
+    }
+
+    /// Ends the block, or the statement with a body, that was begun last.
+    pub(crate) fn close(&mut self) -> Result<(), AllocError>
+        ensures { OnOk result (so_far self.new ≡ then_close (so_far self.old)) }
+    {
+        self.resolver.close()?;
+        Ok(())
+    }
+}
+
+// Adds the places of the calls in what begins a block, or a statement with a body.
+fn add_places(places: &mut Vec<u32>, opening: Opening) -> Result<(), AllocError>
+    ensures { OnOk result (places.new.items ≡ places.old.items ++ opening_places (opening_tree opening.entry)) }
+{
+    match opening {
+        Opening::Block => Ok(()),
+        Opening::If(condition) => add_places_of_calls_in_expr(places, condition),
+        Opening::While(condition) => add_places_of_calls_in_expr(places, condition),
+        Opening::For(parts) => add_places_of_calls_in_parts(places, parts),
     }
 }

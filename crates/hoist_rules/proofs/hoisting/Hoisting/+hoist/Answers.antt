@@ -162,21 +162,3 @@ pub expression-returns-in_ok-copied-in-Name-clause-before : goal.expression-retu
 expression-returns-in_ok-copied-in-Name-clause-before t c =
     let s = so_far c.args.self.now.statements in
     sym (then_none s) ∙ ap (λ e. then_all s (before c.args.self.now.next e)) (sym (ap raw_expr_tree c.in-Name.is ∙ raw_expr_tree-Name c.in-Name.name))
-
-pub expression-returns-in_Ok-second-in-Conditional-clause-before : goal.expression-returns-in_Ok-second-in-Conditional-clause-before
-expression-returns-in_Ok-second-in-Conditional-clause-before t c =
-    let condition = raw_expr_tree c.in-Conditional.condition.value in
-    let first = raw_expr_tree c.in-Conditional.then.value in
-    let second = raw_expr_tree c.in-Conditional.otherwise.value in
-    let seen : raw_expr_tree c.args.raw.now ≡ RawConditional condition first second =
-    ap raw_expr_tree c.in-Conditional.is ∙ raw_expr_tree-Conditional c.in-Conditional.condition c.in-Conditional.then c.in-Conditional.otherwise in
-    let test = c.in_ok-condition-in-Conditional.ensures in
-    let one = c.in_Ok-first-in-Conditional.ensures in
-    let other = c.in_Ok-second-in-Conditional.ensures in
-    on_ok_weaker c.choose.result
-    (λ h. calling.chosen_pushed c.args.self.now.next _ _ _ _ _ (raw_expr_tree c.args.raw.now) condition first second _ _ _ _ _ _ _ _
-    (so_far c.args.self.now.statements) (so_far c.expression-in-Conditional.new.self.statements) (so_far c.branch-second.new.self.statements) _
-    seen (ap raw_expr_tree c.deref-in-Conditional-3.ensures) (ap raw_expr_tree c.deref-in-Conditional.ensures)
-    (ap raw_expr_tree c.deref-then-is_branched.ensures) (ap raw_expr_tree c.deref-in-Conditional-2.ensures) (ap raw_expr_tree c.deref-then-is_branched-2.ensures)
-    c.either_holds_call-is_branched.ensures c.if-is_branched.true test.left test.before test.next
-    c.in-Ok.ensures.number (ap so_far (other.outer ∙ one.outer) ∙ c.in-Ok.ensures.before) c.in-Ok.ensures.next one.block one.next other.block h) c.choose.ensures.before

@@ -26,13 +26,7 @@ statements-loop-stmt-preserved t c =
       statements = body.turn_statements at.self.next c.statement.new.self.next (raw_stmt_tree item) ss (so_far at.self.statements) (so_far c.statement.new.self.statements) _
           made.statements made.next (rw cut at at.invariant.statements);
       next = body.turn_names at.self.next c.statement.new.self.next _ (raw_stmt_tree item) ss made.next (rw cut at at.invariant.next);
-      whole = (rw cut at at.invariant.whole).1;
     }
-
-pub while_loop-returns-in_ok-push-in-Ok-clause-next : goal.while_loop-returns-in_ok-push-in-Ok-clause-next
-while_loop-returns-in_ok-push-in-Ok-clause-next t c =
-    let none = no_names (raw_expr_tree c.args.condition.now) c.requires.calling in
-    omega (arith, none, c.in_ok-condition.ensures.next, c.in-Ok.ensures.next, c.in_ok-push-in-Ok.ensures.next)
 
 pub statement-returns-in_ok-simple-in-Simple-clause-statements : goal.statement-returns-in_ok-simple-in-Simple-clause-statements
 statement-returns-in_ok-simple-in-Simple-clause-statements t c =
@@ -44,38 +38,6 @@ statement-returns-in_ok-simple-in-Simple-clause-statements t c =
     on_ok_weaker c.push.result
     (λ h. then_pushed s (so_far c.simple.new.self.statements) (so_far c.push.new.self.statements) (simple_before k p) _ _ c.in_ok-simple-in-Simple.ensures.before h made
     ∙ ap (λ x. then_all s (hoisted k x)) (sym seen)) c.push.ensures.statements
-
-pub statement-returns-in-Ok-clause-statements : goal.statement-returns-in-Ok-clause-statements
-statement-returns-in-Ok-clause-statements t c =
-    let s = so_far c.args.self.now.statements in
-    let k = c.args.self.now.next in
-    let condition = raw_expr_tree c.in-If.condition in
-    let inner = raw_stmt_tree c.in-If.then.value in
-    let seen : raw_stmt_tree c.args.raw.now ≡ RawIf condition inner = ap raw_stmt_tree c.in-If.is ∙ raw_stmt_tree-If c.in-If.condition c.in-If.then in
-    let test = c.in_ok-condition-in-If.ensures in
-    let body = c.in-Ok.ensures.statement ∙ (λ i. as_body (hoisted (test.next i) (raw_stmt_tree (c.deref-in-If.ensures i)))) in
-    let made = raw_stmt_tree-If c.in_ok-condition-in-If.condition c.in-Ok.then ∙ (λ i. RawIf (test.left i) (body i)) in
-    on_ok_weaker c.push-in-Ok.result
-    (λ h. then_pushed s (so_far c.body.new.self.statements) (so_far c.push-in-Ok.new.self.statements) (before k condition) _ _ (ap so_far c.in-Ok.ensures.outer ∙ test.before) h made
-    ∙ ap (λ x. then_all s (hoisted k x)) (sym seen)) c.push-in-Ok.ensures.statements
-
-pub statement-returns-in-Ok-body-2-clause-statements : goal.statement-returns-in-Ok-body-2-clause-statements
-statement-returns-in-Ok-body-2-clause-statements t c =
-    let s = so_far c.args.self.now.statements in
-    let k = c.args.self.now.next in
-    let condition = raw_expr_tree c.in-IfElse.condition in
-    let inner = raw_stmt_tree c.in-IfElse.then.value in
-    let other = raw_stmt_tree c.in-IfElse.otherwise.value in
-    let seen : raw_stmt_tree c.args.raw.now ≡ RawIfElse condition inner other = ap raw_stmt_tree c.in-IfElse.is ∙ raw_stmt_tree-IfElse c.in-IfElse.condition c.in-IfElse.then c.in-IfElse.otherwise in
-    let test = c.in_ok-condition-in-IfElse.ensures in
-    let body = c.in-Ok-body.ensures.statement ∙ (λ i. as_body (hoisted (test.next i) (raw_stmt_tree (c.deref-in-IfElse.ensures i)))) in
-    let at : c.body-in-IfElse.new.self.next ≡ k + names_in condition + stmt_names inner = c.in-Ok-body.ensures.next ∙ (λ i. test.next i + stmt_names (raw_stmt_tree (c.deref-in-IfElse.ensures i))) in
-    let last = c.in-Ok-body-2.ensures.statement ∙ (λ i. as_body (hoisted (at i) (raw_stmt_tree (c.deref-in-IfElse-2.ensures i)))) in
-    let made = raw_stmt_tree-IfElse c.in_ok-condition-in-IfElse.condition c.in-Ok-body.then c.in-Ok-body-2.otherwise ∙ (λ i. RawIfElse (test.left i) (body i) (last i)) in
-    on_ok_weaker c.push-in-Ok-body-2.result
-    (λ h. then_pushed s (so_far c.body-in-IfElse-2.new.self.statements) (so_far c.push-in-Ok-body-2.new.self.statements) (before k condition) _ _
-    (ap so_far (c.in-Ok-body-2.ensures.outer ∙ c.in-Ok-body.ensures.outer) ∙ test.before) h made
-    ∙ ap (λ x. then_all s (hoisted k x)) (sym seen)) c.push-in-Ok-body-2.ensures.statements
 
 pub statement-returns-in_ok-returned-in-Return-clause-statements : goal.statement-returns-in_ok-returned-in-Return-clause-statements
 statement-returns-in_ok-returned-in-Return-clause-statements t c =

@@ -1,6 +1,5 @@
 use Rattle.std.proofs.Common.{◌≡◌, ◌+◌, drop}
 use Rattle.c_tree.specs.RawViews.{raw_stmt_trees}
-use Rattle.c_tree.specs.WholeForParts.{AreForsWhole}
 use Rattle.hoist_parts.specs.Statements.{stmts_names, all_hoisted}
 use Rattle.hoist_rules.specs.Receivers.{so_far, then_all}
 use Rattle.hoist_rules.proofs.hoisting.Hoisting.+statements.Given as goal
@@ -10,5 +9,4 @@ invariant-statements-loop-stmt l = record {
   statements : then_all (so_far l.self.statements) (all_hoisted l.self.next (raw_stmt_trees (drop l.stmt-index l.raw)))
       ≡ then_all (so_far l.initial.self.statements) (all_hoisted l.initial.self.next (raw_stmt_trees l.raw));
   next : l.self.next + stmts_names (raw_stmt_trees (drop l.stmt-index l.raw)) ≡ l.initial.self.next + stmts_names (raw_stmt_trees l.raw);
-  whole : AreForsWhole (raw_stmt_trees (drop l.stmt-index l.raw));
 }

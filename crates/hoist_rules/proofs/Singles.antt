@@ -1,0 +1,149 @@
+-- One statement replaces a statement exactly if nothing goes before it.
+use Rattle.std.proofs.Common.{ℕ, ◌≡◌, ◌<◌, ◌+◌, refl, ap, ◌∙◌, sym, Bool, true, false, not, ◌&&◌, ◌||◌, List, [], ◌∷◌, ◌++◌, length, length-append, Option, Some, None, arith}
+use Rattle.std.specs.Prelude.{if◌then◌else◌}
+use Rattle.c_tree.specs.RawTrees.{RawExprTree, RawExprTrees, RawNumber, RawName, RawElement, RawUnary, RawParenthesized, RawBinary, RawLogicalAnd, RawLogicalOr, RawConditional, RawCall, RawTableCall, NoExprs, And, RawSimpleTree, RawDeclareScalar, RawDeclareArray, RawDeclareWith, RawSet, RawSetElement, RawCalling, RawTableCalling, RawStmtTree, RawDo, RawEmpty, RawBlock, RawIf, RawIfElse, RawWhile, RawFor, RawBreak, RawContinue, RawReturn}
+use Rattle.hoist_parts.specs.Calls.{holds_call, hold_call, holds_nested, is_named, is_spawn}
+use Rattle.hoist_parts.specs.Expressions.{names_in, one_if, part_after, part_named, left_of, before, arguments_before, in_block}
+use Rattle.hoist_parts.specs.Statements.{value_before, simple_before, returned_before, as_body, hoisted, table_before}
+use Rattle.hoist_parts.proofs.NoCalls.{or_left, or_right, no_before}
+use Rattle.hoist_rules.specs.Singles.{move_call, moves_call, simple_moves, returned_moves, stmt_moves}
+
+-- some statements, if any go before
+abbrev Goes : Bool → List RawStmtTree → Type 0
+Goes true ss = 0 < length ss
+Goes false ss = ss ≡ []
+
+both_go : (a b : Bool) (xs ys : List RawStmtTree) → Goes a xs → Goes b ys → Goes (a || b) (xs ++ ys)
+both_go true b xs ys g h = let l = length-append xs ys in omega (arith, g, l)
+both_go false true xs ys g h = rw g h
+both_go false false xs ys g h = rw (g, h) refl
+
+first_goes : (a : Bool) (xs : List RawStmtTree) → a ≡ false → Goes a xs → xs ≡ []
+first_goes true xs e g = cc
+first_goes false xs e g = g
+
+some_go : (a : Bool) (xs : List RawStmtTree) → a ≡ true → Goes a xs → 0 < length xs
+some_go true xs e g = g
+some_go false xs e g = cc
+
+later_go : (xs ys : List RawStmtTree) → 0 < length ys → 0 < length (xs ++ ys)
+later_go xs ys h = let l = length-append xs ys in omega (arith, h, l)
+
+if_goes : (b : Bool) (xs : List RawStmtTree) → 0 < length xs → Goes b (if b then xs else [])
+if_goes true xs h = h
+if_goes false xs h = refl
+
+-- a part that gets a name goes before; it gets one only if a later part goes before
+named_goes : (b : Bool) (k : ℕ) (left : RawExprTree) → Goes b (part_named b k left)
+named_goes true k left = omega arith
+named_goes false k left = refl
+
+none_named : (later : Bool) (k : ℕ) (e left : RawExprTree) → later ≡ false → part_named (is_named later e) k left ≡ []
+none_named true k e left h = cc
+none_named false k e left h = refl
+
+middle_go : (a b : Bool) (xs ps ys : List RawStmtTree) → (b ≡ false → ps ≡ []) → Goes a xs → Goes b ys → Goes (a || b) (xs ++ ps ++ ys)
+middle_go true b xs ps ys p g h = let l = length-append xs (ps ++ ys) in omega (arith, g, l)
+middle_go false true xs ps ys p g h = rw g (later_go ps ys h)
+middle_go false false xs ps ys p g h = let n = p refl in rw (g, n, h) refl
+
+-- ---- expressions
+
+mutual
+  goes_before : (k : ℕ) (e : RawExprTree) → Goes (holds_call e) (before k e)
+  goes_before k (RawNumber v) = refl
+  goes_before k (RawName n) = refl
+  goes_before k (RawElement n i) = goes_before k i
+  goes_before k (RawUnary op e) = goes_before k e
+  goes_before k (RawParenthesized e) = goes_before k e
+  goes_before k (RawBinary op l r) =
+      let m = part_after k (holds_call r) l in
+      middle_go (holds_call l) (holds_call r) (before k l) (part_named (is_named (holds_call r) l) (k + names_in l) (left_of k l)) (before m r)
+      (none_named (holds_call r) (k + names_in l) l (left_of k l)) (goes_before k l) (goes_before m r)
+  goes_before k (RawLogicalAnd l r) = both_go (holds_call l) (holds_call r) (before k l) _ (goes_before k l) (if_goes (holds_call r) _ (omega arith))
+  goes_before k (RawLogicalOr l r) = both_go (holds_call l) (holds_call r) (before k l) _ (goes_before k l) (if_goes (holds_call r) _ (omega arith))
+  goes_before k (RawConditional c a b) = both_go (holds_call c) (holds_call a || holds_call b) (before k c) _ (goes_before k c) (if_goes (holds_call a || holds_call b) _ (omega arith))
+  goes_before k (RawCall n es) = later_go (arguments_before (is_spawn n) k es) _ (omega arith)
+  goes_before k (RawTableCall n i e) = later_go (before k i) _ (later_go (part_named (is_named (holds_call e) i) (k + names_in i) (left_of k i)) _ (later_go (before (part_after k (holds_call e) i) e) _ (omega arith)))
+
+goes_arguments : (k : ℕ) (es : RawExprTrees) → Goes (hold_call es) (arguments_before false k es)
+goes_arguments k NoExprs = refl
+goes_arguments k (And e es) =
+    let m = part_after k (hold_call es) e in
+    middle_go (holds_call e) (hold_call es) (before k e) (part_named (is_named (hold_call es) e) (k + names_in e) (left_of k e)) (arguments_before false m es)
+    (none_named (hold_call es) (k + names_in e) e (left_of k e)) (goes_before k e) (goes_arguments m es)
+
+goes_move : (stays : Bool) (k : ℕ) (es : RawExprTrees) → Goes (move_call stays es) (arguments_before stays k es)
+goes_move true k NoExprs = refl
+goes_move false k NoExprs = refl
+goes_move true k (And e es) = goes_arguments k es
+goes_move false k (And e es) = goes_arguments k (And e es)
+
+goes_table : (k : ℕ) (i e : RawExprTree) → Goes (holds_call i || holds_call e) (table_before k i e)
+goes_table k i e =
+    let m = part_after k (holds_call e) i in
+    middle_go (holds_call i) (holds_call e) (before k i) (part_named (is_named (holds_call e) i) (k + names_in i) (left_of k i)) (before m e)
+    (none_named (holds_call e) (k + names_in i) i (left_of k i)) (goes_before k i) (goes_before m e)
+
+goes_value : (k : ℕ) (v : RawExprTree) → Goes (moves_call v) (value_before k v)
+goes_value k (RawNumber v) = refl
+goes_value k (RawName n) = refl
+goes_value k (RawElement n i) = goes_before k (RawElement n i)
+goes_value k (RawUnary op e) = goes_before k (RawUnary op e)
+goes_value k (RawParenthesized e) = goes_before k (RawParenthesized e)
+goes_value k (RawBinary op l r) = goes_before k (RawBinary op l r)
+goes_value k (RawLogicalAnd l r) = goes_before k (RawLogicalAnd l r)
+goes_value k (RawLogicalOr l r) = goes_before k (RawLogicalOr l r)
+goes_value k (RawConditional c a b) = goes_before k (RawConditional c a b)
+goes_value k (RawCall n es) = goes_move (is_spawn n) k es
+goes_value k (RawTableCall n i e) = goes_table k i e
+
+-- ---- statements
+
+goes_simple : (k : ℕ) (s : RawSimpleTree) → Goes (simple_moves s) (simple_before k s)
+goes_simple k (RawDeclareScalar n) = refl
+goes_simple k (RawDeclareArray n size) = refl
+goes_simple k (RawDeclareWith n v) = goes_value k v
+goes_simple k (RawSet n v) = goes_value k v
+goes_simple k (RawSetElement n i v) =
+    let later = is_named (holds_nested v) i in
+    both_go (holds_call i) (later || moves_call v) (before k i) _ (goes_before k i)
+    (both_go later (moves_call v) (part_named later (k + names_in i) (left_of k i)) _ (named_goes later (k + names_in i) (left_of k i)) (goes_value (part_after k (holds_nested v) i) v))
+goes_simple k (RawCalling n es) = goes_move (is_spawn n) k es
+goes_simple k (RawTableCalling n i e) = goes_table k i e
+
+goes_returned : (k : ℕ) (v : Option RawExprTree) → Goes (returned_moves v) (returned_before k v)
+goes_returned k None = refl
+goes_returned k (Some v) = goes_value k v
+
+single_by : (bs : List RawStmtTree) (x : RawStmtTree) → bs ≡ [] → bs ++ x ∷ [] ≡ as_body (bs ++ x ∷ []) ∷ []
+single_by bs x h = rw h refl
+
+many_by : (bs : List RawStmtTree) (x : RawStmtTree) → 0 < length bs → as_body (bs ++ x ∷ []) ≡ in_block (bs ++ x ∷ [])
+many_by [] x h = absurd (omega (arith, h))
+many_by (b ∷ []) x h = refl
+many_by (b ∷ c ∷ bs) x h = refl
+
+pub single : (s : RawStmtTree) (k : ℕ) → stmt_moves s ≡ false → hoisted k s ≡ as_body (hoisted k s) ∷ []
+single (RawDo s) k h = single_by (simple_before k s) _ (first_goes (simple_moves s) (simple_before k s) h (goes_simple k s))
+single RawEmpty k h = refl
+single (RawBlock ss) k h = refl
+single (RawIf c s) k h = single_by (before k c) _ (first_goes (holds_call c) (before k c) h (goes_before k c))
+single (RawIfElse c s r) k h = single_by (before k c) _ (first_goes (holds_call c) (before k c) h (goes_before k c))
+single (RawWhile c s) k h = refl
+single (RawFor init c step s) k h = refl
+single (RawBreak at) k h = refl
+single (RawContinue at) k h = refl
+single (RawReturn at v) k h = single_by (returned_before k v) _ (first_goes (returned_moves v) (returned_before k v) h (goes_returned k v))
+
+pub many : (s : RawStmtTree) (k : ℕ) → stmt_moves s ≡ true → as_body (hoisted k s) ≡ in_block (hoisted k s)
+many (RawDo s) k h = many_by (simple_before k s) _ (some_go (simple_moves s) (simple_before k s) h (goes_simple k s))
+many RawEmpty k h = cc
+many (RawBlock ss) k h = cc
+many (RawIf c s) k h = many_by (before k c) _ (some_go (holds_call c) (before k c) h (goes_before k c))
+many (RawIfElse c s r) k h = many_by (before k c) _ (some_go (holds_call c) (before k c) h (goes_before k c))
+many (RawWhile c s) k h = cc
+many (RawFor init c step s) k h = cc
+many (RawBreak at) k h = cc
+many (RawContinue at) k h = cc
+many (RawReturn at v) k h = many_by (returned_before k v) _ (some_go (returned_moves v) (returned_before k v) h (goes_returned k v))
