@@ -6,4 +6,4 @@ pub mod BodyTurns
 pub mod OperatorTurns
 pub mod CallTurns
 pub mod Followed
-pub mod Singles
+pub mod MovedCalls

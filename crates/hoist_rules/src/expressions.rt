@@ -1,8 +1,7 @@
 // The rewriting of an expression.
 ghost use Rattle.std.specs.Prelude.{◌≡◌, ◌+◌, false, [], ◌∷◌, ◌++◌, IfOk, OnOk};
-ghost use Rattle.c_tree.specs.RawTrees.{RawIfElse};
 ghost use Rattle.c_tree.specs.RawViews.{name_tree, raw_expr_tree, raw_expr_trees};
-ghost use Rattle.hoist_parts.specs.NewNames.{used, declared, set_to};
+ghost use Rattle.hoist_parts.specs.NewNames.{set_to};
 ghost use Rattle.hoist_parts.specs.Calls.{is_spawn, holds_call};
 ghost use Rattle.hoist_parts.specs.Chains.{chain_tree, operand_trees, operand_left, operand_before, operand_after, operands_left, operands_before, operands_after};
 ghost use Rattle.hoist_parts.specs.Arguments.{passed_left, passed_before, passed_after};
@@ -87,7 +86,12 @@ impl Hoisting {
                 let is_branched = either_holds_call(then, otherwise);
                 let condition = self.expression(condition)?;
                 if is_branched {
-                    self.branches(condition, then, otherwise)
+                    let number = self.open_choice(condition)?;
+                    self.branch(number, then)?;
+                    self.otherwise()?;
+                    self.branch(number, otherwise)?;
+                    self.close()?;
+                    Ok(used(alloc, number)?)
                 } else {
                     let first = match self.kept(then) {
                         Ok(first) => first,
@@ -179,29 +183,6 @@ impl Hoisting {
                 Err(error)
             }
         }
-    }
-
-    // `int h; if (c) { P(a) h = a; } else { P(b) h = b; }` for the next new name. Returns what remains.
-    #[cycle(hoist)]
-    fn branches(
-        &mut self,
-        condition: RawExpr,
-        then: &RawExpr,
-        otherwise: &RawExpr,
-    ) -> Result<RawExpr, AllocError>
-        ensures left { IfOk result (λ e. raw_expr_tree e ≡ used self.old.next) }
-        ensures statements { OnOk result (so_far self.new.statements ≡ then_all (so_far self.old.statements) (declared self.old.next ∷ RawIfElse (raw_expr_tree condition)
-            (in_block (before (self.old.next + 1) (raw_expr_tree then.now) ++ set_to self.old.next (left_of (self.old.next + 1) (raw_expr_tree then.now)) ∷ []))
-            (in_block (before (self.old.next + 1 + names_in (raw_expr_tree then.now)) (raw_expr_tree otherwise.now)
-            ++ set_to self.old.next (left_of (self.old.next + 1 + names_in (raw_expr_tree then.now)) (raw_expr_tree otherwise.now)) ∷ [])) ∷ [])) }
-        ensures next { OnOk result (self.new.next ≡ self.old.next + 1 + names_in (raw_expr_tree then.now) + names_in (raw_expr_tree otherwise.now)) }
-    {
-        let number = self.open_choice(condition)?;
-        self.branch(number, then)?;
-        self.otherwise()?;
-        self.branch(number, otherwise)?;
-        self.close()?;
-        used(self.alloc, number)
     }
 
     // `{ P(e) h = e; }` for the new name with a number.

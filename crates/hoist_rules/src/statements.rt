@@ -1,6 +1,6 @@
 // The rewriting of statements.
 ghost use Rattle.std.specs.Prelude.{◌≡◌, ◌+◌, [], ◌∷◌, ◌++◌, OnOk};
-ghost use Rattle.c_tree.specs.RawTrees.{RawNumber, RawIf, RawIfElse, RawBreak};
+ghost use Rattle.c_tree.specs.RawTrees.{RawNumber, RawIf, RawBreak};
 ghost use Rattle.c_tree.specs.RawViews.{raw_expr_tree, raw_stmt_tree, raw_stmt_trees};
 ghost use Rattle.scope_rules.specs.Openings.{OpenBlock, OpenIf, OpenWhile, opening_tree, whole};
 ghost use Rattle.hoist_parts.specs.Expressions.{names_in, left_of, before, is_false};
@@ -38,7 +38,13 @@ impl Hoisting {
                 condition,
                 then,
                 otherwise,
-            } => self.chosen(then, otherwise, condition),
+            } => {
+                self.open_if(condition)?;
+                self.statement(then)?;
+                self.otherwise()?;
+                self.statement(otherwise)?;
+                self.close()
+            }
             RawStmt::While { condition, body } => {
                 if holds_call(condition) {
                     self.while_calling(body, condition)
@@ -76,25 +82,6 @@ impl Hoisting {
     {
         self.open_if(condition)?;
         self.statement(then)?;
-        self.close()
-    }
-
-    // An `if` with an `else`.
-    #[cycle(statements)]
-    fn chosen(
-        &mut self,
-        then: &RawStmt,
-        otherwise: &RawStmt,
-        condition: &RawExpr,
-    ) -> Result<(), AllocError>
-        ensures statements { OnOk result (so_far self.new.statements ≡ then_all (so_far self.old.statements)
-            (hoisted self.old.next (RawIfElse (raw_expr_tree condition.now) (raw_stmt_tree then.now) (raw_stmt_tree otherwise.now)))) }
-        ensures next { OnOk result (self.new.next ≡ self.old.next + names_in (raw_expr_tree condition.now) + stmt_names (raw_stmt_tree then.now) + stmt_names (raw_stmt_tree otherwise.now)) }
-    {
-        self.open_if(condition)?;
-        self.statement(then)?;
-        self.otherwise()?;
-        self.statement(otherwise)?;
         self.close()
     }
 

@@ -1,16 +1,16 @@
-use Rattle.std.proofs.Common.{◌≡◌, ◌+◌, [], ◌∷◌, ◌∙◌, map, drop, nat_lt, sym, ap, arith}
+use Rattle.std.proofs.Common.{◌≡◌, ◌+◌, [], ◌∷◌, ◌++◌, ◌∙◌, refl, map, drop, nat_lt, sym, ap, arith}
 use Rattle.std.proofs.lemmas.List.{map_push, drop_all}
-use Rattle.std.proofs.lemmas.Result.{on_ok_weaker}
 use Rattle.c_tree.specs.RawTrees.{RawConditional, RawCall, RawTableCall}
 use Rattle.c_tree.specs.RawViews.{name_tree, raw_expr_tree, raw_expr_trees, raw_chained}
 use Rattle.c_tree.proofs.Cuts.{drop_at}
 use Rattle.c_tree.proofs.RawExprEquations.{raw_operand_tree, raw_expr_tree-Number, raw_expr_tree-Name, raw_expr_tree-Chain, raw_expr_tree-Conditional, raw_expr_tree-Call, raw_expr_tree-TableCall}
 use Rattle.hoist_parts.specs.Arguments.{calls_among}
-use Rattle.hoist_parts.specs.Expressions.{before}
+use Rattle.hoist_parts.specs.NewNames.{declared, set_to}
+use Rattle.hoist_parts.specs.Expressions.{before, left_of, in_block}
 use Rattle.hoist_parts.specs.Chains.{chain_tree, operand_trees}
 use Rattle.hoist_parts.proofs.NoCalls.{no_left, no_before, no_names}
-use Rattle.hoist_rules.specs.Receivers.{so_far, then_all}
-use Rattle.hoist_rules.proofs.Followed.{then_none}
+use Rattle.hoist_rules.specs.Receivers.{Received, so_far, then_all, then_else, then_close}
+use Rattle.hoist_rules.proofs.Followed.{then_none, closed_both}
 use Rattle.hoist_rules.proofs.Operands as operand
 use Rattle.hoist_rules.proofs.CallTurns as calling
 use Rattle.hoist_rules.proofs.OperatorTurns as joined
@@ -111,16 +111,16 @@ kept-returns-clause-outer t c =
 pub kept-returns-clause-next : goal.kept-returns-clause-next
 kept-returns-clause-next t c = let none = no_names (raw_expr_tree c.args.raw.now) c.requires in omega (arith, c.in_ok-expression.ensures.next, none)
 
-pub operand-returns-in_ok-with-in-Ok-expression-clause-left : goal.operand-returns-in_ok-with-in-Ok-expression-clause-left
-operand-returns-in_ok-with-in-Ok-expression-clause-left t c =
+pub operand-returns-in_ok-with-in-Ok-clause-left : goal.operand-returns-in_ok-with-in-Ok-clause-left
+operand-returns-in_ok-with-in-Ok-clause-left t c =
     joined.plain_left c.args.self.now.next _ c.args.operator _ c.args.is_alone _ (chain_tree c.args.left) (raw_expr_tree c.args.right.now) _ _ _
     c.holds_call-is_calling.ensures (sym c.is_branching.ensures ∙ c.if-is_branching.false) c.needs_name.ensures
-    c.in_ok-left.ensures.left c.in_ok-left.ensures.next c.in-Ok-expression.ensures.left c.in_ok-with-in-Ok-expression.ensures
+    c.in_ok-left.ensures.left c.in_ok-left.ensures.next c.in-Ok.ensures.left c.in_ok-with-in-Ok.ensures
 
-pub operand-returns-in_ok-with-in-Ok-expression-clause-before : goal.operand-returns-in_ok-with-in-Ok-expression-clause-before
-operand-returns-in_ok-with-in-Ok-expression-clause-before t c =
+pub operand-returns-in_ok-with-in-Ok-clause-before : goal.operand-returns-in_ok-with-in-Ok-clause-before
+operand-returns-in_ok-with-in-Ok-clause-before t c =
     joined.plain_before c.args.self.now.next _ c.args.operator _ c.args.is_alone _ (chain_tree c.args.left) (raw_expr_tree c.args.right.now) (so_far c.args.self.now.statements) _ _
-    c.holds_call-is_calling.ensures (sym c.is_branching.ensures ∙ c.if-is_branching.false) c.needs_name.ensures c.in_ok-left.ensures.next c.in_ok-left.ensures.before c.in-Ok-expression.ensures.before
+    c.holds_call-is_calling.ensures (sym c.is_branching.ensures ∙ c.if-is_branching.false) c.needs_name.ensures c.in_ok-left.ensures.next c.in_ok-left.ensures.before c.in-Ok.ensures.before
 
 pub expression-returns-in_ok-name_part-in-Call-clause-before : goal.expression-returns-in_ok-name_part-in-Call-clause-before
 expression-returns-in_ok-name_part-in-Call-clause-before t c =
@@ -142,8 +142,8 @@ expression-returns-in_ok-name_part-in-Ok-expression-clause-before t c =
     seen (ap raw_expr_tree c.deref-in-TableCall.ensures) (ap raw_expr_tree c.deref-in-TableCall-3.ensures) (ap raw_expr_tree c.deref-in-TableCall-2.ensures)
     c.holds_call.ensures part.left part.before part.next rest.left rest.before rest.next c.in_ok-call-in-Ok-expression.ensures c.in_ok-name_part-in-Ok-expression.ensures.statements
 
-pub expression-returns-in_ok-choice-in-Ok-kept-2-clause-next : goal.expression-returns-in_ok-choice-in-Ok-kept-2-clause-next
-expression-returns-in_ok-choice-in-Ok-kept-2-clause-next t c =
+pub expression-returns-in_ok-choice-in-Ok-kept-clause-next : goal.expression-returns-in_ok-choice-in-Ok-kept-clause-next
+expression-returns-in_ok-choice-in-Ok-kept-clause-next t c =
     let condition = raw_expr_tree c.in-Conditional.condition.value in
     let first = raw_expr_tree c.in-Conditional.then.value in
     let second = raw_expr_tree c.in-Conditional.otherwise.value in
@@ -151,7 +151,7 @@ expression-returns-in_ok-choice-in-Ok-kept-2-clause-next t c =
     ap raw_expr_tree c.in-Conditional.is ∙ raw_expr_tree-Conditional c.in-Conditional.condition c.in-Conditional.then c.in-Conditional.otherwise in
     calling.kept_names c.args.self.now.next _ _ _ _ (raw_expr_tree c.args.raw.now) condition first second _ _ _
     seen (ap raw_expr_tree c.deref-in-Conditional-3.ensures) (ap raw_expr_tree c.deref-in-Conditional.ensures) (ap raw_expr_tree c.deref-in-Conditional-2.ensures)
-    c.either_holds_call-is_branched.ensures c.if-is_branched.false c.in_ok-condition-in-Conditional.ensures.next c.in-Ok-kept.ensures.next c.in-Ok-kept-2.ensures.next
+    c.either_holds_call-is_branched.ensures c.if-is_branched.false c.in_ok-condition-in-Conditional.ensures.next c.in-Ok.ensures.next c.in-Ok-kept.ensures.next
 
 pub expression-returns-in-Number-clause-before : goal.expression-returns-in-Number-clause-before
 expression-returns-in-Number-clause-before t c =
@@ -162,3 +162,34 @@ pub expression-returns-in_ok-copied-in-Name-clause-before : goal.expression-retu
 expression-returns-in_ok-copied-in-Name-clause-before t c =
     let s = so_far c.args.self.now.statements in
     sym (then_none s) ∙ ap (λ e. then_all s (before c.args.self.now.next e)) (sym (ap raw_expr_tree c.in-Name.is ∙ raw_expr_tree-Name c.in-Name.name))
+
+pub expression-returns-in_ok-used-in-Conditional-clause-before : goal.expression-returns-in_ok-used-in-Conditional-clause-before
+expression-returns-in_ok-used-in-Conditional-clause-before t c =
+    let condition = raw_expr_tree c.in-Conditional.condition.value in
+    let first = raw_expr_tree c.in-Conditional.then.value in
+    let second = raw_expr_tree c.in-Conditional.otherwise.value in
+    let seen : raw_expr_tree c.args.raw.now ≡ RawConditional condition first second =
+    ap raw_expr_tree c.in-Conditional.is ∙ raw_expr_tree-Conditional c.in-Conditional.condition c.in-Conditional.then c.in-Conditional.otherwise in
+    let test = c.in_ok-condition-in-Conditional.ensures in
+    let x = raw_expr_tree c.in_ok-condition-in-Conditional.condition in
+    let n = c.expression-in-Conditional.new.self.next in
+    let m = c.open_choice.new.self.next in
+    let o = c.otherwise.new.self.next in
+    let number = c.in_ok-number-in-Conditional.number in
+    let a = raw_expr_tree c.deref-then-is_branched.result.now in
+    let b = raw_expr_tree c.deref-then-is_branched-2.result.now in
+    let p = in_block (before m a ++ set_to number (left_of m a) ∷ []) in
+    let q = in_block (before o b ++ set_to number (left_of o b) ∷ []) in
+    let declaration : Received = then_all (so_far c.expression-in-Conditional.new.self.statements) (declared n ∷ []) in
+    let one = c.in_ok-branch-in-Conditional.ensures in
+    let other = c.in_ok-branch-in-Conditional-2.ensures in
+    let opened = c.in_ok-number-in-Conditional.ensures.statements in
+    let turned = c.in_ok-otherwise-in-Conditional.ensures.statements ∙ ap then_else (one.statements ∙ ap (λ r. then_all r (p ∷ [])) opened) in
+    let closed = c.in_ok-close-in-Conditional.ensures.statements ∙ ap then_close (other.statements ∙ ap (λ r. then_all r (q ∷ [])) turned) in
+    calling.chosen_pushed c.args.self.now.next n m o number _ (raw_expr_tree c.args.raw.now) condition first second _ _ _ _ _ x p q
+    (so_far c.args.self.now.statements) (so_far c.expression-in-Conditional.new.self.statements) declaration (so_far c.close.new.self.statements)
+    seen (ap raw_expr_tree c.deref-in-Conditional-3.ensures) (ap raw_expr_tree c.deref-in-Conditional.ensures)
+    (ap raw_expr_tree c.deref-then-is_branched.ensures) (ap raw_expr_tree c.deref-in-Conditional-2.ensures) (ap raw_expr_tree c.deref-then-is_branched-2.ensures)
+    c.either_holds_call-is_branched.ensures c.if-is_branched.true test.left test.before test.next
+    c.in_ok-number-in-Conditional.ensures.number refl c.in_ok-number-in-Conditional.ensures.next refl (c.in_ok-otherwise-in-Conditional.ensures.next ∙ one.next) refl
+    (closed ∙ closed_both x declaration (p ∷ []) (q ∷ []))

@@ -1,6 +1,11 @@
 -- One statement replaces a statement exactly if nothing goes before it.
-use Rattle.std.proofs.Common.{ℕ, ◌≡◌, ◌<◌, ◌+◌, refl, ap, ◌∙◌, sym, Bool, true, false, not, ◌&&◌, ◌||◌, List, [], ◌∷◌, ◌++◌, length, length-append, Option, Some, None, arith}
-use Rattle.std.specs.Prelude.{if◌then◌else◌}
+use Rattle.std.proofs.Common.{ℕ, ◌≡◌, ◌<◌, ◌≤◌, ◌+◌, ◌-◌, drop, take, refl, ap, ◌∙◌, sym, Bool, true, false, not, ◌&&◌, ◌||◌, List, [], ◌∷◌, ◌++◌, length, length-append, Option, Some, None, arith}
+use Rattle.std.proofs.lemmas.List.{take_all}
+use Rattle.std.specs.Prelude.{nat_lt, if◌then◌else◌}
+use Rattle.c_tree.specs.RawViews.{raw_expr_trees}
+use Rattle.c_tree.specs.declared.raw_expressions.RawExpr.{RawExpr}
+use Rattle.hoist_parts.specs.Arguments.{calls_among}
+use Rattle.hoist_rules.proofs.ArgumentTurns.{some_hold}
 use Rattle.c_tree.specs.RawTrees.{RawExprTree, RawExprTrees, RawNumber, RawName, RawElement, RawUnary, RawParenthesized, RawBinary, RawLogicalAnd, RawLogicalOr, RawConditional, RawCall, RawTableCall, NoExprs, And, RawSimpleTree, RawDeclareScalar, RawDeclareArray, RawDeclareWith, RawSet, RawSetElement, RawCalling, RawTableCalling, RawStmtTree, RawDo, RawEmpty, RawBlock, RawIf, RawIfElse, RawWhile, RawFor, RawBreak, RawContinue, RawReturn}
 use Rattle.hoist_parts.specs.Calls.{holds_call, hold_call, holds_nested, is_named, is_spawn}
 use Rattle.hoist_parts.specs.Expressions.{names_in, one_if, part_after, part_named, left_of, before, arguments_before, in_block}
@@ -43,9 +48,13 @@ none_named true k e left h = cc
 none_named false k e left h = refl
 
 middle_go : (a b : Bool) (xs ps ys : List RawStmtTree) → (b ≡ false → ps ≡ []) → Goes a xs → Goes b ys → Goes (a || b) (xs ++ ps ++ ys)
-middle_go true b xs ps ys p g h = let l = length-append xs (ps ++ ys) in omega (arith, g, l)
+middle_go true b xs ps ys p g h = let l = length-append (xs ++ ps) ys in let m = length-append xs ps in omega (arith, g, l, m)
 middle_go false true xs ps ys p g h = rw g (later_go ps ys h)
 middle_go false false xs ps ys p g h = let n = p refl in rw (g, n, h) refl
+
+three_go : (a b c : Bool) (xs ys zs : List RawStmtTree) → Goes a xs → Goes b ys → Goes c zs → Goes (a || (b || c)) (xs ++ ys ++ zs)
+three_go true b c xs ys zs g h i = let l = length-append (xs ++ ys) zs in let m = length-append xs ys in omega (arith, g, l, m)
+three_go false b c xs ys zs g h i = rw g (both_go b c ys zs h i)
 
 -- ---- expressions
 
@@ -64,7 +73,7 @@ mutual
   goes_before k (RawLogicalOr l r) = both_go (holds_call l) (holds_call r) (before k l) _ (goes_before k l) (if_goes (holds_call r) _ (omega arith))
   goes_before k (RawConditional c a b) = both_go (holds_call c) (holds_call a || holds_call b) (before k c) _ (goes_before k c) (if_goes (holds_call a || holds_call b) _ (omega arith))
   goes_before k (RawCall n es) = later_go (arguments_before (is_spawn n) k es) _ (omega arith)
-  goes_before k (RawTableCall n i e) = later_go (before k i) _ (later_go (part_named (is_named (holds_call e) i) (k + names_in i) (left_of k i)) _ (later_go (before (part_after k (holds_call e) i) e) _ (omega arith)))
+  goes_before k (RawTableCall n i e) = later_go (table_before k i e) _ (omega arith)
 
 goes_arguments : (k : ℕ) (es : RawExprTrees) → Goes (hold_call es) (arguments_before false k es)
 goes_arguments k NoExprs = refl
@@ -107,8 +116,8 @@ goes_simple k (RawDeclareWith n v) = goes_value k v
 goes_simple k (RawSet n v) = goes_value k v
 goes_simple k (RawSetElement n i v) =
     let later = is_named (holds_nested v) i in
-    both_go (holds_call i) (later || moves_call v) (before k i) _ (goes_before k i)
-    (both_go later (moves_call v) (part_named later (k + names_in i) (left_of k i)) _ (named_goes later (k + names_in i) (left_of k i)) (goes_value (part_after k (holds_nested v) i) v))
+    three_go (holds_call i) later (moves_call v) (before k i) (part_named later (k + names_in i) (left_of k i)) _ (goes_before k i)
+    (named_goes later (k + names_in i) (left_of k i)) (goes_value (part_after k (holds_nested v) i) v)
 goes_simple k (RawCalling n es) = goes_move (is_spawn n) k es
 goes_simple k (RawTableCalling n i e) = goes_table k i e
 
@@ -147,3 +156,24 @@ many (RawFor init c step s) k h = cc
 many (RawBreak at) k h = cc
 many (RawContinue at) k h = cc
 many (RawReturn at v) k h = many_by (returned_before k v) _ (some_go (returned_moves v) (returned_before k v) h (goes_returned k v))
+
+-- ---- arguments as they are
+
+all_others : (e : RawExpr) (es : List RawExpr) → take (length (e ∷ es) - 1) es ≡ es
+all_others e es = take_all (length (e ∷ es) - 1) es (omega arith)
+
+pub moved_rest : (stays : Bool) (es : List RawExpr) (calls : ℕ) → stays ≡ true → 0 < length es → calls ≡ calls_among (raw_expr_trees (take (length es - 1) (drop 1 es)))
+    → nat_lt 0 calls ≡ move_call stays (raw_expr_trees es)
+moved_rest true [] calls h n k = absurd (omega (arith, n))
+moved_rest true (e ∷ es) calls h n k = ap (nat_lt 0) (k ∙ ap (λ xs. calls_among (raw_expr_trees xs)) (all_others e es)) ∙ some_hold (raw_expr_trees es)
+moved_rest false es calls h n k = cc
+
+pub moved_all : (stays : Bool) (es : RawExprTrees) → stays ≡ false → nat_lt 0 (calls_among es) ≡ move_call stays es
+moved_all true es h = cc
+moved_all false NoExprs h = refl
+moved_all false (And e es) h = some_hold (And e es)
+
+pub moved_none : (stays : Bool) (es : List RawExpr) → length es ≤ 0 → nat_lt 0 (calls_among (raw_expr_trees es)) ≡ move_call stays (raw_expr_trees es)
+moved_none true [] h = refl
+moved_none false [] h = refl
+moved_none stays (e ∷ es) h = absurd (omega (arith, h))

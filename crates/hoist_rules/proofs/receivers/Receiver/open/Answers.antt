@@ -1,0 +1,6 @@
+use Rattle.hoist_rules.specs.Receivers.{so_far, then_open}
+use Rattle.hoist_rules.proofs.receivers.Receiver.open.Goals as goal
+
+pub returns : goal.returns
+unfolding so_far then_open
+returns c = λ i. record { making = c.in_ok-open.ensures i; places = c.in_ok-add_places.ensures i }
