@@ -1,6 +1,6 @@
 -- Statements that one statement replaces: nothing goes before them.
-use Rattle.std.specs.Prelude.{Bool, true, false, not, ◌&&◌, ◌||◌, Option, Some, None}
-use Rattle.c_tree.specs.RawTrees.{RawExprTree, RawExprTrees, RawNumber, RawName, RawElement, RawUnary, RawParenthesized, RawBinary, RawLogicalAnd, RawLogicalOr, RawConditional, RawCall, RawTableCall, NoExprs, And, RawSimpleTree, RawDeclareScalar, RawDeclareArray, RawDeclareWith, RawSet, RawSetElement, RawCalling, RawTableCalling, RawStmtTree, RawDo, RawEmpty, RawBlock, RawIf, RawIfElse, RawWhile, RawFor, RawBreak, RawContinue, RawReturn}
+use Rattle.std.specs.Prelude.{Bool, true, false, ◌||◌, Option, Some, None}
+use Rattle.c_tree.specs.RawTrees.{RawExprTree, RawExprTrees, RawCall, RawTableCall, NoExprs, And, RawSimpleTree, RawDeclareScalar, RawDeclareArray, RawDeclareWith, RawSet, RawSetElement, RawCalling, RawTableCalling, RawStmtTree, RawDo, RawEmpty, RawBlock, RawIf, RawIfElse, RawWhile, RawFor, RawBreak, RawContinue, RawReturn}
 use Rattle.hoist_parts.specs.Calls.{holds_call, hold_call, holds_nested, is_named, is_spawn}
 
 -- whether statements go before a call, of which the first argument may keep its place

@@ -31,7 +31,7 @@ impl Hoisting {
             RawStmt::Block(stmts) => {
                 self.open(Opening::Block)?;
                 self.statements(stmts)?;
-                self.close()
+                Ok(self.close()?)
             }
             RawStmt::If { condition, then } => self.guarded(then, condition),
             RawStmt::IfElse {
@@ -43,13 +43,13 @@ impl Hoisting {
                 self.statement(then)?;
                 self.otherwise()?;
                 self.statement(otherwise)?;
-                self.close()
+                Ok(self.close()?)
             }
             RawStmt::While { condition, body } => {
                 if holds_call(condition) {
                     self.while_calling(body, condition)
                 } else {
-                    self.repeated(body, Opening::While(condition))
+                    Ok(self.repeated(body, Opening::While(condition))?)
                 }
             }
             RawStmt::For { parts, body } => self.repeated(body, Opening::For(parts)),
@@ -93,7 +93,7 @@ impl Hoisting {
     {
         self.open(opening)?;
         self.statement(body)?;
-        self.close()
+        Ok(self.close()?)
     }
 
     // A `while` whose condition contains a call, which is evaluated in each iteration.
@@ -118,9 +118,9 @@ impl Hoisting {
         if stmt_moves(raw) {
             self.open(Opening::Block)?;
             self.statement(raw)?;
-            self.close()
+            Ok(self.close()?)
         } else {
-            self.statement(raw)
+            Ok(self.statement(raw)?)
         }
     }
 }

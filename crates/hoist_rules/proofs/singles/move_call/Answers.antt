@@ -1,4 +1,4 @@
-use Rattle.std.proofs.Common.{◌≡◌, ap, ◌∙◌}
+use Rattle.std.proofs.Common.{ap, ◌∙◌}
 use Rattle.std.specs.Prelude.{nat_lt}
 use Rattle.c_tree.specs.RawViews.{raw_expr_trees}
 use Rattle.hoist_rules.proofs.MovedCalls.{moved_rest, moved_all, moved_none}
@@ -12,6 +12,6 @@ pub returns-else-stays : goal.returns-else-stays
 returns-else-stays c =
     let all = ap (nat_lt 0) c.calls_among-else-stays.ensures in
     elim c.else-stays.branch [
-      else-stays-via-then-stays+else-arguments-gt0 w ↦ all ∙ moved_none c.args.stays c.args.arguments.now w.if-arguments-gt0.false
-    | else-stays-via-else-stays w ↦ all ∙ moved_all c.args.stays (raw_expr_trees c.args.arguments.now) w.if-stays.false
+      | else-stays-via-then-stays+else-arguments-gt0 w ↦ all ∙ moved_none c.args.stays c.args.arguments.now w.if-arguments-gt0.false
+      | else-stays-via-else-stays w ↦ all ∙ moved_all c.args.stays (raw_expr_trees c.args.arguments.now) w.if-stays.false
     ]

@@ -1,13 +1,12 @@
-use Rattle.std.proofs.Common.{◌≡◌, ◌∷◌, ◌+◌, ◌∙◌, sym, ap, drop, arith}
+use Rattle.std.proofs.Common.{◌≡◌, ◌∷◌, ◌+◌, ◌∙◌, sym, ap, drop}
 use Rattle.std.specs.Prelude.{option_map}
 use Rattle.std.proofs.lemmas.Result.{on_ok_weaker}
-use Rattle.c_tree.specs.RawTrees.{RawDo, RawIf, RawIfElse, RawReturn}
+use Rattle.c_tree.specs.RawTrees.{RawDo, RawReturn}
 use Rattle.c_tree.specs.RawViews.{raw_expr_tree, raw_simple_tree, raw_stmt_tree, raw_stmt_trees}
 use Rattle.c_tree.proofs.Cuts.{drop_at}
-use Rattle.c_tree.proofs.RawStmtEquations.{raw_stmt_tree-Simple, raw_stmt_tree-If, raw_stmt_tree-IfElse, raw_stmt_tree-Return}
-use Rattle.hoist_parts.specs.Expressions.{names_in, before}
-use Rattle.hoist_parts.specs.Statements.{stmt_names, simple_before, returned_before, as_body, hoisted}
-use Rattle.hoist_parts.proofs.NoCalls.{no_names}
+use Rattle.c_tree.proofs.RawStmtEquations.{raw_stmt_tree-Simple, raw_stmt_tree-Block, raw_stmt_tree-IfElse, raw_stmt_tree-While, raw_stmt_tree-Return}
+use Rattle.scope_rules.specs.Openings.{opening_tree}
+use Rattle.hoist_parts.specs.Statements.{simple_before, returned_before, hoisted}
 use Rattle.hoist_rules.specs.Receivers.{so_far, then_all}
 use Rattle.hoist_rules.proofs.Followed.{then_pushed}
 use Rattle.hoist_rules.proofs.BodyTurns as body
@@ -49,3 +48,49 @@ statement-returns-in_ok-returned-in-Return-clause-statements t c =
     (λ h. then_pushed s (so_far c.returned.new.self.statements) (so_far c.push-in-Return.new.self.statements) (returned_before k v) _ _
     c.in_ok-returned-in-Return.ensures.statements h c.in_ok-returned-in-Return.ensures.left
     ∙ ap (λ x. then_all s (hoisted k x)) (sym seen)) c.push-in-Return.ensures.statements
+
+pub body-returns-in_ok-close-clause-statements : goal.body-returns-in_ok-close-clause-statements
+body-returns-in_ok-close-clause-statements t c =
+    body.block_after c.args.self.now.next c.open.new.self.next (raw_stmt_tree c.args.raw.now)
+    (so_far c.args.self.now.statements) (so_far c.open.new.self.statements) (so_far c.statement.new.self.statements) (so_far c.close.new.self.statements)
+    c.in_ok-open.ensures.statements c.in_ok-open.ensures.next c.in_ok-statement.ensures.statements c.in_ok-close.ensures.statements
+    (sym c.stmt_moves.ensures ∙ c.if-stmt_moves.true)
+
+pub body-returns-in_ok-statement-2-clause-statements : goal.body-returns-in_ok-statement-2-clause-statements
+body-returns-in_ok-statement-2-clause-statements t c =
+    body.single_after c.args.self.now.next (raw_stmt_tree c.args.raw.now) (so_far c.args.self.now.statements) (so_far c.statement-else-stmt_moves.new.self.statements)
+    c.in_ok-statement-2.ensures.statements (sym c.stmt_moves.ensures ∙ c.if-stmt_moves.false)
+
+pub repeated-returns-clause-statements : goal.repeated-returns-clause-statements
+repeated-returns-clause-statements t c =
+    body.whole_after (opening_tree c.args.opening) c.args.self.now.next c.open.new.self.next (raw_stmt_tree c.args.body.now)
+    (so_far c.args.self.now.statements) (so_far c.open.new.self.statements) (so_far c.statement.new.self.statements) (so_far c.close.new.self.statements)
+    c.in_ok-open.ensures.statements c.in_ok-open.ensures.next c.in_ok-statement.ensures.statements c.in_ok-close.ensures.statements
+
+pub statement-returns-in_ok-close-in-Block-clause-statements : goal.statement-returns-in_ok-close-in-Block-clause-statements
+statement-returns-in_ok-close-in-Block-clause-statements t c =
+    let seen = ap raw_stmt_tree c.in-Block.is ∙ raw_stmt_tree-Block c.in-Block.stmts in
+    body.statements_after c.args.self.now.next c.open.new.self.next (raw_stmt_tree c.args.raw.now) (raw_stmt_trees c.in-Block.stmts.items) (raw_stmt_trees c.deref.result.now)
+    (so_far c.args.self.now.statements) (so_far c.open.new.self.statements) (so_far c.statements.new.self.statements) (so_far c.close.new.self.statements)
+    seen (ap raw_stmt_trees c.deref.ensures.value) c.in_ok-open-in-Block.ensures.statements c.in_ok-open-in-Block.ensures.next
+    c.in_ok-statements-in-Block.ensures.statements c.in_ok-close-in-Block.ensures.statements
+
+pub statement-returns-in_ok-close-in-IfElse-clause-statements : goal.statement-returns-in_ok-close-in-IfElse-clause-statements
+statement-returns-in_ok-close-in-IfElse-clause-statements t c =
+    let seen = ap raw_stmt_tree c.in-IfElse.is ∙ raw_stmt_tree-IfElse c.in-IfElse.condition c.in-IfElse.then c.in-IfElse.otherwise in
+    let test = c.in_ok-open_if-in-IfElse.ensures in
+    let first = c.in_ok-statement-in-IfElse.ensures in
+    let turn = c.in_ok-otherwise-in-IfElse.ensures in
+    body.both_after c.args.self.now.next c.open_if.new.self.next c.otherwise.new.self.next (raw_stmt_tree c.args.raw.now)
+    (raw_stmt_tree c.in-IfElse.then.value) (raw_stmt_tree c.in-IfElse.otherwise.value) (raw_stmt_tree c.deref-in-IfElse.result.now) (raw_stmt_tree c.deref-in-IfElse-2.result.now)
+    (raw_expr_tree c.in-IfElse.condition)
+    (so_far c.args.self.now.statements) (so_far c.open_if.new.self.statements) (so_far c.statement.new.self.statements) (so_far c.otherwise.new.self.statements)
+    (so_far c.statement-in-IfElse.new.self.statements) (so_far c.close-in-IfElse.new.self.statements)
+    seen (ap raw_stmt_tree c.deref-in-IfElse.ensures) (ap raw_stmt_tree c.deref-in-IfElse-2.ensures) test.statements test.next first.statements (turn.next ∙ first.next)
+    turn.statements c.in_ok-statement-in-IfElse-2.ensures.statements c.in_ok-close-in-IfElse.ensures.statements
+
+pub statement-returns-in_ok-repeated-in-While-clause-next : goal.statement-returns-in_ok-repeated-in-While-clause-next
+statement-returns-in_ok-repeated-in-While-clause-next t c =
+    let seen = ap raw_stmt_tree c.in-While.is ∙ raw_stmt_tree-While c.in-While.condition c.in-While.body in
+    body.while_names c.args.self.now.next c.repeated.new.self.next (raw_stmt_tree c.args.raw.now) (raw_stmt_tree c.in-While.body.value) (raw_stmt_tree c.deref-else-holds_call.result.now)
+    (raw_expr_tree c.in-While.condition) seen (ap raw_stmt_tree c.deref-else-holds_call.ensures) (sym c.holds_call.ensures ∙ c.if-holds_call.false) c.in_ok-repeated-in-While.ensures.next
