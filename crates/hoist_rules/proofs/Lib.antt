@@ -1,7 +1,6 @@
 pub mod ValueChains
 pub mod Operands
 pub mod ArgumentTurns
-pub mod Pushes
 pub mod BodyTurns
 pub mod OperatorTurns
 pub mod CallTurns

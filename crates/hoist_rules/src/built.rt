@@ -1,5 +1,5 @@
 // Expressions built from their parts, and values that are kept while an allocation may fail.
-ghost use Rattle.std.specs.Prelude.{◌≡◌, [], ◌∷◌, ◌++◌, Ok, IfOk, MatchResult};
+ghost use Rattle.std.specs.Prelude.{◌≡◌, Ok, IfOk};
 ghost use Rattle.c_tree.specs.RawTrees.{RawElement, RawParenthesized, RawConditional, RawCall, RawTableCall, RawTableCalling};
 ghost use Rattle.c_tree.specs.RawViews.{name_tree, raw_expr_tree, raw_expr_trees, raw_simple_tree};
 
@@ -34,17 +34,6 @@ pub(crate) fn both<T: Drop, U>(held: T, next: Result<U, AllocError>) -> Result<(
         Ok(next) => Ok((held, next)),
         Err(error) => Err(error),
     }
-}
-
-/// Returns the list with one more element, or the error if the element couldn't be allocated.
-pub(crate) fn with_next<T: Drop>(
-    mut list: Vec<T>,
-    next: Result<T, AllocError>,
-) -> Result<Vec<T>, AllocError>
-    ensures { IfOk result (λ longer. MatchResult next (λ value. longer.items ≡ list.items ++ (value ∷ [])) (λ _. ⊥)) }
-{
-    list.push(next?)?;
-    Ok(list)
 }
 
 /// Returns two values in boxes.

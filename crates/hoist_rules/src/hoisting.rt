@@ -11,7 +11,7 @@ use hoist_parts::{new_name, used};
 use scope_rules::Opening;
 use std::alloc::{AllocError, Global};
 
-/// The statements of the block so far, and the number of the next new name of the function.
+/// The statements of the function so far, as their receiver has taken them, and the number of the next new name.
 #[derive(Drop)]
 pub(crate) struct Hoisting {
     pub(crate) alloc: Global,

@@ -1,15 +1,16 @@
 // Moves calls inside expressions before their statements.
 //
-// `hoist_body` takes the body of a function in which every call in the parentheses of a `for` is
-// whole, and rewrites it to statements in which every call is whole. A call that isn't whole goes
-// before its statement, as the declaration of a new name. So does everything that is evaluated
-// before the call, so evaluation stays from left to right (`hoist_parts`: specs/Expressions.antt,
-// Statements.antt). New names begin with a digit. The statements of the outermost block are passed
+// `hoist_body` takes the body of a function, and rewrites it to statements in which every call is
+// whole, if every call in the parentheses of a `for` is: those parentheses stay as they are. A call
+// that isn't whole goes before its statement, as the declaration of a new name. So does everything
+// that is evaluated before the call, so evaluation stays from left to right (`hoist_parts`:
+// specs/Expressions.antt, Statements.antt). New names begin with a digit. The statements are passed
 // one by one to a `Receiver`, which resolves them (`scope_rules`), because one expression can become
-// more statements than memory should hold. `c_hoist` calls `hoist_body` between the tree and the
-// program of a source. The public functions with empty bodies are examples: they have no effect at
-// run time, and their contracts are theorems. The order of evaluation is CapC's; the operators are
-// those of ISO/IEC 9899:2018, clauses 6.5.13 to 6.5.15.
+// more statements than memory should hold. For the same reason a statement with a body is passed in
+// parts: what begins it, the statements of its body, and its end. `c_hoist` calls `hoist_body`
+// between the tree and the program of a source. The public functions with empty bodies are examples:
+// they have no effect at run time, and their contracts are theorems. The order of evaluation is
+// CapC's; the operators are those of ISO/IEC 9899:2018, clauses 6.5.13 to 6.5.15.
 #![tactic(auto, using(crate::proofs::Followed::following))]
 
 mod bodies;

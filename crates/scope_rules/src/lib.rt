@@ -6,7 +6,8 @@
 // (specs/Expressions, Calls, Simples, Statements, Items) list the faults of each form of the tree,
 // and the least fault is reported (specs/Faults, Outcomes). `Resolver` takes a source item by item,
 // so an item can be freed before the next one is built, and numbers the calls differently from the
-// order of the tree. `c_scope` uses `resolve`, and `c_hoist` uses `Resolver`, after tokens and tree
+// order of the tree. It takes a definition statement by statement (`FunctionResolver`), and a
+// statement with a body in parts (specs/Openings, Making). `c_scope` uses `resolve`, and `c_hoist` uses `Resolver`, after tokens and tree
 // of the source have been read. The rules are those of ISO/IEC 9899:2018, clauses 6.2.1, 6.2.2,
 // 6.5.2.2, 6.7 and 6.8, for the subset CapC.
 #![tactic(auto)]
