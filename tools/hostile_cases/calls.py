@@ -1,7 +1,7 @@
 """Calls inside expressions: in conditions, in indices, in arguments, wide, deep, and as many as
 there may be. What each puts follows from docs/LANGUAGE.md: evaluation is from left to right, and
 each call takes a name of the function's frame."""
-from .form import MEGABYTES, case, puts, refused
+from .form import case, puts, refused
 
 # `next` puts each number that it returns, so the order of calls is seen.
 HEAD = (
@@ -120,16 +120,18 @@ def site_cases():
 
 
 def joined_cases():
-    """A megabyte of calls joined into one expression. In the outermost block of a function its parts
-    are resolved as soon as they are made, and none is kept beyond the limit of calls."""
-    head, streamed = b"int f() { return 1; } int g(int x) { return x; } int main() { ", 160
-    for operator in (b"&&", b"||"):
+    """A megabyte of calls joined into one expression, wherever it may stand. Its parts are resolved
+    as soon as they are made, and none is kept beyond the limit of calls."""
+    head = b"int f() { return 1; } int g(int x) { return x; } int main() { int a[2]; "
+    for operator in (b"&&", b"||", b"+"):
         joined = operator.join([b"f()"] * 209_000)
-        for name, statement, megabytes in (
-            ("returned", b"return %s;", streamed), ("as an argument", b"g(%s);", streamed), ("declared", b"int x = %s;", streamed), ("in the condition of an if", b"if (%s) g(0);", streamed),
-            ("in an inner block", b"{ g(%s); }", MEGABYTES), ("in the condition of a while", b"while (%s) ;", MEGABYTES),
+        for name, statement in (
+            ("returned", b"return %s;"), ("as an argument", b"g(%s);"), ("as an index", b"a[%s] = 0;"), ("declared", b"int x = %s;"), ("in the condition of an if", b"if (%s) g(0);"),
+            ("in the condition of a while", b"while (%s) ;"), ("in an inner block", b"{ g(%s); }"), ("in an if", b"if (1) g(%s);"), ("in an else", b"if (1) ; else g(%s);"), ("in a while", b"while (1) g(%s);"),
+            ("in a while whose condition has a call", b"while (f()) g(%s);"), ("in a for", b"for (;;) g(%s);"), ("in three statements", b"while (f()) { if (f()) { g(%s); } }"),
+            ("on the right of &&", b"return f() && (%s);"), ("chosen by ?:", b"return f() ? 1 : (%s);"),
         ):
-            yield refused(f"a megabyte of calls joined by {operator.decode()}, {name}", head + statement % joined + b" return 0; }", "source: Limit sites", megabytes=megabytes)
+            yield refused(f"a megabyte of calls joined by {operator.decode()}, {name}", head + statement % joined + b" return 0; }", "source: Limit sites", megabytes=160)
 
 
 def cases():
