@@ -4,6 +4,7 @@ use Rattle.std.proofs.Common.{ℕ, ◌+◌, ◌≤◌, ◌≡◌, refl, sym, ap,
 use Rattle.c_tree.specs.RawTrees.{RawExprTree, RawExprTrees, RawNumber, RawName, RawElement, RawUnary, RawParenthesized, RawBinary, RawLogicalAnd, RawLogicalOr, RawConditional, RawCall, RawTableCall, NoExprs, And, RawStmtTree, RawIfElse}
 use Rattle.c_tree.specs.Temporaries.{capped}
 use Rattle.scope_rules.specs.declared.meanings.Meaning.{Meaning}
+use Rattle.scope_rules.specs.Names.{bound}
 use Rattle.scope_rules.specs.Places.{Spot}
 use Rattle.scope_rules.specs.Statements.{inside, left, stmt_after}
 use Rattle.hoist_parts.specs.NewNames.{new_name, used, declared, declared_as, set_to}
