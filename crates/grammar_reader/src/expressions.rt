@@ -10,7 +10,7 @@ ghost use Rattle.c_grammar.specs.Tokens.{next_sign};
 ghost use Rattle.grammar_reader.specs.Steps.{Leads, Refused, NoneFrom, IsNextOperator, IsNoNextOperator, NoPrefix, ReadsExpr, ReadsConditional, ReadsBinary, ReadsRepeated, ReadsUnary, ReadsPrimary, ReadsNamed, ReadsElement, ReadsParenthesized, ReadsIndex, ReadsArguments};
 
 use crate::cursor::{Cursor, Text};
-use crate::held::{before_sign, both, boxed_pair};
+use crate::held::{before_sign, both, boxed_pair, fitted};
 use crate::operators::{LEVELS, infix_of, level_of, unary_of};
 use c_grammar::{ParseError, Sign};
 use c_tree::{Infix, Name, RawExpr};
@@ -111,7 +111,7 @@ fn repeated(
         let operand = binary(text, cursor, depth, level + 1)?;
         rest.push((operator, operand))?;
     }
-    Ok(rest)
+    Ok(fitted(rest))
 }
 
 // The operator that the next token is, if it is of this level.
@@ -282,5 +282,5 @@ pub(crate) fn arguments(
         arguments.push(expression(text, cursor, inside)?)?;
     }
     cursor.take(text, Sign::RightParenthesis)?;
-    Ok(arguments)
+    Ok(fitted(arguments))
 }

@@ -80,3 +80,11 @@ pub(crate) fn alone<T: Drop>(text: Text, value: T) -> Result<Vec<T>, ParseError>
     made.push(value)?;
     Ok(made)
 }
+
+/// Returns the list without spare capacity: one that grows by doubling has room for at least four.
+pub(crate) fn fitted<T>(mut list: Vec<T>) -> Vec<T>
+    ensures { result.items ≡ list.items }
+{
+    list.shrink_to_fit();
+    list
+}

@@ -118,7 +118,8 @@ repeated-loop-operator-preserved t c =
 
 pub repeated-returns-clause-read : goal.repeated-returns-clause-read
 repeated-returns-clause-read t c =
-    rules.repeated_done c.args.text.bytes.now c.args.text.end c.args.depth c.args.level c.args.cursor.now.tokens.now c.loop-operator.cursor.tokens.now (map raw_operand_tree c.loop-operator.rest.items) c.loop-operator.invariant c.in_default.ensures.none
+    rw c.fitted.ensures
+    (rules.repeated_done c.args.text.bytes.now c.args.text.end c.args.depth c.args.level c.args.cursor.now.tokens.now c.loop-operator.cursor.tokens.now (map raw_operand_tree c.loop-operator.rest.items) c.loop-operator.invariant c.in_default.ensures.none)
 
 pub repeated-returns-in_err-operand-clause-refused : goal.repeated-returns-in_err-operand-clause-refused
 repeated-returns-in_err-operand-clause-refused t c =
@@ -359,5 +360,6 @@ arguments-returns-in_err-take-clause-refused_simple t c =
 
 pub arguments-returns-clause-read : goal.arguments-returns-clause-read
 arguments-returns-clause-read t c =
-    brackets.arguments_read c.args.text.bytes.now c.args.text.end c.args.depth c.args.cursor.now.tokens.now c.loop-cursor.cursor.tokens.now c.take.new.self.tokens.now (map raw_expr_tree c.loop-cursor.arguments.items) c.requires.fits c.loop-cursor.invariant
-    c.in_ok-take.ensures.taken
+    rw c.fitted.ensures
+    (brackets.arguments_read c.args.text.bytes.now c.args.text.end c.args.depth c.args.cursor.now.tokens.now c.loop-cursor.cursor.tokens.now c.take.new.self.tokens.now (map raw_expr_tree c.loop-cursor.arguments.items) c.requires.fits c.loop-cursor.invariant
+    c.in_ok-take.ensures.taken)
