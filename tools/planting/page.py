@@ -36,7 +36,7 @@ def table():
             " report out of memory, which may happen at any time (`put_all`, `CleanSink` and `CleanShelf` of `cap_io`);"
             " return needs that are always met, or no value where another call finds it, which costs time alone (`Needs::of` and `ReadyTree::needs` of `ready_tree`, `short_value` of `source_items`);"
             " give up in `run_history`, where only `History::tell` has a clause about when (a report of a run would fail then, and `tools/check_examples` refuses that);"
-            " or are in `report_text`: a text may end early if memory runs out, and what `escaped` and `quoted` append is only tested (docs/PROOFS.md).",
+            " or are in `report` and `report_text`: a text may end early if memory runs out, and most of what they append is only tested (docs/PROOFS.md).",
             "`others` counts those that weren't judged: they don't compile, take too long, miss only a callee's `requires`, or weren't reached within three to ten minutes a crate.",
             "",
         ]
