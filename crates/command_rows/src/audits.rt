@@ -11,12 +11,12 @@ use crate::logs::ENDLESS_LOG;
 use crate::serving::{ENDLESS, LOG_OF_SERVER, LOG_OF_SEVEN, SERVER, SERVER_TRACE};
 use std::alloc::Global;
 
-const AUDIT: &[&str] = &["audit", "P", "L"];
+const AUDIT: &str = "audit P L";
 
-const AUDIT_OF_SERVER: &[&str] = &["audit", "P", "L", "--caps", "1=1"];
+const AUDIT_OF_SERVER: &str = "audit P L --caps 1=1";
 
 /// The words, the source and the log that they name, the trace, the status, and the output.
-type AuditRow<'a> = (&'a [&'a str], &'a [u8], &'a [u8], &'a [u8], u8, &'a [u8]);
+type AuditRow<'a> = (&'a str, &'a [u8], &'a [u8], &'a [u8], u8, &'a [u8]);
 
 const AUDITS: [AuditRow<'static>; 9] = [
     (AUDIT, PUT_SEVEN, LOG_OF_SEVEN, NONE, 0, b"lawful\n"),
@@ -56,7 +56,7 @@ const AUDITS: [AuditRow<'static>; 9] = [
         b"unlawful 10\n",
     ),
     (
-        &["audit", "P", "L", "--steps", "0"],
+        "audit P L --steps 0",
         PUT_SEVEN,
         LOG_OF_SEVEN,
         NONE,
@@ -65,7 +65,7 @@ const AUDITS: [AuditRow<'static>; 9] = [
     ),
     // A run that stops because no free chunk fits, which the source alone doesn't do.
     (
-        &["audit", "P", "L", "--chunks", "2"],
+        "audit P L --chunks 2",
         ENDLESS,
         ENDLESS_LOG,
         NONE,
@@ -96,7 +96,7 @@ const EXAMPLES: [AuditRow<'static>; 5] = [
         b"lawful\n",
     ),
     (
-        &["audit", "P", "L", "--caps", "1=10"],
+        "audit P L --caps 1=10",
         BOUNDED,
         LOG_OF_BOUNDED,
         TRACE_OF_BOUNDED,
@@ -104,7 +104,7 @@ const EXAMPLES: [AuditRow<'static>; 5] = [
         b"lawful\n",
     ),
     (
-        &["audit", "P", "L", "--chunks", "256"],
+        "audit P L --chunks 256",
         RECURSION,
         LOG_OF_RECURSION,
         TRACE_OF_RECURSION,
@@ -124,7 +124,7 @@ const EXAMPLES: [AuditRow<'static>; 5] = [
 const EXAMPLES_OF_SERVERS: [AuditRow<'static>; 2] = [
     (AUDIT, STORE, LOG_OF_STORE, TRACE_OF_STORE, 0, b"lawful\n"),
     (
-        &["audit", "P", "L", "--caps", "1=2"],
+        "audit P L --caps 1=2",
         LIMITER,
         LOG_OF_LIMITER,
         TRACE_OF_LIMITER,

@@ -15,7 +15,7 @@ type Held<'a> = (&'a str, &'a [u8]);
 
 /// Words, the files before, the status, the output, the line on standard error, and the files after.
 type BuildRow<'a> = (
-    &'a [&'a str],
+    &'a str,
     &'a [Held<'a>],
     u8,
     &'a [u8],
@@ -23,12 +23,12 @@ type BuildRow<'a> = (
     &'a [Held<'a>],
 );
 
-const SMALL: &[&str] = &["build", "P", "I", "C", "--chunk", "64", "--max-path", "32"];
+const SMALL: &str = "build P I C --chunk 64 --max-path 32";
 
 // A build that is refused leaves the files unchanged.
 const BUILDS: [BuildRow<'static>; 7] = [
     (
-        &["build", "P", "I", "C"],
+        "build P I C",
         &[("P", PUT_SEVEN), ("I", OLD), ("C", OLD)],
         0,
         b"built code 24 globals 0 tables 0\n",
@@ -36,7 +36,7 @@ const BUILDS: [BuildRow<'static>; 7] = [
         &[("I", IMAGE_OF_SEVEN), ("C", CERTIFICATE_OF_SEVEN)],
     ),
     (
-        &["build", "--chunk", "64", "P", "I", "--max-path", "32", "C"],
+        "build --chunk 64 P I --max-path 32 C",
         &[("P", TWO), ("I", OLD), ("C", OLD)],
         0,
         b"built code 45 globals 0 tables 0\n",
@@ -45,7 +45,7 @@ const BUILDS: [BuildRow<'static>; 7] = [
     ),
     // Two equal names leave the certificate.
     (
-        &["build", "P", "C", "C"],
+        "build P C C",
         &[("P", PUT_SEVEN), ("I", OLD), ("C", OLD)],
         0,
         b"built code 24 globals 0 tables 0\n",
@@ -73,7 +73,7 @@ const BUILDS: [BuildRow<'static>; 7] = [
         &[("I", OLD), ("C", OLD)],
     ),
     (
-        &["build", "Q", "I", "C"],
+        "build Q I C",
         &[("P", TWO), ("I", OLD), ("C", OLD)],
         9,
         NONE,
@@ -81,7 +81,7 @@ const BUILDS: [BuildRow<'static>; 7] = [
         &[("I", OLD), ("C", OLD)],
     ),
     (
-        &["build", "P", "I"],
+        "build P I",
         &[("P", TWO), ("I", OLD), ("C", OLD)],
         1,
         NONE,

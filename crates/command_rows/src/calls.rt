@@ -8,8 +8,8 @@ use thread_core::World;
 
 pub(crate) const NONE: &[u8] = b"";
 
-/// The words, the file `P`, the trace, the status, the output, and the line on standard error.
-pub(crate) type Row<'a> = (&'a [&'a str], &'a [u8], &'a [u8], u8, &'a [u8], &'a [u8]);
+/// The command line, the file `P`, the trace, the status, the output, and the line on standard error.
+pub(crate) type Row<'a> = (&'a str, &'a [u8], &'a [u8], u8, &'a [u8], &'a [u8]);
 
 /// The calls of the shelf, the trace, the output and standard error that fail; 0 for none.
 pub(crate) type Fails = [u64; 4];
@@ -19,8 +19,8 @@ pub(crate) const NO_FAULT: Fails = [0, 0, 0, 0];
 /// The input of a call.
 #[derive(Clone, Copy)]
 pub(crate) struct Given<'a> {
-    /// The words after the program's name.
-    pub(crate) words: &'a [&'a str],
+    /// The words after the program's name, with a space between two of them.
+    pub(crate) words: &'a str,
     /// The files, each with its name.
     pub(crate) files: &'a [(&'a str, &'a [u8])],
     /// The trace.
@@ -62,10 +62,10 @@ pub(crate) fn status_of<F: Shelf, S: Source, K: Sink, E: Sink>(
     capriccio(alloc, words, shelf, trace, out, err, last)
 }
 
-/// Returns the words of a command line.
-pub(crate) fn words_of(alloc: Global, words: &[&str]) -> Result<Vec<String>, AllocError> {
+/// Returns the words of a command line, which are between its blanks.
+pub(crate) fn words_of(alloc: Global, line: &str) -> Result<Vec<String>, AllocError> {
     let mut all = Vec::new(alloc);
-    for word in words {
+    for word in line.split_whitespace() {
         all.push(String::from_str(alloc, word)?)?;
     }
     Ok(all)
@@ -162,7 +162,7 @@ pub(crate) fn hold_files<F: Shelf>(alloc: Global, shelf: &mut F, files: &[(&str,
 /// Returns the status of a call and drops its world.
 fn status_alone(
     alloc: Global,
-    words: &[&str],
+    words: &str,
     shelf: &mut MemShelf,
     trace: &mut MemSource,
     out: &mut MemSink,

@@ -12,13 +12,13 @@ pub(crate) const CERTIFICATE_OF_SEVEN: &[u8] =
 pub(crate) const TWO: &[u8] =
     b"int g(int x) { return x; } int main() { int a; int b; a = g(1); return a; }";
 
-const CHECK: &[&str] = &["check", "P", "I", "C"];
+const CHECK: &str = "check P I C";
 
-const BUDGET: &[&str] = &["budget", "P", "I", "C"];
+const BUDGET: &str = "budget P I C";
 
 /// The words, the source, image and certificate that they name, the status, the output, and the line on standard error.
 type CheckRow<'a> = (
-    &'a [&'a str],
+    &'a str,
     &'a [u8],
     &'a [u8],
     &'a [u8],

@@ -9,8 +9,8 @@ const THOUSAND: &[u8] =
 
 // The trace that is passed isn't read: one that is no trace changes nothing.
 const DEMOS: [Row<'static>; 2] = [
-    (&["demo", "1"], NONE, b"no trace", 0, ONE, NONE),
-    (&["demo", "1000"], NONE, NONE, 0, THOUSAND, NONE),
+    ("demo 1", NONE, b"no trace", 0, ONE, NONE),
+    ("demo 1000", NONE, NONE, 0, THOUSAND, NONE),
 ];
 
 #[test]

@@ -147,17 +147,10 @@ const LOG_OF_BANK: &[u8] =
     b"run 0 0 0\nend 0 31 1022\nrun 31 1 0\nblock 1 2 6 13 1022\nrun 44 2 0\nblock 2 2 6 13 1022\nevent 100 arrive 12\nrun 100 1 2\nblock 1 3 0<7 40 1022\nrun 140 1 3\nblock 1 4 1<7 6 1022\nrun 246 1 4\nblock 1 5 2<7 9 1022\nrun 255 1 5\nout 1 5\nblock 1 2 6 104 1022\nevent 500 arrive 21\nrun 500 2 2\nblock 2 3 0<7 40 1022\nrun 540 2 3\nblock 2 4 1<7 6 1022\nrun 646 2 4\nblock 2 5 2<7 9 1022\nrun 655 2 5\nout 2 0\nblock 2 2 6 104 1022\nevent 1000 arrive 12\nrun 1000 1 2\nblock 1 3 0<7 40 1022\nevent 1040 arrive 21\nevent 1040 arrive 12\nrun 1040 1 3\nblock 1 4 1<7 6 1022\nrun 1046 2 2\nblock 2 3 0<7 40 1022\nrun 1086 2 3\nblock 2 4 1<7 6 1022\nrun 1146 1 4\nblock 1 5 2<7 9 1022\nrun 1192 2 4\nblock 2 5 2<7 9 1022\nedge 0 1 1 7936 256 0 0\nedge 0 2 2 3328 0 0 0\nedge 2 3 4 10240 0 0 0\nedge 3 4 4 1536 0 200 57\nedge 4 5 4 2304 0 0 0\nedge 5 2 2 26624 0 -224 -32\nstop idle\n";
 
 const EXAMPLES: [Row<'static>; 6] = [
-    (&["serve", "P"], POOL, TRACE_OF_POOL, 10, LOG_OF_POOL, NONE),
+    ("serve P", POOL, TRACE_OF_POOL, 10, LOG_OF_POOL, NONE),
+    ("serve P", PIECES, TRACE_OF_PIECES, 10, LOG_OF_PIECES, NONE),
     (
-        &["serve", "P"],
-        PIECES,
-        TRACE_OF_PIECES,
-        10,
-        LOG_OF_PIECES,
-        NONE,
-    ),
-    (
-        &["serve", "P", "--caps", "1=10"],
+        "serve P --caps 1=10",
         BOUNDED,
         TRACE_OF_BOUNDED,
         10,
@@ -165,16 +158,7 @@ const EXAMPLES: [Row<'static>; 6] = [
         NONE,
     ),
     (
-        &[
-            "serve",
-            "P",
-            "--chunk",
-            "64",
-            "--max-path",
-            "48",
-            "--chunks",
-            "256",
-        ],
+        "serve P --chunk 64 --max-path 48 --chunks 256",
         RECURSION,
         TRACE_OF_RECURSION,
         10,
@@ -182,55 +166,25 @@ const EXAMPLES: [Row<'static>; 6] = [
         NONE,
     ),
     (
-        &["serve", "P"],
+        "serve P",
         RECURSION,
         TRACE_OF_RECURSION,
         10,
         LOG_OF_RECURSION_LARGE,
         NONE,
     ),
-    (
-        &["serve", "P"],
-        TIMERS,
-        TRACE_OF_TIMERS,
-        10,
-        LOG_OF_TIMERS,
-        NONE,
-    ),
+    ("serve P", TIMERS, TRACE_OF_TIMERS, 10, LOG_OF_TIMERS, NONE),
 ];
 
 const EXAMPLES_OF_PEERS: [Row<'static>; 2] = [
-    (
-        &["serve", "P"],
-        SILENT,
-        TRACE_OF_SILENT,
-        10,
-        LOG_OF_SILENT,
-        NONE,
-    ),
-    (
-        &["serve", "P"],
-        ORDERS,
-        TRACE_OF_ORDERS,
-        10,
-        LOG_OF_ORDERS,
-        NONE,
-    ),
+    ("serve P", SILENT, TRACE_OF_SILENT, 10, LOG_OF_SILENT, NONE),
+    ("serve P", ORDERS, TRACE_OF_ORDERS, 10, LOG_OF_ORDERS, NONE),
 ];
 
 // The tenants' fuel is spent at their end: the status is 13.
 const EXAMPLES_OF_RULES: [Row<'static>; 2] = [
     (
-        &[
-            "serve",
-            "P",
-            "--rule",
-            "stride",
-            "--tickets",
-            "1=3",
-            "--fuel",
-            "191",
-        ],
+        "serve P --rule stride --tickets 1=3 --fuel 191",
         TENANTS,
         TRACE_OF_TENANTS,
         13,
@@ -238,7 +192,7 @@ const EXAMPLES_OF_RULES: [Row<'static>; 2] = [
         NONE,
     ),
     (
-        &["serve", "P", "--fuel", "189"],
+        "serve P --fuel 189",
         TENANTS,
         TRACE_OF_TENANTS,
         13,
@@ -250,22 +204,7 @@ const EXAMPLES_OF_RULES: [Row<'static>; 2] = [
 // With chunks of one size the fourth waiting thread finds none: the status is 12.
 const EXAMPLES_OF_SIZES: [Row<'static>; 2] = [
     (
-        &[
-            "serve",
-            "P",
-            "--chunk",
-            "512",
-            "--max-path",
-            "448",
-            "--chunks",
-            "1",
-            "--extra",
-            "32",
-            "--extra-size",
-            "48",
-            "--caps",
-            "1=1",
-        ],
+        "serve P --chunk 512 --max-path 448 --chunks 1 --extra 32 --extra-size 48 --caps 1=1",
         SIZES,
         TRACE_OF_SIZES,
         10,
@@ -273,18 +212,7 @@ const EXAMPLES_OF_SIZES: [Row<'static>; 2] = [
         NONE,
     ),
     (
-        &[
-            "serve",
-            "P",
-            "--chunk",
-            "512",
-            "--max-path",
-            "448",
-            "--chunks",
-            "4",
-            "--caps",
-            "1=1",
-        ],
+        "serve P --chunk 512 --max-path 448 --chunks 4 --caps 1=1",
         SIZES,
         TRACE_OF_SIZES,
         12,
@@ -294,16 +222,9 @@ const EXAMPLES_OF_SIZES: [Row<'static>; 2] = [
 ];
 
 const EXAMPLES_OF_SERVERS: [Row<'static>; 4] = [
+    ("serve P", STORE, TRACE_OF_STORE, 10, LOG_OF_STORE, NONE),
     (
-        &["serve", "P"],
-        STORE,
-        TRACE_OF_STORE,
-        10,
-        LOG_OF_STORE,
-        NONE,
-    ),
-    (
-        &["serve", "P", "--caps", "1=2"],
+        "serve P --caps 1=2",
         LIMITER,
         TRACE_OF_LIMITER,
         10,
@@ -311,16 +232,7 @@ const EXAMPLES_OF_SERVERS: [Row<'static>; 4] = [
         NONE,
     ),
     (
-        &[
-            "serve",
-            "P",
-            "--chunk",
-            "128",
-            "--max-path",
-            "64",
-            "--chunks",
-            "16",
-        ],
+        "serve P --chunk 128 --max-path 64 --chunks 16",
         CALCULATOR,
         TRACE_OF_CALCULATOR,
         10,
@@ -328,7 +240,7 @@ const EXAMPLES_OF_SERVERS: [Row<'static>; 4] = [
         NONE,
     ),
     (
-        &["serve", "P", "--caps", "1=1,2=1,3=1,4=1"],
+        "serve P --caps 1=1,2=1,3=1,4=1",
         RELAY,
         TRACE_OF_RELAY,
         10,
@@ -339,7 +251,7 @@ const EXAMPLES_OF_SERVERS: [Row<'static>; 4] = [
 
 // Two transfers in opposite directions wait for each other.
 const EXAMPLES_OF_CIRCLES: [Row<'static>; 1] = [(
-    &["serve", "P", "--caps", "1=1,2=1"],
+    "serve P --caps 1=1,2=1",
     BANK,
     TRACE_OF_BANK,
     10,

@@ -29,7 +29,7 @@ const SERVING: [ServingRow; 8] = [
 fn is_served(alloc: Global, row: &ServingRow) -> bool {
     let (fails, status, most, err) = *row;
     let given = Given {
-        words: &["serve", "P"],
+        words: "serve P",
         files: &[("P", PUT_SEVEN)],
         trace: NONE,
         fails,
@@ -77,7 +77,7 @@ const CHECKS: [CheckRow; 6] = [
 fn is_checked(alloc: Global, row: &CheckRow) -> bool {
     let (load, write, status, out, err) = *row;
     let given = Given {
-        words: &["check", "P", "I", "C"],
+        words: "check P I C",
         files: &[
             ("P", PUT_SEVEN),
             ("I", IMAGE_OF_SEVEN),
@@ -149,7 +149,7 @@ const BUILDS: [BuildRow<'static>; 6] = [
 fn is_built(alloc: Global, row: &BuildRow) -> bool {
     let (call, stored, write, status, out, err, image, certificate) = *row;
     let given = Given {
-        words: &["build", "P", "I", "C"],
+        words: "build P I C",
         files: &[("P", PUT_SEVEN), ("I", OLD), ("C", OLD)],
         trace: NONE,
         fails: [call, 0, write, 0],

@@ -2,9 +2,9 @@
 use crate::calls::{NONE, Row, all_hold};
 use crate::checks::TWO;
 
-const PLAIN: &[&str] = &["graph", "P"];
+const PLAIN: &str = "graph P";
 
-const SMALL: &[&str] = &["graph", "P", "--chunk", "64", "--max-path", "32"];
+const SMALL: &str = "graph P --chunk 64 --max-path 32";
 
 const GRAPHS: [Row<'static>; 9] = [
     (
@@ -16,7 +16,7 @@ const GRAPHS: [Row<'static>; 9] = [
         NONE,
     ),
     (
-        &["graph", "--max-path", "32", "P", "--chunk", "64"],
+        "graph --max-path 32 P --chunk 64",
         b"int g(int x) { return x; } int main() { int a; int b; int c; a = g(1); return a; }",
         NONE,
         0,
@@ -56,9 +56,9 @@ const GRAPHS: [Row<'static>; 9] = [
         b"function 0 main frame 16 bound 16\n",
         NONE,
     ),
-    (&["graph", "Q"], TWO, NONE, 9, NONE, b"absent: source\n"),
+    ("graph Q", TWO, NONE, 9, NONE, b"absent: source\n"),
     (
-        &["graph", "P", "Q"],
+        "graph P Q",
         TWO,
         NONE,
         1,

@@ -37,7 +37,7 @@ const ON_EXTRA: AtEnd = AtEnd {
 
 /// Words, the status, the output, the line on standard error, the returned world, and the files that exist then.
 type Row<'a> = (
-    &'a [&'a str],
+    &'a str,
     u8,
     &'a [u8],
     &'a [u8],
@@ -46,10 +46,10 @@ type Row<'a> = (
 );
 
 const SEQUENCE: [Row<'static>; 9] = [
-    (&["serve", "P"], 0, LOG_OF_SEVEN, NONE, Some(ON_FIRST), &[]),
+    ("serve P", 0, LOG_OF_SEVEN, NONE, Some(ON_FIRST), &[]),
     // a second size that fits and is smaller, and one that is equal to the first
     (
-        &["serve", "P", "--extra", "1", "--extra-size", "32"],
+        "serve P --extra 1 --extra-size 32",
         0,
         LOG_OF_SEVEN_AND_ONE,
         NONE,
@@ -57,7 +57,7 @@ const SEQUENCE: [Row<'static>; 9] = [
         &[],
     ),
     (
-        &["serve", "P", "--extra", "1", "--extra-size", "4096"],
+        "serve P --extra 1 --extra-size 4096",
         0,
         LOG_OF_SEVEN_AND_ONE,
         NONE,
@@ -68,24 +68,17 @@ const SEQUENCE: [Row<'static>; 9] = [
         &[],
     ),
     (
-        &["build", "P", "I", "C"],
+        "build P I C",
         0,
         b"built code 24 globals 0 tables 0\n",
         NONE,
         None,
         &[("I", IMAGE_OF_SEVEN), ("C", CERTIFICATE_OF_SEVEN)],
     ),
-    (&["check", "P", "I", "C"], 0, b"accepted\n", NONE, None, &[]),
+    ("check P I C", 0, b"accepted\n", NONE, None, &[]),
+    ("run P I C", 0, LOG_OF_SEVEN, NONE, Some(ON_FIRST), &[]),
     (
-        &["run", "P", "I", "C"],
-        0,
-        LOG_OF_SEVEN,
-        NONE,
-        Some(ON_FIRST),
-        &[],
-    ),
-    (
-        &["run", "P", "I", "C", "--chunks", "65536"],
+        "run P I C --chunks 65536",
         5,
         NONE,
         b"limit: pool is 268435456 bytes\n",
@@ -93,30 +86,14 @@ const SEQUENCE: [Row<'static>; 9] = [
         &[],
     ),
     (
-        &[
-            "run",
-            "P",
-            "I",
-            "C",
-            "--extra",
-            "61441",
-            "--extra-size",
-            "1024",
-        ],
+        "run P I C --extra 61441 --extra-size 1024",
         5,
         NONE,
         b"limit: pool is 67109888 bytes\n",
         None,
         &[],
     ),
-    (
-        &["run", "P", "I", "D"],
-        9,
-        NONE,
-        b"absent: certificate\n",
-        None,
-        &[],
-    ),
+    ("run P I D", 9, NONE, b"absent: certificate\n", None, &[]),
 ];
 
 /// Checks whether the world is that at the end of the log: 17 instructions, all chunks free again, no thread, and these
@@ -184,7 +161,7 @@ fn is_row(alloc: Global, shelf: &mut CleanShelf, row: &Row) -> Result<bool, Allo
     Ok(is_so && hold_files(alloc, shelf, row.5))
 }
 
-const SMALL: &[&str] = &["build", "P", "I", "C", "--chunk", "64", "--max-path", "32"];
+const SMALL: &str = "build P I C --chunk 64 --max-path 32";
 
 /// A program whose only call is at a checkpoint if the longest path is 32 bytes: the frames of `g` and `main` take 16
 /// and 32.
@@ -201,7 +178,7 @@ const BUDGETED: [Row<'static>; 2] = [
         &[],
     ),
     (
-        &["budget", "P", "I", "C"],
+        "budget P I C",
         0,
         b"chunks 2\nheight 0 0\nheight 1 1\n",
         NONE,
@@ -216,21 +193,14 @@ const RECURSIVE: &[u8] =
 
 const CYCLE: [Row<'static>; 2] = [
     (
-        &["build", "P", "I", "C", "--chunk", "64", "--max-path", "48"],
+        "build P I C --chunk 64 --max-path 48",
         0,
         b"built code 99 globals 0 tables 0\n",
         NONE,
         None,
         &[],
     ),
-    (
-        &["budget", "P", "I", "C"],
-        17,
-        NONE,
-        b"budget: cycle at f\n",
-        None,
-        &[],
-    ),
+    ("budget P I C", 17, NONE, b"budget: cycle at f\n", None, &[]),
 ];
 
 /// Checks whether the rows hold, one after another.

@@ -7,7 +7,7 @@ use crate::serving::{LOG_OF_SERVER, SERVER, SERVER_TRACE};
 use cap_io::{CleanShelf, CleanSink, CleanSource};
 use std::alloc::{AllocError, Global};
 
-const SERVES: &[&str] = &["serve", "P", "--caps", "1=1"];
+const SERVES: &str = "serve P --caps 1=1";
 
 /// The number of bytes that the output takes a call.
 const TAKEN: usize = 64;
@@ -200,7 +200,7 @@ fn cut_traces(rt: HostRuntime) {
 
 /// The pool has the one chunk of the first thread, which starts another.
 const ONE_CHUNK: [Row<'static>; 1] = [(
-    &["serve", "P", "--chunks", "1"],
+    "serve P --chunks 1",
     b"void w(int n) { } int main() { spawn(w, 1); return 0; }",
     NONE,
     12,
@@ -243,7 +243,7 @@ fn waits(alloc: Global, words: &Vec<String>, shelf: &mut CleanShelf) -> bool {
 
 /// Does the same with the words that give each thread a chunk of 64 bytes.
 fn serves_crowd(alloc: Global, shelf: &mut CleanShelf) -> Result<bool, AllocError> {
-    let words = words_of(alloc, &["serve", "P", "--chunk", "64", "--chunks", "20001"])?;
+    let words = words_of(alloc, "serve P --chunk 64 --chunks 20001")?;
     let is_so = waits(alloc, &words, shelf);
     drop(words);
     Ok(is_so)

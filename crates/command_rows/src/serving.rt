@@ -3,7 +3,7 @@ use crate::calls::{NONE, Row, all_hold};
 use crate::checks::PUT_SEVEN;
 use crate::logs::{ENDLESS_LOG, FALLING_LOG, FALLING_TRACE, LITTLE_FUEL_LOG};
 
-pub(crate) const SERVE: &[&str] = &["serve", "P"];
+pub(crate) const SERVE: &str = "serve P";
 
 pub(crate) const LOG_OF_SEVEN: &[u8] =
     b"run 0 0 0\nout 0 7\nend 0 17 1024\nedge 0 1 1 4352 -256\nstop done\n";
@@ -69,16 +69,7 @@ const RUNS_TO_THE_END: [Row<'static>; 20] = [
         NONE,
     ),
     (
-        &[
-            "serve",
-            "P",
-            "--chunk",
-            "64",
-            "--max-path",
-            "48",
-            "--chunks",
-            "128",
-        ],
+        "serve P --chunk 64 --max-path 48 --chunks 128",
         DEEP,
         NONE,
         0,
@@ -86,16 +77,7 @@ const RUNS_TO_THE_END: [Row<'static>; 20] = [
         NONE,
     ),
     (
-        &[
-            "serve",
-            "P",
-            "--chunk",
-            "96",
-            "--max-path",
-            "48",
-            "--chunks",
-            "1",
-        ],
+        "serve P --chunk 96 --max-path 48 --chunks 1",
         SHALLOW,
         NONE,
         0,
@@ -103,16 +85,7 @@ const RUNS_TO_THE_END: [Row<'static>; 20] = [
         NONE,
     ),
     (
-        &[
-            "serve",
-            "P",
-            "--chunk",
-            "80",
-            "--max-path",
-            "48",
-            "--chunks",
-            "2",
-        ],
+        "serve P --chunk 80 --max-path 48 --chunks 2",
         SHALLOW,
         NONE,
         0,
@@ -121,45 +94,16 @@ const RUNS_TO_THE_END: [Row<'static>; 20] = [
     ),
     // the second chunk is of a second size, which fits the call's need of 32 bytes
     (
-        &[
-            "serve",
-            "P",
-            "--chunk",
-            "80",
-            "--max-path",
-            "48",
-            "--chunks",
-            "1",
-            "--extra",
-            "1",
-            "--extra-size",
-            "48",
-        ],
+        "serve P --chunk 80 --max-path 48 --chunks 1 --extra 1 --extra-size 48",
         SHALLOW,
         NONE,
         0,
         b"run 0 0 0\nout 0 1\nend 0 100 2\nedge 0 1 1 25600 -256\nstop done\n",
         NONE,
     ),
+    ("serve P --fuel 17", PUT_SEVEN, NONE, 0, LOG_OF_SEVEN, NONE),
     (
-        &["serve", "P", "--fuel", "17"],
-        PUT_SEVEN,
-        NONE,
-        0,
-        LOG_OF_SEVEN,
-        NONE,
-    ),
-    (
-        &[
-            "serve",
-            "P",
-            "--chunk",
-            "64",
-            "--max-path",
-            "48",
-            "--chunks",
-            "16",
-        ],
+        "serve P --chunk 64 --max-path 48 --chunks 16",
         b"int h(int n) { int r; if (n < 1) { yield(); return 0; } r = h(n - 1); return r; } int main() { int r; r = h(9); return r; }",
         NONE,
         0,
@@ -194,7 +138,7 @@ const RUNS_TO_THE_END: [Row<'static>; 20] = [
     ),
     (SERVE, WAITING, b"data 66 0 7\n", 0, LOG_OF_SILENCE, NONE),
     (
-        &["serve", "P", "--caps", "1=1"],
+        "serve P --caps 1=1",
         SERVER,
         SERVER_TRACE,
         10,
@@ -202,7 +146,7 @@ const RUNS_TO_THE_END: [Row<'static>; 20] = [
         NONE,
     ),
     (
-        &["serve", "P", "--caps", "1=1"],
+        "serve P --caps 1=1",
         SLOW_SERVER,
         b"arrive 100 5\narrive 120 6\n",
         10,
@@ -211,7 +155,7 @@ const RUNS_TO_THE_END: [Row<'static>; 20] = [
     ),
     // the gate with a knee at half of each cap
     (
-        &["serve", "P", "--caps", "1=1", "--knee", "500"],
+        "serve P --caps 1=1 --knee 500",
         SLOW_SERVER,
         b"arrive 100 5\narrive 120 6\n",
         10,
@@ -219,7 +163,7 @@ const RUNS_TO_THE_END: [Row<'static>; 20] = [
         NONE,
     ),
     (
-        &["serve", "P", "--backlog", "1"],
+        "serve P --backlog 1",
         SERVER,
         FALLING_TRACE,
         4,
@@ -237,7 +181,7 @@ fn runs_to_the_end(rt: HostRuntime) {
 
 const CUT_RUNS: [Row<'static>; 13] = [
     (
-        &["serve", "P", "--fuel", "0"],
+        "serve P --fuel 0",
         PUT_SEVEN,
         NONE,
         13,
@@ -245,7 +189,7 @@ const CUT_RUNS: [Row<'static>; 13] = [
         NONE,
     ),
     (
-        &["serve", "P", "--fuel", "16"],
+        "serve P --fuel 16",
         PUT_SEVEN,
         NONE,
         13,
@@ -253,16 +197,7 @@ const CUT_RUNS: [Row<'static>; 13] = [
         NONE,
     ),
     (
-        &[
-            "serve",
-            "P",
-            "--chunk",
-            "80",
-            "--max-path",
-            "48",
-            "--chunks",
-            "1",
-        ],
+        "serve P --chunk 80 --max-path 48 --chunks 1",
         SHALLOW,
         NONE,
         12,
@@ -271,20 +206,7 @@ const CUT_RUNS: [Row<'static>; 13] = [
     ),
     // one chunk is free, but too small
     (
-        &[
-            "serve",
-            "P",
-            "--chunk",
-            "80",
-            "--max-path",
-            "48",
-            "--chunks",
-            "1",
-            "--extra",
-            "1",
-            "--extra-size",
-            "32",
-        ],
+        "serve P --chunk 80 --max-path 48 --chunks 1 --extra 1 --extra-size 32",
         SHALLOW,
         NONE,
         12,
@@ -292,16 +214,7 @@ const CUT_RUNS: [Row<'static>; 13] = [
         NONE,
     ),
     (
-        &[
-            "serve",
-            "P",
-            "--chunk",
-            "64",
-            "--max-path",
-            "48",
-            "--chunks",
-            "2",
-        ],
+        "serve P --chunk 64 --max-path 48 --chunks 2",
         ENDLESS,
         NONE,
         12,
@@ -333,7 +246,7 @@ const CUT_RUNS: [Row<'static>; 13] = [
         NONE,
     ),
     (
-        &["serve", "P", "--caps", "1=1"],
+        "serve P --caps 1=1",
         b"int main() { take(1, 2); return 0; }",
         NONE,
         11,
@@ -357,7 +270,7 @@ const CUT_RUNS: [Row<'static>; 13] = [
         NONE,
     ),
     (
-        &["serve", "P", "--chunk", "64", "--chunks", "65536"],
+        "serve P --chunk 64 --chunks 65536",
         b"void w(int x) { x = wait(0); } int main() { while (1) spawn(w, 0); }",
         NONE,
         14,
@@ -366,16 +279,7 @@ const CUT_RUNS: [Row<'static>; 13] = [
     ),
     // by the stride rule a thread with two tickets has two turns for one of the other
     (
-        &[
-            "serve",
-            "P",
-            "--rule",
-            "stride",
-            "--tickets",
-            "1=2",
-            "--fuel",
-            "100",
-        ],
+        "serve P --rule stride --tickets 1=2 --fuel 100",
         b"void w(int n) { while (1) { put(n); yield(); } } int main() { spawn(w, 1); spawn(w, 2); return 0; }",
         NONE,
         13,

@@ -34,7 +34,7 @@ fn leaves(alloc: Global, words: &Vec<String>, shelf: &mut CleanShelf) -> bool {
 
 /// Does the same with the words of a `serve` of that server.
 fn serves(alloc: Global, shelf: &mut CleanShelf) -> Result<bool, AllocError> {
-    let words = words_of(alloc, &["serve", "P", "--caps", "1=1"])?;
+    let words = words_of(alloc, "serve P --caps 1=1")?;
     let is_so = leaves(alloc, &words, shelf);
     drop(words);
     Ok(is_so)
