@@ -14,6 +14,7 @@ use Rattle.rv_machine.specs.Registers.{read, write}
 use Rattle.rv_machine.specs.Rows as rows
 use Rattle.rv_machine.specs.Step.{outcome}
 use Rattle.stack_certificate.specs.Registers.{sp, tp, t1, a0, a1, a2}
+use Rattle.stack_certificate.specs.RunTimeCalls.{link_number, unlink_number, end_number, trap_number}
 use Rattle.machine_world.specs.Areas.{Areas, byte_at, is_writable, with_byte}
 
 -- a thread: the address of its next instruction, its 32 registers, and the chunks that it holds, innermost first
@@ -135,11 +136,11 @@ asks_or_wrong l None = Stops Wrong
 -- the calls by number; the number is in a7
 abbrev pub system_call : Local → ℕ → LocalMove
 system_call l number =
-    if nat_eq number 1 then linked l else
-    if nat_eq number 2 then unlinked l else
+    if nat_eq number link_number then linked l else
+    if nat_eq number unlink_number then unlinked l else
     if nat_eq number spawn_number then Asks (Starts (read l.core.x a0) (read l.core.x a1) (read l.core.x a2)) l else
-    if nat_eq number 30 then ended l l.core.chain else
-    if nat_eq number 31 then trapped (read l.core.x a0) else
+    if nat_eq number end_number then ended l l.core.chain else
+    if nat_eq number trap_number then trapped (read l.core.x a0) else
     asks_or_wrong l (package_call number l.core.x)
 
 -- ---- a step

@@ -7,6 +7,7 @@ ghost use Rattle.certificate_rules.specs.Validity.{IsValid};
 ghost use Rattle.machine_world.specs.Areas.{Areas};
 ghost use Rattle.machine_world.specs.WellFormed.{AreWords};
 ghost use Rattle.rv_machine.specs.Registers.{write};
+ghost use Rattle.stack_certificate.specs.Registers.{a0};
 ghost use Rattle.segment_run.specs.Contexts.{checked_of, code_of, local_of};
 ghost use Rattle.segment_run.specs.Passing.{RestsBefore, RestsBehind, WaitsBefore, WaitsBehind};
 
@@ -52,7 +53,7 @@ pub fn retire(context: &mut Context, fuel: &mut Fuel)
 
 /// Sets register a0. Just after an ECALL this is the call's result.
 pub fn reply(context: &mut Context, value: u32)
-    ensures result { context.new ≡ record context.old { x = write context.old.x 10 value } }
+    ensures result { context.new ≡ record context.old { x = write context.old.x a0 value } }
     ensures rests { (accepted : Accepted) (areas : Areas) → RestsBehind (checked_of accepted) (code_of accepted) (local_of areas context.old) → RestsBehind (checked_of accepted) (code_of accepted) (local_of areas context.new) }
     ensures waits { (accepted : Accepted) (areas : Areas) (waiting : Waiting) (globals : List (List ℕ)) →
         WaitsBehind (checked_of accepted) (accepted_tree accepted) (local_of areas context.old) waiting globals →

@@ -20,6 +20,7 @@ use accepted_pairs::Accepted;
 use cap_word::{Ask, Block, ModelledCall, SPAWN_NUMBER, TrapKind};
 use rv_code::Instr;
 use rv_machine::{Regs, StepResult, step_of};
+use stack_certificate::{END_NUMBER, LINK_NUMBER, TRAP_NUMBER, UNLINK_NUMBER};
 use stack_image::CODE_START;
 
 // A running thread: its registers, its innermost chunk, and the number of its chunks.
@@ -125,14 +126,14 @@ pub(crate) fn call(accepted: &Accepted, areas: &mut Areas, thread: &mut Thread, 
     ensures { IsTurn (checked_of accepted.now) (code_of accepted.now) (thread_of areas.old thread.old) result (thread_of areas.new thread.new) }
 {
     match number {
-        1 => {
+        LINK_NUMBER => {
             if link(areas, thread) {
                 Turn::Goes
             } else {
                 Turn::NoRoom
             }
         }
-        2 => {
+        UNLINK_NUMBER => {
             unlink(areas, thread);
             Turn::Goes
         }
@@ -142,11 +143,11 @@ pub(crate) fn call(accepted: &Accepted, areas: &mut Areas, thread: &mut Thread, 
                 argument: thread.regs.x[A1],
             },
         },
-        30 => {
+        END_NUMBER => {
             end(areas, thread);
             Turn::Ends
         }
-        31 => Turn::Traps {
+        TRAP_NUMBER => Turn::Traps {
             kind: trap_kind(thread.regs.x[A0]),
         },
         _ => match ModelledCall::of_number(number) {

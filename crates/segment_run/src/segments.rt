@@ -4,6 +4,7 @@ ghost use Rattle.certificate_rules.specs.Validity.{IsValid};
 ghost use Rattle.flat_code.specs.WellFormed.{IsWellFormed};
 ghost use Rattle.machine_world.specs.StandsFor.{SourceThread, StandsForThread, going_on};
 ghost use Rattle.rv_machine.specs.Registers.{read};
+ghost use Rattle.stack_certificate.specs.Registers.{a0};
 ghost use Rattle.segment_run.specs.Contexts.{checked_of, code_of, local_of, AreOf, IsReady};
 ghost use Rattle.segment_laws.specs.Ways.{HasForm};
 ghost use Rattle.segment_run.specs.Safe.{StaysSafe};
@@ -58,7 +59,7 @@ pub fn run_segment(
     // For every source thread and globals for which it stood, the answer is that thread's next call or stop.
     ensures source { (thread : SourceThread) (globals : List (List ℕ)) →
         StandsForThread (checked_of accepted.now) (accepted_tree accepted.now) (local_of areas.old context.old) thread globals →
-        IsSourceAnswer (checked_of accepted.now) (accepted_tree accepted.now) (going_on thread (read context.old.x 10) globals) result (local_of areas.new context.new) }
+        IsSourceAnswer (checked_of accepted.now) (accepted_tree accepted.now) (going_on thread (read context.old.x a0) globals) result (local_of areas.new context.new) }
 {
     areas.are_kept();
     are_sound(accepted);

@@ -11,7 +11,7 @@ use Rattle.flat_code.specs.Codes.{FlatCode, function_at}
 use Rattle.flat_code.specs.Modelled.{modelled_parameters}
 use Rattle.flat_code.specs.WellFormed.{signature_of, signature_at, Context, context_of, IsScalar, IsResultPlace, IsReturned, IsOperation, IsFunction, IsWellFormed}
 use Rattle.stack_certificate.specs.declared.functions.FunctionFact.{FunctionFact}
-use Rattle.stack_certificate.specs.Places.{HasPlace, HavePlaces, IsBounded}
+use Rattle.stack_certificate.specs.Places.{HasPlace, HavePlaces}
 use Rattle.stack_certificate.specs.Templates.{HasPlaces}
 
 pub all_at : {X : Type 0} (P : X → Type 0) (xs : List X) (i : ℕ) (d : X) → AllByRecursion P xs → i < length xs → P (slice_index_or xs i d)
@@ -95,29 +95,6 @@ operation_places code f i n d formed lt inside e =
 pub operation_formed : (code : FlatCode) (f i : ℕ) (d : Op) → IsWellFormed code → f < length code.functions → i < length (function_at code f).ops → IsOperation (context_of code (function_at code f)) (slice_index_or (function_at code f).ops i d)
 operation_formed code f i d formed lt inside =
     all_at (IsOperation (context_of code (function_at code f))) (function_at code f).ops i d (function_formed code f formed lt).ops inside
-
--- what isn't the setting of an array to 0
-pub bounded_unless : (op : Op) → ((a : ℕ) → op ≡ Op.Zero a → ⊥) → IsBounded op
-bounded_unless (Op.Zero a) h = h a refl
-bounded_unless (Op.Const d value) h = tt
-bounded_unless (Op.Copy d s) h = tt
-bounded_unless (Op.Neg d s) h = tt
-bounded_unless (Op.Not d s) h = tt
-bounded_unless (Op.Flip d s) h = tt
-bounded_unless (Op.Bin op d a b) h = tt
-bounded_unless (Op.LoadGlobal d g) h = tt
-bounded_unless (Op.StoreGlobal g s) h = tt
-bounded_unless (Op.LoadLocal d a i) h = tt
-bounded_unless (Op.LoadArray d a i) h = tt
-bounded_unless (Op.StoreLocal a i s) h = tt
-bounded_unless (Op.StoreArray a i s) h = tt
-bounded_unless (Op.Jump to) h = tt
-bounded_unless (Op.JumpZero s to) h = tt
-bounded_unless (Op.Call site d f args) h = tt
-bounded_unless (Op.CallTable site d t i s) h = tt
-bounded_unless (Op.Model site d n args) h = tt
-bounded_unless (Op.Spawn site d f s) h = tt
-bounded_unless (Op.Return s) h = tt
 
 pub same_count : (fs : List FlatFunction) (facts : List FunctionFact) → HasPlaces fs facts → length facts ≡ length fs
 same_count [] [] h = refl

@@ -4,4 +4,5 @@ pub mod InstructionWords
 pub mod Parts
 pub mod Places
 pub mod Registers
+pub mod RunTimeCalls
 pub mod Templates

@@ -7,6 +7,7 @@ use Rattle.flat_code.specs.declared.operators.BinOp.{BinOp}
 use Rattle.stack_certificate.specs.declared.functions.FunctionFact.{FunctionFact}
 use Rattle.stack_certificate.specs.declared.sites.LinkKind.{LinkKind}
 use Rattle.stack_certificate.specs.Registers.{zero_, ra, sp, tp, t0, t1, t2, a0, a7}
+use Rattle.stack_certificate.specs.RunTimeCalls.{link_number, unlink_number, trap_number}
 
 -- li r, v: the upper part, rounded so that the low 12 bits can be added as a signed number
 abbrev pub upper_part : ℕ → ℕ
@@ -33,7 +34,7 @@ system_call n = Instr.Addi a7 zero_ (pos n) ∷ Instr.Ecall ∷ []
 -- guard(i, n, kind): lw t0, [i]; li t1, n; bltu t0, t1, +16; addi a0, x0, kind; addi a7, x0, 31; ecall
 abbrev pub guard : FunctionFact → ℕ → ℕ → ℕ → List Instr
 guard fact i n kind =
-    load fact t0 i ∷ li t1 n ++ (Instr.Bltu t0 t1 (pos 16) ∷ Instr.Addi a0 zero_ (pos kind) ∷ system_call 31)
+    load fact t0 i ∷ li t1 n ++ (Instr.Bltu t0 t1 (pos 16) ∷ Instr.Addi a0 zero_ (pos kind) ∷ system_call trap_number)
 
 -- an operator on t0 and t1, in t0
 abbrev pub middle : BinOp → List Instr
@@ -85,7 +86,7 @@ transfer LinkKind.Plain callee here = call_instruction callee here ∷ []
 transfer (LinkKind.Linked need) callee here =
     li t1 need ++ (
     Instr.Sub t0 sp t1 ∷ Instr.Bltu t0 tp (pos 12) ∷ call_instruction callee (here + 16) ∷ Instr.Jal zero_ (pos 24) ∷
-    Instr.Addi a7 zero_ (pos 1) ∷ Instr.Ecall ∷ call_instruction callee (here + 32) ∷ system_call 2)
+    Instr.Addi a7 zero_ (pos link_number) ∷ Instr.Ecall ∷ call_instruction callee (here + 32) ∷ system_call unlink_number)
 transfer (LinkKind.Spawned need) callee here = call_instruction callee here ∷ []
 
 -- sw a0, [0]; .. for this number of parameters, from parameter k on, which is in register r

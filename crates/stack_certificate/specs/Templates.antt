@@ -1,5 +1,6 @@
 -- The table of templates: the instructions of each operation, in order, by the places in its function's fact.
 use Rattle.std.specs.Prelude.{◌≡◌, ℕ, ◌+◌, ◌*◌, pos, negsuc, ◌-ℤ◌, List, [], ◌∷◌, ◌++◌, length, sum_by, take, slice_index, Option, Some, None}
+use Rattle.cap_word.specs.ModelledCalls.{spawn_number}
 use Rattle.rv_code.specs.declared.instructions.Instr.{Instr}
 use Rattle.flat_code.specs.declared.functions.FlatFunction.{FlatFunction}
 use Rattle.flat_code.specs.declared.operations.Op.{Op}
@@ -12,10 +13,11 @@ use Rattle.stack_certificate.specs.declared.settings.Setting.{Setting}
 use Rattle.stack_certificate.specs.Certificates.{fact_at, kind_in, need_of, global_address, table_address, global_words, member_count}
 use Rattle.stack_certificate.specs.Parts.{li, load, store, system_call, guard, middle, zeroes, arguments, result, jump, transfer, saves, epilogue}
 use Rattle.stack_certificate.specs.Registers.{zero_, ra, sp, t0, t1, t2, a0, a1, a2}
+use Rattle.stack_certificate.specs.RunTimeCalls.{end_number}
 
 -- the end stub, with which the code begins: the last frame of a thread returns to it
 abbrev pub end_stub : List Instr
-end_stub = system_call 30
+end_stub = system_call end_number
 
 -- the prologue of a function with this number of parameters: addi sp, sp, -frame; sw ra, ra(sp); sw a0, [0]; ..
 abbrev pub prologue : FunctionFact → ℕ → List Instr
@@ -54,7 +56,7 @@ row fact sizes s (Op.CallTable site d t i x) =
     transfer s.kind None (s.here + 52) ++ result fact d
 row fact sizes s (Op.Model site d n args) = arguments fact a0 args ++ system_call n ++ result fact d
 row fact sizes s (Op.Spawn site d f x) =
-    li a0 s.entry ++ (load fact a1 x ∷ li a2 (need_of s.kind) ++ system_call 4) ++ result fact d
+    li a0 s.entry ++ (load fact a1 x ∷ li a2 (need_of s.kind) ++ system_call spawn_number) ++ result fact d
 row fact sizes s (Op.Return None) = epilogue fact
 row fact sizes s (Op.Return (Some x)) = load fact a0 x ∷ epilogue fact
 

@@ -16,6 +16,7 @@ use crate::instruction_lists::InstructionList;
 use crate::settings::Setting;
 use crate::sites::LinkKind;
 use crate::{elements, parts, slots};
+use cap_word::SPAWN_NUMBER;
 use rv_code::Register;
 
 // A call of a function.
@@ -108,7 +109,7 @@ pub(crate) fn spawn(
     parts::li(&mut list, Register::A0, setting.entry);
     list.push(parts::load(fact, Register::A1, s));
     parts::li(&mut list, Register::A2, need(setting.kind));
-    parts::system_call(&mut list, 4);
+    parts::system_call(&mut list, SPAWN_NUMBER);
     parts::result(&mut list, fact, d);
     list
 }

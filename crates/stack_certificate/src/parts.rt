@@ -10,6 +10,7 @@ ghost use Rattle.stack_certificate.specs.declared.sites.LinkKind.{LinkKind};
 
 use crate::functions::FunctionFact;
 use crate::instruction_lists::InstructionList;
+use crate::run_time_calls::{LINK_NUMBER, TRAP_NUMBER, UNLINK_NUMBER};
 use crate::sites::LinkKind;
 use crate::slots;
 use flat_code::BinOp;
@@ -122,7 +123,7 @@ pub(crate) fn guard(list: &mut InstructionList, fact: &FunctionFact, i: u32, n: 
         imm: BranchOffset::new(16),
     }));
     list.push(small(Register::A0, kind));
-    system_call(list, 31);
+    system_call(list, TRAP_NUMBER);
 }
 
 // The instruction that computes an operator on t0 and t1 in t0, and a second one if one isn't enough.
@@ -289,7 +290,7 @@ fn linked(list: &mut InstructionList, need: u32, callee: Option<u64>, here: u64)
         rd: Register::ZERO,
         imm: JumpOffset::new(24),
     }));
-    system_call(list, 1);
+    system_call(list, LINK_NUMBER);
     list.push(call_instruction(callee, here + 32));
-    system_call(list, 2);
+    system_call(list, UNLINK_NUMBER);
 }

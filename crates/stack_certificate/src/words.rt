@@ -13,6 +13,7 @@ use crate::certificates::Certificate;
 use crate::functions::FunctionFact;
 use crate::instruction_lists::InstructionList;
 use crate::lookups::{function_of, operation_of, placed_fact_of};
+use crate::run_time_calls::END_NUMBER;
 use crate::settings::Setting;
 use crate::{parts, rows, slots};
 use flat_code::{FlatProgram, Op};
@@ -24,7 +25,7 @@ pub fn stub_word(word: u32) -> Option<u32>
     ensures { IsWordOf (slice_get end_stub word) result }
 {
     let mut list = InstructionList::new();
-    parts::system_call(&mut list, 30);
+    parts::system_call(&mut list, END_NUMBER);
     slot_word(&list, word)
 }
 

@@ -3,6 +3,7 @@ use Rattle.std.specs.Prelude.{◌≡◌, ◌≢◌, ℕ, ◌+◌, Option, Some, 
 use Rattle.slab.specs.Slab.{get}
 use Rattle.cap_word.specs.declared.threads.ThreadId.{ThreadId}
 use Rattle.rv_machine.specs.Registers.{write}
+use Rattle.stack_certificate.specs.Registers.{a0}
 use Rattle.segment_run.specs.declared.contexts.Context.{Context}
 use Rattle.thread_core.specs.declared.records.Record.{Record}
 use Rattle.thread_core.specs.declared.state.State.{State}
@@ -19,9 +20,9 @@ pub record HasContext (old : State) (thread : ThreadId) (context : Context) (new
 -- a context after its ECALL, with the call's result
 abbrev pub passed_context : Context → Option ℕ → Context
 passed_context context None = record context { pc = context.pc + 4 }
-passed_context context (Some value) = record context { pc = context.pc + 4; x = write context.x 10 value }
+passed_context context (Some value) = record context { pc = context.pc + 4; x = write context.x a0 value }
 
 -- the same with the call's answer, if it gives one
 abbrev pub answered_context : Context → Option ℕ → Context
 answered_context context None = context
-answered_context context (Some value) = record context { x = write context.x 10 value }
+answered_context context (Some value) = record context { x = write context.x a0 value }

@@ -4,15 +4,16 @@ use Rattle.slab.specs.Slab.{get}
 use Rattle.cap_word.specs.declared.threads.ThreadId.{ThreadId}
 use Rattle.machine_world.specs.Threads.{Thread, thread_of}
 use Rattle.rv_machine.specs.Registers.{read}
+use Rattle.stack_certificate.specs.Registers.{sp, t0, t1}
 use Rattle.thread_core.specs.Ready.{is_same_number}
 use Rattle.thread_core.specs.Worlds.{Held}
 use Rattle.thread_core.specs.declared.records.Record.{Record}
 use Rattle.thread_core.specs.declared.standing.Standing.{Standing}
 use Rattle.thread_core.specs.declared.state.State.{State}
 
--- pc and registers by their numbers: sp is register 2, t0 is 5 and t1 is 6
+-- what is shown of a pc and registers
 abbrev pub standing_at : ℕ → List ℕ → Standing
-standing_at pc x = record { pc = pc; sp = read x 2; t0 = read x 5; t1 = read x 6 }
+standing_at pc x = record { pc = pc; sp = read x sp; t0 = read x t0; t1 = read x t1 }
 
 abbrev pub standing_of : Thread → Standing
 standing_of thread = standing_at thread.core.pc thread.core.x
