@@ -34,6 +34,68 @@ def under(path, function):
     return definitions, types
 
 
+class Citations:
+    """Which definition cites which, below the clauses of the call."""
+
+    def __init__(self, definitions):
+        self.of = {
+            id(it): [id(each) for each in cites(it) if not isinstance(each, CodeType)]
+            for it in definitions
+        }
+        clauses = cited(*contract_of(COMMAND, "capriccio"))
+        self.clauses = [it for it in clauses if not isinstance(it, CodeType)]
+
+    def below(self, starts, without=None):
+        """What these rest on, themselves among them, if `without` and what only it leads to is left out."""
+        found, todo = set(), [it for it in starts if it != without]
+        while todo:
+            it = todo.pop()
+            if it not in found:
+                found.add(it)
+                todo += (each for each in self.of[it] if each != without)
+        return found
+
+    def behind(self, definition):
+        """How many definitions only this one leads to, itself among them."""
+        starts = [id(it) for it in self.clauses]
+        return len(self.of) - len(self.below(starts, id(definition)))
+
+
+# A definition has a row of its own if so many stand behind it alone, and these are not nearly all of what stands behind one with a row.
+LEAST_BEHIND, LEAST_SHARE = 30, 0.8
+
+
+def dearest(definitions, citations):
+    """The definitions behind which most others stand, with their number, the most first."""
+    counted = sorted(((citations.behind(it), it) for it in definitions), key=lambda it: (-it[0], it[1].name))
+    rows = []
+    for number, it in counted:
+        if number < LEAST_BEHIND:
+            return rows
+        around = [more for more, above in rows if id(it) in citations.below([id(above)])]
+        if not around or number < LEAST_SHARE * min(around):
+            rows.append((number, it))
+    return rows
+
+
+def says(it):
+    return first_sentence(it.comment or it.section or modules()[it.module].head)
+
+
+def costs(definitions):
+    """Two tables: what stands under each definition that a clause cites, and what stands behind one definition alone."""
+    citations, by_id = Citations(definitions), {id(it): it for it in definitions}
+    yield from table("Definition that a clause cites", "Definitions under it", "Lines")
+    for it in citations.clauses:
+        under_it = [by_id[each] for each in citations.below([id(it)])]
+        yield row(f"`{it.name}`", f"{len(under_it):,}", f"{lines_of(under_it):,}")
+    yield from ("", "Without one of these, so many definitions would not be in the list:", "")
+    yield from table("Definition", "Crate", "Says", "Definitions")
+    for number, it in dearest(definitions, citations):
+        yield row(f"`{it.name}`", f"`{it.crate}`", says(it), f"{number:,}")
+    yield ""
+
+
 def ways_to(name):
     """For each definition of this name the shortest way from a clause to it."""
     definitions, _ = under(COMMAND, "capriccio")
@@ -95,8 +157,7 @@ def grouped(module, wanted):
 def group_row(module, group):
     first, last = group[0].first, group[-1].last
     lines = f"{first}" if first == last else f"{first}-{last}"
-    says = first_sentence(group[0].comment or group[0].section or module.head)
-    return row(", ".join(f"`{it.name}`" for it in group), f"{module.path.stem}:{lines}", says)
+    return row(", ".join(f"`{it.name}`" for it in group), f"{module.path.stem}:{lines}", says(group[0]))
 
 
 def crate_part(crate, definitions, types):
@@ -147,7 +208,7 @@ def page():
     for room, names in by_room:
         here = [it for name in names for it in defined[name]]
         lines.append(row(room, f"{len(here):,}", f"{lines_of(here):,}"))
-    lines.append("")
+    lines += ["", *costs(definitions)]
     for room, names in by_room:
         lines += [f"## {room}", ""]
         for name in names:
