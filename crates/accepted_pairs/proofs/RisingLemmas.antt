@@ -27,9 +27,6 @@ rising_lt xs rising i j lt bound =
     let at : i + suc d ≡ j = omega arith in
     subst (λ (k : ℕ). slice_index xs i < slice_index xs k) at (steps xs rising i d (omega arith))
 
-pub number_at : (facts : List SiteFact) (k : ℕ) (fact : SiteFact) → k < length facts → fact ≡ slice_index_or facts k fact → fact.number ≡ slice_index (fact_numbers facts) k
-number_at facts k fact lt e = ap (λ f. f.number) e ∙ sym (get_or-map (λ f. f.number) facts k fact 0 lt)
-
 -- ---- how a site links
 
 kind_here : (b : Bool) (kind rest : LinkKind) → b ≡ true → kind_or b kind rest ≡ kind
@@ -153,7 +150,3 @@ rising_more facts k d one lt h before j less = elim (cases_lt (j + 1) k) [
       let moved : slice_index (fact_numbers facts) j < slice_index (fact_numbers facts) k = subst (λ (n : ℕ). slice_index (fact_numbers facts) n < slice_index (fact_numbers facts) k) under pair in
       subst (λ (n : ℕ). slice_index (fact_numbers facts) j < slice_index (fact_numbers facts) n) at moved)
 ]
-
-pub rising_all : (facts : List SiteFact) (k : ℕ) → length facts ≤ k → ((j : ℕ) → j + 1 < k → slice_index (fact_numbers facts) j < slice_index (fact_numbers facts) (j + 1)) →
-    IsStrictlyIncreasing (fact_numbers facts)
-rising_all facts k le before = λ j lt. before j (let e = length-map facts (λ f. f.number) in omega arith)

@@ -80,9 +80,6 @@ shown_fits caps (a ∷ averages) eight all =
     let short = rest.1 in
     (omega arith, omega (arith, short, eight), (all.0, rest.0))
 
-abbrev LineFits : EdgeLine → Type 0
-LineFits edge = FitsEdge edge × (edge.count < 2 ^ 64)
-
 line_fits : (caps : List ℕ) (edge : EdgeLine) → FitsEdge edge → edge.count < 2 ^ 64 → FitsEntry (edge_entry caps edge)
 line_fits caps edge is few =
     (is.from, is.to, few, average_fits edge.cost is.is.cost, shown_fits caps edge.change is.is.eight (small_fit edge.change (recursion_from_All (λ average. unsigned_abs average ≤ 2 ^ 39) edge.change is.is.changes)))

@@ -1,6 +1,6 @@
 -- Each line that a reading allows fits the format, and leaves its state in range.
-use Rattle.std.proofs.Common.{◌≡◌, ℕ, zero, suc, ◌+◌, ◌-◌, ◌^◌, ◌<◌, ◌≤◌, ℤ, pos, ◌-ℤ◌, unsigned_abs, Bool, true, false, ◌&&◌, nat_eq, List, [], ◌∷◌, ◌++◌, length, drop, Option, Some, None, All, find, refl, sym, ap, ◌∙◌, subst, arith, rules}
-use Rattle.std.specs.Prelude.{FitsSigned, filter, slice_get}
+use Rattle.std.proofs.Common.{◌≡◌, ℕ, zero, suc, ◌+◌, ◌-◌, ◌^◌, ◌<◌, ◌≤◌, ℤ, pos, ◌-ℤ◌, unsigned_abs, Bool, true, false, ◌&&◌, nat_eq, List, [], ◌∷◌, ◌++◌, length, drop, Some, None, All, refl, sym, ap, ◌∙◌, subst, arith, rules}
+use Rattle.std.specs.Prelude.{FitsSigned, filter}
 use Rattle.std.specs.Int.{w32}
 use Rattle.std.specs.List.{AllByRecursion}
 use Rattle.std.proofs.Math.Facts.{sfits_to_z}
@@ -120,12 +120,6 @@ module _ (g : Given) (scoped : IsWellScoped g.program) (small : AreCapsSmall g.p
     schedule = led.schedule ++ source.Deliver (delivery_of kind) ∷ [];
     after = after_more g.program g.policy.caps (source.start_world g.program) world (received false world (delivery_of kind)) led.schedule (source.Deliver (delivery_of kind)) led.after refl;
   }
-
-  segment_none : (b : State) → Rattle.std.specs.Prelude.is_some b.segment ≡ false → FitsIf b.cost b.segment
-  segment_none b e = by b.segment e where
-    by : (o : Option Segment) → Rattle.std.specs.Prelude.is_some o ≡ false → FitsIf b.cost o
-    by None k = tt
-    by (Some segment) k = absurd (let no : true ≡ false = k in cc)
 
   pub came : (b after : State) (clock : ℕ) (item : Item) (drops : Bool) → IsComing g b clock item drops after → Range b → Came clock item after
   came b after clock item drops is range =

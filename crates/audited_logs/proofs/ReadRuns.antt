@@ -101,13 +101,6 @@ module _ (program : ProgramTree) (caps : List ℕ) where
         least = λ n below earlier there. let few = few_before world here at steps word after put n below earlier there in omega (arith, few);
       }
 
-  pub number_kept : (here : source.Segment) (steps word : ℕ) (after : source.Segment) → PutsNext program caps here steps word after → after.number ≡ here.number
-  number_kept here steps word after put =
-      let way : moves (segment_machine program caps) (put.before + 1) here ≡ Goes after =
-      goes_on (segment_machine program caps) put.before 1 here put.here put.silent.moved ∙ one_step put.here after put.puts in
-      let kept = keeps_moves program caps (put.before + 1) here after way in
-      kept.number
-
   -- to where it rests or traps
   pub rests_on : (world : source.World) (here : source.Segment) (steps : ℕ) (rested : Rested) → IsUnderWay world here → RestsNext program caps here steps rested → RunsTo program caps world here.number rested
   rests_on world here steps rested at rest =

@@ -9,10 +9,10 @@ use Rattle.std.proofs.lemmas.Int.{ints}
 use Rattle.blocking_graph.specs.declared.edges.EdgeLine.{EdgeLine}
 use Rattle.blocking_graph.specs.declared.segments.SegmentRecord.{SegmentRecord}
 use Rattle.blocking_graph.specs.declared.sums.NodeSums.{NodeSums}
-use Rattle.blocking_graph.specs.Edges.{is_before, is_of, first_edge, next_edge, edges_with, edges_from, count_of, with_weight, weighted_change, prediction}
+use Rattle.blocking_graph.specs.Edges.{is_before, is_of, first_edge, next_edge, edges_with, edges_from, count_of, with_weight, weighted_change}
 use Rattle.blocking_graph.specs.Graph.{IsEdge, IsSegment, IsRising}
 use Rattle.blocking_graph.specs.Pairs.{edge_between}
-use Rattle.blocking_graph.specs.Sums.{weight, weight_or_0, edge_after, average_by_count, IsSumOf, IsKeptOf, AreSumsOf, IsMoved}
+use Rattle.blocking_graph.specs.Sums.{weight, weight_or_0, edge_after, IsSumOf, IsKeptOf, AreSumsOf, IsMoved}
 use Rattle.blocking_graph.proofs.GraphLemmas.{IsEdge-first, IsEdge-next}
 use Rattle.blocking_graph.proofs.PairLemmas.{by_test, before_leads_not, same_leads, after_leads_not, none_later, leads}
 use Rattle.blocking_graph.proofs.PlaceLemmas.{is_of_itself}
@@ -289,21 +289,6 @@ count_after-le (Some e) segment count p h = let le : e.count ≤ count = p.1 in 
 
 -- ---- a prediction, from what is kept
 
-pub prediction-sums : (edges : List EdgeLine) (node resource : ℕ) (sums : NodeSums) → IsSumOf (edges_from edges node) sums → resource < 8 →
-    average_by_count (get_or sums.change resource (pos 0)) sums.count ≡ prediction edges node resource
-prediction-sums edges node resource sums told h = rw (told.change resource h, told.count) refl
-
-pub prediction-none : (edges : List EdgeLine) (node resource : ℕ) → edges_from edges node ≡ [] → prediction edges node resource ≡ pos 0
-prediction-none edges node resource none = rw none refl
-
--- the zeros of a node without an edge
-pub IsSumOf-none : (sums : NodeSums) → sums.count ≡ 0 → length sums.change ≡ 8 →
-    ((resource : ℕ) → resource < 8 → get_or sums.change resource (pos 0) ≡ pos 0) → IsSumOf [] sums
-IsSumOf-none sums count eight zeros = record { count = count; eight = eight; change = zeros }
-
 -- what is kept of a node that has sums, or none
 pub kept_some : (edges : List EdgeLine) (kept : Option NodeSums) (sums : NodeSums) → kept ≡ Some sums → IsKeptOf edges kept → IsSumOf edges sums
 kept_some edges kept sums e h = subst (λ o. IsKeptOf edges o) e h
-
-pub kept_none : (edges : List EdgeLine) (kept : Option NodeSums) → kept ≡ None → IsKeptOf edges kept → edges ≡ []
-kept_none edges kept e h = subst (λ o. IsKeptOf edges o) e h

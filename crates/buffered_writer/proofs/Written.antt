@@ -5,7 +5,6 @@ use Rattle.std.specs.Io.KnownBytes.{Appends, Keeps, append_known}
 use Rattle.std.proofs.KnownBytes.{Appends-nil, Appends-trans, Appends-kept, Keeps-refl, Keeps-trans}
 use Rattle.std.proofs.lemmas.List.{append-nil, append_cancel_left, take-append-drop}
 use Rattle.std.proofs.Math.Seq.{take-append_seam}
-use Rattle.cap_io.specs.Faults.{Rose}
 use Rattle.cap_io.specs.Writes.{Puts}
 use Rattle.buffered_writer.specs.declared.writer.PutError.{PutError}
 use Rattle.buffered_writer.specs.declared.writer.PutError.TheVariants.{WriteFault, Memory}
@@ -62,21 +61,6 @@ pub writes_more : (a b c : LogState) (s t : List ℕ) → Writes a b s → Write
 writes_more a b c s t f g = record {
   passes = λ none. more_by a b c s t b.writer.refused refl g (f.passes none);
   rests = λ some. rests_on a b c t g some (f.rests some);
-}
-
--- no text
-pub writes_none : (a : LogState) → Writes a a []
-writes_none a = record {
-  passes = λ none. record {
-    sent = [];
-    rest = a.writer.held;
-    whole = sym (append-nil a.writer.held);
-    taken = Appends-nil a.taken;
-    holds = λ _. refl;
-    counts = subst (λ (r : Option PutError). CountsRefusal r a.faults a.faults) (sym none) refl;
-    never_falls = omega arith;
-  };
-  rests = λ some. record { writer = refl; taken = Keeps-refl a.taken; faults = refl };
 }
 
 pub writes_end : (a b : LogState) (s : List ℕ) → Writes a b s → Writes a b (s ++ [])

@@ -1,17 +1,12 @@
 -- The laws of source texts, where a call may stand inside an expression.
 use Rattle.std.proofs.Common.{ℕ, ◌≡◌, ◌≢◌, ◌⊎◌, sym, ◌∙◌, List, Result}
 use Rattle.std.specs.Prelude.{IfOk, IfErr, IsErrOf, MatchResult}
-use Rattle.c_lex.specs.declared.tokens.Token.{Token}
-use Rattle.c_lex.specs.declared.tokens.LexError.{LexError}
-use Rattle.c_lex.specs.Tokens.{AreTokensOf, IsLexErrorOf}
 use Rattle.c_tree.specs.RawTrees.{RawItemTree}
 use Rattle.c_tree.specs.Trees.{ProgramTree}
 use Rattle.c_tree.specs.ProgramView.{program_tree}
 use Rattle.c_tree.specs.declared.programs.Program.{Program}
-use Rattle.c_grammar.specs.declared.errors.ParseError.{ParseError}
 use Rattle.c_tree.specs.WholeForParts.{AreForPartsWhole}
 use Rattle.c_parse.specs.ForParts.{nested_in_fors}
-use Rattle.c_parse.specs.Parsed.{IsParsedNested, IsNestedErrorOf}
 use Rattle.c_parse.proofs.ForWhole.{for_parts_whole, for_parts_none}
 use Rattle.scope_rules.specs.declared.errors.ScopeError.{ScopeError}
 use Rattle.scope_rules.specs.Outcomes.{IsNoMemory}
@@ -19,7 +14,6 @@ use Rattle.scope_rules.proofs.Made.{in_order}
 use Rattle.scope_rules.proofs.OneOutcome.{never_both, one_refusal}
 use Rattle.c_scope.specs.declared.source_errors.SourceError.{SourceError}
 use Rattle.c_scope.specs.declared.source_errors.SourceError.TheVariants as refusals
-use Rattle.c_scope.specs.SourceText.{by_lex, by_parse, by_scope}
 use Rattle.c_scope.proofs.SourceTexts as texts
 use Rattle.grammar_laws.specs.Ranks.{site_numbers}
 use Rattle.hoist_parts.specs.Statements.{items_hoisted}
@@ -33,21 +27,6 @@ never_hoisted t p x h k n = never_both (items_hoisted t) _ x (in_order (site_num
 
 one_refused : (t : List RawItemTree) (x y : ScopeError) → IsRefusedHoisted t x → IsNoMemory x → IsRefusedHoisted t y → IsNoMemory y → x ≡ y
 one_refused t x y = one_refusal (items_hoisted t) x y
-
-pub no_tokens : (source : List ℕ) (e : LexError) → (e ≢ LexError.Memory → IsLexErrorOf source e) → by_lex e ≢ refusals.Memory → IsNestedSourceErrorOf source (by_lex e)
-no_tokens = texts.no_tokens AreForPartsWhole nested_in_fors for_parts_whole for_parts_none IsHoistedTo IsRefusedHoisted one_hoisted never_hoisted one_refused
-
-pub no_tree : (source : List ℕ) (tokens : List Token) (e : ParseError) →
-    AreTokensOf source tokens → (e ≢ ParseError.Memory → IsNestedErrorOf source tokens e) → by_parse e ≢ refusals.Memory → IsNestedSourceErrorOf source (by_parse e)
-no_tree = texts.no_tree AreForPartsWhole nested_in_fors for_parts_whole for_parts_none IsHoistedTo IsRefusedHoisted one_hoisted never_hoisted one_refused
-
-pub no_program : (source : List ℕ) (tokens : List Token) (tree : List RawItemTree) (e : ScopeError) →
-    AreTokensOf source tokens → IsParsedNested source tokens tree → IsRefusedHoisted tree e → by_scope e ≢ refusals.Memory → IsNestedSourceErrorOf source (by_scope e)
-no_program = texts.no_program AreForPartsWhole nested_in_fors for_parts_whole for_parts_none IsHoistedTo IsRefusedHoisted one_hoisted never_hoisted one_refused
-
-pub reads_as : (source : List ℕ) (tokens : List Token) (tree : List RawItemTree) (p : ProgramTree) →
-    AreTokensOf source tokens → IsParsedNested source tokens tree → IsHoistedTo tree p → ReadsNested source p
-reads_as = texts.reads_as AreForPartsWhole nested_in_fors for_parts_whole for_parts_none IsHoistedTo IsRefusedHoisted one_hoisted never_hoisted one_refused
 
 pub never : (source : List ℕ) (p : ProgramTree) (e : SourceError) → ReadsNested source p → IsNestedSourceErrorOf source e → ⊥
 never = texts.never AreForPartsWhole nested_in_fors for_parts_whole for_parts_none IsHoistedTo IsRefusedHoisted one_hoisted never_hoisted one_refused

@@ -1,5 +1,4 @@
 pub mod EveryNested
-pub mod Hoisted
 pub mod Rewriting
 pub mod SameNumbers
 pub mod WholeKept

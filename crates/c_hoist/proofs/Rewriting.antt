@@ -3,7 +3,7 @@ use Rattle.std.proofs.Common.{◌≡◌, refl, sym, ap, subst, ◌∙◌, Bool, 
 use Rattle.c_tree.specs.RawTrees.{NameTree, RawStmtTree, RawStmtTrees, RawItemTree, RawGlobal, RawGlobalArray, RawTableItem, RawPrototypeItem, RawFunctionItem}
 use Rattle.grammar_laws.specs.Nested.{is_call}
 use Rattle.grammar_laws.specs.Places.{stmts_places, item_places, items_places}
-use Rattle.call_places.proofs.NoNames.{no_declared}
+use Rattle.grammar_laws.proofs.NoNames.{no_declared}
 use Rattle.scope_rules.specs.declared.resolver.Resolver.{Resolver}
 use Rattle.scope_rules.specs.Names.{Binding}
 use Rattle.scope_rules.specs.Faults.{least_of}

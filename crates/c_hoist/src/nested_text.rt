@@ -4,8 +4,8 @@ ghost use Rattle.c_tree.specs.RawTrees.{RawItemTree};
 ghost use Rattle.c_tree.specs.Trees.{ProgramTree};
 ghost use Rattle.c_tree.specs.ProgramView.{program_tree};
 ghost use Rattle.c_tree.specs.RawProgramView.{raw_program_tree};
-ghost use Rattle.c_tree.specs.RawViews.{raw_stmt_trees, raw_item_tree, raw_item_trees};
-ghost use Rattle.c_tree.specs.WholeForParts.{AreForsWhole, IsItemForWhole, AreForPartsWhole};
+ghost use Rattle.c_tree.specs.RawViews.{raw_item_tree, raw_item_trees};
+ghost use Rattle.c_tree.specs.WholeForParts.{AreForPartsWhole};
 ghost use Rattle.grammar_laws.specs.Nested.{is_call};
 ghost use Rattle.grammar_laws.specs.Places.{item_places, items_places};
 ghost use Rattle.scope_rules.specs.Reading.{HasRead};
@@ -70,7 +70,6 @@ struct Rewriting {
 impl Rewriting {
     // One more definition, whose statements are resolved as soon as they are made.
     fn function(self, alloc: Global, raw: &RawFunction) -> Result<Rewriting, AllocError>
-        requires { AreForsWhole (raw_stmt_trees raw.now.body.items) }
         ensures read { IfOk result (λ w. (all read : List RawItemTree) → HasRead self.resolver all read →
             HasRead w.resolver all (read ++ item_hoisted (raw_item_tree (RawItem.Function raw.now)) ∷ [])) }
         ensures places { IfOk result (λ w. w.places.items ≡ self.places.items ++ item_places is_call (item_hoisted (raw_item_tree (RawItem.Function raw.now)))) }
@@ -100,7 +99,6 @@ impl Rewriting {
 
     // One more item, which is freed behind that.
     fn item(self, alloc: Global, raw: RawItem) -> Result<Rewriting, AllocError>
-        requires { IsItemForWhole (raw_item_tree raw) }
         ensures read { IfOk result (λ w. (all read : List RawItemTree) → HasRead self.resolver all read → HasRead w.resolver all (read ++ item_hoisted (raw_item_tree raw) ∷ [])) }
         ensures places { IfOk result (λ w. w.places.items ≡ self.places.items ++ item_places is_call (item_hoisted (raw_item_tree raw))) }
     {
@@ -116,7 +114,6 @@ impl Rewriting {
 
 // What the items make, each of which is rewritten and resolved before the next is, and freed.
 fn rewritten(alloc: Global, raw: Vec<RawItem>) -> Result<Rewriting, AllocError>
-    requires { AreForPartsWhole (raw_item_trees raw.items) }
     ensures read { IfOk result (λ w. HasRead w.resolver (items_hoisted (raw_item_trees raw.items)) (items_hoisted (raw_item_trees raw.items))) }
     ensures places { IfOk result (λ w. w.places.items ≡ items_places is_call (items_hoisted (raw_item_trees raw.items))) }
 {

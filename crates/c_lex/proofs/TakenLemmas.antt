@@ -18,10 +18,6 @@ AllWordBytes-inside : (front : List ℕ) (b : ℕ) (back : List ℕ) → AllWord
 AllWordBytes-inside [] b back all = all.0
 AllWordBytes-inside (c ∷ front) b back all = AllWordBytes-inside front b back all.1
 
-pub IsWord-all : (text : List ℕ) → IsWord text → AllWordBytes text
-IsWord-all [] word = tt
-IsWord-all (b ∷ text) word = word
-
 pub IsWord-some : (text : List ℕ) → IsWord text → 0 < length text
 IsWord-some [] word = absurd word
 IsWord-some (b ∷ text) word = omega arith

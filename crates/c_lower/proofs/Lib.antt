@@ -9,6 +9,7 @@ pub mod Patches
 pub mod StmtPuts
 pub mod Suits
 pub mod Formed
+pub mod PlainCode
 pub mod Sites
 pub mod Words
 pub mod FormedPrograms

@@ -9,17 +9,16 @@ use Rattle.std.proofs.lemmas.List.Elements.{filter_map-append}
 use Rattle.std.proofs.lemmas.List.Sorted.{IsPermutation-refl, IsPermutation-trans, IsPermutation-append, IsPermutation-append_comm, IsPermutation-append_left}
 use Rattle.std.proofs.lemmas.Map.Keys.{IsDistinct-IsPermutation}
 use Rattle.c_tree.specs.declared.facts.Site.{Site}
-use Rattle.c_tree.specs.declared.operators.UnaryOperator.{UnaryOperator}
 use Rattle.c_tree.specs.TextOrder.{call_site, right_sites, returned_sites, simple_sites, simples_sites, step_sites, stmt_sites, stmts_sites, functions_sites, program_sites}
-use Rattle.c_tree.specs.Trees.{ExprTree, Number, Local, Global, LocalElement, GlobalElement, Unary, Parenthesized, Binary, LogicalAnd, LogicalOr, Conditional, CallTree, CallFunction, CallTable, CallSpawn, CallModelled, RightTree, Computed, Called, SimpleTree, DeclareScalar, DeclareArray, DeclareWith, SetLocal, SetGlobal, SetLocalElement, SetGlobalElement, Calling, StmtTree, StmtTrees, Do, Empty, Block, If, IfElse, While, For, Break, Continue, Return, NoStmts, Then, FunctionTree, ProgramTree}
+use Rattle.c_tree.specs.Trees.{ExprTree, CallTree, CallFunction, CallTable, CallSpawn, CallModelled, RightTree, Computed, Called, SimpleTree, DeclareScalar, DeclareArray, DeclareWith, SetLocal, SetGlobal, SetLocalElement, SetGlobalElement, Calling, StmtTree, StmtTrees, Do, Empty, Block, If, IfElse, While, For, Break, Continue, Return, NoStmts, Then, FunctionTree, ProgramTree}
 use Rattle.flat_code.specs.declared.operations.Op.{Op}
 use Rattle.flat_code.specs.Codes.{site_of}
 use Rattle.flat_code.specs.WellFormed.{site_numbers}
-use Rattle.c_lower.specs.Operations.{unary_code}
 use Rattle.c_lower.specs.ExprCode.{expr_size, expr_code}
 use Rattle.c_lower.specs.CallCode.{arguments_code, call_code, set_code, held_code}
 use Rattle.c_lower.specs.StmtCode.{simple_size, simple_code, simples_size, simples_code, step_size, step_code, test_size, test_code, return_code, stmt_size, stmt_code, stmts_code}
 use Rattle.c_lower.specs.ProgramCode.{closing_code, first_temporary, lowered_function, lowered}
+use Rattle.c_lower.proofs.PlainCode.{ArePlain, expr_plain, arguments_plain}
 
 -- the numbers of the sites of operations, and of sites of a tree
 abbrev sites : List Op → List ℕ
@@ -41,44 +40,15 @@ before xs ys e = joined xs ys ∙ ap (λ b. sites xs ++ b) e ∙ append-nil (sit
 none : (xs ys : List Op) → sites xs ≡ [] → sites ys ≡ [] → sites (xs ++ ys) ≡ []
 none xs ys e f = after xs ys e ∙ f
 
-unary_none : (op : UnaryOperator) (k : ℕ) → sites (unary_code op k) ≡ []
-unary_none UnaryOperator.Plus k = refl
-unary_none UnaryOperator.Negate k = refl
-unary_none UnaryOperator.Complement k = refl
-unary_none UnaryOperator.Not k = refl
+all_none : (ops : List Op) → ArePlain ops → sites ops ≡ []
+all_none [] plain = refl
+all_none (op ∷ ops) plain = rw plain.0.0 (all_none ops plain.1)
 
 expr_none : (e : ExprTree) (p k : ℕ) → sites (expr_code e p k) ≡ []
-expr_none (Number v) p k = refl
-expr_none (Local x) p k = refl
-expr_none (Global g) p k = refl
-expr_none (LocalElement a i) p k = none (expr_code i p k) _ (expr_none i p k) refl
-expr_none (GlobalElement a i) p k = none (expr_code i p k) _ (expr_none i p k) refl
-expr_none (Unary op e) p k = none (expr_code e p k) _ (expr_none e p k) (unary_none op k)
-expr_none (Parenthesized e) p k = expr_none e p k
-expr_none (Binary op l r) p k =
-    let right = p + expr_size l in
-    none (expr_code l p k ++ expr_code r right (k + 1)) _ (none (expr_code l p k) _ (expr_none l p k) (expr_none r right (k + 1))) refl
-expr_none (LogicalAnd l r) p k =
-    let right = p + expr_size l + 1 in
-    let otherwise = right + expr_size r + 3 in
-    none (expr_code l p k ++ (Op.JumpZero k otherwise ∷ []) ++ expr_code r right k) _
-    (none (expr_code l p k ++ (Op.JumpZero k otherwise ∷ [])) _ (none (expr_code l p k) _ (expr_none l p k) refl) (expr_none r right k)) refl
-expr_none (LogicalOr l r) p k =
-    let right = p + expr_size l + 2 in
-    let one = right + expr_size r + 1 in
-    none (expr_code l p k ++ (Op.JumpZero k right ∷ Op.Jump one ∷ []) ++ expr_code r right k) _
-    (none (expr_code l p k ++ (Op.JumpZero k right ∷ Op.Jump one ∷ [])) _ (none (expr_code l p k) _ (expr_none l p k) refl) (expr_none r right k)) refl
-expr_none (Conditional c a b) p k =
-    let first = p + expr_size c + 1 in
-    let second = first + expr_size a + 1 in
-    none (expr_code c p k ++ (Op.JumpZero k second ∷ []) ++ expr_code a first k ++ (Op.Jump (second + expr_size b) ∷ [])) _
-    (none (expr_code c p k ++ (Op.JumpZero k second ∷ []) ++ expr_code a first k) _
-    (none (expr_code c p k ++ (Op.JumpZero k second ∷ [])) _ (none (expr_code c p k) _ (expr_none c p k) refl) (expr_none a first k)) refl)
-    (expr_none b second k)
+expr_none e p k = all_none (expr_code e p k) (expr_plain e p k)
 
 arguments_none : (es : List ExprTree) (p k : ℕ) → sites (arguments_code es p k) ≡ []
-arguments_none [] p k = refl
-arguments_none (e ∷ es) p k = none (expr_code e p k) _ (expr_none e p k) (arguments_none es (p + expr_size e) (k + 1))
+arguments_none es p k = all_none (arguments_code es p k) (arguments_plain es p k)
 
 call_is : (c : CallTree) (p k : ℕ) (d : Option ℕ) → sites (call_code c p k d) ≡ numbers (call_site c ∷ [])
 call_is (CallFunction s f es) p k d = after (arguments_code es p k) _ (arguments_none es p k)

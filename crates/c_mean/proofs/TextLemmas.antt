@@ -40,10 +40,6 @@ module _ (text : List CallInText) where
   all_in_parts [] b h = (tt, h)
   all_in_parts (call ∷ a) b h = let rest = all_in_parts a b h.1 in ((h.0, rest.0), rest.1)
 
-  all_in_both : (a b : List CallInText) → AllIn text a → AllIn text b → AllIn text (a ++ b)
-  all_in_both [] b h k = k
-  all_in_both (call ∷ a) b h k = (h.0, all_in_both a b h.1 k)
-
   simples_rest : (ss : List SimpleTree) (scope : List ℕ) (rest : List Item) → AllIn text (simples_calls ss scope rest) → IsRest rest → IsRest (map Simply ss ++ rest)
   simples_rest [] scope rest h k = k
   simples_rest (s ∷ ss) scope rest h k =

@@ -1,5 +1,5 @@
 -- The first call of operators one after another, looked for from the left.
-use Rattle.std.proofs.Common.{◌≡◌, ℕ, List, [], ◌∷◌, Option, Some, None, refl, ap, ◌∙◌}
+use Rattle.std.proofs.Common.{◌≡◌, ℕ, List, [], ◌∷◌, Option, refl, ap, ◌∙◌}
 use Rattle.c_tree.specs.declared.operators.Infix.{Infix}
 use Rattle.c_tree.specs.RawTrees.{RawExprTree}
 use Rattle.c_tree.specs.RawViews.{raw_joined, raw_chained}
@@ -17,10 +17,6 @@ joined_call l Infix.LogicalOr r = refl
 pub chained_call : (l : RawExprTree) (ps : List (Infix × RawExprTree)) → first_call (raw_chained l ps) ≡ chain_call (first_call l) ps
 chained_call l [] = refl
 chained_call l (p ∷ ps) = chained_call (raw_joined l p.0 p.1) ps ∙ ap (λ f. chain_call f ps) (joined_call l p.0 p.1)
-
-pub earlier_assoc : (a b c : Option ℕ) → earlier (earlier a b) c ≡ earlier a (earlier b c)
-earlier_assoc None b c = refl
-earlier_assoc (Some at) b c = refl
 
 joined_value : (l : RawExprTree) (o : Infix) (r : RawExprTree) → nested_in_value (raw_joined l o r) ≡ first_call (raw_joined l o r)
 joined_value l (Infix.Binary op) r = refl

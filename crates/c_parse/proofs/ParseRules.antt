@@ -35,13 +35,6 @@ module _ (Whole : List RawItemTree → Type 0) (first_nested : List RawItemTree 
   pub parsed_refused : (source : List ℕ) (end : ℕ) (tokens : List Token) (error : ParseError) → end ≡ length source → (error ≢ Memory → run end (tasks.Items ∷ []) tokens ≡ Some error) → error ≢ Memory → IsRefusedWhere first_nested source tokens error
   parsed_refused source end tokens error e r other = error_of source end tokens error e (verdict_at end tokens (Some error) (r other))
 
-  -- the tokens have one tree, or one refusal
-  verdict_of : (source : List ℕ) (tokens : List Token) (error : ParseError) → IsRefusedWhere first_nested source tokens error → ((at : ℕ) → error ≢ NestedCall at) → Verdict (length source) tokens (Some error)
-  verdict_of source tokens (Unexpected at) h other = h
-  verdict_of source tokens (TooDeep at) h other = h
-  verdict_of source tokens (NestedCall at) h other = absurd (other at refl)
-  verdict_of source tokens Memory h other = h
-
   no_verdict : (source : List ℕ) (tokens : List Token) (error : ParseError) → Verdict (length source) tokens (Some error) → IsWithin tokens → ⊥
   no_verdict source tokens error v w = let e = one_verdict (length source) tokens (Some error) None v w in cc
 

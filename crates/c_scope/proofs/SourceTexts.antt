@@ -24,31 +24,6 @@ module _ (Whole : List RawItemTree → Type 0) (first_nested : List RawItemTree 
     (Resolved : List RawItemTree → ProgramTree → Type 0) (Refused : List RawItemTree → ScopeError → Type 0) (one_resolved : (t : List RawItemTree) (p q : ProgramTree) → Resolved t p → Resolved t q → p ≡ q)
     (never_resolved : (t : List RawItemTree) (p : ProgramTree) (x : ScopeError) → Resolved t p → Refused t x → IsNoMemory x → ⊥)
     (one_refused : (t : List RawItemTree) (x y : ScopeError) → Refused t x → IsNoMemory x → Refused t y → IsNoMemory y → x ≡ y) where
-  -- the three readers' refusals are the source's
-  pub no_tokens : (source : List ℕ) (e : LexError) → (e ≢ LexError.Memory → IsLexErrorOf source e) → by_lex e ≢ refusals.Memory → IsSourceErrorWhere Whole first_nested Refused source (by_lex e)
-  no_tokens source (LexError.BadByte at) h n = h (λ e. cc)
-  no_tokens source (LexError.OpenComment at) h n = h (λ e. cc)
-  no_tokens source (LexError.BadNumber at) h n = h (λ e. cc)
-  no_tokens source LexError.Memory h n = absurd (n refl)
-
-  pub no_tree : (source : List ℕ) (tokens : List Token) (e : ParseError) → AreTokensOf source tokens → (e ≢ ParseError.Memory → IsRefusedWhere first_nested source tokens e) → by_parse e ≢ refusals.Memory → IsSourceErrorWhere Whole first_nested Refused source (by_parse e)
-  no_tree source tokens (ParseError.Unexpected at) l h n = record { tokens = tokens; lexed = l; refused = h (λ e. cc) }
-  no_tree source tokens (ParseError.TooDeep at) l h n = record { tokens = tokens; lexed = l; refused = h (λ e. cc) }
-  no_tree source tokens (ParseError.NestedCall at) l h n = record { tokens = tokens; lexed = l; refused = h (λ e. cc) }
-  no_tree source tokens ParseError.Memory l h n = absurd (n refl)
-
-  pub no_program : (source : List ℕ) (tokens : List Token) (tree : List RawItemTree) (e : ScopeError) → AreTokensOf source tokens → IsParsedWhere Whole source tokens tree → Refused tree e → by_scope e ≢ refusals.Memory → IsSourceErrorWhere Whole first_nested Refused source (by_scope e)
-  no_program source tokens tree (ScopeError.Unknown at) l p h n = record { tokens = tokens; tree = tree; lexed = l; parsed = p; refused = h }
-  no_program source tokens tree (ScopeError.Twice at) l p h n = record { tokens = tokens; tree = tree; lexed = l; parsed = p; refused = h }
-  no_program source tokens tree (ScopeError.Arity at) l p h n = record { tokens = tokens; tree = tree; lexed = l; parsed = p; refused = h }
-  no_program source tokens tree (ScopeError.Kind at) l p h n = record { tokens = tokens; tree = tree; lexed = l; parsed = p; refused = h }
-  no_program source tokens tree ScopeError.NoMain l p h n = record { tokens = tokens; tree = tree; lexed = l; parsed = p; refused = h }
-  no_program source tokens tree (ScopeError.Limit which) l p h n = record { tokens = tokens; tree = tree; lexed = l; parsed = p; refused = h }
-  no_program source tokens tree ScopeError.Memory l p h n = absurd (n refl)
-
-  pub reads_as : (source : List ℕ) (tokens : List Token) (tree : List RawItemTree) (p : ProgramTree) → AreTokensOf source tokens → IsParsedWhere Whole source tokens tree → Resolved tree p → ReadsWhere Whole Resolved source p
-  reads_as source tokens tree p l h r = record { tokens = tokens; tree = tree; lexed = l; parsed = h; resolved = r }
-
   -- which reader refuses
   data Stage (source : List ℕ) (e : SourceError) : Type 0 where
     by_tokens : (x : LexError) → e ≡ by_lex x → IsLexErrorOf source x → Stage source e

@@ -26,10 +26,6 @@ pub record ReadsWhere (Whole : List RawItemTree → Type 0) (Resolved : List Raw
   pub parsed : IsParsedWhere Whole source tokens tree
   pub resolved : Resolved tree program
 
--- the bytes don't split into tokens
-abbrev pub IsNoTokens : List ℕ → LexError → Type 0
-IsNoTokens source error = IsLexErrorOf source error
-
 -- the bytes split into tokens, which are refused as a tree
 pub record IsNoTreeWhere (first_nested : List RawItemTree → Option ℕ) (source : List ℕ) (error : ParseError) : Type 0 where
   pub tokens : List Token
@@ -46,9 +42,9 @@ pub record IsNoProgramWhere (Whole : List RawItemTree → Type 0) (Refused : Lis
 
 -- The refusal of the source: that of the first of the three stages that has one.
 abbrev pub IsSourceErrorWhere : (List RawItemTree → Type 0) → (List RawItemTree → Option ℕ) → (List RawItemTree → ScopeError → Type 0) → List ℕ → SourceError → Type 0
-IsSourceErrorWhere Whole first_nested Refused source (refusals.BadByte at) = IsNoTokens source (LexError.BadByte at)
-IsSourceErrorWhere Whole first_nested Refused source (refusals.OpenComment at) = IsNoTokens source (LexError.OpenComment at)
-IsSourceErrorWhere Whole first_nested Refused source (refusals.BadNumber at) = IsNoTokens source (LexError.BadNumber at)
+IsSourceErrorWhere Whole first_nested Refused source (refusals.BadByte at) = IsLexErrorOf source (LexError.BadByte at)
+IsSourceErrorWhere Whole first_nested Refused source (refusals.OpenComment at) = IsLexErrorOf source (LexError.OpenComment at)
+IsSourceErrorWhere Whole first_nested Refused source (refusals.BadNumber at) = IsLexErrorOf source (LexError.BadNumber at)
 IsSourceErrorWhere Whole first_nested Refused source (refusals.Unexpected at) = IsNoTreeWhere first_nested source (ParseError.Unexpected at)
 IsSourceErrorWhere Whole first_nested Refused source (refusals.TooDeep at) = IsNoTreeWhere first_nested source (ParseError.TooDeep at)
 IsSourceErrorWhere Whole first_nested Refused source (refusals.NestedCall at) = IsNoTreeWhere first_nested source (ParseError.NestedCall at)

@@ -7,7 +7,7 @@ use Rattle.c_tree.specs.declared.operators.UnaryOperator.{UnaryOperator}
 use Rattle.c_tree.specs.declared.expressions.Expr.{Expr}
 use Rattle.c_tree.specs.declared.expressions.Expr.TheViews as code
 use Rattle.c_tree.specs.declared.expressions.Expr.TheFolds.{fold-roll-Expr}
-use Rattle.c_tree.specs.declared.expressions.Expr.TheVariants.{rolls-Number, rolls-Local, rolls-Global, rolls-LocalElement, rolls-GlobalElement, rolls-Unary, rolls-Parenthesized, rolls-Chain, rolls-Conditional}
+use Rattle.c_tree.specs.declared.expressions.Expr.TheVariants.{rolls-Number, rolls-Local, rolls-LocalElement, rolls-GlobalElement, rolls-Unary, rolls-Chain, rolls-Conditional}
 use Rattle.c_tree.specs.Trees as plain
 use Rattle.c_tree.specs.Trees.{ExprTree}
 use Rattle.c_tree.specs.Views.{chained, expr_step, expr_tree}
@@ -23,9 +23,6 @@ expr_tree-Number n = ap expr_tree (sym (rolls-Number n)) ∙ fold-roll-Expr Expr
 pub expr_tree-Local : (x : ℕ) → expr_tree (Expr.Local x) ≡ plain.Local x
 expr_tree-Local x = ap expr_tree (sym (rolls-Local x)) ∙ fold-roll-Expr ExprTree expr_step _
 
-pub expr_tree-Global : (g : ℕ) → expr_tree (Expr.Global g) ≡ plain.Global g
-expr_tree-Global g = ap expr_tree (sym (rolls-Global g)) ∙ fold-roll-Expr ExprTree expr_step _
-
 pub expr_tree-LocalElement : (a : ℕ) (i : Box Expr Global) → expr_tree (code.LocalElement a i) ≡ plain.LocalElement a (expr_tree i.value)
 expr_tree-LocalElement a i = ap expr_tree (sym (rolls-LocalElement a i)) ∙ fold-roll-Expr ExprTree expr_step _
 
@@ -34,9 +31,6 @@ expr_tree-GlobalElement a i = ap expr_tree (sym (rolls-GlobalElement a i)) ∙ f
 
 pub expr_tree-Unary : (op : UnaryOperator) (e : Box Expr Global) → expr_tree (code.Unary op e) ≡ plain.Unary op (expr_tree e.value)
 expr_tree-Unary op e = ap expr_tree (sym (rolls-Unary op e)) ∙ fold-roll-Expr ExprTree expr_step _
-
-pub expr_tree-Parenthesized : (e : Box Expr Global) → expr_tree (code.Parenthesized e) ≡ plain.Parenthesized (expr_tree e.value)
-expr_tree-Parenthesized e = ap expr_tree (sym (rolls-Parenthesized e)) ∙ fold-roll-Expr ExprTree expr_step _
 
 pub expr_tree-Chain : (first : Box Expr Global) (rest : Vec (Infix × Expr) Global) → expr_tree (code.Chain first rest) ≡ chained (expr_tree first.value) (map operand_tree rest.items)
 expr_tree-Chain first rest =

@@ -5,7 +5,6 @@ pub mod StmtEquations
 pub mod Cuts
 pub mod SiteNumbers
 pub mod LongerSizes
-pub mod Pushes
 pub mod RawExprEquations
 pub mod RawStmtEquations
 pub mod WholeInFors

@@ -9,16 +9,13 @@ use Rattle.c_tree.specs.declared.statements.Simple.{Simple}
 use Rattle.c_tree.specs.declared.statements.Stmt.{Stmt}
 use Rattle.c_tree.specs.declared.statements.Stmt.TheViews as code
 use Rattle.c_tree.specs.declared.statements.Stmt.TheFolds.{fold-roll-Stmt}
-use Rattle.c_tree.specs.declared.statements.Stmt.TheVariants.{rolls-Simple, rolls-Empty, rolls-Block, rolls-If, rolls-IfElse, rolls-While, rolls-For, rolls-Break, rolls-Continue, rolls-Return}
+use Rattle.c_tree.specs.declared.statements.Stmt.TheVariants.{rolls-Simple, rolls-Block, rolls-If, rolls-IfElse, rolls-While, rolls-For, rolls-Break, rolls-Continue, rolls-Return}
 use Rattle.c_tree.specs.Trees as plain
 use Rattle.c_tree.specs.Trees.{StmtTree}
 use Rattle.c_tree.specs.Views.{expr_tree, right_tree, simple_tree, stmt_step, stmt_tree, stmt_trees}
 
 pub stmt_tree-Simple : (s : Simple) → stmt_tree (Stmt.Simple s) ≡ plain.Do (simple_tree s)
 stmt_tree-Simple s = ap stmt_tree (sym (rolls-Simple s)) ∙ fold-roll-Stmt StmtTree stmt_step _
-
-pub stmt_tree-Empty : stmt_tree Stmt.Empty ≡ plain.Empty
-stmt_tree-Empty = ap stmt_tree (sym rolls-Empty) ∙ fold-roll-Stmt StmtTree stmt_step _
 
 pub stmt_tree-Block : (ss : Vec Stmt Global) → stmt_tree (code.Block ss) ≡ plain.Block (stmt_trees ss.items)
 stmt_tree-Block ss = ap stmt_tree (sym (rolls-Block ss)) ∙ fold-roll-Stmt StmtTree stmt_step _

@@ -63,6 +63,12 @@ abbrev pub raw_in_order : List RawStmtTree → RawStmtTrees
 raw_in_order [] = NoRawStmts
 raw_in_order (s ∷ ss) = RawThen s (raw_in_order ss)
 
+-- statements as a body: a block, unless there is exactly one
+abbrev pub as_body : List RawStmtTree → RawStmtTree
+as_body [] = RawEmpty
+as_body (s ∷ []) = s
+as_body (s ∷ t ∷ ss) = RawBlock (raw_in_order (s ∷ t ∷ ss))
+
 -- one level of a statement, given the trees of the statements in it
 abbrev pub raw_stmt_step : RawStmt-F RawStmtTree → RawStmtTree
 raw_stmt_step (RawStmt-F.Simple s) = RawDo (raw_simple_tree s)

@@ -7,7 +7,7 @@ use Rattle.call_graph.specs.Lists.{has}
 use Rattle.call_graph.proofs.IndexLemmas.{by_eq}
 use Rattle.cycle_break.proofs.NumberLemmas.{true_false}
 use Rattle.call_cycles.specs.Cycles.{Calls, IsWay, IsOnCycle}
-use Rattle.call_cycles.specs.Marks.{is_marked, AreOffCycles, AreSeen, IsClosed, Marks}
+use Rattle.call_cycles.specs.Marks.{is_marked, AreOffCycles, IsClosed, Marks}
 use Rattle.call_cycles.proofs.MarkLemmas.{has-either, has-left, mark-stays}
 
 pub none-marked : (n g : ℕ) → is_marked (replicate n false) g ≡ true → ⊥
@@ -20,17 +20,6 @@ none-marked n g h =
 pub not-true : (b : Bool) → not b ≡ true → b ≡ false
 not-true true e = sym e
 not-true false e = refl
-
--- ---- at the start
-
-pub none-seen : (code : FlatCode) (marks : List Bool) (tables : ℕ) → tables ≡ length code.tables → AreSeen code marks (replicate tables false)
-none-seen code marks tables same = record { each = length-replicate tables false ∙ same; members = λ t g s h. absurd (none-marked tables t s) }
-
-pub none-closed : (code : FlatCode) (n : ℕ) → IsClosed code (replicate n false)
-none-closed code n = λ g h marked call. absurd (none-marked n g marked)
-
-pub none-off : (code : FlatCode) (n : ℕ) → AreOffCycles code (replicate n false)
-none-off code n = λ f marked cycle. none-marked n f marked
 
 -- ---- the walk from a function, where marked functions lead to marked ones alone
 

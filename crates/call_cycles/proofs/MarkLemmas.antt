@@ -1,10 +1,9 @@
 -- Marks that are set, and the list of what was marked.
-use Rattle.std.proofs.Common.{◌≡◌, inl, inr, ⊎_elim, ◌⊎◌, ℕ, zero, suc, ◌+◌, ◌<◌, ◌≤◌, ◌==◌, Bool, true, false, List, [], ◌∷◌, ◌++◌, length, length-append, set, take, get_or, refl, sym, ap, ◌∙◌, subst, arith}
+use Rattle.std.proofs.Common.{◌≡◌, inl, inr, ⊎_elim, ◌⊎◌, ℕ, zero, suc, ◌+◌, ◌<◌, ◌≤◌, ◌==◌, Bool, true, false, List, [], ◌∷◌, ◌++◌, length, length-append, set, get_or, refl, sym, ap, ◌∙◌, subst, arith}
 use Rattle.std.specs.Prelude.{Some, slice_get}
 use Rattle.std.proofs.lemmas.Bool.{cases_lt}
-use Rattle.std.proofs.lemmas.Bool.Decides.{nat_tests}
-use Rattle.std.proofs.lemmas.List.{length-set, get_or-set_same, get_or-set_other, get_or_past, take_all}
-use Rattle.std.proofs.lemmas.List.Folds.{list_any-append, list_any_more}
+use Rattle.std.proofs.lemmas.List.{length-set, get_or-set_same, get_or-set_other, get_or_past}
+use Rattle.std.proofs.lemmas.List.Folds.{list_any-append}
 use Rattle.std.proofs.lemmas.Option.{slice_get_within, same_Some}
 use Rattle.flat_code.specs.declared.operations.Op.{Op}
 use Rattle.flat_code.specs.Codes.{FlatCode, function_at, members_of}
@@ -100,34 +99,6 @@ marks-same P Q m l m' l' to from marks = record {
   added = marks.added;
   work = marks.work;
 }
-
--- ---- the loop over some functions
-
-pub has-more : (n : ℕ) (xs : List ℕ) (i : ℕ) → i < length xs → has n (take (i + 1) xs) ≡ true → (has n (take i xs) ≡ true) ⊎ (n ≡ get_or xs i 0)
-has-more n xs i within h =
-    by_test (has n (take i xs)) (λ t. inl t)
-    (λ f. let here : (get_or xs i 0 == n) ≡ true = let both = sym (list_any_more (λ x. x == n) xs i 0 within) ∙ h in rw f at both in
-    inr (grind (arith, nat_tests)))
-
-pub has-before : (n : ℕ) (xs : List ℕ) (i : ℕ) → i < length xs → has n (take i xs) ≡ true → has n (take (i + 1) xs) ≡ true
-has-before n xs i within h = list_any_more (λ x. x == n) xs i 0 within ∙ rw h refl
-
-pub has-here : (n : ℕ) (xs : List ℕ) (i : ℕ) → i < length xs → n ≡ get_or xs i 0 → has n (take (i + 1) xs) ≡ true
-has-here n xs i within e =
-    let here : (get_or xs i 0 == n) ≡ true = grind (arith, nat_tests) in
-    list_any_more (λ x. x == n) xs i 0 within ∙ by_test (has n (take i xs)) (λ t. rw t refl) (λ f. rw (f, here) refl)
-
-pub each-more : (functions : List ℕ) (i f : ℕ) (m : List Bool) (l : List ℕ) (m1 : List Bool) (l1 : List ℕ) (m2 : List Bool) (l2 : List ℕ) → i < length functions → f ≡ get_or functions i 0 →
-    Marks (λ g. has g (take i functions) ≡ true) m l m1 l1 → Marks (λ g. g ≡ f) m1 l1 m2 l2 → Marks (λ g. has g (take (i + 1) functions) ≡ true) m l m2 l2
-each-more functions i f m l m1 l1 m2 l2 within is a b =
-    marks-then (λ g. has g (take i functions) ≡ true) (λ g. g ≡ f) (λ g. has g (take (i + 1) functions) ≡ true) m l m1 l1 m2 l2
-    (λ g h. ⊎_elim (λ before. inl before) (λ e. inr (e ∙ sym is)) (has-more g functions i within h))
-    (λ g h. has-before g functions i within h)
-    (λ g e. has-here g functions i within (e ∙ is)) a b
-
-pub each-over : (functions : List ℕ) (i : ℕ) (m : List Bool) (l : List ℕ) (m' : List Bool) (l' : List ℕ) → length functions ≤ i →
-    Marks (λ g. has g (take i functions) ≡ true) m l m' l' → Marks (λ g. has g functions ≡ true) m l m' l'
-each-over functions i m l m' l' le marks = subst (λ fs. Marks (λ g. has g fs ≡ true) m l m' l') (take_all i functions le) marks
 
 -- ---- the loop over the operations of a function
 

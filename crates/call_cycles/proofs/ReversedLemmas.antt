@@ -28,9 +28,6 @@ numbered-more nodes sites caller callee by to was =
           (omega (arith, longer));
     }
 
-pub numbered-none : (nodes : ℕ) → AreNumbered nodes []
-numbered-none nodes = record { all = tt; rising = tt; below = tt }
-
 -- a function of a graph is a node, and the tables come behind
 pub below-nodes : (f functions tables : ℕ) → f < functions → f < functions + tables
 below-nodes f functions tables lt = omega (arith, lt)

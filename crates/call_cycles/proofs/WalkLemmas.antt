@@ -1,14 +1,12 @@
 -- What is marked when the walk from a function ends is what calls lead to.
-use Rattle.std.proofs.Common.{◌≡◌, inl, inr, ⊎_elim, ◌⊎◌, ℕ, ◌<◌, Bool, true, false, List, [], ◌∷◌, ◌++◌, length, replicate, refl, sym, ◌∙◌, subst, arith}
-use Rattle.std.specs.Prelude.{Some, None}
+use Rattle.std.proofs.Common.{◌≡◌, inl, inr, ⊎_elim, ◌⊎◌, ℕ, ◌<◌, Bool, true, false, List, [], ◌∷◌, ◌++◌, length, refl, sym, ◌∙◌, subst, arith}
+use Rattle.std.specs.Prelude.{Some}
 use Rattle.std.proofs.lemmas.Bool.{cases_lt}
-use Rattle.std.proofs.lemmas.List.{length-replicate}
 use Rattle.flat_code.specs.Codes.{FlatCode}
 use Rattle.call_graph.specs.Lists.{has}
 use Rattle.cycle_break.proofs.NumberLemmas.{true_false}
 use Rattle.call_cycles.specs.Cycles.{Calls, IsWay, Reaches, IsOnCycle, IsLeastOf}
 use Rattle.call_cycles.specs.Marks.{is_marked, Marks}
-use Rattle.call_cycles.proofs.ClosedLemmas.{none-marked}
 use Rattle.call_cycles.proofs.MarkLemmas.{has-either, has-left}
 
 -- one call more
@@ -31,15 +29,6 @@ module _ (code : FlatCode) (f : ℕ) where
     pub first : (g : ℕ) → Calls code f g → is_marked marks g ≡ true
     pub closed : (g : ℕ) → is_marked marks g ≡ true → (has g left ≡ true) ⊎ ((h : ℕ) → Calls code g h → is_marked marks h ≡ true)
     pub waiting : (g : ℕ) → has g left ≡ true → is_marked marks g ≡ true
-
-  pub walked-first : (functions : ℕ) (marks : List Bool) (left : List ℕ) → Marks (Calls code f) (replicate functions false) [] marks left → IsWalked functions marks left
-  walked-first functions marks left new = record {
-    each = new.each ∙ length-replicate functions false;
-    reached = λ g h. ⊎_elim (λ was. absurd (none-marked functions g was)) (λ call. reaches-one code f g call) (new.from g h);
-    first = new.done;
-    closed = λ g h. ⊎_elim (λ was. absurd (none-marked functions g was)) (λ there. inl there) (new.later g h);
-    waiting = λ g h. ⊎_elim (λ none. true_false false none refl) (λ marked. marked) (new.added g h);
-  }
 
   pub walked-more : (functions next : ℕ) (marks : List Bool) (left : List ℕ) (marks' : List Bool) (left' : List ℕ) → IsWalked functions marks (left ++ next ∷ []) → is_marked marks next ≡ true →
       Marks (Calls code next) marks left marks' left' → IsWalked functions marks' left'
@@ -78,9 +67,6 @@ module _ (code : FlatCode) (f : ℕ) where
   walked-end functions marks (x ∷ left) g none walked r = absurd (omega arith)
 
 -- ---- the least of all
-
-pub no-cycle : (code : FlatCode) (n : ℕ) → ((g : ℕ) → g < n → IsOnCycle code g → ⊥) → ((g : ℕ) → IsOnCycle code g → g < n) → IsLeastOf (IsOnCycle code) None
-no-cycle code n below within = λ g cycle. below g (within g cycle) cycle
 
 pub least-cycle : (code : FlatCode) (n : ℕ) → ((g : ℕ) → g < n → IsOnCycle code g → ⊥) → IsOnCycle code n → IsLeastOf (IsOnCycle code) (Some n)
 least-cycle code n below here = record {

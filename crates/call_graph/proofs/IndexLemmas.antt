@@ -1,7 +1,7 @@
 -- One site more in the index, at its front.
-use Rattle.std.proofs.Common.{◌≡◌, ◌≢◌, ℕ, zero, suc, ◌+◌, ◌-◌, ◌<◌, ◌≤◌, ◌==◌, ◌&&◌, Bool, true, false, not, List, ◌∷◌, length, get_or, drop, set, replicate, refl, sym, ◌∙◌, arith}
+use Rattle.std.proofs.Common.{◌≡◌, ◌≢◌, ℕ, zero, suc, ◌+◌, ◌-◌, ◌<◌, ◌≤◌, ◌==◌, ◌&&◌, Bool, true, false, not, List, ◌∷◌, length, get_or, drop, set, refl, sym, ◌∙◌, arith}
 use Rattle.std.proofs.lemmas.Bool.Decides.{nat_tests}
-use Rattle.std.proofs.lemmas.List.{drop_more, get_or_default, length-replicate, get_or-replicate, length-set, get_or-set_same, get_or-set_other}
+use Rattle.std.proofs.lemmas.List.{drop_more, get_or_default, length-set, get_or-set_same, get_or-set_other}
 use Rattle.call_graph.specs.declared.sites.GraphSite.{GraphSite}
 use Rattle.call_graph.specs.declared.sites.Target.TheVariants.{Function}
 use Rattle.call_graph.specs.Index.{is_call_of, sites_of, LeadsTo}
@@ -40,10 +40,6 @@ module _ (sites : List GraphSite) (without : List ℕ) where
       sites_of (drop place sites) without caller ≡ get_or sites place d ∷ sites_of (drop (place + 1) sites) without caller
   sites_of-here place caller d within here = rw (drop_more sites place d within, here) refl
 
-  -- no place leads further than the end
-  pub leads-end : (caller : ℕ) → LeadsTo sites without caller (length sites) (length sites)
-  leads-end caller = record { later = omega arith; within = omega arith; same = refl; site = λ d h. absurd (omega arith) }
-
   -- one place earlier, past a site that isn't the function's
   pub leads-past : (place caller next : ℕ) (d : GraphSite) → place < length sites → is_call_of without caller (get_or sites place d) ≡ false →
       LeadsTo sites without caller (place + 1) next → LeadsTo sites without caller place next
@@ -72,15 +68,6 @@ module _ (sites : List GraphSite) (without : List ℕ) where
     pub first : (function : ℕ) → function < functions → LeadsTo sites without function place (get_or firsts function 0)
     pub next : (k : ℕ) (d : GraphSite) (caller : ℕ) → place ≤ k → k < length sites → is_call_of without caller (get_or sites k d) ≡ true →
         LeadsTo sites without caller (k + 1) (get_or nexts k 0)
-
-  pub IsIndexFrom-end : (functions : ℕ) → IsIndexFrom functions (length sites) (replicate functions (length sites)) (replicate (length sites) (length sites))
-  IsIndexFrom-end functions = record {
-    within = omega arith;
-    each_function = length-replicate functions (length sites);
-    each_site = length-replicate (length sites) (length sites);
-    first = λ f h. rw (get_or-replicate functions f (length sites) 0 h) (leads-end f);
-    next = λ k d caller past h _. absurd (omega arith);
-  }
 
   pub IsIndexFrom-skipped : (functions place : ℕ) (firsts nexts : List ℕ) (d : GraphSite) → 0 < place → not (has (get_or sites (place - 1) d).number without) ≡ false →
       IsIndexFrom functions place firsts nexts → IsIndexFrom functions (place - 1) firsts nexts

@@ -1,2 +1,1 @@
 pub mod ChainPlaces
-pub mod NoNames

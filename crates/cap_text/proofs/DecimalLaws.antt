@@ -195,11 +195,6 @@ digits_are_number_bytes : (cs : List ℕ) → AllDigits 10 cs → AllNumberBytes
 digits_are_number_bytes [] h = tt
 digits_are_number_bytes (c ∷ cs) h = (inr (digit_from_value c h.0), digits_are_number_bytes cs h.1)
 
-number_bytes : (z : ℤ) → AllNumberBytes (canonical_integer z)
-unfolding canonical_integer
-number_bytes (pos n) = digits_are_number_bytes _ (decimal_digits n)
-number_bytes (negsuc n) = (inl refl, digits_are_number_bytes _ (decimal_digits (suc n)))
-
 one_split : (xs ys rest more : List ℕ) → AllNumberBytes xs → AllNumberBytes ys → FieldEnds rest → FieldEnds more → xs ++ rest ≡ ys ++ more → (xs ≡ ys) × (rest ≡ more)
 one_split [] [] rest more hx hy hr hm e = (refl, e)
 one_split [] (y ∷ ys) [] more hx hy hr hm e = absurd (cc)
@@ -220,11 +215,6 @@ integer_unique (pos m) (pos n) e = ap pos (decimal_unique m n e)
 integer_unique (pos m) (negsuc n) e = absurd (no_minus m _ (decimal_digits m) e)
 integer_unique (negsuc m) (pos n) e = absurd (no_minus n _ (decimal_digits n) (sym e))
 integer_unique (negsuc m) (negsuc n) e = let same : suc m ≡ suc n = decimal_unique (suc m) (suc n) (cc) in let back : m ≡ n = omega arith in ap negsuc back
-
--- a field that is a number can be cut from its line in one way only
-pub integer_field : (y z : ℤ) (rest more : List ℕ) → FieldEnds rest → FieldEnds more → canonical_integer y ++ rest ≡ canonical_integer z ++ more → (y ≡ z) × (rest ≡ more)
-integer_field y z rest more hr hm e =
-    let both = one_split _ _ rest more (number_bytes y) (number_bytes z) hr hm e in (integer_unique y z both.0, both.1)
 
 pub decimal_field : (m n : ℕ) (rest more : List ℕ) → FieldEnds rest → FieldEnds more → canonical_decimal m ++ rest ≡ canonical_decimal n ++ more → (m ≡ n) × (rest ≡ more)
 decimal_field m n rest more hr hm e =

@@ -60,11 +60,6 @@ lacks_digits separator (c ∷ cs) away h =
 pub lacks_decimal : (separator : ℕ) (n : ℕ) → ((c : ℕ) → 45 ≤ c → c ≤ 57 → c ≡ separator → ⊥) → Lacks separator (canonical_decimal n)
 lacks_decimal separator n away = lacks_digits separator (canonical_decimal n) away (decimal_digits n)
 
-pub lacks_integer : (separator : ℕ) (z : ℤ) → ((c : ℕ) → 45 ≤ c → c ≤ 57 → c ≡ separator → ⊥) → Lacks separator (canonical_integer z)
-unfolding canonical_integer
-lacks_integer separator (pos n) away = lacks_decimal separator n away
-lacks_integer separator (negsuc n) away = (ne_eqb 45 separator (away 45 (omega arith) (omega arith)), lacks_decimal separator (suc n) away)
-
 -- texts of visible characters, which are those above the blank
 
 abbrev pub Visible : List ℕ → Type 0

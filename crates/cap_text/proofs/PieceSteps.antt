@@ -8,17 +8,17 @@ use borrow.Author.Tests.{ne_eqb, ltb-true, ltb-false}
 use denote.Ref.{Bor}
 use Rattle.cap_text.specs.Pieces.{pieces, pieces_left}
 
-abbrev nothing : Option ℕ
+abbrev pub nothing : Option ℕ
 nothing = None
 
-found : (n most at : ℕ) → Some at ≡ cond (nat_lt n most) (Some n) None → (n < most) × (at ≡ n)
+pub found : (n most at : ℕ) → Some at ≡ cond (nat_lt n most) (Some n) None → (n < most) × (at ≡ n)
 found n most at e = decided (nat_lt n most) refl e
   where
     decided : (b : Bool) → b ≡ nat_lt n most → Some at ≡ cond b (Some n) None → (n < most) × (at ≡ n)
     decided true is eq = (let t : nat_lt n most ≡ true = sym is in omega (arith, ltb-true), cc)
     decided false is eq = absurd (cc)
 
-lost : (n most : ℕ) → nothing ≡ cond (nat_lt n most) (Some n) None → most ≤ n
+pub lost : (n most : ℕ) → nothing ≡ cond (nat_lt n most) (Some n) None → most ≤ n
 lost n most e = decided (nat_lt n most) refl e
   where
     decided : (b : Bool) → b ≡ nat_lt n most → nothing ≡ cond b (Some n) None → most ≤ n

@@ -28,9 +28,6 @@ pub refuses : {T : Type 0} {none large : Type 0} (e : NumberError) → Says none
 refuses NotANumber h apart r is = record { not_a_number = (λ _. h, λ _. is); too_large = (λ eq. absurd (cc), λ l. absurd (apart h l)) }
 refuses TooLarge h apart r is = record { not_a_number = (λ eq. absurd (cc), λ n. absurd (apart n h)); too_large = (λ _. h, λ _. is) }
 
-pub answers : {T : Type 0} {none large : Type 0} (v : T) → ¬ none → ¬ large → Refusals (Ok v) none large
-answers v n l = record { not_a_number = (λ eq. absurd (cc), λ h. absurd (n h)); too_large = (λ eq. absurd (cc), λ h. absurd (l h)) }
-
 -- the size of a negative number
 
 abbrev pub NoSize : List ℕ → Type 0
@@ -48,9 +45,6 @@ sizes_apart size none large = none large.0 large.1
 
 pub no_size_of_zero : (size : List ℕ) → size ≡ canonical_decimal 0 → NoSize size
 no_size_of_zero size e n is = let same : 0 ≡ n + 1 = decimal_unique 0 (n + 1) (sym e ∙ is) in omega arith
-
-pub size_found : (size : List ℕ) (n : ℕ) → size ≡ canonical_decimal (n + 1) → ¬ NoSize size
-size_found size n is none = none n is
 
 -- what the body computes from a size
 pub negated : (n : ℕ) → 0 < n → n ≤ 2 ^ 127 → to_z w128 (of_z w128 (negsuc 0 -ℤ to_z w128 (n - 1))) ≡ negsuc (n - 1)

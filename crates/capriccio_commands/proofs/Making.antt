@@ -1,6 +1,5 @@
 -- What is known of a world that was just made, and of the world of a run at its end.
-use Rattle.std.proofs.Common.{◌≡◌, ℕ, zero, suc, ◌+◌, ◌≤◌, ◌∷◌, ◌++◌, List, [], Option, Some, None, refl, sym, ap, subst, ◌∙◌, add-one}
-use Rattle.std.specs.Prelude.{replicate}
+use Rattle.std.proofs.Common.{◌≡◌, ℕ, ◌+◌, ◌≤◌, Option, Some, None, refl, sym, ap, subst, ◌∙◌}
 use Rattle.c_lower.specs.ProgramCode.{lowered}
 use Rattle.accepted_pairs.specs.Accepting.{accepted_tree}
 use Rattle.accepted_pairs.specs.Acceptance.{Acceptance}
@@ -15,7 +14,6 @@ use Rattle.machine_world.specs.Stretches.{IsSound}
 use Rattle.machine_world.specs.Threads.{World, with_thread}
 use Rattle.machine_world.specs.WellFormed.{AreWords}
 use Rattle.resource_monitor.specs.Monitor.{MonitorState}
-use Rattle.resource_monitor.specs.declared.curves.Curve.{Curve}
 use Rattle.run_course.specs.Starts.{IsAtStartBy, KeepsRun}
 use Rattle.stack_certificate.specs.Certificates.{fact_at}
 use Rattle.thread_core.specs.Making.{IsPolicy, IsStart, start_areas}
@@ -64,11 +62,6 @@ made-world options accepted held h fits valid start =
     let R : Acceptance → Type 0 = λ x. IsValid (lowered (accepted_tree x)) x.image x.certificate in
     let is = sym start.accepted_is in
     record { ranges = subst P is (policy-ranges options accepted h fits); made = subst Q is start; valid = subst R is valid }
-
--- one more gauge
-pub one-more : (curve : Curve) (n : ℕ) → replicate (n + 1) curve ≡ replicate n curve ++ (curve ∷ [])
-one-more curve zero = refl
-one-more curve (suc n) = rw add-one (ap (λ (curves : List Curve). curve ∷ curves) (let e = one-more curve n in rw add-one at e))
 
 module _ (options : RunOptions) (held : Held) (made : IsMade options held) where
   kept : (held.machine.areas.globals ≡ held.accepted.image.globals) × (held.machine.areas.pool.count ≡ options.chunks + options.extra)

@@ -62,10 +62,6 @@ function_fields line word fields fact e is =
     let same : word ∷ fields ≡ codes "function" ∷ map canonical_decimal (function_numbers fact) = sym e ∙ ap (pieces 32) is ∙ function_pieces fact in
     cc
 
-pub function_word : (line word : List ℕ) (fields : List (List ℕ)) → pieces 32 line ≡ word ∷ fields → (word ≡ codes "function" → ⊥) → (fact : FunctionFact) → line ≡ function_line fact → ⊥
-function_word line word fields e other fact is =
-    other (let same : word ∷ fields ≡ codes "function" ∷ map canonical_decimal (function_numbers fact) = sym e ∙ ap (pieces 32) is ∙ function_pieces fact in cc)
-
 pub no_function : {E : Type 0} (line word : List ℕ) (fields : List (List ℕ)) (r : Result (Option FunctionFact) E) → pieces 32 line ≡ word ∷ fields
     → IfOk r (λ read. IfNone read ((fact : FunctionFact) → HasFewPlaces fact → HoldsFunctionWords fact → fields ≡ map canonical_decimal (function_numbers fact) → ⊥))
     → IfOk r (λ read. IfNone read ((fact : FunctionFact) → HasFewPlaces fact → HoldsFunctionWords fact → line ≡ function_line fact → ⊥))
@@ -82,9 +78,6 @@ site_spelled line word fields rest number kind e w f k =
 
 site_both : (line word : List ℕ) (fields : List (List ℕ)) (fact : SiteFact) → pieces 32 line ≡ word ∷ fields → line ≡ site_line fact → word ∷ fields ≡ codes "site" ∷ canonical_decimal fact.number ∷ kind_fields fact.kind
 site_both line word fields fact e is = sym e ∙ ap (pieces 32) is ∙ site_pieces fact
-
-pub site_word : (line word : List ℕ) (fields : List (List ℕ)) → pieces 32 line ≡ word ∷ fields → (word ≡ codes "site" → ⊥) → (fact : SiteFact) → line ≡ site_line fact → ⊥
-site_word line word fields e other fact is = other (let same = site_both line word fields fact e is in cc)
 
 pub no_site_number : (line word : List ℕ) (fields : List (List ℕ)) (last : Option ℕ) → pieces 32 line ≡ word ∷ fields
     → ((n : ℕ) (rest : List (List ℕ)) → n < 2 ^ 32 → fields ≡ canonical_decimal n ∷ rest → ⊥)

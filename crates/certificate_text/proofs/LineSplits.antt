@@ -1,13 +1,14 @@
 -- Where a line ends: at the first LF.
-use Rattle.std.proofs.Common.{◌≡◌, ℕ, suc, ◌+◌, ◌<◌, ◌≤◌, Bool, true, false, cond, List, [], ◌∷◌, ◌++◌, length, get_or, take, drop, refl, ap, sym, ◌∙◌, arith, ◌==◌, Option, Some, None, nat_lt, length-append}
+use Rattle.std.proofs.Common.{◌≡◌, ℕ, suc, ◌+◌, ◌<◌, ◌≤◌, Bool, true, false, cond, List, [], ◌∷◌, ◌++◌, length, get_or, take, drop, refl, ap, sym, ◌∙◌, arith, ◌==◌, Some, None, length-append}
 use Rattle.std.specs.List.{position, position_or_len}
 use Rattle.std.proofs.lemmas.List.{get_or-take, length-take-le}
 use Rattle.std.proofs.lemmas.List.Sums.{split_at_first, passes_at_first, fails_before_first}
 use Rattle.std.proofs.lemmas.Bool.{eqb-true}
-use borrow.Author.Tests.{eq-eqb, ltb-true, ltb-false}
+use borrow.Author.Tests.{eq-eqb}
 use Rattle.cap_text.specs.Decimals.{canonical_decimal}
 use Rattle.cap_text.specs.Pieces.{Lacks}
 use Rattle.cap_text.proofs.PieceLaws.{lacks-append, visible_lacks, visible_decimal}
+use Rattle.cap_text.proofs.PieceSteps.{found, lost}
 
 -- a text has one first line
 pub split_same : (a b c d : List ℕ) → Lacks 10 a → Lacks 10 c → a ++ 10 ∷ b ≡ c ++ 10 ∷ d → (a ≡ c) × (b ≡ d)
@@ -48,23 +49,6 @@ is_line_feed byte = byte == 10
 lacks_by : (text : List ℕ) → ((k : ℕ) → k < length text → is_line_feed (get_or text k 0) ≡ false) → Lacks 10 text
 lacks_by [] h = tt
 lacks_by (c ∷ text) h = (h 0 (omega arith), lacks_by text (λ k l. h (suc k) (omega arith)))
-
-abbrev nothing : Option ℕ
-nothing = None
-
-found : (n most at : ℕ) → Some at ≡ cond (nat_lt n most) (Some n) None → (n < most) × (at ≡ n)
-found n most at e = decided (nat_lt n most) refl e
-  where
-    decided : (b : Bool) → b ≡ nat_lt n most → Some at ≡ cond b (Some n) None → (n < most) × (at ≡ n)
-    decided true is eq = (let t : nat_lt n most ≡ true = sym is in omega (arith, ltb-true), cc)
-    decided false is eq = absurd (cc)
-
-lost : (n most : ℕ) → nothing ≡ cond (nat_lt n most) (Some n) None → most ≤ n
-lost n most e = decided (nat_lt n most) refl e
-  where
-    decided : (b : Bool) → b ≡ nat_lt n most → nothing ≡ cond b (Some n) None → most ≤ n
-    decided true is eq = absurd (cc)
-    decided false is eq = let t : nat_lt n most ≡ false = sym is in omega (arith, ltb-false)
 
 -- what a line that was found is
 pub record IsLineAt (text : List ℕ) (at : ℕ) : Type 0 where

@@ -1,6 +1,5 @@
 -- A list of numbers, of which the first were read and the fields of the others are left.
-use Rattle.std.proofs.Common.{◌≡◌, ℕ, zero, suc, ◌^◌, ◌<◌, ◌≤◌, List, [], ◌∷◌, ◌++◌, length, drop, map, ap, sym, ◌∙◌, arith, length-append, append_assoc, Bool, false, ◌==◌}
-use Rattle.std.proofs.lemmas.List.{length-map, map_push}
+use Rattle.std.proofs.Common.{◌≡◌, ℕ, zero, suc, ◌^◌, ◌<◌, List, [], ◌∷◌, ◌++◌, length, drop, map, ap, sym, ◌∙◌, arith, Bool, false, ◌==◌}
 use Rattle.cap_text.specs.Decimals.{canonical_decimal}
 use Rattle.certificate_text.specs.Text.{AreWords}
 
@@ -22,19 +21,6 @@ no_next start read left all e f words some none = next (drop (length read) all) 
     next : (others : List ℕ) → AreWords others → left ≡ map canonical_decimal others → ⊥
     next [] g is = omega (arith, ap length is)
     next (x ∷ others) g is = none x (map canonical_decimal others) g.0 is
-
--- more than the most
-pub too_many : (start : List (List ℕ)) (read : List ℕ) (left : List (List ℕ)) (all : List ℕ) → start ≡ map canonical_decimal read ++ left → start ≡ map canonical_decimal all → length read ≡ 4096 → 0 < length left
-    → length all ≤ 4096 → ⊥
-too_many start read left all e f full some most =
-    omega (arith, ap length (sym e ∙ f), length-append (map canonical_decimal read) left, length-map read canonical_decimal, length-map all canonical_decimal)
-
--- one more number
-pub read_more : (start : List (List ℕ)) (read : List ℕ) (left rest : List (List ℕ)) (x : ℕ) → start ≡ map canonical_decimal read ++ left → left ≡ canonical_decimal x ∷ rest
-    → start ≡ map canonical_decimal (read ++ x ∷ []) ++ rest
-read_more start read left rest x e is =
-    e ∙ ap (λ y. map canonical_decimal read ++ y) is ∙ sym (append_assoc (map canonical_decimal read) (canonical_decimal x ∷ []) rest)
-    ∙ ap (λ y. y ++ rest) (sym (map_push canonical_decimal read x))
 
 pub some_left : (fields : List (List ℕ)) (b : Bool) → b ≡ (length fields == 0) → b ≡ false → 0 < length fields
 some_left [] b e f = absurd (cc)

@@ -1,18 +1,11 @@
 -- What is known of tables stays so while bounds are written.
-use Rattle.std.proofs.Common.{◌≡◌, ℕ, zero, suc, ◌+◌, ◌<◌, Bool, true, Some, None, Option, List, [], ◌∷◌, length, get_or, take, reverse, filter, replicate, ◌∙◌, arith}
+use Rattle.std.proofs.Common.{◌≡◌, ℕ, zero, suc, ◌+◌, ◌<◌, Bool, true, Option, List, [], ◌∷◌, length, get_or, take, reverse, filter, ◌∙◌, arith}
 use Rattle.std.specs.List.{AllByRecursion}
 use Rattle.call_graph.specs.Lists.{has}
 use Rattle.call_graph.proofs.ListLemmas.{by_test}
 use Rattle.cycle_break.proofs.NumberLemmas.{all-map, has-tail}
 use Rattle.checkpoint_place.specs.KnownTables.{AreAmong, AreKnownAmong, IsKnown}
 use Rattle.checkpoint_place.proofs.BoundLemmas.{greatest-agree, reverse-more}
-
--- ---- nothing is known at first
-
-pub none-known : (count table value : ℕ) → get_or (replicate count None) table None ≡ Some value → ⊥
-none-known zero table value h = cc
-none-known (suc count) zero value h = cc
-none-known (suc count) (suc table) value h = none-known count table value h
 
 -- ---- other bounds that are the same where it matters
 

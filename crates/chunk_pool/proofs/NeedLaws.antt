@@ -282,16 +282,6 @@ class_for-fits p need sound = by (class_for p need) refl where
 
 -- ---- what a take of that size does
 
-pub class_for-first : (p : Pool) (need : ℕ) → class_for p need ≡ Some First → 0 < length p.free
-class_for-first p need e =
-    let which = choice-first (offers p.words (length p.free) need) (offers p.extra_words (length p.extra_free) need) (nat_le p.words p.extra_words) e in
-    (offers-parts p.words (length p.free) need which.0).0
-
-pub class_for-extra : (p : Pool) (need : ℕ) → class_for p need ≡ Some Extra → 0 < length p.extra_free
-class_for-extra p need e =
-    let which = choice-extra (offers p.words (length p.free) need) (offers p.extra_words (length p.extra_free) need) (nat_le p.words p.extra_words) e in
-    (offers-parts p.extra_words (length p.extra_free) need which.0).0
-
 pub IsTaken-first : (p : Pool) (need id : ℕ) (new : Pool) → class_for p need ≡ Some First → id ≡ first_or p.free p.count → new ≡ record p { free = drop 1 p.free } → IsTaken (taken_for p need) (Some id) p new
 unfolding taken_for
 IsTaken-first p need id new which first after = subst (λ (class : Option Class). IsTaken (taken_of p class) (Some id) p new) (sym which) (ap Some first, after)

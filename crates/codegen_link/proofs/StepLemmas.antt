@@ -1,6 +1,6 @@
 -- What a list up to an element becomes with that element.
 use Rattle.std.proofs.Common.{◌≡◌, ℕ, zero, suc, ◌+◌, ◌<◌, ◌≤◌, List, [], ◌∷◌, ◌++◌, length, map, take, Option, Some, None, refl, sym, ap, subst, ◌∙◌, append_assoc, arith}
-use Rattle.std.specs.Prelude.{min, slice_get, slice_index_or, filter_map, sum_by, IsSome}
+use Rattle.std.specs.Prelude.{slice_get, slice_index_or, filter_map, sum_by, IsSome}
 use Rattle.std.specs.List.{cons_option}
 use Rattle.std.proofs.lemmas.List.{take_more, take_all, map_more, map-append}
 use Rattle.std.proofs.lemmas.List.Elements.{filter_map-append}
@@ -24,9 +24,6 @@ sum-step f xs i x e = sum_by_more f xs i x (slice_get_within xs i x e) ∙ ap (�
 
 pub grows : (w p s more x y : ℕ) → w ≡ p + s → x ≡ y → more ≡ s + y → w + x ≡ p + more
 grows w p s more x y before same step = omega arith
-
-pub stands-still : (w a x r most : ℕ) → w ≡ min a most → r ≡ min (w + x) most → r ≡ min (a + x) most
-stands-still w a x r most before after = omega arith
 
 -- ---- words that are made of a list of instructions
 

@@ -75,10 +75,6 @@ pub too-long : (document : Document) (files : Option Files) (name : List ℕ) �
 too-long document None name h = (Some (replicate (suc (most_bytes document)) 0), tt, inr (long (most_bytes document), refl))
 too-long document (Some f) name h = (f name, refl, some-too-long document (f name) h)
 
-pub absent : (document : Document) (files : Option Files) (name : List ℕ) → Loads files name (most_bytes document) (Err shelf.Absent) → AfterLoad document files name NoMore (refusal (cause.Absent document))
-absent document None name h = (None, tt, refl)
-absent document (Some f) name h = (None, h, refl)
-
 told-before : (old new : Option Files) (name : List ℕ) (file : Option (List ℕ)) → KeepsFiles old new → IfSome new (λ f. f name ≡ file) → IfSome old (λ f. f name ≡ file)
 told-before None new name file keeps h = tt
 told-before (Some old) None name file keeps h = absurd keeps
@@ -105,11 +101,6 @@ shelf-stop-from P Q a b c stop step same h = subst (λ n. IsShelfStop Q n c stop
 is-before : (document : Document) (old new : Option Files) (name bytes : List ℕ) → KeepsFiles old new → IsLoaded document new name bytes → IsLoaded document old name bytes
 is-before document old new name bytes keeps h = record { file = told-before old new name (Some bytes) keeps h.file; fits = h.fits }
 
-pub first-stop : (files : Option Files) (s i c : List ℕ) (old new : ℕ) (stop : Stop) → IsShelfStop (AfterLoad document.Source files s NoMore) old new stop → IsShelfStop (AfterThree files s i c Nothing) old new stop
-first-stop files s i c old new stop h =
-    shelf-stop-follows (AfterLoad document.Source files s NoMore) (AfterThree files s i c Nothing) old new stop
-    (λ o. load-follows document.Source files s NoMore (λ source. AfterLoad document.Image files i (λ image. AfterLoad document.Certificate files c (Nothing source image))) o (λ bytes x. absurd x)) h
-
 pub second-stop : (a b : Option Files) (s i c source : List ℕ) (l m n : ℕ) (stop : Stop) → IsLoaded document.Source a s source → KeepsFiles a b → m ≡ l →
     IsShelfStop (AfterLoad document.Image b i NoMore) m n stop → IsShelfStop (AfterThree a s i c Nothing) l n stop
 second-stop a b s i c source l m n stop is keeps same h =
@@ -124,11 +115,6 @@ third-stop a b d s i c source image l m n k stop is also keeps more same again h
     (λ o x. loaded document.Source a s source (λ source. AfterLoad document.Image a i (λ image. AfterLoad document.Certificate a c (Nothing source image))) o is
     (loaded document.Image a i image (λ image. AfterLoad document.Certificate a c (Nothing source image)) o (is-before document.Image a b i image keeps also)
     (load-before document.Certificate a d c NoMore o (keeps-on a b d keeps more) x))) (again ∙ same) h
-
-pub all-loaded : (a b d : Option Files) (s i c : List ℕ) (l m n k : ℕ) (files : LoadedFiles) → IsLoaded document.Source a s files.source.items → IsLoaded document.Image b i files.image.items → IsLoaded document.Certificate d c files.certificate.items → KeepsFiles a b → KeepsFiles b d → m ≡ l → n ≡ m → k ≡ n →
-    AreLoaded a s i c l k (Ok files)
-all-loaded a b d s i c l m n k files is also third keeps more same again last =
-    (is, is-before document.Image a b i files.image.items keeps also, is-before document.Certificate a d c files.certificate.items (keeps-on a b d keeps more) third, last ∙ (again ∙ same))
 
 pub of-three : (files : Option Files) (s i c source image certificate : List ℕ) (next : List ℕ → List ℕ → List ℕ → Outcome → Type 0) (o : Outcome) → IsLoaded document.Source files s source → IsLoaded document.Image files i image → IsLoaded document.Certificate files c certificate → next source image certificate o → AfterThree files s i c next o
 of-three files s i c source image certificate next o is also third h =

@@ -27,17 +27,6 @@ pub record AreSoFar (text : List ℕ) (left : List (List ℕ)) (below : ℕ) (ca
   pub up_to : AreUpTo below read
   pub caps_are : caps ≡ caps_of read
 
-pub none_so_far : (text : List ℕ) (left : List (List ℕ)) (caps : List ℕ) → left ≡ pieces 44 text → caps ≡ 0 ∷ 0 ∷ 0 ∷ 0 ∷ 0 ∷ 0 ∷ 0 ∷ 0 ∷ []
-    → AreSoFar text left 0 caps
-none_so_far text left caps is none = record {
-  read = [];
-  joined = sym is;
-  rising = λ rest above. above;
-  only = λ others whole. (others, is ∙ whole.joined, whole.in_range);
-  up_to = tt;
-  caps_are = none;
-}
-
 -- two texts of caps
 pub one_cap : (resource most other more : ℕ) → resource ≤ 7 → other ≤ 7 → cap_text (resource, most) ≡ cap_text (other, more) → (resource ≡ other)
     × (most ≡ more)

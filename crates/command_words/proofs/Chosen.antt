@@ -73,23 +73,6 @@ not_stride given graph stride =
     let same : codes "graph" ≡ codes "stride" = sym graph ∙ stride in
     true≢false (sym ((bytes_eq-Decides (codes "graph") (codes "stride")).1 same) ∙ refl)
 
--- a text that names neither rule
-pub no_rule : (given tickets : Option (List ℕ)) → bytes_eq (rule_name given) (codes "graph") ≡ false → bytes_eq (rule_name given) (codes "stride") ≡ false →
-    (rule : Rule) → IsRule given tickets rule → ⊥
-no_rule given tickets graph stride Graph is = true≢false (sym ((bytes_eq-Decides (rule_name given) (codes "graph")).1 is.0) ∙ graph)
-no_rule given tickets graph stride (Stride t) is = true≢false (sym ((bytes_eq-Decides (rule_name given) (codes "stride")).1 is.0) ∙ stride)
-
--- the rule by the graph, beside which tickets are given
-pub no_graph : (given tickets : Option (List ℕ)) → rule_name given ≡ codes "graph" → (tickets ≡ None → ⊥) → (rule : Rule) → IsRule given tickets rule → ⊥
-no_graph given tickets graph some Graph is = some is.1
-no_graph given tickets graph some (Stride t) is = not_stride given graph is.0
-
--- the rule by strides, beside a text that is no list of tickets
-pub no_stride : (given tickets : Option (List ℕ)) → rule_name given ≡ codes "stride" → ((t : Tickets) → AreTickets tickets t → ⊥) →
-    (rule : Rule) → IsRule given tickets rule → ⊥
-no_stride given tickets stride none Graph is = not_stride given is.0 stride
-no_stride given tickets stride none (Stride t) is = none t is.1
-
 one_rule : (given tickets : Option (List ℕ)) (r s : Rule) → IsRule given tickets r → IsRule given tickets s → r ≡ s
 one_rule given tickets Graph Graph is same = refl
 one_rule given tickets Graph (Stride t) is same = absurd (not_stride given is.0 same.0)

@@ -1,9 +1,8 @@
 -- One function more of the whole walk.
-use Rattle.std.proofs.Common.{◌≡◌, ℕ, suc, ◌+◌, ◌-◌, ◌<◌, Bool, true, false, if◌then◌else◌, List, [], ◌∷◌, reverse, ◌++◌, refl, sym, ap, ◌∙◌, arith}
+use Rattle.std.proofs.Common.{◌≡◌, ℕ, suc, ◌+◌, ◌-◌, ◌<◌, List, [], ◌∷◌, reverse, ◌++◌, refl, arith}
 use Rattle.std.proofs.lemmas.List.{reverse-append, reverse-reverse}
 use Rattle.std.specs.List.{AllByRecursion}
 use Rattle.call_graph.specs.Graph.{CallGraphState, function_count}
-use Rattle.call_graph.specs.Lists.{has}
 use Rattle.cycle_break.specs.Trail.{come}
 use Rattle.cycle_break.specs.Walk.{Walked, into_each, walk, numbers_from}
 use Rattle.cycle_break.proofs.FinishLemmas.{into_each-left, walk-left}
@@ -31,14 +30,6 @@ module _ (graph : CallGraphState) (without : List ℕ) where
   -- the functions that are left where these are still to be visited
   abbrev pub left_after : List ℕ → List ℕ → List ℕ
   left_after fs left = (into_each walks [] fs (come left)).left
-
-  pub left_after-walked : (f : ℕ) (left left' : List ℕ) → has f left ≡ false → left' ≡ (walks [] f (come left)).left → left' ≡ left_after (f ∷ []) left
-  left_after-walked f left left' out e =
-      e ∙ ap (λ (b : Bool). (if b then come left else walks [] f (come left)).left) (sym out)
-
-  pub left_after-skipped : (f : ℕ) (left : List ℕ) → has f left ≡ true → left ≡ left_after (f ∷ []) left
-  left_after-skipped f left was =
-      ap (λ (b : Bool). (if b then come left else walks [] f (come left)).left) (sym was)
 
   pub left_after-more : (f : ℕ) (fs left left' : List ℕ) → left' ≡ left_after (f ∷ []) left → left_after fs left' ≡ left_after (f ∷ fs) left
   left_after-more f fs left left' e =

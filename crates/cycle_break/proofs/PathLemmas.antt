@@ -13,7 +13,7 @@ use Rattle.cycle_break.specs.declared.path.Frame.{Frame}
 use Rattle.cycle_break.specs.Trail.{come, is_marked, IsMarked}
 use Rattle.cycle_break.specs.Walk.{is_visited, through, walk}
 use Rattle.cycle_break.proofs.NumberLemmas.{once-length, true_false}
-use Rattle.cycle_break.proofs.FinishLemmas.{functions_of, finish, finish-leave, finish-enter, finish-on}
+use Rattle.cycle_break.proofs.FinishLemmas.{functions_of, finish, finish-enter, finish-on}
 
 -- ---- lists of marks
 
@@ -45,9 +45,6 @@ find-same : (p q : ℕ → Bool) (cs : List ℕ) → AllByRecursion (λ c. p c �
 find-same p q [] all = refl
 find-same p q (c ∷ cs) all =
     by_test (q c) (λ t. let t' : p c ≡ true = all.0 ∙ t in rw (t, t') refl) (λ e. let e' : p c ≡ false = all.0 ∙ e in rw (e, e') (find-same p q cs all.1))
-
-moved : (f g : ℕ) (path left : List ℕ) → is_visited (f ∷ path) (come left) g ≡ is_visited path (come (f ∷ left)) g
-moved f g path left = by_test (f == g) (λ t. by_test (has g path) (λ u. rw (t, u) refl) (λ u. rw (t, u) refl)) (λ e. rw e refl)
 
 entered : (f g : ℕ) (path left : List ℕ) → f ≢ g → is_visited (f ∷ path) (come left) g ≡ is_visited path (come left) g
 entered f g path left ne = let no : (f == g) ≡ false = grind (arith, nat_tests, ne) in rw no refl
@@ -97,18 +94,6 @@ module _ (tables : List (List ℕ)) (sites : List GraphSite) (without : List ℕ
     marks = λ f within. set-marks [] visited left root f marked.each below within (marked.marks f within);
     below = marked.below;
     finishes = first_finishes depth root place left deep leads;
-  }
-
-  -- the innermost function is left
-  pub IsOnWay-leave : (target : List ℕ) (frame : Frame) (below : List Frame) (visited : List Bool) (left : List ℕ) → frame.place ≡ length sites →
-      IsOnWay target (frame ∷ below) visited left → IsOnWay target below visited (frame.function ∷ left)
-  IsOnWay-leave target frame below visited left end on = record {
-    each = on.each;
-    frames = on.frames.1;
-    once = on.once.1;
-    marks = λ f within. on.marks f within ∙ moved frame.function f (functions_of tables sites without functions below) left;
-    below = (on.frames.0.function, on.below);
-    finishes = sym (finish-leave tables sites without functions frame below left (omega arith)) ∙ on.finishes;
   }
 
   callees_marked : (frames : List Frame) (visited : List Bool) (left cs : List ℕ) → ((f : ℕ) → f < functions → is_marked visited f ≡ is_visited (functions_of tables sites without functions frames) (come left) f) →
@@ -180,16 +165,9 @@ remaining sites (frame ∷ below) = (suc sites - frame.place) + remaining sites 
 abbrev pub work : ℕ → List Bool → List Frame → ℕ
 work sites visited frames = unmarked visited * (sites + 2) + remaining sites frames
 
-pub work-leave : (sites : ℕ) (visited : List Bool) (frame : Frame) (below : List Frame) → frame.place ≡ sites → work sites visited below < work sites visited (frame ∷ below)
-work-leave sites visited frame below end = omega arith
-
 pub work-enter : (sites : ℕ) (visited : List Bool) (frame : Frame) (frames : List Frame) (g : ℕ) → g < length visited → is_marked visited g ≡ false →
     work sites (set visited g true) (frame ∷ frames) < work sites visited frames
 work-enter sites visited frame frames g within out =
     let one = unmarked-set visited g within out in
     let u = unmarked (set visited g true) in
     rw one (omega arith)
-
-pub work-on : (sites : ℕ) (visited : List Bool) (frame : Frame) (next : ℕ) (below : List Frame) → frame.place < sites → frame.place + 1 ≤ next →
-    work sites visited (record { function = frame.function; place = next } ∷ below) < work sites visited (frame ∷ below)
-work-on sites visited frame next below within later = omega arith

@@ -18,9 +18,6 @@ pub among-all : (P : GraphSite → Type 0) (xs : List GraphSite) (s : GraphSite)
 among-all P [] s all h = absurd h
 among-all P (x ∷ xs) s all h = elim h [ inl e ↦ subst P e all.0 | inr rest ↦ among-all P xs s all.1 rest ]
 
-all-from_each : (P : GraphSite → Type 0) (xs : List GraphSite) → ((s : GraphSite) → IsAmong xs s → P s) → AllByRecursion P xs
-all-from_each P xs each = all-map (IsAmong xs) P each xs (all-among xs)
-
 pub among-filter : (p : GraphSite → Bool) (xs : List GraphSite) (s : GraphSite) → IsAmong xs s → p s ≡ true → IsAmong (filter p xs) s
 among-filter p [] s h test = absurd h
 among-filter p (x ∷ xs) s h test = elim h [

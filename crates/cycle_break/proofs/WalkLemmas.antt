@@ -99,9 +99,6 @@ module _ (graph : CallGraphState) (without : List ℕ) where
   visited-after path old new f gone h =
       by_test (has f path) (λ t. rw t refl) (λ e. let l : has f old.left ≡ true = rw e at h in rw (e, gone.grows f l) refl)
 
-  pub all_visited-after : (path : List ℕ) (old new : Walked) (fs : List ℕ) → HasGone path old new → AllVisited path old fs → AllVisited path new fs
-  all_visited-after path old new fs gone all = all-map (λ f. is_visited path old f ≡ true) (λ f. is_visited path new f ≡ true) (λ f h. visited-after path old new f gone h) fs all
-
   unvisited : (path : List ℕ) (walked : Walked) (f : ℕ) → is_visited path walked f ≡ false → (has f path ≡ false) × (has f walked.left ≡ false)
   unvisited path walked f h =
       by_test (has f path) (λ t. true_false true refl (rw t at h)) (λ e. (e, rw e at h))

@@ -1,5 +1,6 @@
 -- Each rule is decided at each function and index, and has bounds.
-use Rattle.std.proofs.Common.{ℕ, zero, suc, ◌≡◌, ◌∙◌, ◌+◌, ◌*◌, ◌%◌, ◌<◌, ◌≤◌, ◌⊎◌, inl, inr, refl, sym, ap, subst, arith, List, [], ◌∷◌, ◌++◌, length, Option, Some, None}
+use Rattle.std.proofs.Common.{ℕ, zero, suc, ◌≡◌, ◌∙◌, ◌+◌, ◌*◌, ◌%◌, ◌<◌, ◌≤◌, ◌⊎◌, inl, inr, refl, sym, ap, arith, List, [], ◌∷◌, ◌++◌, length, Option, Some, None}
+use Rattle.lawful_reading.proofs.Deciding.{decided_by, both_decided, denied, number_same, option_same, le_decided, all_below}
 use Rattle.std.specs.Prelude.{slice_get, slice_index}
 use Rattle.std.proofs.lemmas.Option.{slice_get_past}
 use Rattle.rv_code.specs.declared.instructions.Instr.{Instr}
@@ -15,7 +16,7 @@ use Rattle.certificate_rules.specs.Ranges.{IsIn, AreApart, Stands}
 use Rattle.certificate_rules.specs.Rules.{V1, V2, V3, V4, V5, V6, V7, V8, V9, V10, V11, V12, frame_places, frame_words, IsPlaced, member_entries, starting_words, IsNeed}
 use Rattle.certificate_rules.specs.Sites.{certified_site, callee_bound, NamesSites}
 use Rattle.decisions.specs.Decided.{Decided}
-use Rattle.decisions.proofs.Decisions.{decided_by, both_decided, denied, implied_decided, lt_decided, le_decided, number_same, option_same, all_below}
+use Rattle.decisions.proofs.Decisions.{implied_decided, lt_decided}
 use Rattle.decisions.proofs.Search.{everywhere, held_decided, IsSearched}
 use Rattle.decisions.proofs.Instructions.{three_decided, stands_decided}
 use Rattle.decisions.proofs.Named.{no_operation, no_operations, names_decided}

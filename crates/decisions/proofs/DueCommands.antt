@@ -21,13 +21,14 @@ use Rattle.pair_commands.specs.Checks.{verdict_outcome, ChecksPair, ChecksBytes,
 use Rattle.command_options.specs.Options.{IsRunPolicy, sizes_of}
 use Rattle.pair_commands.specs.Runs.{setup_of, pool_bytes, RunsPair, RunsBytes, Runs}
 use Rattle.capriccio_call.specs.Due.{Does, IsDue}
+use Rattle.capriccio_call.proofs.OneRun.{IsInRange}
 use Rattle.command_options.proofs.Options.{run-policy}
 use Rattle.decisions.proofs.Pairs.{pair_decided}
 use Rattle.decisions.specs.Told.{HoldBytes}
 use Rattle.decisions.proofs.Loading.{Some_due, three_due, source_due, image_due, certificate_due}
 use Rattle.decisions.proofs.Building.{graph_due, build_due}
 use Rattle.decisions.proofs.Budgeting.{budget_pair}
-use Rattle.decisions.proofs.Running.{IsInRange, run_due}
+use Rattle.decisions.proofs.Running.{run_due}
 
 abbrev PairFailure : ProgramTree → Image → Certificate → Type 0
 PairFailure program i c = (rule f index : ℕ) × IsFirstFailure (lowered program) i c rule f index

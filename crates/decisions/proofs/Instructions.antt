@@ -1,5 +1,6 @@
 -- Of an instruction it is decided whether it stands at an address.
-use Rattle.std.proofs.Common.{ℕ, ◌≡◌, ◌<◌, ◌≤◌, ◌⊎◌, inl, inr, refl, Option, Some, None}
+use Rattle.std.proofs.Common.{ℕ, ◌≡◌, ◌<◌, ◌≤◌, ◌⊎◌, inl, inr, refl, Some}
+use Rattle.lawful_reading.proofs.Deciding.{decided_by, both_decided, number_same, option_same}
 use Rattle.std.specs.Prelude.{ℤ, pos, negsuc, ◌≤ℤ◌}
 use Rattle.std.specs.Int.Signed.{◌<ℤ◌, clash_ℤ}
 use Rattle.std.proofs.lemmas.Int.{by_lt_z}
@@ -12,7 +13,7 @@ use Rattle.rv_code.specs.declared.instructions.Instr.TheVariants.{Lui, Auipc, Ja
 use Rattle.stack_image.specs.declared.images.Image.{Image}
 use Rattle.certificate_rules.specs.Ranges.{word_at, Stands}
 use Rattle.decisions.specs.Decided.{Decided}
-use Rattle.decisions.proofs.Decisions.{decided_by, both_decided, lt_decided, number_same, option_same}
+use Rattle.decisions.proofs.Decisions.{lt_decided}
 
 pub three_decided : {P Q R : Type 0} → Decided P → Decided Q → Decided R → Decided (P × Q × R)
 three_decided {P} {Q} {R} p q r = decided_by (λ (h : P × (Q × R)). (h.0, h.1.0, h.1.1)) (λ h. (h.0, (h.1, h.2))) (both_decided p (both_decided q r))

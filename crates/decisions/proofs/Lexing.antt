@@ -1,20 +1,21 @@
 -- A source is tokens, or has a place where none begins.
-use Rattle.std.proofs.Common.{ℕ, zero, suc, ◌≡◌, ◌≢◌, ◌+◌, ◌-◌, ◌<◌, ◌≤◌, ◌⊎◌, inl, inr, true, IsTrue, List, [], ◌∷◌, ◌++◌, length, get_or, take, drop, refl, sym, ap, subst, ◌∙◌, arith, codes}
+use Rattle.std.proofs.Common.{ℕ, zero, suc, ◌≡◌, ◌≢◌, ◌+◌, ◌-◌, ◌<◌, ◌≤◌, ◌⊎◌, inl, inr, true, IsTrue, List, [], ◌∷◌, ◌++◌, length, get_or, drop, refl, sym, subst, ◌∙◌, arith, codes}
+use Rattle.lawful_reading.proofs.Deciding.{both_decided, denied, number_same, bool_same}
 use Rattle.std.proofs.lemmas.Bool.{cases_lt}
-use Rattle.std.proofs.lemmas.List.{length-append, length-drop, drop_all, get_or_past}
+use Rattle.std.proofs.lemmas.List.{length-drop, drop_all, get_or_past}
 use Rattle.c_lex.specs.declared.marks.Mark.{Mark}
 use Rattle.c_lex.specs.declared.tokens.Token.{Token}
 use Rattle.c_lex.specs.declared.tokens.TokenKind.{TokenKind}
 use Rattle.c_lex.specs.Pieces.{IsFirstGap, IsFirstToken}
 use Rattle.c_lex.specs.declared.tokens.TokenKind.TheVariants as kinds
 use Rattle.c_lex.specs.declared.tokens.LexError.{LexError}
-use Rattle.c_lex.specs.declared.tokens.LexError.TheVariants.{BadByte, OpenComment, BadNumber, Memory}
+use Rattle.c_lex.specs.declared.tokens.LexError.TheVariants.{BadByte, OpenComment}
 use Rattle.c_lex.specs.Bytes.{is_white_space, is_word_byte}
 use Rattle.c_lex.specs.Marks.{mark_text, BeginsWith}
 use Rattle.c_lex.specs.Lexemes.{BeginsComment}
 use Rattle.c_lex.specs.Tokens.{LeadsTo, AreTokensOf, BeginsNone, IsLexErrorOf}
 use Rattle.decisions.specs.Decided.{Decided}
-use Rattle.decisions.proofs.Decisions.{both_decided, denied, implied_decided, first_without, IsFirstWithout, lt_decided, number_same, bool_same, begins_decided}
+use Rattle.decisions.proofs.Decisions.{implied_decided, first_without, IsFirstWithout, begins_decided}
 use Rattle.decisions.proofs.Tables.{some_mark, mark_text-few}
 use Rattle.c_lex.proofs.MarkTable.{mark_text-some}
 use Rattle.c_lex.proofs.CommentLemmas.{line_comment, block_comment, open_comment}

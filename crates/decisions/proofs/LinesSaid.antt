@@ -1,6 +1,6 @@
 -- Of a line it is decided whether it is as said where something is due.
 use Rattle.std.proofs.Common.{ℕ, zero, suc, ◌≡◌, ◌∙◌, ◌+◌, ◌<◌, ◌≤◌, ◌^◌, ◌⊎◌, inl, inr, refl, sym, ap, subst, arith, List, [], ◌∷◌, ◌++◌, length, map, codes, Option, Some, None}
-use Rattle.std.specs.List.{AllByRecursion}
+use Rattle.lawful_reading.proofs.Deciding.{decided_by, both_decided, either_decided, number_same, Below, below_decided, text_same}
 use Rattle.cap_text.specs.Decimals.{canonical_decimal}
 use Rattle.cap_text.specs.Pieces.{after_each}
 use Rattle.stack_certificate.specs.declared.functions.FunctionFact.{FunctionFact}
@@ -11,7 +11,7 @@ use Rattle.certificate_text.specs.Text.{title_line, chunk_line, max_path_line, f
 use Rattle.certificate_text.specs.FirstRefused.{Due, IsAsSaid}
 use Rattle.certificate_text.specs.FirstRefused.{Title, Chunk, MaxPath, FunctionCount, Functions, Sites}
 use Rattle.decisions.specs.Decided.{Decided}
-use Rattle.decisions.proofs.Decisions.{Below, decided_by, both_decided, either_decided, below_decided, lt_decided, text_same, Begins, begins_decided, number_same}
+use Rattle.decisions.proofs.Decisions.{lt_decided, Begins, begins_decided}
 
 -- ---- a line with one number
 

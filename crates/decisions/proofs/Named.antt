@@ -1,9 +1,9 @@
 -- Of a certificate it is decided whether it names just the sites of a program.
-use Rattle.std.proofs.Common.{ℕ, zero, suc, ◌≡◌, ◌∙◌, ◌+◌, ◌<◌, ◌≤◌, ◌⊎◌, inl, inr, refl, sym, ap, subst, arith, Bool, true, false, IsTrue, List, [], ◌∷◌, length, map, get_or, nat_eq, Option, Some, None}
+use Rattle.std.proofs.Common.{ℕ, zero, suc, ◌≡◌, ◌∙◌, ◌+◌, ◌<◌, ◌≤◌, ◌⊎◌, inl, inr, refl, ap, arith, true, false, IsTrue, List, [], ◌∷◌, length, nat_eq, Some, None}
+use Rattle.lawful_reading.proofs.Deciding.{decided_by, both_decided, bool_same}
 use Rattle.std.specs.Prelude.{slice_get, slice_index}
-use Rattle.std.specs.List.{list_any}
 use Rattle.std.specs.List.Sorted.{IsStrictlyIncreasing}
-use Rattle.std.proofs.lemmas.Bool.{cases_lt, or_cases, eqb-true}
+use Rattle.std.proofs.lemmas.Bool.{or_cases, eqb-true}
 use Rattle.std.proofs.lemmas.Option.{slice_get_past}
 use Rattle.std.proofs.lemmas.List.{get_or_past}
 use Rattle.flat_code.specs.declared.operations.Op.{Op}
@@ -14,9 +14,8 @@ use Rattle.stack_certificate.specs.declared.sites.SiteFact.{SiteFact}
 use Rattle.stack_certificate.specs.Templates.{kind_of}
 use Rattle.certificate_rules.specs.Sites.{certified_site, starts_thread, is_spawned, is_named, has_site, fact_numbers, NamesSites}
 use Rattle.decisions.specs.Decided.{Decided}
-use Rattle.decisions.proofs.Decisions.{decided_by, both_decided, implied_decided, lt_decided, bool_same}
+use Rattle.decisions.proofs.Decisions.{implied_decided, lt_decided}
 use Rattle.decisions.proofs.Search.{everywhere, held_decided}
-use Rattle.decisions.proofs.Instructions.{three_decided}
 
 -- ---- functions past the last
 

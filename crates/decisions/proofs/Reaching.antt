@@ -1,5 +1,6 @@
 -- Whether a function lies on a cycle of calls: what calls lead to from it is marked, one function more in each round.
 use Rattle.std.proofs.Common.{◌≡◌, ℕ, zero, suc, ◌<◌, ◌≤◌, ◌⊎◌, inl, inr, Bool, true, false, List, [], ◌∷◌, length, replicate, set, refl, sym, ◌∙◌, subst, arith, ⊎_elim}
+use Rattle.lawful_reading.proofs.Deciding.{decided_by, both_decided, either_decided, denied, bool_same, Below, below_decided}
 use Rattle.std.specs.Prelude.{Some, slice_get}
 use Rattle.std.proofs.Math.ListN.{length-set}
 use Rattle.std.proofs.lemmas.Bool.{cases_lt}
@@ -17,7 +18,7 @@ use Rattle.call_cycles.proofs.OrderLemmas.{cycle-within}
 use Rattle.call_cycles.proofs.WalkLemmas.{reaches-one, reaches-more, least-cycle}
 use Rattle.chunk_budget.proofs.LeastLemmas.{inside}
 use Rattle.decisions.specs.Decided.{Decided}
-use Rattle.decisions.proofs.Decisions.{decided_by, both_decided, either_decided, denied, bool_same, Below, below_decided, IsFirstWithout, first_without}
+use Rattle.decisions.proofs.Decisions.{IsFirstWithout, first_without}
 
 unmarked_none : (n : ℕ) → unmarked (replicate n false) ≡ n
 unmarked_none zero = refl

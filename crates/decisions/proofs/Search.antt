@@ -1,9 +1,9 @@
 -- The first failure of what is decided and has bounds.
-use Rattle.std.proofs.Common.{ℕ, zero, suc, ◌≡◌, ◌+◌, ◌<◌, ◌≤◌, ◌⊎◌, inl, inr, refl, sym, subst, arith, List, [], ◌∷◌, length, Option, Some, None}
-use Rattle.std.specs.Prelude.{slice_get}
+use Rattle.std.proofs.Common.{ℕ, zero, suc, ◌≡◌, ◌+◌, ◌<◌, ◌≤◌, ◌⊎◌, inl, inr, refl, subst, arith, [], ◌∷◌, Option, Some, None}
+use Rattle.lawful_reading.proofs.Deciding.{decided_by, all_below}
 use Rattle.std.proofs.lemmas.Bool.{cases_lt}
 use Rattle.decisions.specs.Decided.{Decided}
-use Rattle.decisions.proofs.Decisions.{decided_by, first_without, IsFirstWithout, all_below}
+use Rattle.decisions.proofs.Decisions.{first_without, IsFirstWithout}
 
 -- it holds everywhere, or somewhere below a bound it doesn't
 pub everywhere : (P : ℕ → Type 0) → ((k : ℕ) → Decided (P k)) → (n : ℕ) → ((k : ℕ) → n ≤ k → P k) → Decided ((k : ℕ) → P k)

@@ -22,6 +22,7 @@ use Rattle.command_options.specs.Options.{IsRunPolicy, sizes_of}
 use Rattle.pair_commands.specs.Runs.{setup_of, pool_bytes, IsAccepted, ServesProgram, Serves}
 use Rattle.capriccio_commands.specs.Demos.{demo_sizes, demo_policy, Demos}
 use Rattle.capriccio_call.specs.Due.{IsDue}
+use Rattle.capriccio_call.proofs.OneRun.{IsInRange}
 use Rattle.command_options.proofs.Options.{serve-sizes, serve-policy, serve-pool}
 use Rattle.capriccio_commands.proofs.Workloads.{always-built, demo-in-range, demo-run-policy, demo-pool}
 use Rattle.decisions.proofs.Sources.{AProgram, AnError, source_decided}
@@ -30,7 +31,7 @@ use Rattle.decisions.specs.Told.{HoldBytes}
 use Rattle.decisions.proofs.Loading.{Some_due, load_due, source_due}
 use Rattle.decisions.proofs.Building.{ABuild, built_or_not}
 use Rattle.decisions.proofs.Valid.{valid_layout, layout_words}
-use Rattle.decisions.proofs.Running.{IsInRange, run_due, show_due}
+use Rattle.decisions.proofs.Running.{run_due, show_due}
 use Rattle.decisions.proofs.DueCommands.{in_range, of_request}
 
 -- ---- a pair that is laid out

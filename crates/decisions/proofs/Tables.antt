@@ -1,5 +1,6 @@
 -- Every mark and every keyword, each with its place in a list: what is decided of each is decided of some.
 use Rattle.std.proofs.Common.{ℕ, ◌≡◌, ◌<◌, refl, sym, subst, lit<, get_or, length, List, [], ◌∷◌}
+use Rattle.lawful_reading.proofs.Deciding.{decided_by, Below, below_decided}
 use Rattle.c_lex.specs.declared.keywords.Keyword.{Keyword}
 use Rattle.c_lex.specs.declared.keywords.Keyword.TheVariants as keywords
 use Rattle.c_lex.specs.declared.marks.Mark.{Mark}
@@ -8,7 +9,6 @@ use Rattle.c_lex.specs.Marks.{mark_text}
 use Rattle.c_lex.proofs.MarkTable.{mark_place, mark_place-lt}
 use Rattle.c_lex.proofs.KeywordTable.{keyword_place, keyword_place-lt}
 use Rattle.decisions.specs.Decided.{Decided}
-use Rattle.decisions.proofs.Decisions.{Below, decided_by, below_decided}
 
 -- ---- marks
 

@@ -1,5 +1,6 @@
 -- The values of the options, or that the texts are none.
 use Rattle.std.proofs.Common.{◌≡◌, ◌∙◌, ℕ, suc, ◌-◌, ◌<◌, ◌≤◌, ◌%◌, ◌⊎◌, inl, inr, List, [], ◌∷◌, length, map, replicate, Option, Some, None, refl, ap, arith, codes}
+use Rattle.lawful_reading.proofs.Deciding.{decided_by, both_decided, either_decided, number_same, Below, below_decided, option_same, text_same, le_decided}
 use Rattle.std.proofs.lemmas.List.{length-map}
 use Rattle.cap_text.specs.Decimals.{canonical_decimal}
 use Rattle.cap_text.specs.Pieces.{pieces}
@@ -14,7 +15,7 @@ use Rattle.command_words.specs.declared.option_table.CommandOption.{CommandOptio
 use Rattle.command_words.specs.declared.option_table.CommandOption.TheVariants as option
 use Rattle.command_words.specs.Values.{IsChosen, IsNumber, IsNumberOf, default_max_path, IsPlacement, cap_text, AreCapsAbove, caps_of, AreCaps, ticket_text, AreTicketsFrom, tickets_of, AreTickets, rule_name, IsAudit, IsRule, IsPolicy}
 use Rattle.decisions.specs.Decided.{Decided}
-use Rattle.decisions.proofs.Decisions.{Below, decided_by, both_decided, either_decided, below_decided, le_decided, lt_decided, number_same, text_same, option_same}
+use Rattle.decisions.proofs.Decisions.{lt_decided}
 
 abbrev Texts : Type 0
 Texts = List ℕ → Option (List ℕ)

@@ -1,13 +1,13 @@
 -- The word at the front of a text: it is a token, or no number.
-use Rattle.std.proofs.Common.{ℕ, zero, suc, ◌≡◌, ◌≢◌, ◌<◌, ◌≤◌, ◌^◌, ◌⊎◌, inl, inr, Bool, true, false, IsTrue, List, [], ◌∷◌, length, get_or, take, drop, refl, sym, ap, subst, ◌∙◌, arith, codes}
+use Rattle.std.proofs.Common.{ℕ, zero, suc, ◌≡◌, ◌≢◌, ◌<◌, ◌≤◌, ◌^◌, ◌⊎◌, inl, inr, Bool, true, false, IsTrue, List, [], ◌∷◌, length, get_or, take, drop, refl, sym, subst, ◌∙◌, arith, codes}
+use Rattle.lawful_reading.proofs.Deciding.{decided_by, both_decided, either_decided, denied, number_same, bool_same, Below, below_decided, text_same}
 use Rattle.std.specs.Char.{digit_value, is_ascii_digit}
 use Rattle.std.specs.Str.Parse.{AllDigits, digits_value}
-use Rattle.std.proofs.lemmas.List.{length-take-le, get_or-take}
 use Rattle.c_lex.specs.declared.keywords.Keyword.{Keyword}
 use Rattle.c_lex.specs.declared.tokens.TokenKind.{TokenKind}
 use Rattle.c_lex.specs.declared.tokens.TokenKind.TheVariants as kinds
 use Rattle.c_lex.specs.declared.tokens.LexError.{LexError}
-use Rattle.c_lex.specs.declared.tokens.LexError.TheVariants.{BadByte, OpenComment, BadNumber, Memory}
+use Rattle.c_lex.specs.declared.tokens.LexError.TheVariants.{BadNumber}
 use Rattle.c_lex.specs.Bytes.{is_word_byte}
 use Rattle.c_lex.specs.Keywords.{keyword_text}
 use Rattle.c_lex.specs.Numbers.{IsDecimal, IsHexadecimal, IsNumber}
@@ -15,7 +15,7 @@ use Rattle.c_lex.specs.Lexemes.{IsWord, IsOfKind}
 use Rattle.c_lex.specs.Tokens.{BeginsNone}
 use Rattle.c_lex.specs.Pieces.{IsFirstGap, IsFirstToken}
 use Rattle.decisions.specs.Decided.{Decided}
-use Rattle.decisions.proofs.Decisions.{Below, decided_by, both_decided, either_decided, denied, below_decided, first_without, IsFirstWithout, lt_decided, number_same, bool_same, text_same}
+use Rattle.decisions.proofs.Decisions.{first_without, IsFirstWithout, lt_decided}
 use Rattle.decisions.proofs.Tables.{some_keyword}
 use Rattle.c_lex.proofs.TakenLemmas.{IsIdentifier-from}
 use Rattle.c_lex.proofs.PieceLemmas.{IsWordFront, IsWordFront-word, word_token, bad_number}

@@ -106,14 +106,6 @@ found_below [] k op e = absurd (cc)
 found_below (o ∷ ops) zero op e = omega arith
 found_below (o ∷ ops) (suc k) op e = let low = found_below ops k op e in omega (arith, low)
 
-pub ungrouped : (ops : List Ready) → AreGrouped ops (length ops) ops
-ungrouped ops = record {
-  count_is = refl;
-  kin = λ k op was found old. let same = same_found (slice_get ops k) op was found old in
-      subst (λ (r : Ready). IsKinOf op r) same (record { is = refl; does = λ o a b m. refl });
-  groups = λ at op next from found behind. absurd (let low = found_below ops (at + 1) next behind in omega (arith, from, low));
-}
-
 found_old : (old : List Ready) (k : ℕ) → k < length old → (was : Ready) × (slice_get old k ≡ Some was)
 found_old [] k low = absurd (omega (arith, low))
 found_old (o ∷ old) zero low = (o, refl)

@@ -3,7 +3,7 @@ use Rattle.std.proofs.Common.{◌≡◌, ℕ, ◌<◌, false, List, [], ◌∷�
 use Rattle.std.specs.Prelude.{◌==◌}
 use Rattle.std.proofs.lemmas.List.{append-nil}
 use Rattle.std.specs.Io.KnownBytes.{Consumes, IsAtEnd}
-use Rattle.event_trace.specs.declared.gathering.Ending.TheVariants.{Line, End, TooLong}
+use Rattle.event_trace.specs.declared.gathering.Ending.TheVariants.{Line, TooLong}
 use Rattle.event_trace.specs.Lines.{line_of, rest_of, HasWholeLine}
 use Rattle.event_trace.specs.Gathering.{Gathers, LeavesTail}
 
@@ -41,10 +41,6 @@ pub record Gathered (before after : Option (List ℕ)) (line : List ℕ) : Type 
   pub given : Consumes before after line
   pub unended : NoLf line
 
-pub gathered_none : (before : Option (List ℕ)) → Gathered before before []
-gathered_none None = record { given = tt; unended = tt }
-gathered_none (Some bytes) = record { given = refl; unended = tt }
-
 pub gathered_more : (before mid after : Option (List ℕ)) (line : List ℕ) (byte : ℕ) → Gathered before mid line → Consumes mid after (byte ∷ [])
     → (byte == 10) ≡ false → Gathered before after (line ++ byte ∷ [])
 gathered_more None mid after line byte g now here = record { given = tt; unended = no_lf_more line byte g.unended here }
@@ -76,14 +72,6 @@ gathers_last E (Some a) (Some b) None line g now end some = absurd now
 gathers_last E (Some a) (Some b) (Some c) line g now end some =
     let whole : a ≡ line = g.given ∙ ap (λ (l : List ℕ). line ++ l) (now ∙ end) ∙ append-nil line
     in (rw whole some, rw whole (sym (line_end line g.unended)), rw whole (end ∙ sym (rest_end line g.unended)))
-
-pub gathers_end : (E : Type 0) (before mid after : Option (List ℕ)) (line : List ℕ) → Gathered before mid line → Consumes mid after [] → IsAtEnd after
-    → line ≡ [] → Gathers {E = E} before after line (Ok End)
-gathers_end E None mid after line g now end none = tt
-gathers_end E (Some a) None after line g now end none = absurd g.given
-gathers_end E (Some a) (Some b) None line g now end none = absurd now
-gathers_end E (Some a) (Some b) (Some c) line g now end none =
-    (g.given ∙ ap (λ (l : List ℕ). line ++ l) (now ∙ end) ∙ append-nil line ∙ none, end)
 
 pub gathers_long : (E : Type 0) (before mid after : Option (List ℕ)) (line : List ℕ) (byte : ℕ) → Gathered before mid line → Consumes mid after (byte ∷ [])
     → (byte == 10) ≡ false → length line ≡ 64 → Gathers {E = E} before after line (Ok TooLong)

@@ -4,7 +4,7 @@ use Rattle.c_grammar.specs.declared.signs.Sign.{Sign}
 use Rattle.c_grammar.specs.declared.signs.Sign.TheVariants as signs
 use Rattle.c_grammar.specs.Signs.{Level, Tightest, Looser, Loosest}
 use Rattle.c_grammar.specs.Rests as symbols
-use Rattle.c_grammar.specs.Rests.{Symbol, Way, Any, Nearest}
+use Rattle.c_grammar.specs.Rests.{Symbol, Way, Any}
 use Rattle.c_grammar.specs.Machine as tasks
 use Rattle.c_grammar.specs.Machine.{Task}
 
@@ -12,11 +12,6 @@ use Rattle.c_grammar.specs.Machine.{Task}
 pub data Above : Level → List Symbol → List Symbol → Type 0 where
   loosest : {rest : List Symbol} → Above Loosest rest rest
   one : {level : Level} {rest more : List Symbol} → Above (Looser level) rest more → Above level rest (symbols.Repeated (Looser level) ∷ more)
-
--- any way is meant
-abbrev pub IsAny : Way → Type 0
-IsAny Any = Unit {0}
-IsAny Nearest = ⊥
 
 -- The rest is one that the tasks stand for. Where any way is meant, an else and the ends of statements may be gone
 -- from the rest that the tasks still have.

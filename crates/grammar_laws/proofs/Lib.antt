@@ -10,3 +10,4 @@ pub mod TreeUnique
 pub mod Walks
 pub mod Trees
 pub mod RankLaws
+pub mod NoNames

@@ -1,5 +1,5 @@
 -- What the functions of brackets and arguments come to, exit by exit.
-use Rattle.std.proofs.Common.{ℕ, ◌≡◌, ◌≢◌, ◌+◌, ◌*◌, ◌≤◌, min, refl, sym, ap, subst, ◌∙◌, List, [], ◌∷◌, ◌++◌, length, length-append, Some, arith}
+use Rattle.std.proofs.Common.{ℕ, ◌≡◌, ◌≢◌, ◌+◌, ◌*◌, ◌≤◌, refl, sym, ap, subst, ◌∙◌, List, [], ◌∷◌, ◌++◌, length, length-append, Some, arith}
 use Rattle.c_lex.specs.declared.tokens.Token.{Token}
 use Rattle.c_tree.specs.RawTrees.{RawExprTree, RawExprTrees, NoExprs, And}
 use Rattle.c_tree.specs.RawViews.{raw_arguments}
@@ -60,11 +60,6 @@ parenthesized_read source end depth inside a b c d x e opening low h close =
           ∙ run_passes end (tasks.Token signs.RightParenthesis ∷ rest) close (λ e. cc) refl (let i = opening.0 in omega arith));
       small = (let i = opening.0 in let m = h.small in omega arith);
     }
-
--- brackets, of an element or a call through a table
-abbrev AfterIndexOf : Task → Task
-AfterIndexOf tasks.AfterName = tasks.AfterIndex
-AfterIndexOf _ = tasks.AfterSimpleIndex
 
 -- the two tasks that come to brackets
 pub data Bracketed : Task → Task → Type 0 where
@@ -163,9 +158,6 @@ pub arguments_first_refused : (end depth inside : ℕ) (todo : Task) (a b : List
     → Refused end depth (todo ∷ []) a error
 arguments_first_refused end depth inside todo a b error k e opening low some r other rest o =
     arguments_opened end depth inside todo a b k e opening low rest o ∙ (list_run end rest b some ∙ r other (tasks.MoreArguments ∷ rest) (let i = opening.0 in omega arith))
-
-min_five : (n m : ℕ) → min n 5 + m ≤ 5 + m
-min_five n m = omega arith
 
 pub arguments_first : (source : List ℕ) (end depth inside : ℕ) (a b c : List Token) (x : RawExprTree) → next_sign a ≡ signs.LeftParenthesis → Opens depth inside a b → inside ≤ 64 → next_sign b ≢ signs.RightParenthesis → ReadsExpr source end inside b x c
     → ReadingArguments source end depth a (x ∷ []) c

@@ -13,12 +13,12 @@ use Rattle.c_tree.specs.RawTrees.{RawExprTree, RawConditional}
 use Rattle.c_tree.specs.RawViews.{raw_joined, raw_chained}
 use Rattle.c_tree.specs.RawTemporaries.{raw_temporaries}
 use Rattle.c_grammar.specs.declared.errors.ParseError.{ParseError}
-use Rattle.c_grammar.specs.declared.errors.ParseError.TheVariants.{Unexpected, TooDeep, Memory}
+use Rattle.c_grammar.specs.declared.errors.ParseError.TheVariants.{Unexpected, TooDeep}
 use Rattle.c_grammar.specs.declared.signs.Sign.{Sign}
 use Rattle.c_grammar.specs.declared.signs.Sign.TheVariants as signs
 use Rattle.c_grammar.specs.Signs.{sign_of_token, sign_of_keyword}
 use Rattle.c_grammar.specs.Machine as tasks
-use Rattle.c_grammar.specs.Machine.{Task, Move, step, after_move, open_tasks}
+use Rattle.c_grammar.specs.Machine.{Task, step, after_move, open_tasks}
 use Rattle.c_grammar.specs.Reading.{sign_at, finishes, run}
 use Rattle.c_grammar.specs.Operators.{infix_operator_of, level_of_infix}
 use Rattle.c_grammar.specs.Tokens.{next_sign, next_place, rest_of, Passes}
@@ -26,9 +26,6 @@ use Rattle.c_grammar.specs.Grammar.{IsExpr, IsBinary, IsRepeated}
 use Rattle.grammar_reader.specs.Steps.{Refused, NoneFrom, IsNextOperator, IsNoNextOperator, ReadsExpr, ReadsConditional, ReadsBinary, ReadsRepeated, ReadsUnary, ReadingRepeated}
 use Rattle.c_grammar.proofs.OneToken.{run_taken}
 use Rattle.grammar_reader.proofs.Runs.{run_sign, run_passes, run_too_deep, run_none, shorter_sign, passes_shorter, refuses_but, colon_only}
-
-pub refused_memory : (end depth : ℕ) (todo : List Task) (before : List Token) (error : ParseError) → error ≡ Memory → Refused end depth todo before error
-refused_memory end depth todo before error e other = absurd (other e)
 
 one_made : ℕ → ℕ → List Token → Option (List Task) → Option ParseError
 one_made end at tokens made =
@@ -201,9 +198,6 @@ binary_unary source end depth level a b e high low h =
       small = let m = h.small in omega arith;
     }
 
-pub binary_unary_refused : (end depth : ℕ) (a : List Token) (error : ParseError) → Refused end depth (tasks.Operand ∷ []) a error → Refused end depth (tasks.Operand ∷ tasks.Tail ∷ []) a error
-binary_unary_refused end depth a error h other rest o = h other (tasks.Tail ∷ rest) (omega arith)
-
 pub binary_chain : (source : List ℕ) (end depth level : ℕ) (a b c : List Token) (first : RawExprTree) (rest : List (Infix × RawExprTree)) → level < 10 → ReadsBinary source end depth (level + 1) a first b → ReadsRepeated source end depth level b rest c
     → ReadsBinary source end depth level a (raw_chained first rest) c
 binary_chain source end depth level a b c first rest low h r =
@@ -214,15 +208,6 @@ binary_chain source end depth level a b c first rest low h r =
       ended = r.ended;
       small = r.small first (let m = h.small in omega arith);
     }
-
-pub binary_later_refused : (source : List ℕ) (end depth level : ℕ) (a b : List Token) (first : RawExprTree) (error : ParseError) → ReadsBinary source end depth (level + 1) a first b → Refused end depth (tasks.Tail ∷ []) b error
-    → Refused end depth (tasks.Operand ∷ tasks.Tail ∷ []) a error
-binary_later_refused source end depth level a b first error h r other rest o = h.leads rest o ∙ r other rest o
-
--- operators of one level
-pub repeated_start : (source : List ℕ) (end depth level : ℕ) (a : List Token) → NoneFrom (level + 1) a → ReadingRepeated source end depth level a [] a
-repeated_start source end depth level a low =
-    record { tree = λ left e after t. t; no_longer = omega arith; leads = λ rest o. refl; none_tighter = low; small = λ left h. h }
 
 raw_chained_append : (left : RawExprTree) (rest : List (Infix × RawExprTree)) (operator : Infix) (operand : RawExprTree) → raw_chained left (rest ++ ((operator, operand) ∷ [])) ≡ raw_joined (raw_chained left rest) operator operand
 raw_chained_append left [] operator operand = refl
@@ -285,6 +270,3 @@ pass_run end todo others token tokens e = ap (one_made end token.at tokens) e
 pub pass_end : (end : ℕ) (todo others : List Task) → finishes todo ≡ finishes others → run end todo [] ≡ run end others []
 unfolding run
 pass_end end todo others e = ap (λ b. if b then None else Some (Unexpected end)) e
-
-pub expr_run_at : (end : ℕ) (rest : List Task) (tokens : List Token) → run end (tasks.Expr ∷ rest) tokens ≡ run end (tasks.Operand ∷ tasks.Tail ∷ rest) tokens
-expr_run_at end rest tokens = expr_run end rest tokens

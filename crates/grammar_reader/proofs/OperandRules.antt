@@ -15,12 +15,12 @@ use Rattle.c_grammar.specs.declared.signs.Sign.{Sign}
 use Rattle.c_grammar.specs.declared.signs.Sign.TheVariants as signs
 use Rattle.c_grammar.specs.Signs.{sign_of_token}
 use Rattle.c_grammar.specs.Machine as tasks
-use Rattle.c_grammar.specs.Machine.{Task, Move, step, after_move, open_tasks}
+use Rattle.c_grammar.specs.Machine.{Task, step, after_move, open_tasks}
 use Rattle.c_grammar.specs.Reading.{sign_at, run}
 use Rattle.c_grammar.specs.Operators.{unary_operator_of}
 use Rattle.c_grammar.specs.Tokens.{next_sign, next_kind, next_place, rest_of, Passes, PassesName, PassesNumber}
 use Rattle.c_grammar.specs.Grammar.{IsUnary, IsPrimary}
-use Rattle.grammar_reader.specs.Steps.{Refused, NoPrefix, ReadsUnary, ReadsPrimary, ReadsNamed, ReadsElement, ReadsParenthesized, ReadsIndex, ReadsArguments}
+use Rattle.grammar_reader.specs.Steps.{Refused, NoPrefix, ReadsUnary, ReadsPrimary, ReadsNamed, ReadsElement, ReadsParenthesized, ReadsArguments}
 use Rattle.grammar_reader.proofs.Runs.{run_sign, run_passes, run_too_deep, run_none, shorter_sign, passes_shorter}
 use Rattle.grammar_reader.proofs.ExprRules.{done_run, pass_run, pass_end}
 use Rattle.c_grammar.proofs.OneToken.{number_passes}
@@ -179,13 +179,6 @@ named_alone source end depth n a low n1 n2 = record { tree = λ first p. IsPrima
 
 pub named_call : (source : List ℕ) (end depth : ℕ) (n : NameTree) (a b : List Token) (es : RawExprTrees) → depth ≤ 64 → ReadsArguments source end depth a es b → ReadsNamed source end depth n a (RawCall n es) b
 named_call source end depth n a b es low h = record { tree = λ first p. IsPrimary.call p h.tree; no_longer = (let l = h.shorter in omega arith); leads = h.leads; small = (let m = h.small in omega arith) }
-
-pub named_element : (source : List ℕ) (end depth : ℕ) (n : NameTree) (a b c : List Token) (i e : RawExprTree) → ReadsIndex source end depth a i b → ReadsElement source end depth n i b e c → ReadsNamed source end depth n a e c
-named_element source end depth n a b c i e h k =
-    record { tree = λ first p. k.tree first a p h.tree; no_longer = (let l1 = h.shorter in let l2 = k.no_longer in omega arith); leads = λ rest o. h.leads rest o ∙ k.leads rest o; small = k.small h.small }
-
-pub named_element_refused : (source : List ℕ) (end depth : ℕ) (a b : List Token) (i : RawExprTree) (error : ParseError) → ReadsIndex source end depth a i b → Refused end depth (tasks.AfterIndex ∷ []) b error → Refused end depth (tasks.AfterName ∷ []) a error
-named_element_refused source end depth a b i error h r other rest o = h.leads rest o ∙ r other rest o
 
 pub element_alone : (source : List ℕ) (end depth : ℕ) (n : NameTree) (i : RawExprTree) (a : List Token) → next_sign a ≢ signs.LeftParenthesis → ReadsElement source end depth n i a (RawElement n i) a
 element_alone source end depth n i a n1 = record { tree = λ first second p x. IsPrimary.element p x; no_longer = omega arith; leads = λ rest o. index_run end rest a n1; small = λ m. omega arith }

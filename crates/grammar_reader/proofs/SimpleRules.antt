@@ -1,9 +1,9 @@
 -- What the functions of assignments and calls come to, exit by exit.
-use Rattle.std.proofs.Common.{ℕ, ◌≡◌, ◌≢◌, ◌≤◌, ◌⊎◌, inl, inr, refl, sym, ap, subst, ◌∙◌, List, [], ◌∷◌, Some, arith}
+use Rattle.std.proofs.Common.{ℕ, ◌≡◌, ◌≢◌, ◌≤◌, inr, refl, sym, ap, subst, ◌∙◌, List, [], ◌∷◌, Some, arith}
 use Rattle.c_lex.specs.declared.tokens.Token.{Token}
-use Rattle.c_tree.specs.RawTrees.{NameTree, RawExprTree, RawExprTrees, RawSimpleTree, RawSet, RawSetElement, RawCalling, RawTableCalling}
+use Rattle.c_tree.specs.RawTrees.{NameTree, RawExprTree, RawExprTrees, RawSet, RawSetElement, RawCalling, RawTableCalling}
 use Rattle.c_grammar.specs.declared.errors.ParseError.{ParseError}
-use Rattle.c_grammar.specs.declared.errors.ParseError.TheVariants.{Unexpected, Memory}
+use Rattle.c_grammar.specs.declared.errors.ParseError.TheVariants.{Unexpected}
 use Rattle.c_grammar.specs.declared.signs.Sign.{Sign}
 use Rattle.c_grammar.specs.declared.signs.Sign.TheVariants as signs
 use Rattle.c_grammar.specs.Machine as tasks
@@ -11,7 +11,7 @@ use Rattle.c_grammar.specs.Machine.{Task, step, after_move, open_tasks}
 use Rattle.c_grammar.specs.Reading.{run}
 use Rattle.c_grammar.specs.Tokens.{next_sign, next_place, rest_of, Passes, PassesName}
 use Rattle.c_grammar.specs.Grammar.{IsSimple}
-use Rattle.grammar_reader.specs.Steps.{Leads, Refused, ReadsExpr, ReadsParenthesized, ReadsIndex, ReadsArguments}
+use Rattle.grammar_reader.specs.Steps.{Leads, Refused, ReadsExpr, ReadsParenthesized, ReadsArguments}
 use Rattle.grammar_reader.specs.StmtSteps.{ReadsSimple, RefusedSimple, ReadsIndexed}
 use Rattle.grammar_reader.proofs.Runs.{run_passes, run_none, passes_shorter}
 use Rattle.grammar_reader.proofs.ExprRules.{pass_run}
@@ -26,10 +26,6 @@ at_rest end depth a b left c e h = let P : List Token → Type 0 = λ l. Leads e
 refused_at_rest : (end depth : ℕ) (a b : List Token) (error : ParseError) → b ≡ rest_of a → Refused end depth (tasks.AfterSimpleName ∷ []) b error → Refused end depth (tasks.AfterSimpleName ∷ []) (rest_of a) error
 refused_at_rest end depth a b error e h = let P : List Token → Type 0 = λ l. Refused end depth (tasks.AfterSimpleName ∷ []) l error in subst P e h
 
-pub simple_no_name : (end depth : ℕ) (a : List Token) (error : ParseError) → (error ≡ Memory) ⊎ ((error ≡ Unexpected (next_place end a)) × (next_sign a ≢ signs.Name)) → RefusedSimple end depth a error
-simple_no_name end depth a error (inl e) other = absurd (other e)
-simple_no_name end depth a error (inr h) other = inl (h.1, h.0)
-
 pub simple_refused : (source : List ℕ) (end depth : ℕ) (a b : List Token) (n : NameTree) (error : ParseError) → PassesName source a n b → Refused end depth (tasks.AfterSimpleName ∷ []) b error → RefusedSimple end depth a error
 simple_refused source end depth a b n error p r other = inr (p.passes.is_next, refused_at_rest end depth a b error (behind_name p) r)
 
@@ -42,19 +38,6 @@ simple_call source end depth a b c n es p h =
       leads = at_rest end depth a b [] c (behind_name p) h.leads_simple;
       small = (let m = h.small in omega arith);
     }
-
-pub simple_indexed : (source : List ℕ) (end depth : ℕ) (a b c d : List Token) (n : NameTree) (i : RawExprTree) (s : RawSimpleTree) → PassesName source a n b → ReadsIndex source end depth b i c → ReadsIndexed source end depth n i c s d → ReadsSimple source end depth a s d
-simple_indexed source end depth a b c d n i s p h k =
-    record {
-      tree = k.tree a b p h.tree;
-      named = p.passes.is_next;
-      shorter = (let l1 = passes_shorter p.passes (λ e. cc) in let l2 = h.shorter in let l3 = k.shorter in omega arith);
-      leads = at_rest end depth a b [] d (behind_name p) (λ rest o. h.leads_simple rest o ∙ k.leads rest o);
-      small = k.small h.small;
-    }
-
-pub simple_indexed_refused : (source : List ℕ) (end depth : ℕ) (a b c : List Token) (n : NameTree) (i : RawExprTree) (error : ParseError) → PassesName source a n b → ReadsIndex source end depth b i c → Refused end depth (tasks.AfterSimpleIndex ∷ []) c error → RefusedSimple end depth a error
-simple_indexed_refused source end depth a b c n i error p h r = simple_refused source end depth a b n error p (λ other rest o. h.leads_simple rest o ∙ r other rest o)
 
 -- behind the name neither a call nor an index: an assignment
 after_name_refuses : (s : Sign) → s ≢ signs.LeftParenthesis → s ≢ signs.LeftBracket → s ≢ signs.Assign → tasks.after_simple_name_move s ≡ tasks.Refuse

@@ -21,11 +21,11 @@ use Rattle.deep_mean.specs.Evaluation.{Around, Ready, ReadyCall, ReadyTableCall}
 use Rattle.deep_mean.specs.DeepToDo as deep_items
 use Rattle.deep_mean.specs.DeepToDo.{Use, Stores, IndexesLocal, IndexesGlobal, Branches, Tests, Returns}
 use Rattle.deep_mean.specs.DeepFrames as frames
-use Rattle.deep_mean.specs.DeepFrames.{DeepWaitingFrame, DeepRunning, DeepWaiting}
+use Rattle.deep_mean.specs.DeepFrames.{DeepWaitingFrame, DeepRunning}
 use Rattle.deep_mean.specs.DeepSteps as deep_steps
 use Rattle.hoist_meaning.proofs.Bindings.{Agreement}
 use Rattle.hoist_meaning.proofs.Items.{Leads, stays, at, ReadyAlike}
-use Rattle.hoist_meaning.proofs.Ends.{Rows, StopsAt}
+use Rattle.hoist_meaning.proofs.Ends.{Rows}
 use Rattle.hoist_meaning.proofs.Frames.{text_at, FrameStands, WaitsAlike, BelowAlike, RunsAlike, WaitAlike}
 
 module _ (text : DeepProgram) (program : ProgramTree) (Alike : ℕ → Agreement → List deep_items.Item → List Item → Type 0) where
@@ -113,11 +113,6 @@ module _ (text : DeepProgram) (program : ProgramTree) (Alike : ℕ → Agreement
   returned_answers f txt names globals ds is ws xs word s (BelowAlike.NoneBelow) e = (1, one_move s (Stops (record { trap = None; globals = globals })) e)
   returned_answers f txt names globals ds is ws xs word s (BelowAlike.OneBelow w x ws' xs' h under) e =
       (0, tree_steps.delivered x xs' globals word, one_move s (Goes (tree_steps.delivered x xs' globals word)) e, delivered_alike w x ws' xs' globals word h under)
-
-  -- ---- a trap
-
-  pub stops_answer : (f : ℕ) (txt names globals : Rows) (items : List Item) (xs : List WaitingFrame) (trap : TrapKind) → StopsAt program f txt globals names items trap → Answers (Stops (record { trap = Some trap; globals = globals })) (at program f xs globals names items)
-  stops_answer f txt names globals items xs trap h = h.stops xs
 
   -- ---- a call
 

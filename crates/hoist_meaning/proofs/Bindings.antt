@@ -289,23 +289,3 @@ write_stands a n m x y i word text tree b p stand =
     rows_stand a n m x y text tree (with_word text x i word) (with_word tree y i word) b p stand
     (row_written text x i word ∙ ap (λ r. set r i word) (stand x y p) ∙ sym (row_written tree y i word))
     (λ u ne. get_or-set_other text x u (set (row text x) i word) [] ne) (λ v ne. get_or-set_other tree y v (set (row tree y) i word) [] ne)
-
-pub zeros_stand : (a : Agreement) (n m x y : ℕ) (text tree : List (List ℕ)) → AreBelow n m a → Paired a x y → NamesStand a text tree → NamesStand a (with_zeros text x) (with_zeros tree y)
-zeros_stand a n m x y text tree b p stand =
-    rows_stand a n m x y text tree (with_zeros text x) (with_zeros tree y) b p stand
-    (row_zeroed text x ∙ ap (λ r. replicate (length r) 0) (stand x y p) ∙ sym (row_zeroed tree y))
-    (λ u ne. get_or-set_other text x u (replicate (width text x) 0) [] ne) (λ v ne. get_or-set_other tree y v (replicate (width tree y) 0) [] ne)
-
--- a new name, whose number no variable of the text has, is written in the tree alone
-abbrev pub IsNew : Agreement → ℕ → Type 0
-IsNew a y = (u v : ℕ) → Paired a u v → v ≢ y
-
-pub new_write_stands : (a : Agreement) (y i word : ℕ) (text tree : List (List ℕ)) → IsNew a y → NamesStand a text tree → NamesStand a text (with_word tree y i word)
-new_write_stands a y i word text tree new stand = λ u v q. stand u v q ∙ sym (get_or-set_other tree y v (set (row tree y) i word) [] (new u v q))
-
-pub new_zeros_stand : (a : Agreement) (y : ℕ) (text tree : List (List ℕ)) → IsNew a y → NamesStand a text tree → NamesStand a text (with_zeros tree y)
-new_zeros_stand a y text tree new stand = λ u v q. stand u v q ∙ sym (get_or-set_other tree y v (replicate (width tree y) 0) [] (new u v q))
-
--- the number that comes next is one
-pub next_is_new : (a : Agreement) (n m : ℕ) → AreBelow n m a → IsNew a m
-next_is_new a n m b = λ u v q e. let w = paired_below a n m u v b q in omega (arith, w.1, e)

@@ -43,9 +43,6 @@ pub record Adds (n : ℕ) (sizes later : List ℕ) : Type 0 where
   pub many : length more ≡ n
   pub ones : AreOnes more
 
-pub adds_grow : (n : ℕ) (xs ys : List ℕ) → Adds n xs ys → Grows xs ys
-adds_grow n xs ys h = record { more = h.more; is = h.is }
-
 pub adds_none : (xs : List ℕ) → Adds 0 xs xs
 adds_none xs = record { more = []; is = sym (append-nil xs); many = refl; ones = tt }
 

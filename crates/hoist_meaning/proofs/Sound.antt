@@ -5,6 +5,7 @@ use Rattle.c_tree.specs.RawTrees.{RawExprTree, RawCall, RawTableCall, RawSimpleT
 use Rattle.c_tree.specs.Trees.{ExprTree, RightTree, SimpleTree, ProgramTree}
 use Rattle.c_tree.specs.Trees as tree
 use Rattle.c_tree.specs.WholeCalls.{IsSimpleWhole, HasNoCall}
+use Rattle.c_tree.specs.RawViews.{as_body}
 use Rattle.c_mean.specs.ToDo as items
 use Rattle.c_mean.specs.ToDo.{Item}
 use Rattle.c_mean.specs.Frames.{Place}
@@ -18,7 +19,7 @@ use Rattle.deep_mean.specs.Naming as deep
 use Rattle.deep_mean.specs.Naming.{calls_in, counted}
 use Rattle.hoist_parts.specs.Calls.{holds_call, holds_nested}
 use Rattle.hoist_parts.specs.Expressions.{names_in, part_after, left_of, before, is_false}
-use Rattle.hoist_parts.specs.Statements.{value_names, simple_left, simple_before, stmt_names, as_body, hoisted}
+use Rattle.hoist_parts.specs.Statements.{value_names, simple_left, simple_before, stmt_names, hoisted}
 use Rattle.hoist_meaning.proofs.Bindings.{Agreement, Paired, AreBelow}
 use Rattle.hoist_meaning.proofs.Items.{items_of, after}
 use Rattle.hoist_meaning.proofs.Premises.{after_part, IsSound, IsSideSound, side_left, IsElementSound, index_tree}

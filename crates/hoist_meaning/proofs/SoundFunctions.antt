@@ -20,6 +20,7 @@ use Rattle.scope_rules.specs.Numbered.{number_at, stmts_numbered, function_numbe
 use Rattle.scope_rules.proofs.NoFaults.{both_none}
 use Rattle.grammar_laws.specs.Nested.{is_call}
 use Rattle.grammar_laws.specs.Places.{Used, Declared, stmts_places, names_places, parameters_places, item_places, items_places}
+use Rattle.grammar_laws.proofs.NoNames.{no_declared, no_used, no_parameters}
 use Rattle.deep_mean.specs.DeepTrees.{DeepFunction, DeepProgram}
 use Rattle.deep_mean.specs.DeepTrees as deep_tree
 use Rattle.deep_mean.specs.DeepFrames as frames
@@ -42,7 +43,6 @@ use Rattle.hoist_meaning.proofs.Loops.{InLoops}
 use Rattle.hoist_meaning.proofs.StmtSounds.{stmts_sound}
 use Rattle.hoist_meaning.proofs.Starts.{ones, start_words}
 use Rattle.hoist_meaning.proofs.Fewer.{stmts_no_more}
-use Rattle.hoist_meaning.proofs.TreeCounts.{no_declared, no_used, no_parameters}
 use Rattle.hoist_meaning.proofs.Parameters.{OuterNames, BodyStarts, item_outer, body_starts}
 use Rattle.hoist_meaning.proofs.SourceItems.{SofarAlike, item_alike, text_later, tree_later, seam, at_numbered, past}
 use Rattle.hoist_meaning.proofs.Programs.{FunctionSound}

@@ -3,7 +3,7 @@
 use Rattle.std.proofs.Common.{ℕ, ◌+◌, ◌≡◌, refl, ◌∙◌, Bool, true, false, not, List, [], ◌∷◌, ◌++◌, append-nil, Option, Some, None}
 use Rattle.std.specs.Prelude.{length, if◌then◌else◌}
 use Rattle.c_tree.specs.RawTrees.{RawExprTree, RawCall, RawTableCall, RawSimpleTree, RawDeclareScalar, RawDeclareArray, RawDeclareWith, RawSet, RawSetElement, RawCalling, RawTableCalling, RawStmtTree, RawStmtTrees, RawDo, RawEmpty, RawBlock, RawIf, RawIfElse, RawWhile, RawFor, RawBreak, RawContinue, RawReturn, NoRawStmts, RawThen, RawItemTree, RawGlobal, RawGlobalArray, RawTableItem, RawPrototypeItem, RawFunctionItem}
-use Rattle.c_tree.specs.RawViews.{raw_in_order}
+use Rattle.c_tree.specs.RawViews.{raw_in_order, as_body}
 use Rattle.scope_rules.specs.declared.faults.Rule.{Rule}
 use Rattle.scope_rules.specs.Names.{Binding, find}
 use Rattle.scope_rules.specs.Faults.{broken}
@@ -16,7 +16,7 @@ use Rattle.scope_rules.specs.Items.{Sofar, definitions, at_start, function_fault
 use Rattle.scope_rules.proofs.NoFaults.{both_none}
 use Rattle.hoist_parts.specs.Calls.{holds_call, holds_nested, is_named, is_spawn}
 use Rattle.hoist_parts.specs.Expressions.{names_in, part_after, part_or, part_named, left_of, is_false, in_block, before}
-use Rattle.hoist_parts.specs.Statements.{value_left, value_before, simple_left, simple_before, as_body, returned_left, returned_before, while_calling, stmt_names, hoisted, all_hoisted, item_hoisted, items_hoisted}
+use Rattle.hoist_parts.specs.Statements.{value_left, value_before, simple_left, simple_before, returned_left, returned_before, while_calling, stmt_names, hoisted, all_hoisted, item_hoisted, items_hoisted}
 use Rattle.hoist_parts.proofs.Whole.{not_held}
 use Rattle.hoist_meaning.specs.SpawnArguments.{IsPlain, IsSimplePlain, IsOptionPlain, IsStmtPlain, AreStmtsPlain, IsItemPlain, AreItemsPlain}
 use Rattle.hoist_meaning.proofs.KnownSpawn.{KnowsSpawn, bound_knows, simples_know, step_knows, stmt_knows, stmts_know, params_know, AreFine, after_all, both_fine, one_fine, SomewhereFine}

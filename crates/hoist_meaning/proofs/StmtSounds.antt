@@ -1,7 +1,7 @@
 -- What is known of a place makes the statements there sound.
 use Rattle.std.proofs.Common.{ℕ, ◌+◌, ◌≡◌, ◌≤◌, refl, sym, ap, subst, ◌∙◌, inl, inr, Bool, true, false, not, List, [], ◌∷◌, ◌++◌, length, append-nil, length-append, Option, Some, None, arith}
 use Rattle.c_tree.specs.RawTrees.{RawExprTree, RawStmtTree, RawStmtTrees, RawDo, RawEmpty, RawBlock, RawIf, RawIfElse, RawWhile, RawFor, RawBreak, RawContinue, RawReturn, NoRawStmts, RawThen}
-use Rattle.c_tree.specs.RawViews.{raw_in_order}
+use Rattle.c_tree.specs.RawViews.{raw_in_order, as_body}
 use Rattle.c_tree.specs.WholeCalls.{HasNoCall, IsStmtWhole, AreStmtsWhole}
 use Rattle.c_tree.specs.WholeForParts.{IsForWhole}
 use Rattle.c_tree.specs.Trees.{ProgramTree}
@@ -24,7 +24,7 @@ use Rattle.deep_mean.specs.Naming as deep
 use Rattle.deep_mean.specs.Naming.{calls_in, counted}
 use Rattle.hoist_parts.specs.Calls.{holds_call}
 use Rattle.hoist_parts.specs.Expressions.{names_in, left_of, before, is_false, in_block}
-use Rattle.hoist_parts.specs.Statements.{value_before, value_left, stmt_names, as_body, hoisted, all_hoisted, while_calling}
+use Rattle.hoist_parts.specs.Statements.{value_before, value_left, stmt_names, hoisted, all_hoisted, while_calling}
 use Rattle.hoist_parts.proofs.Whole.{AllWhole, not_held, left_whole}
 use Rattle.hoist_parts.proofs.NoCalls.{no_before, no_left}
 use Rattle.hoist_meaning.specs.SpawnArguments.{IsStmtPlain}

@@ -4,25 +4,25 @@ use Rattle.std.proofs.Common.{ℕ, ◌+◌, ◌≡◌, refl, sym, subst, inl, in
 use Rattle.std.specs.Prelude.{option_map, if◌then◌else◌}
 use Rattle.c_tree.specs.declared.operators.UnaryOperator.{UnaryOperator}
 use Rattle.c_tree.specs.RawTrees.{RawExprTree, RawStmtTree, RawStmtTrees, RawDo, RawEmpty, RawBlock, RawIf, RawIfElse, RawWhile, RawFor, RawBreak, RawContinue, RawReturn, NoRawStmts, RawThen}
-use Rattle.c_tree.specs.RawViews.{raw_in_order}
-use Rattle.c_tree.specs.Trees.{ExprTree, Number, Unary, StmtTree, ProgramTree}
+use Rattle.c_tree.specs.RawViews.{raw_in_order, as_body}
+use Rattle.c_tree.specs.Trees.{Number, Unary, ProgramTree}
 use Rattle.c_tree.specs.Trees as tree
 use Rattle.c_mean.specs.ToDo as items
-use Rattle.c_mean.specs.ToDo.{Item, Loop, WhileLoop, ForLoop, Simply, Choose, Test, Leave, Skip, GiveBack, Back}
+use Rattle.c_mean.specs.ToDo.{Item, Loop, WhileLoop, ForLoop, Simply, Choose, Test, GiveBack, Back}
 use Rattle.scope_rules.specs.Expressions.{expr_of}
 use Rattle.scope_rules.specs.Places.{Spot}
 use Rattle.scope_rules.specs.Simples as tree_simples
 use Rattle.scope_rules.specs.Statements as tree_stmts
 use Rattle.scope_rules.specs.Statements.{inside, left, stmt_after}
 use Rattle.scope_rules.specs.Numbered.{simple_numbered, stmt_numbered, stmts_numbered}
-use Rattle.deep_mean.specs.DeepTrees.{DeepStmt, DeepProgram}
+use Rattle.deep_mean.specs.DeepTrees.{DeepProgram}
 use Rattle.deep_mean.specs.DeepTrees as deep_tree
 use Rattle.deep_mean.specs.DeepToDo as deep_items
 use Rattle.deep_mean.specs.Naming as deep
 use Rattle.deep_mean.specs.Naming.{calls_in, counted}
 use Rattle.hoist_parts.specs.Calls.{holds_call}
 use Rattle.hoist_parts.specs.Expressions.{names_in, left_of, before}
-use Rattle.hoist_parts.specs.Statements.{value_before, value_left, simple_left, simple_before, stmt_names, as_body, hoisted, all_hoisted, while_calling}
+use Rattle.hoist_parts.specs.Statements.{value_before, value_left, simple_left, simple_before, stmt_names, hoisted, all_hoisted, while_calling}
 use Rattle.hoist_meaning.proofs.Bindings.{Agreement}
 use Rattle.hoist_meaning.proofs.Items.{items_of, items_both, after}
 use Rattle.hoist_meaning.proofs.Premises.{side_left}

@@ -1,7 +1,7 @@
 -- A tree in which each call is whole has as many calls as the program that it is resolved to.
 use Rattle.std.proofs.Common.{ℕ, ◌≡◌, ◌+◌, refl, sym, ap, ◌∙◌, List, [], ◌∷◌, ◌++◌, length, length-append, Option, Some, None, arith}
 use Rattle.std.specs.Prelude.{option_map}
-use Rattle.c_tree.specs.RawTrees.{NameTree, RawExprTree, RawExprTrees, RawNumber, RawName, RawElement, RawUnary, RawParenthesized, RawBinary, RawLogicalAnd, RawLogicalOr, RawConditional, RawCall, RawTableCall, NoExprs, And, RawSimpleTree, RawDeclareScalar, RawDeclareArray, RawDeclareWith, RawSet, RawSetElement, RawCalling, RawTableCalling, RawStmtTree, RawStmtTrees, RawDo, RawEmpty, RawBlock, RawIf, RawIfElse, RawWhile, RawFor, RawBreak, RawContinue, RawReturn, NoRawStmts, RawThen, RawItemTree, RawGlobal, RawGlobalArray, RawTableItem, RawPrototypeItem, RawFunctionItem}
+use Rattle.c_tree.specs.RawTrees.{RawExprTree, RawExprTrees, RawNumber, RawName, RawElement, RawUnary, RawParenthesized, RawBinary, RawLogicalAnd, RawLogicalOr, RawConditional, RawCall, RawTableCall, NoExprs, And, RawSimpleTree, RawDeclareScalar, RawDeclareArray, RawDeclareWith, RawSet, RawSetElement, RawCalling, RawTableCalling, RawStmtTree, RawStmtTrees, RawDo, RawEmpty, RawBlock, RawIf, RawIfElse, RawWhile, RawFor, RawBreak, RawContinue, RawReturn, NoRawStmts, RawThen, RawItemTree, RawGlobal, RawGlobalArray, RawTableItem, RawPrototypeItem, RawFunctionItem}
 use Rattle.c_tree.specs.Trees.{ExprTree, RightTree, FunctionTree}
 use Rattle.c_tree.specs.TextOrder.{right_sites, returned_sites, simple_sites, simples_sites, step_sites, stmt_sites, stmts_sites, functions_sites, program_sites}
 use Rattle.c_tree.specs.WholeCalls.{HasNoCall, HaveNoCall, IsValueWhole, IsSimpleWhole, AreSimplesWhole, IsConditionWhole, IsStepWhole, IsReturnWhole, IsStmtWhole, AreStmtsWhole, IsItemWhole, AreCallsWhole}
@@ -15,23 +15,10 @@ use Rattle.scope_rules.specs.Simples.{set_scalar, set_element, simple_of, simple
 use Rattle.scope_rules.specs.Statements.{inside, left, step_after, returned_of, stmt_of, stmt_after, stmts_of}
 use Rattle.scope_rules.specs.Items.{Sofar, definitions, at_start, body_spot, function_tree_of, item_after, items_after, program_of}
 use Rattle.grammar_laws.specs.Nested.{is_call}
-use Rattle.grammar_laws.specs.Places.{Declared, Used, expr_places, exprs_places, optional_places, simple_places, simples_places, step_places, stmt_places, stmts_places, names_places, parameters_places, item_places, items_places}
+use Rattle.grammar_laws.specs.Places.{Used, expr_places, exprs_places, optional_places, simple_places, simples_places, step_places, stmt_places, stmts_places, names_places, parameters_places, item_places, items_places}
 use Rattle.grammar_laws.specs.Ranks.{site_numbers}
+use Rattle.grammar_laws.proofs.NoNames.{no_declared, no_used, no_parameters}
 use Rattle.grammar_laws.proofs.RankLaws.{ranks_length}
-
--- names that are declared or used are no calls
-pub no_declared : (ns : List NameTree) → names_places is_call Declared ns ≡ []
-no_declared [] = refl
-no_declared (n ∷ ns) = no_declared ns
-
-pub no_used : (ns : List NameTree) → names_places is_call Used ns ≡ []
-no_used [] = refl
-no_used (n ∷ ns) = no_used ns
-
-pub no_parameters : (ps : List (Option NameTree)) → parameters_places is_call ps ≡ []
-no_parameters [] = refl
-no_parameters (None ∷ ps) = no_parameters ps
-no_parameters (Some n ∷ ps) = no_parameters ps
 
 both : {A B : Type 0} (ks js : List A) (ps qs : List B) → length ks ≡ length ps → length js ≡ length qs → length (ks ++ js) ≡ length (ps ++ qs)
 both ks js ps qs e f = let a = length-append ks js in let b = length-append ps qs in omega (arith, a, b, e, f)

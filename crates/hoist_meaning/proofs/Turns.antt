@@ -8,10 +8,11 @@ use Rattle.c_tree.specs.declared.operators.UnaryOperator.{UnaryOperator}
 use Rattle.c_tree.specs.RawTrees.{RawExprTree, RawSimpleTree, RawStmtTree, RawIf, RawBreak}
 use Rattle.c_tree.specs.Trees.{ExprTree, Number, Unary, StmtTree, StmtTrees, Block, ProgramTree}
 use Rattle.c_tree.specs.Trees as tree
+use Rattle.c_tree.specs.RawViews.{as_body}
 use Rattle.c_mean.specs.Operators.{unary_value}
 use Rattle.c_mean.specs.Values.{Value, value, on_one}
 use Rattle.c_mean.specs.ToDo as items
-use Rattle.c_mean.specs.ToDo.{Item, Loop, WhileLoop, ForLoop, Simply, Choose, Test, Leave, Back}
+use Rattle.c_mean.specs.ToDo.{Item, Loop, WhileLoop, ForLoop, Choose, Test, Leave, Back}
 use Rattle.c_mean.specs.Steps.{on_value, branched, source_machine}
 use Rattle.c_mean.proofs.JumpLemmas.{leave_passes, skip_passes}
 use Rattle.scope_rules.specs.Expressions.{expr_of}
@@ -26,7 +27,7 @@ use Rattle.deep_mean.specs.Naming as deep
 use Rattle.deep_mean.specs.Naming.{calls_in, counted}
 use Rattle.hoist_parts.specs.Calls.{holds_call}
 use Rattle.hoist_parts.specs.Expressions.{names_in, left_of, before, is_false, in_block}
-use Rattle.hoist_parts.specs.Statements.{as_body, hoisted, turn_of}
+use Rattle.hoist_parts.specs.Statements.{hoisted, turn_of}
 use Rattle.hoist_parts.proofs.NoCalls.{no_left, no_before}
 use Rattle.hoist_meaning.proofs.Bindings.{Agreement}
 use Rattle.hoist_meaning.proofs.Items.{items_of, items_both, after, at}
@@ -46,9 +47,6 @@ no_word = refl
 some_word : (word : ℕ) → unary_value UnaryOperator.Not (suc word) ≡ 0
 unfolding flag
 some_word word = ap flag (suc_isnt word)
-
-pub passes_self : (is : List Item) → Passes is is
-passes_self is = record { leaves = λ n. refl; skips = λ n. refl }
 
 pub passes_over : (ss : StmtTrees) (rest is : List Item) → Passes rest is → Passes (items.all_before ss rest) is
 passes_over ss rest is h = record { leaves = λ n. leave_passes n (Block ss) rest ∙ h.leaves n; skips = λ n. skip_passes n (Block ss) rest ∙ h.skips n }

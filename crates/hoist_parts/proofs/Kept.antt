@@ -3,9 +3,9 @@ use Rattle.std.proofs.Common.{ℕ, ◌≡◌, refl, ap, Bool, true, false, []}
 use Rattle.c_tree.specs.RawTrees.{RawExprTree, RawExprTrees, RawNumber, RawName, RawElement, RawUnary, RawParenthesized, RawBinary, RawLogicalAnd, RawLogicalOr, RawConditional, RawCall, RawTableCall, NoExprs, And, RawSimpleTree, RawDeclareScalar, RawDeclareArray, RawDeclareWith, RawSet, RawSetElement, RawCalling, RawTableCalling}
 use Rattle.c_tree.specs.WholeCalls.{HasNoCall, HaveNoCall, IsValueWhole, IsSimpleWhole}
 use Rattle.hoist_parts.specs.Calls.{holds_call, hold_call, holds_nested, is_spawn}
-use Rattle.hoist_parts.specs.Expressions.{arguments_names, part_after, arguments_left, arguments_before}
-use Rattle.hoist_parts.specs.Statements.{value_names, value_left, value_before, simple_names, simple_left, simple_before}
-use Rattle.hoist_parts.proofs.NoCalls.{no_names, no_left, no_before}
+use Rattle.hoist_parts.specs.Expressions.{part_after, arguments_left, arguments_before}
+use Rattle.hoist_parts.specs.Statements.{value_left, value_before, simple_left, simple_before}
+use Rattle.hoist_parts.proofs.NoCalls.{no_left, no_before}
 
 pub held_not : (e : RawExprTree) → HasNoCall e → holds_call e ≡ false
 held_not (RawNumber v) h = refl
@@ -28,11 +28,6 @@ arguments_kept : (stays : Bool) (k : ℕ) (es : RawExprTrees) → HaveNoCall es 
 arguments_kept stays k NoExprs h = refl
 arguments_kept true k (And e es) h = rw (held_not e h.0, arguments_kept false k es h.1) refl
 arguments_kept false k (And e es) h = rw (all_held_not es h.1, no_left k e (held_not e h.0), arguments_kept false (part_after k false e) es h.1) refl
-
-no_argument_names : (stays : Bool) (es : RawExprTrees) → HaveNoCall es → arguments_names stays es ≡ 0
-no_argument_names stays NoExprs h = refl
-no_argument_names true (And e es) h = no_argument_names false es h.1
-no_argument_names false (And e es) h = rw (all_held_not es h.1, no_names e (held_not e h.0), no_argument_names false es h.1) refl
 
 no_arguments_before : (stays : Bool) (k : ℕ) (es : RawExprTrees) → HaveNoCall es → arguments_before stays k es ≡ []
 no_arguments_before stays k NoExprs h = refl
@@ -65,19 +60,6 @@ value_kept k (RawConditional c a b) h = no_left k (RawConditional c a b) (held_n
 value_kept k (RawCall n es) h = ap (RawCall n) (arguments_kept (is_spawn n) k es h)
 value_kept k (RawTableCall n i e) h = rw (held_not e h.1, no_left k i (held_not i h.0), no_left (part_after k false i) e (held_not e h.1)) refl
 
-pub no_value_names : (v : RawExprTree) → IsValueWhole v → value_names v ≡ 0
-no_value_names (RawNumber v) h = refl
-no_value_names (RawName n) h = refl
-no_value_names (RawElement n i) h = no_names (RawElement n i) (held_not (RawElement n i) h)
-no_value_names (RawUnary op e) h = no_names (RawUnary op e) (held_not (RawUnary op e) h)
-no_value_names (RawParenthesized e) h = no_names (RawParenthesized e) (held_not (RawParenthesized e) h)
-no_value_names (RawBinary op l r) h = no_names (RawBinary op l r) (held_not (RawBinary op l r) h)
-no_value_names (RawLogicalAnd l r) h = no_names (RawLogicalAnd l r) (held_not (RawLogicalAnd l r) h)
-no_value_names (RawLogicalOr l r) h = no_names (RawLogicalOr l r) (held_not (RawLogicalOr l r) h)
-no_value_names (RawConditional c a b) h = no_names (RawConditional c a b) (held_not (RawConditional c a b) h)
-no_value_names (RawCall n es) h = no_argument_names (is_spawn n) es h
-no_value_names (RawTableCall n i e) h = rw (held_not e h.1, no_names i (held_not i h.0), no_names e (held_not e h.1)) refl
-
 pub no_value_before : (k : ℕ) (v : RawExprTree) → IsValueWhole v → value_before k v ≡ []
 no_value_before k (RawNumber v) h = refl
 no_value_before k (RawName n) h = refl
@@ -99,15 +81,6 @@ simple_kept k (RawSet n v) h = ap (RawSet n) (value_kept k v h)
 simple_kept k (RawSetElement n i v) h = rw (value_held v h.1, no_left k i (held_not i h.0), value_kept (part_after k false i) v h.1) refl
 simple_kept k (RawCalling n es) h = ap (RawCalling n) (arguments_kept (is_spawn n) k es h)
 simple_kept k (RawTableCalling n i e) h = rw (held_not e h.1, no_left k i (held_not i h.0), no_left (part_after k false i) e (held_not e h.1)) refl
-
-pub no_simple_names : (s : RawSimpleTree) → IsSimpleWhole s → simple_names s ≡ 0
-no_simple_names (RawDeclareScalar n) h = refl
-no_simple_names (RawDeclareArray n size) h = refl
-no_simple_names (RawDeclareWith n v) h = no_value_names v h
-no_simple_names (RawSet n v) h = no_value_names v h
-no_simple_names (RawSetElement n i v) h = rw (value_held v h.1, no_names i (held_not i h.0), no_value_names v h.1) refl
-no_simple_names (RawCalling n es) h = no_argument_names (is_spawn n) es h
-no_simple_names (RawTableCalling n i e) h = rw (held_not e h.1, no_names i (held_not i h.0), no_names e (held_not e h.1)) refl
 
 pub no_simple_before : (k : ℕ) (s : RawSimpleTree) → IsSimpleWhole s → simple_before k s ≡ []
 no_simple_before k (RawDeclareScalar n) h = refl

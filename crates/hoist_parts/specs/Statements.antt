@@ -1,7 +1,7 @@
 -- The rewriting of statements and of a whole source. A statement in which each call is whole stays the same.
 use Rattle.std.specs.Prelude.{ℕ, ◌+◌, List, [], ◌∷◌, ◌++◌, Option, Some, None, if◌then◌else◌}
 use Rattle.c_tree.specs.RawTrees.{RawExprTree, RawNumber, RawCall, RawTableCall, RawSimpleTree, RawDeclareScalar, RawDeclareArray, RawDeclareWith, RawSet, RawSetElement, RawCalling, RawTableCalling, RawStmtTree, RawStmtTrees, RawDo, RawEmpty, RawBlock, RawIf, RawIfElse, RawWhile, RawFor, RawBreak, RawContinue, RawReturn, NoRawStmts, RawThen, RawItemTree, RawGlobal, RawGlobalArray, RawTableItem, RawPrototypeItem, RawFunctionItem}
-use Rattle.c_tree.specs.RawViews.{raw_in_order}
+use Rattle.c_tree.specs.RawViews.{raw_in_order, as_body}
 use Rattle.hoist_parts.specs.Calls.{holds_call, holds_nested, is_named, is_spawn}
 use Rattle.hoist_parts.specs.Expressions.{names_in, arguments_names, part_after, part_or, part_named, left_of, arguments_left, call_left, table_call_left, index_left, argument_left, before, arguments_before, is_false, in_block}
 
@@ -78,12 +78,6 @@ abbrev mutual
   pub stmts_names : RawStmtTrees → ℕ
   stmts_names NoRawStmts = 0
   stmts_names (RawThen s ss) = stmt_names s + stmts_names ss
-
--- statements as a body: a block, unless there is exactly one
-abbrev pub as_body : List RawStmtTree → RawStmtTree
-as_body [] = RawEmpty
-as_body (s ∷ []) = s
-as_body (s ∷ t ∷ ss) = in_block (s ∷ t ∷ ss)
 
 abbrev pub returned_before : ℕ → Option RawExprTree → List RawStmtTree
 returned_before k None = []

@@ -2,15 +2,14 @@
 use Rattle.std.proofs.Common.{◌≡◌, refl, ap, ◌∙◌, sym, List, [], ◌∷◌, ◌++◌, append_assoc, append-nil, Option}
 use Rattle.std.proofs.lemmas.Grind.{common_steps}
 use Rattle.c_tree.specs.RawTrees.{RawExprTree, RawSimpleTree, RawStmtTree, RawIf, RawIfElse, RawWhile, RawFor}
-use Rattle.c_tree.specs.RawViews.{raw_in_order}
+use Rattle.c_tree.specs.RawViews.{raw_in_order, as_body, as_body}
 use Rattle.grammar_laws.specs.Nested.{is_call}
 use Rattle.grammar_laws.specs.Places.{expr_places, stmt_places, stmts_places}
 use Rattle.scope_rules.specs.Making.{Making, with_statement, with_statements}
-use Rattle.scope_rules.specs.Openings.{OpeningTree, OpenBlock, OpenIf, OpenWhile, OpenFor, raw_body, whole}
+use Rattle.scope_rules.specs.Openings.{OpeningTree, OpenBlock, OpenIf, OpenWhile, OpenFor, whole}
 use Rattle.scope_rules.proofs.WholeStatements.{closed_whole, closed_else}
 use Rattle.hoist_parts.specs.Expressions.{in_block}
-use Rattle.hoist_parts.specs.Statements.{as_body}
-use Rattle.hoist_rules.specs.Receivers.{Received, then_received, opening_places, then_all, then_open, then_else, then_close}
+use Rattle.hoist_rules.specs.Receivers.{Received, opening_places, then_all, then_open, then_else, then_close}
 
 -- ---- more statements
 
@@ -41,15 +40,15 @@ then_pushed s t u a x y ht hu hx = hu ∙ (λ i. then_all (ht i) (hx i ∷ [])) 
 
 -- ---- a block, or a statement with a body
 
-body_places : (ss : List RawStmtTree) → stmts_places is_call (raw_in_order ss) ≡ stmt_places is_call (raw_body ss)
+body_places : (ss : List RawStmtTree) → stmts_places is_call (raw_in_order ss) ≡ stmt_places is_call (as_body ss)
 body_places [] = refl
 body_places (s ∷ []) = append-nil (stmt_places is_call s)
 body_places (s ∷ t ∷ ss) = refl
 
 whole_places : (o : OpeningTree) (ss : List RawStmtTree) → opening_places o ++ stmts_places is_call (raw_in_order ss) ≡ stmt_places is_call (whole o ss) ++ []
 whole_places OpenBlock ss = sym (append-nil (stmts_places is_call (raw_in_order ss)))
-whole_places (OpenIf c) ss = ap (λ ps. expr_places is_call c ++ ps) (body_places ss) ∙ sym (append-nil (expr_places is_call c ++ stmt_places is_call (raw_body ss)))
-whole_places (OpenWhile c) ss = ap (λ ps. expr_places is_call c ++ ps) (body_places ss) ∙ sym (append-nil (expr_places is_call c ++ stmt_places is_call (raw_body ss)))
+whole_places (OpenIf c) ss = ap (λ ps. expr_places is_call c ++ ps) (body_places ss) ∙ sym (append-nil (expr_places is_call c ++ stmt_places is_call (as_body ss)))
+whole_places (OpenWhile c) ss = ap (λ ps. expr_places is_call c ++ ps) (body_places ss) ∙ sym (append-nil (expr_places is_call c ++ stmt_places is_call (as_body ss)))
 whole_places (OpenFor init c step) ss =
     let o = OpenFor init c step in
     ap (λ ps. opening_places o ++ ps) (body_places ss)
@@ -62,33 +61,28 @@ closed_then o r ss =
     let places = append_assoc r.places (opening_places o) (stmts_places is_call (raw_in_order ss)) ∙ ap (λ ps. r.places ++ ps) (whole_places o ss) in
     λ i. record { making = making i; places = places i }
 
-same_body : (ss : List RawStmtTree) → raw_body ss ≡ as_body ss
-same_body [] = refl
-same_body (s ∷ []) = refl
-same_body (s ∷ t ∷ ss) = refl
-
 pub closed_block : (r : Received) (ss : List RawStmtTree) → then_close (then_all (then_open OpenBlock r) ss) ≡ then_all r (in_block ss ∷ [])
 closed_block r ss = closed_then OpenBlock r ss
 
 pub closed_if : (c : RawExprTree) (r : Received) (ss : List RawStmtTree) → then_close (then_all (then_open (OpenIf c) r) ss) ≡ then_all r (RawIf c (as_body ss) ∷ [])
-closed_if c r ss = closed_then (OpenIf c) r ss ∙ ap (λ b. then_all r (RawIf c b ∷ [])) (same_body ss)
+closed_if c r ss = closed_then (OpenIf c) r ss
 
 pub closed_while : (c : RawExprTree) (r : Received) (ss : List RawStmtTree) → then_close (then_all (then_open (OpenWhile c) r) ss) ≡ then_all r (RawWhile c (as_body ss) ∷ [])
-closed_while c r ss = closed_then (OpenWhile c) r ss ∙ ap (λ b. then_all r (RawWhile c b ∷ [])) (same_body ss)
+closed_while c r ss = closed_then (OpenWhile c) r ss
 
 pub closed_for : (init : List RawSimpleTree) (c : Option RawExprTree) (step : Option RawSimpleTree) (r : Received) (ss : List RawStmtTree)
     → then_close (then_all (then_open (OpenFor init c step) r) ss) ≡ then_all r (RawFor init c step (as_body ss) ∷ [])
-closed_for init c step r ss = closed_then (OpenFor init c step) r ss ∙ ap (λ b. then_all r (RawFor init c step b ∷ [])) (same_body ss)
+closed_for init c step r ss = closed_then (OpenFor init c step) r ss
 
 else_places : (ps : List Rattle.std.proofs.Common.ℕ) (c : RawExprTree) (ss ts : List RawStmtTree)
-    → ((ps ++ expr_places is_call c) ++ stmts_places is_call (raw_in_order ss)) ++ stmts_places is_call (raw_in_order ts) ≡ ps ++ (stmt_places is_call (RawIfElse c (raw_body ss) (raw_body ts)) ++ [])
+    → ((ps ++ expr_places is_call c) ++ stmts_places is_call (raw_in_order ss)) ++ stmts_places is_call (raw_in_order ts) ≡ ps ++ (stmt_places is_call (RawIfElse c (as_body ss) (as_body ts)) ++ [])
 else_places ps c ss ts =
     let pc = expr_places is_call c in
     let pa = stmts_places is_call (raw_in_order ss) in
     let pb = stmts_places is_call (raw_in_order ts) in
     append_assoc (ps ++ pc) pa pb
     ∙ (append_assoc ps pc (pa ++ pb)
-    ∙ ap (λ x. ps ++ x) ((λ i. pc ++ (body_places ss i ++ body_places ts i)) ∙ sym (append-nil (stmt_places is_call (RawIfElse c (raw_body ss) (raw_body ts))))))
+    ∙ ap (λ x. ps ++ x) ((λ i. pc ++ (body_places ss i ++ body_places ts i)) ∙ sym (append-nil (stmt_places is_call (RawIfElse c (as_body ss) (as_body ts))))))
 
 pub closed_both : (c : RawExprTree) (r : Received) (ss ts : List RawStmtTree)
     → then_close (then_all (then_else (then_all (then_open (OpenIf c) r) ss)) ts) ≡ then_all r (RawIfElse c (as_body ss) (as_body ts) ∷ [])
@@ -96,6 +90,6 @@ unfolding then_all then_open then_else then_close
 closed_both c r ss ts =
     let making = closed_else c r.making ss ts in
     let places = else_places r.places c ss ts in
-    (λ i. record { making = making i; places = places i }) ∙ (λ i. then_received r (RawIfElse c (same_body ss i) (same_body ts i) ∷ []))
+    λ i. record { making = making i; places = places i }
 
 pub ruleset following = (common_steps, then_then, then_none, closed_block, closed_if, closed_while, closed_for, closed_both)

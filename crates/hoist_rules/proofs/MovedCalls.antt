@@ -3,14 +3,14 @@ use Rattle.std.proofs.Common.{ℕ, ◌≡◌, ◌<◌, ◌≤◌, ◌+◌, ◌-�
 use Rattle.std.proofs.lemmas.List.{take_all}
 use Rattle.std.specs.Prelude.{nat_lt, if◌then◌else◌}
 use Rattle.c_tree.specs.declared.operators.Infix.{Infix}
-use Rattle.c_tree.specs.RawViews.{raw_expr_trees, raw_joined}
+use Rattle.c_tree.specs.RawViews.{raw_expr_trees, raw_joined, as_body}
 use Rattle.c_tree.specs.declared.raw_expressions.RawExpr.{RawExpr}
 use Rattle.hoist_parts.specs.Arguments.{calls_among}
 use Rattle.hoist_rules.proofs.ArgumentTurns.{some_hold}
 use Rattle.c_tree.specs.RawTrees.{RawExprTree, RawExprTrees, RawNumber, RawName, RawElement, RawUnary, RawParenthesized, RawBinary, RawLogicalAnd, RawLogicalOr, RawConditional, RawCall, RawTableCall, NoExprs, And, RawSimpleTree, RawDeclareScalar, RawDeclareArray, RawDeclareWith, RawSet, RawSetElement, RawCalling, RawTableCalling, RawStmtTree, RawDo, RawEmpty, RawBlock, RawIf, RawIfElse, RawWhile, RawFor, RawBreak, RawContinue, RawReturn}
 use Rattle.hoist_parts.specs.Calls.{holds_call, hold_call, holds_nested, is_named, is_spawn}
 use Rattle.hoist_parts.specs.Expressions.{names_in, part_after, part_named, left_of, before, arguments_before, in_block}
-use Rattle.hoist_parts.specs.Statements.{value_before, simple_before, returned_before, as_body, hoisted, table_before}
+use Rattle.hoist_parts.specs.Statements.{value_before, simple_before, returned_before, hoisted, table_before}
 use Rattle.hoist_rules.specs.Singles.{move_call, moves_call, simple_moves, returned_moves, stmt_moves}
 
 -- some statements, if any go before

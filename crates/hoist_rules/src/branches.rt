@@ -18,7 +18,7 @@ impl Hoisting {
     /// Appends `int h = l != 0;` for the next new name and a left operand, and returns the name's number.
     pub(crate) fn declare_truth(&mut self, left: Chain) -> Result<u32, AllocError>
         ensures number { IfOk result (λ k. k ≡ self.old.next) }
-        ensures before { OnOk result (so_far self.new.statements ≡ then_all (so_far self.old.statements) (declared_as self.old.next (is_true (chain_tree left)) ∷ [])) }
+        ensures before { OnOk result (so_far self.new.receiver ≡ then_all (so_far self.old.receiver) (declared_as self.old.next (is_true (chain_tree left)) ∷ [])) }
         ensures next { OnOk result (self.new.next ≡ self.old.next + 1) }
     {
         let alloc = self.alloc;
@@ -39,7 +39,7 @@ impl Hoisting {
     /// Appends `int h;` for the next new name, and returns its number.
     pub(crate) fn declare_next(&mut self) -> Result<u32, AllocError>
         ensures number { IfOk result (λ k. k ≡ self.old.next) }
-        ensures before { OnOk result (so_far self.new.statements ≡ then_all (so_far self.old.statements) (declared self.old.next ∷ [])) }
+        ensures before { OnOk result (so_far self.new.receiver ≡ then_all (so_far self.old.receiver) (declared self.old.next ∷ [])) }
         ensures next { OnOk result (self.new.next ≡ self.old.next + 1) }
     {
         let number = self.number()?;
@@ -49,7 +49,7 @@ impl Hoisting {
 
     /// Begins `if (c) {`, with the condition of a logical operator.
     pub(crate) fn open_decision(&mut self, operator: Infix, number: u32) -> Result<(), AllocError>
-        ensures statements { OnOk result (so_far self.new.statements ≡ then_open OpenBlock (then_open (OpenIf (condition_by operator number)) (so_far self.old.statements))) }
+        ensures statements { OnOk result (so_far self.new.receiver ≡ then_open OpenBlock (then_open (OpenIf (condition_by operator number)) (so_far self.old.receiver))) }
         ensures next { OnOk result (self.new.next ≡ self.old.next) }
     {
         let condition = condition_by(self.alloc, operator, number)?;
@@ -64,7 +64,7 @@ impl Hoisting {
         value: RawExpr,
     ) -> Result<Chain, AllocError>
         ensures left { IfOk result (λ c. chain_tree c ≡ used number) }
-        ensures statements { OnOk result (so_far self.new.statements ≡ then_close (then_close (then_all (so_far self.old.statements) (set_to number (is_true (raw_expr_tree value)) ∷ [])))) }
+        ensures statements { OnOk result (so_far self.new.receiver ≡ then_close (then_close (then_all (so_far self.old.receiver) (set_to number (is_true (raw_expr_tree value)) ∷ [])))) }
         ensures next { OnOk result (self.new.next ≡ self.old.next) }
     {
         let alloc = self.alloc;
@@ -79,7 +79,7 @@ impl Hoisting {
     /// Appends `int h; if (c)` for the next new name, whose number it returns.
     pub(crate) fn open_choice(&mut self, condition: RawExpr) -> Result<u32, AllocError>
         ensures number { IfOk result (λ k. k ≡ self.old.next) }
-        ensures statements { OnOk result (so_far self.new.statements ≡ then_open (OpenIf (raw_expr_tree condition)) (then_all (so_far self.old.statements) (declared self.old.next ∷ []))) }
+        ensures statements { OnOk result (so_far self.new.receiver ≡ then_open (OpenIf (raw_expr_tree condition)) (then_all (so_far self.old.receiver) (declared self.old.next ∷ []))) }
         ensures next { OnOk result (self.new.next ≡ self.old.next + 1) }
     {
         let (condition, number) = both(condition, self.declare_next())?;

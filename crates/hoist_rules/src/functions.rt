@@ -27,8 +27,8 @@ pub fn hoist_body(
     let mut hoisting = Hoisting {
         alloc,
         next: 0,
-        statements: receiver,
+        receiver,
     };
     hoisting.statements(body)?;
-    Ok(hoisting.statements)
+    Ok(hoisting.receiver)
 }

@@ -16,7 +16,7 @@ use std::alloc::{AllocError, Global};
 pub(crate) struct Hoisting {
     pub(crate) alloc: Global,
     pub(crate) next: u32,
-    pub(crate) statements: Receiver,
+    pub(crate) receiver: Receiver,
 }
 
 impl Hoisting {
@@ -24,7 +24,7 @@ impl Hoisting {
     pub(crate) fn number(&mut self) -> Result<u32, AllocError>
         ensures number { IfOk result (λ k. k ≡ self.old.next) }
         ensures next { OnOk result (self.new.next ≡ self.old.next + 1) }
-        ensures statements { self.new.statements ≡ self.old.statements }
+        ensures statements { self.new.receiver ≡ self.old.receiver }
         ensures alloc { self.new.alloc ≡ self.old.alloc }
     {
         let number = self.next;
@@ -39,16 +39,16 @@ impl Hoisting {
 
     /// Appends a statement.
     pub(crate) fn push(&mut self, statement: RawStmt) -> Result<(), AllocError>
-        ensures statements { OnOk result (so_far self.new.statements ≡ then_all (so_far self.old.statements) (raw_stmt_tree statement ∷ [])) }
+        ensures statements { OnOk result (so_far self.new.receiver ≡ then_all (so_far self.old.receiver) (raw_stmt_tree statement ∷ [])) }
         ensures next { self.new.next ≡ self.old.next }
         ensures alloc { self.new.alloc ≡ self.old.alloc }
     {
-        self.statements.push(statement)
+        self.receiver.push(statement)
     }
 
     /// Appends `int h = value;` for the new name with a number.
     pub(crate) fn declare_as(&mut self, number: u32, value: RawExpr) -> Result<(), AllocError>
-        ensures statements { OnOk result (so_far self.new.statements ≡ then_all (so_far self.old.statements) (declared_as number (raw_expr_tree value) ∷ [])) }
+        ensures statements { OnOk result (so_far self.new.receiver ≡ then_all (so_far self.old.receiver) (declared_as number (raw_expr_tree value) ∷ [])) }
         ensures next { self.new.next ≡ self.old.next }
         ensures alloc { self.new.alloc ≡ self.old.alloc }
     {
@@ -58,7 +58,7 @@ impl Hoisting {
 
     /// Appends `int h;` for the new name with a number.
     pub(crate) fn declare(&mut self, number: u32) -> Result<(), AllocError>
-        ensures statements { OnOk result (so_far self.new.statements ≡ then_all (so_far self.old.statements) (declared number ∷ [])) }
+        ensures statements { OnOk result (so_far self.new.receiver ≡ then_all (so_far self.old.receiver) (declared number ∷ [])) }
         ensures next { self.new.next ≡ self.old.next }
         ensures alloc { self.new.alloc ≡ self.old.alloc }
     {
@@ -68,7 +68,7 @@ impl Hoisting {
 
     /// Appends `h = value;` for the new name with a number.
     pub(crate) fn set(&mut self, number: u32, value: RawExpr) -> Result<(), AllocError>
-        ensures statements { OnOk result (so_far self.new.statements ≡ then_all (so_far self.old.statements) (set_to number (raw_expr_tree value) ∷ [])) }
+        ensures statements { OnOk result (so_far self.new.receiver ≡ then_all (so_far self.old.receiver) (set_to number (raw_expr_tree value) ∷ [])) }
         ensures next { self.new.next ≡ self.old.next }
         ensures alloc { self.new.alloc ≡ self.old.alloc }
     {
@@ -79,7 +79,7 @@ impl Hoisting {
     /// Declares a new name for a part of an expression, and returns the name's value.
     pub(crate) fn name_part(&mut self, part: RawExpr) -> Result<RawExpr, AllocError>
         ensures value { IfOk result (λ e. raw_expr_tree e ≡ used self.old.next) }
-        ensures statements { OnOk result (so_far self.new.statements ≡ then_all (so_far self.old.statements) (declared_as self.old.next (raw_expr_tree part) ∷ [])) }
+        ensures statements { OnOk result (so_far self.new.receiver ≡ then_all (so_far self.old.receiver) (declared_as self.old.next (raw_expr_tree part) ∷ [])) }
         ensures next { OnOk result (self.new.next ≡ self.old.next + 1) }
         ensures alloc { self.new.alloc ≡ self.old.alloc }
     {
@@ -90,28 +90,28 @@ impl Hoisting {
 
     /// Begins a block, or a statement with a body.
     pub(crate) fn open(&mut self, opening: Opening) -> Result<(), AllocError>
-        ensures statements { OnOk result (so_far self.new.statements ≡ then_open (opening_tree opening.entry) (so_far self.old.statements)) }
+        ensures statements { OnOk result (so_far self.new.receiver ≡ then_open (opening_tree opening.entry) (so_far self.old.receiver)) }
         ensures next { self.new.next ≡ self.old.next }
         ensures alloc { self.new.alloc ≡ self.old.alloc }
     {
-        self.statements.open(opening)
+        self.receiver.open(opening)
     }
 
     /// Begins the `else` of the `if` that was begun last.
     pub(crate) fn otherwise(&mut self) -> Result<(), AllocError>
-        ensures statements { OnOk result (so_far self.new.statements ≡ then_else (so_far self.old.statements)) }
+        ensures statements { OnOk result (so_far self.new.receiver ≡ then_else (so_far self.old.receiver)) }
         ensures next { self.new.next ≡ self.old.next }
         ensures alloc { self.new.alloc ≡ self.old.alloc }
     {
-        self.statements.otherwise()
+        self.receiver.otherwise()
     }
 
     /// Ends the block, or the statement with a body, that was begun last.
     pub(crate) fn close(&mut self) -> Result<(), AllocError>
-        ensures statements { OnOk result (so_far self.new.statements ≡ then_close (so_far self.old.statements)) }
+        ensures statements { OnOk result (so_far self.new.receiver ≡ then_close (so_far self.old.receiver)) }
         ensures next { self.new.next ≡ self.old.next }
         ensures alloc { self.new.alloc ≡ self.old.alloc }
     {
-        self.statements.close()
+        self.receiver.close()
     }
 }

@@ -18,7 +18,7 @@ impl Hoisting {
     /// Rewrites a right side or a returned value, which may be a call itself.
     pub(crate) fn value(&mut self, raw: &RawExpr) -> Result<RawExpr, AllocError>
         ensures left { IfOk result (λ e. raw_expr_tree e ≡ value_left self.old.next (raw_expr_tree raw.now)) }
-        ensures before { OnOk result (so_far self.new.statements ≡ then_all (so_far self.old.statements) (value_before self.old.next (raw_expr_tree raw.now))) }
+        ensures before { OnOk result (so_far self.new.receiver ≡ then_all (so_far self.old.receiver) (value_before self.old.next (raw_expr_tree raw.now))) }
         ensures next { OnOk result (self.new.next ≡ self.old.next + value_names (raw_expr_tree raw.now)) }
     {
         let alloc = self.alloc;
@@ -51,7 +51,7 @@ impl Hoisting {
     ) -> Result<(Box<RawExpr>, RawExpr), AllocError>
         ensures index { IfOk result (λ p. raw_expr_tree p.0.value ≡ part_left (holds_nested (raw_expr_tree value.now)) self.old.next (raw_expr_tree index.now)) }
         ensures value { IfOk result (λ p. raw_expr_tree p.1 ≡ value_left (part_after self.old.next (holds_nested (raw_expr_tree value.now)) (raw_expr_tree index.now)) (raw_expr_tree value.now)) }
-        ensures before { OnOk result (so_far self.new.statements ≡ then_all (so_far self.old.statements) (element_before self.old.next (raw_expr_tree index.now) (raw_expr_tree value.now))) }
+        ensures before { OnOk result (so_far self.new.receiver ≡ then_all (so_far self.old.receiver) (element_before self.old.next (raw_expr_tree index.now) (raw_expr_tree value.now))) }
         ensures next { OnOk result (self.new.next ≡ part_after self.old.next (holds_nested (raw_expr_tree value.now)) (raw_expr_tree index.now) + value_names (raw_expr_tree value.now)) }
     {
         let index = self.part(holds_nested(value), index)?;
@@ -67,7 +67,7 @@ impl Hoisting {
     ) -> Result<(RawExpr, RawExpr), AllocError>
         ensures index { IfOk result (λ p. raw_expr_tree p.0 ≡ index_left self.old.next (raw_expr_tree index.now) (raw_expr_tree argument.now)) }
         ensures argument { IfOk result (λ p. raw_expr_tree p.1 ≡ argument_left self.old.next (raw_expr_tree index.now) (raw_expr_tree argument.now)) }
-        ensures before { OnOk result (so_far self.new.statements ≡ then_all (so_far self.old.statements) (table_before self.old.next (raw_expr_tree index.now) (raw_expr_tree argument.now))) }
+        ensures before { OnOk result (so_far self.new.receiver ≡ then_all (so_far self.old.receiver) (table_before self.old.next (raw_expr_tree index.now) (raw_expr_tree argument.now))) }
         ensures next { OnOk result (self.new.next ≡ part_after self.old.next (holds_call (raw_expr_tree argument.now)) (raw_expr_tree index.now) + names_in (raw_expr_tree argument.now)) }
     {
         let index = self.part(holds_call(argument), index)?;
@@ -77,7 +77,7 @@ impl Hoisting {
     /// Rewrites a declaration, an assignment or a call.
     pub(crate) fn simple(&mut self, raw: &RawSimple) -> Result<RawSimple, AllocError>
         ensures left { IfOk result (λ s. raw_simple_tree s ≡ simple_left self.old.next (raw_simple_tree raw.now)) }
-        ensures before { OnOk result (so_far self.new.statements ≡ then_all (so_far self.old.statements) (simple_before self.old.next (raw_simple_tree raw.now))) }
+        ensures before { OnOk result (so_far self.new.receiver ≡ then_all (so_far self.old.receiver) (simple_before self.old.next (raw_simple_tree raw.now))) }
         ensures next { OnOk result (self.new.next ≡ self.old.next + simple_names (raw_simple_tree raw.now)) }
     {
         let alloc = self.alloc;
@@ -126,7 +126,7 @@ impl Hoisting {
         at: u32,
         value: &Option<RawExpr>,
     ) -> Result<RawStmt, AllocError>
-        ensures statements { IfOk result (λ s. so_far self.new.statements ≡ then_all (so_far self.old.statements) (returned_before self.old.next (option_map raw_expr_tree value.now))) }
+        ensures statements { IfOk result (λ s. so_far self.new.receiver ≡ then_all (so_far self.old.receiver) (returned_before self.old.next (option_map raw_expr_tree value.now))) }
         ensures left { IfOk result (λ s. raw_stmt_tree s ≡ RawReturn at (returned_left self.old.next (option_map raw_expr_tree value.now))) }
         ensures next { OnOk result (self.new.next ≡ self.old.next + returned_names (option_map raw_expr_tree value.now)) }
     {

@@ -123,7 +123,7 @@ line_decided (x ∷ line) (y ∷ text) = by (number_same y x) (line_decided line
 
 -- ---- of all numbers
 
-all_below : (P : ℕ → Type 0) → ((k : ℕ) → Decided (P k)) → (n : ℕ) → Decided ((k : ℕ) → k < n → P k)
+pub all_below : (P : ℕ → Type 0) → ((k : ℕ) → Decided (P k)) → (n : ℕ) → Decided ((k : ℕ) → k < n → P k)
 all_below P each n = by (below_decided (λ k. P k → ⊥) (λ k. denied (each k)) n) where
   held : (k : ℕ) → (Below (λ k. P k → ⊥) n → ⊥) → k < n → Decided (P k) → P k
   held k none h (inl p) = p

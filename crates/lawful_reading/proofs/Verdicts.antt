@@ -23,7 +23,7 @@ heads x y xs ys e = cc
 no_feed : (y : ℕ) → 10 ≡ y → (y == 10) ≡ false → ⊥
 no_feed y e h = let no : true ≡ false = subst (λ (n : ℕ). (n == 10) ≡ false) (sym e) h in absurd (cc)
 
-cut_lines : (xs ys u v : List ℕ) → Lacks 10 xs → Lacks 10 ys → xs ++ 10 ∷ u ≡ ys ++ 10 ∷ v → (xs ≡ ys) × (u ≡ v)
+pub cut_lines : (xs ys u v : List ℕ) → Lacks 10 xs → Lacks 10 ys → xs ++ 10 ∷ u ≡ ys ++ 10 ∷ v → (xs ≡ ys) × (u ≡ v)
 cut_lines [] [] u v a b e = (refl, tails 10 10 u v e)
 cut_lines [] (y ∷ ys) u v a b e = absurd (no_feed y (heads 10 y u (ys ++ 10 ∷ v) e) b.0)
 cut_lines (x ∷ xs) [] u v a b e = absurd (no_feed x (sym (heads x 10 (xs ++ 10 ∷ u) v e)) a.0)

@@ -1,5 +1,5 @@
 -- A valid pair's code is well formed: as its functions have as many words at most as the image, they have as many operations.
-use Rattle.std.proofs.Common.{◌≡◌, ℕ, suc, ◌+◌, ◌^◌, ◌<◌, ◌≤◌, List, [], ◌∷◌, length, map, take, get_or, Some, None, refl, ap, ◌∙◌, arith}
+use Rattle.std.proofs.Common.{◌≡◌, ℕ, suc, ◌+◌, ◌^◌, ◌<◌, ◌≤◌, List, [], ◌∷◌, length, map, take, Some, refl, ap, ◌∙◌, arith}
 use Rattle.std.specs.Prelude.{slice_get, slice_index_or, sum_by}
 use Rattle.std.specs.List.{AllByRecursion}
 use Rattle.std.proofs.lemmas.List.Sums.{sum_by-cons}
@@ -10,54 +10,21 @@ use Rattle.c_tree.specs.WellScoped.{IsWellScoped}
 use Rattle.certificate_rules.specs.Validity.{IsValid}
 use Rattle.flat_code.specs.declared.functions.FlatFunction.{FlatFunction}
 use Rattle.flat_code.specs.declared.operations.Op.{Op}
-use Rattle.flat_code.specs.declared.operators.BinOp.{BinOp}
 use Rattle.flat_code.specs.Codes.{FlatCode, function_at, operation_at}
 use Rattle.flat_code.specs.WellFormed.{IsWellFormed}
 use Rattle.machine_world.specs.Rests.{ecall_word}
 use Rattle.stack_certificate.specs.Certificates.{fact_at}
-use Rattle.stack_certificate.specs.Templates.{size, transfer_size, kind_of}
+use Rattle.stack_certificate.specs.Templates.{size, kind_of}
 use Rattle.stack_certificate.specs.declared.certificates.Certificate.{Certificate}
-use Rattle.stack_certificate.specs.declared.sites.LinkKind.{LinkKind}
 use Rattle.stack_image.specs.declared.images.Image.{Image}
 use Rattle.machine_meaning.proofs.Ends.{function_ends, before_last}
 use Rattle.machine_meaning.proofs.Past.{ecall_site, same_function, prologue_word, whole}
 use Rattle.machine_meaning.proofs.Sites.{has_operation}
 use Rattle.machine_meaning.proofs.Zeroes.{program_zeroes}
+use Rattle.segment_laws.proofs.Past.{size_some}
 
--- ---- an operation has a word
+-- ---- there are no more operations than words
 
-middle_some : (op : BinOp) (n : ℕ) → 0 < 3 + n
-middle_some op n = omega arith
-
-transfer_some : (kind : LinkKind) → 0 < transfer_size kind
-transfer_some LinkKind.Plain = omega arith
-transfer_some (LinkKind.Linked need) = omega arith
-transfer_some (LinkKind.Spawned need) = omega arith
-
-size_some : (sizes : List ℕ) (kind : LinkKind) (op : Op) → ((a : ℕ) → op ≡ Op.Zero a → 0 < get_or sizes a 0) → 0 < size sizes kind op
-size_some sizes kind (Op.Zero a) zeroes = zeroes a refl
-size_some sizes kind (Op.Call site d f args) zeroes = omega (arith, transfer_some kind)
-size_some sizes kind (Op.Return None) zeroes = omega arith
-size_some sizes kind (Op.Return (Some s)) zeroes = omega arith
-size_some sizes kind (Op.Const d value) zeroes = omega arith
-size_some sizes kind (Op.Copy d s) zeroes = omega arith
-size_some sizes kind (Op.Neg d s) zeroes = omega arith
-size_some sizes kind (Op.Not d s) zeroes = omega arith
-size_some sizes kind (Op.Flip d s) zeroes = omega arith
-size_some sizes kind (Op.Bin op d a b) zeroes = middle_some op _
-size_some sizes kind (Op.LoadGlobal d g) zeroes = omega arith
-size_some sizes kind (Op.StoreGlobal g s) zeroes = omega arith
-size_some sizes kind (Op.LoadLocal d a i) zeroes = omega arith
-size_some sizes kind (Op.LoadArray d a i) zeroes = omega arith
-size_some sizes kind (Op.StoreLocal a i s) zeroes = omega arith
-size_some sizes kind (Op.StoreArray a i s) zeroes = omega arith
-size_some sizes kind (Op.Jump to) zeroes = omega arith
-size_some sizes kind (Op.JumpZero s to) zeroes = omega arith
-size_some sizes kind (Op.CallTable site d t i s) zeroes = omega arith
-size_some sizes kind (Op.Model site d n args) zeroes = omega arith
-size_some sizes kind (Op.Spawn site d f s) zeroes = omega arith
-
--- so there are no more operations than words
 words_many : (weight : Op → ℕ) (ops : List Op) → ((i : ℕ) (op : Op) → slice_get ops i ≡ Some op → 0 < weight op) → length ops ≤ sum_by weight (take (length ops) ops)
 words_many weight [] some = omega arith
 words_many weight (op ∷ ops) some =

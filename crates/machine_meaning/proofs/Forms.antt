@@ -1,5 +1,5 @@
 -- A live thread of a well-formed world has its form, and the chunks of the others are apart from its own.
-use Rattle.std.proofs.Common.{◌≡◌, ◌≢◌, ℕ, ◌<◌, ◌≤◌, Bool, true, false, nat_eq, ltb, List, [], ◌∷◌, Option, Some, None, refl, sym, ap, subst, ◌∙◌, arith, cond, ⊎_elim}
+use Rattle.std.proofs.Common.{◌≡◌, ◌≢◌, ℕ, ◌<◌, ◌≤◌, Bool, true, false, nat_eq, ltb, List, [], ◌∷◌, Option, Some, None, refl, sym, subst, ◌∙◌, arith, cond, ⊎_elim}
 use Rattle.std.specs.List.{AllByRecursion}
 use Rattle.std.proofs.lemmas.Bool.{cases_eq, cond-true, cond-false, eq-eqb, ne_eqb}
 use Rattle.cap_word.specs.Runs.{Goes, Stops}
@@ -21,7 +21,7 @@ use Rattle.segment_laws.proofs.Untouched.{keeps_step}
 use Rattle.segment_laws.specs.Ways.{HasForm, IsGoodState}
 use Rattle.segment_laws.specs.Kept.{KeepsChunks}
 use Rattle.segment_laws.proofs.SameRest.{rests_law}
-use Rattle.machine_meaning.proofs.Threads.{held_one, held_two, each_chunk}
+use Rattle.segment_laws.proofs.OtherThreads.{held_one, held_two, each_chunk}
 
 -- the thread over the areas
 abbrev pub local_in : World → Thread → Local

@@ -22,15 +22,6 @@ use Rattle.machine_meaning.proofs.Expressions.{Reads, Wide, reads_kept}
 use Rattle.machine_meaning.proofs.Stands.{Stands}
 use Rattle.machine_meaning.proofs.Rows.{reads_word, wide_word, reads_element}
 
--- the names in scope after a result went where the text says
-abbrev pub scope_with : Target → List ℕ → List ℕ
-scope_with ToNowhere scope = scope
-scope_with (ToLocal x) scope = x ∷ scope
-scope_with (ToGlobal g) scope = scope
-scope_with (ToLocalElement a) scope = scope
-scope_with (ToGlobalElement a) scope = scope
-scope_with ToCaller scope = scope
-
 -- where the text says that a result goes, it can
 abbrev pub TargetScoped : Context → List ℕ → Target → Type 0
 TargetScoped c scope ToNowhere = Unit {0}

@@ -40,7 +40,7 @@ use Rattle.machine_meaning.proofs.Going as going
 use Rattle.machine_meaning.proofs.BetweenLaws as between
 use Rattle.machine_meaning.proofs.Past.{InFunction, past_function}
 use Rattle.segment_laws.specs.Kept.{KeepsChunks}
-use Rattle.machine_meaning.proofs.Threads.{held_one, each_chunk}
+use Rattle.segment_laws.proofs.OtherThreads.{held_one, each_chunk}
 use Rattle.machine_meaning.proofs.Forms.{at_most_one}
 
 -- ---- chunks

@@ -20,9 +20,6 @@ or_right : (a b : Bool) → IsTrue b → IsTrue (a || b)
 or_right true b h = refl
 or_right false b h = h
 
-pub within_self : (scope : List ℕ) → Within scope scope
-within_self scope x h = h
-
 pub within_names : (ds : List Declared) (scope : List ℕ) → Within scope (with_names scope ds)
 within_names [] scope x h = h
 within_names (d ∷ ds) scope x h = within_names ds (d.variable ∷ scope) x (or_right (eqb x d.variable) (visible x scope) h)

@@ -2,10 +2,9 @@
 use Rattle.std.proofs.Common.{◌≡◌, ◌+◌, ℕ, zero, suc, Bool, true, false, List, [], ◌∷◌, ◌++◌, map, refl, sym, subst, ◌∙◌}
 use Rattle.std.specs.Prelude.{Option, Some, None, slice_get}
 use Rattle.std.specs.List.{AllByRecursion, Contains}
-use Rattle.c_tree.specs.declared.operators.UnaryOperator.{UnaryOperator}
 use Rattle.c_tree.specs.Sizes.{below}
 use Rattle.c_tree.specs.TextOrder.{simple_names}
-use Rattle.c_tree.specs.Trees.{ExprTree, Number, Local, Global, LocalElement, GlobalElement, Unary, Parenthesized, Binary, LogicalAnd, LogicalOr, Conditional, CallTree, CallFunction, CallTable, CallSpawn, CallModelled, RightTree, Computed, Called, SimpleTree, DeclareScalar, DeclareArray, DeclareWith, SetLocal, SetGlobal, SetLocalElement, SetGlobalElement, Calling, StmtTree, StmtTrees, Do, Empty, Block, If, IfElse, While, For, Break, Continue, Return, NoStmts, Then, FunctionTree}
+use Rattle.c_tree.specs.Trees.{ExprTree, CallTree, CallFunction, CallTable, CallSpawn, CallModelled, RightTree, Computed, Called, SimpleTree, DeclareScalar, DeclareArray, DeclareWith, SetLocal, SetGlobal, SetLocalElement, SetGlobalElement, Calling, StmtTree, StmtTrees, Do, Empty, Block, If, IfElse, While, For, Break, Continue, Return, NoStmts, Then, FunctionTree}
 use Rattle.c_tree.specs.WellScoped.{with_names, scope_after, scope_after_all}
 use Rattle.c_mean.specs.Sites as text
 use Rattle.c_mean.specs.Sites.{Target, ToNowhere, ToLocal, ToGlobal, ToLocalElement, ToGlobalElement, ToCaller, CallInText, right_calls, simple_calls, simples_calls, step_calls, returned_calls, stmt_calls, stmts_calls, function_calls}
@@ -13,63 +12,13 @@ use Rattle.c_mean.specs.ToDo.{Item, Simply, Back, WhileLoop, ForLoop, step_item,
 use Rattle.c_mean.proofs.TextLemmas.{AllIn, all_in_parts}
 use Rattle.flat_code.specs.declared.operations.Op.{Op}
 use Rattle.flat_code.specs.Codes.{site_of}
-use Rattle.c_lower.specs.Operations.{unary_code}
 use Rattle.c_lower.specs.ExprCode.{expr_size, expr_code}
 use Rattle.c_lower.specs.CallCode.{arguments_in, arguments_code, call_code, set_code, held_code}
 use Rattle.c_lower.specs.StmtCode.{simple_size, simple_code, simples_size, simples_code, step_size, step_code, test_size, test_code, return_code, stmt_size, stmt_code, stmts_code}
 use Rattle.c_lower.specs.ProgramCode.{closing_code, first_temporary, function_ops}
-use Rattle.c_lower.proofs.Lists.{all-append}
+use Rattle.c_lower.proofs.Lists.{all-append, all-weaker}
+use Rattle.c_lower.proofs.PlainCode.{IsPlain, ArePlain, expr_plain, arguments_plain}
 use Rattle.machine_meaning.proofs.Pushed.{all_in_self}
-
--- ---- operations without a site
-
-abbrev HasNone : Op → Type 0
-HasNone op = site_of op ≡ None
-
-abbrev None_ : List Op → Type 0
-None_ ops = AllByRecursion HasNone ops
-
-both_none : (xs ys : List Op) → None_ xs → None_ ys → None_ (xs ++ ys)
-both_none xs ys a b = all-append HasNone xs ys a b
-
-unary_none : (op : UnaryOperator) (k : ℕ) → None_ (unary_code op k)
-unary_none UnaryOperator.Plus k = tt
-unary_none UnaryOperator.Negate k = (refl, tt)
-unary_none UnaryOperator.Complement k = (refl, tt)
-unary_none UnaryOperator.Not k = (refl, tt)
-
-expr_none : (e : ExprTree) (p k : ℕ) → None_ (expr_code e p k)
-expr_none (Number v) p k = (refl, tt)
-expr_none (Local x) p k = (refl, tt)
-expr_none (Global g) p k = (refl, tt)
-expr_none (LocalElement a i) p k = both_none (expr_code i p k) _ (expr_none i p k) (refl, tt)
-expr_none (GlobalElement a i) p k = both_none (expr_code i p k) _ (expr_none i p k) (refl, tt)
-expr_none (Unary op e) p k = both_none (expr_code e p k) _ (expr_none e p k) (unary_none op k)
-expr_none (Parenthesized e) p k = expr_none e p k
-expr_none (Binary op l r) p k =
-    let right = p + expr_size l in
-    both_none (expr_code l p k ++ expr_code r right (k + 1)) _ (both_none (expr_code l p k) _ (expr_none l p k) (expr_none r right (k + 1))) (refl, tt)
-expr_none (LogicalAnd l r) p k =
-    let right = p + expr_size l + 1 in
-    let otherwise = right + expr_size r + 3 in
-    both_none (expr_code l p k ++ (Op.JumpZero k otherwise ∷ []) ++ expr_code r right k) _
-    (both_none (expr_code l p k ++ (Op.JumpZero k otherwise ∷ [])) _ (both_none (expr_code l p k) _ (expr_none l p k) (refl, tt)) (expr_none r right k)) (refl, (refl, (refl, (refl, tt))))
-expr_none (LogicalOr l r) p k =
-    let right = p + expr_size l + 2 in
-    let one = right + expr_size r + 1 in
-    both_none (expr_code l p k ++ (Op.JumpZero k right ∷ Op.Jump one ∷ []) ++ expr_code r right k) _
-    (both_none (expr_code l p k ++ (Op.JumpZero k right ∷ Op.Jump one ∷ [])) _ (both_none (expr_code l p k) _ (expr_none l p k) (refl, (refl, tt))) (expr_none r right k)) (refl, (refl, (refl, (refl, tt))))
-expr_none (Conditional q a b) p k =
-    let first = p + expr_size q + 1 in
-    let second = first + expr_size a + 1 in
-    both_none (expr_code q p k ++ (Op.JumpZero k second ∷ []) ++ expr_code a first k ++ (Op.Jump (second + expr_size b) ∷ [])) _
-    (both_none (expr_code q p k ++ (Op.JumpZero k second ∷ []) ++ expr_code a first k) _
-    (both_none (expr_code q p k ++ (Op.JumpZero k second ∷ [])) _ (both_none (expr_code q p k) _ (expr_none q p k) (refl, tt)) (expr_none a first k)) (refl, tt))
-    (expr_none b second k)
-
-arguments_none : (es : List ExprTree) (p k : ℕ) → None_ (arguments_code es p k)
-arguments_none [] p k = tt
-arguments_none (e ∷ es) p k = both_none (expr_code e p k) _ (expr_none e p k) (arguments_none es (p + expr_size e) (k + 1))
 
 -- no site
 abbrev no_site : Option ℕ
@@ -88,32 +37,31 @@ module _ (calls : List CallInText) where
   both : (xs ys : List Op) → All xs → All ys → All (xs ++ ys)
   both xs ys a b = all-append (HasCall calls) xs ys a b
 
-  plain : (op : Op) → HasNone op → HasCall calls op
+  plain : (op : Op) → site_of op ≡ None → HasCall calls op
   plain op h = record { found = λ s e. absurd (let n : no_site ≡ Some s = sym h ∙ e in cc) }
 
-  all_plain : (ops : List Op) → None_ ops → All ops
-  all_plain [] h = tt
-  all_plain (op ∷ ops) h = (plain op h.0, all_plain ops h.1)
+  all_plain : (ops : List Op) → ArePlain ops → All ops
+  all_plain ops h = all-weaker IsPlain (HasCall calls) (λ op is. plain op is.0) ops h
 
   -- an operation at the site of a call that is there
   sited : (op : Op) (call : CallInText) → site_of op ≡ Some (text.site_of call) → Contains calls call → HasCall calls op
   sited op call h there = record { found = λ s e. (call, there, (let both_ : Some (text.site_of call) ≡ Some s = sym h ∙ e in cc)) }
 
   call_all : (call : CallTree) (target : Target) (scope : List ℕ) (rest : List Item) (p k : ℕ) (d : Option ℕ) → Contains calls (record { call = call; target = target; scope = scope; rest = rest }) → All (call_code call p k d)
-  call_all (CallFunction s f es) target scope rest p k d h = both (arguments_code es p k) _ (all_plain (arguments_code es p k) (arguments_none es p k)) (sited (Op.Call s d f (arguments_in es k)) (record { call = CallFunction s f es; target = target; scope = scope; rest = rest }) refl h, tt)
+  call_all (CallFunction s f es) target scope rest p k d h = both (arguments_code es p k) _ (all_plain (arguments_code es p k) (arguments_plain es p k)) (sited (Op.Call s d f (arguments_in es k)) (record { call = CallFunction s f es; target = target; scope = scope; rest = rest }) refl h, tt)
   call_all (CallTable s f i e) target scope rest p k d h =
-      both (expr_code i p k ++ expr_code e (p + expr_size i) (k + 1)) _ (both (expr_code i p k) _ (all_plain (expr_code i p k) (expr_none i p k)) (all_plain (expr_code e (p + expr_size i) (k + 1)) (expr_none e (p + expr_size i) (k + 1))))
+      both (expr_code i p k ++ expr_code e (p + expr_size i) (k + 1)) _ (both (expr_code i p k) _ (all_plain (expr_code i p k) (expr_plain i p k)) (all_plain (expr_code e (p + expr_size i) (k + 1)) (expr_plain e (p + expr_size i) (k + 1))))
       (sited (Op.CallTable s d f k (k + 1)) (record { call = CallTable s f i e; target = target; scope = scope; rest = rest }) refl h, tt)
-  call_all (CallSpawn s f e) target scope rest p k d h = both (expr_code e p k) _ (all_plain (expr_code e p k) (expr_none e p k)) (sited (Op.Spawn s d f k) (record { call = CallSpawn s f e; target = target; scope = scope; rest = rest }) refl h, tt)
+  call_all (CallSpawn s f e) target scope rest p k d h = both (expr_code e p k) _ (all_plain (expr_code e p k) (expr_plain e p k)) (sited (Op.Spawn s d f k) (record { call = CallSpawn s f e; target = target; scope = scope; rest = rest }) refl h, tt)
   call_all (CallModelled s m es) target scope rest p k d h =
-      both (arguments_code es p k) _ (all_plain (arguments_code es p k) (arguments_none es p k)) (sited (Op.Model s d (Rattle.cap_word.specs.ModelledCalls.number_of m) (arguments_in es k)) (record { call = CallModelled s m es; target = target; scope = scope; rest = rest }) refl h, tt)
+      both (arguments_code es p k) _ (all_plain (arguments_code es p k) (arguments_plain es p k)) (sited (Op.Model s d (Rattle.cap_word.specs.ModelledCalls.number_of m) (arguments_in es k)) (record { call = CallModelled s m es; target = target; scope = scope; rest = rest }) refl h, tt)
 
   set_all : (v : RightTree) (target : Target) (scope : List ℕ) (rest : List Item) (p k x : ℕ) → AllIn calls (right_calls v target scope rest) → All (set_code v p k x)
-  set_all (Computed e) target scope rest p k x h = both (expr_code e p k) _ (all_plain (expr_code e p k) (expr_none e p k)) (plain (Op.Copy x k) refl, tt)
+  set_all (Computed e) target scope rest p k x h = both (expr_code e p k) _ (all_plain (expr_code e p k) (expr_plain e p k)) (plain (Op.Copy x k) refl, tt)
   set_all (Called call) target scope rest p k x h = call_all call target scope rest p k (Some x) h.0
 
   held_all : (v : RightTree) (target : Target) (scope : List ℕ) (rest : List Item) (p k : ℕ) → AllIn calls (right_calls v target scope rest) → All (held_code v p k)
-  held_all (Computed e) target scope rest p k h = all_plain (expr_code e p k) (expr_none e p k)
+  held_all (Computed e) target scope rest p k h = all_plain (expr_code e p k) (expr_plain e p k)
   held_all (Called call) target scope rest p k h = call_all call target scope rest p k (Some k) h.0
 
   simple_all : (s : SimpleTree) (scope : List ℕ) (rest : List Item) (p t : ℕ) → AllIn calls (simple_calls s scope rest) → All (simple_code s p t)
@@ -123,9 +71,9 @@ module _ (calls : List CallInText) where
   simple_all (SetLocal x v) scope rest p t h = set_all v (ToLocal x) scope rest p t x h
   simple_all (SetGlobal g v) scope rest p t h = both (held_code v p t) _ (held_all v (ToGlobal g) scope rest p t h) (plain (Op.StoreGlobal g t) refl, tt)
   simple_all (SetLocalElement a i v) scope rest p t h =
-      both (expr_code i p t ++ held_code v (p + expr_size i) (t + 1)) _ (both (expr_code i p t) _ (all_plain (expr_code i p t) (expr_none i p t)) (held_all v (ToLocalElement a) scope rest (p + expr_size i) (t + 1) h)) (plain (Op.StoreLocal a t (t + 1)) refl, tt)
+      both (expr_code i p t ++ held_code v (p + expr_size i) (t + 1)) _ (both (expr_code i p t) _ (all_plain (expr_code i p t) (expr_plain i p t)) (held_all v (ToLocalElement a) scope rest (p + expr_size i) (t + 1) h)) (plain (Op.StoreLocal a t (t + 1)) refl, tt)
   simple_all (SetGlobalElement a i v) scope rest p t h =
-      both (expr_code i p t ++ held_code v (p + expr_size i) (t + 1)) _ (both (expr_code i p t) _ (all_plain (expr_code i p t) (expr_none i p t)) (held_all v (ToGlobalElement a) scope rest (p + expr_size i) (t + 1) h)) (plain (Op.StoreArray a t (t + 1)) refl, tt)
+      both (expr_code i p t ++ held_code v (p + expr_size i) (t + 1)) _ (both (expr_code i p t) _ (all_plain (expr_code i p t) (expr_plain i p t)) (held_all v (ToGlobalElement a) scope rest (p + expr_size i) (t + 1) h)) (plain (Op.StoreArray a t (t + 1)) refl, tt)
   simple_all (Calling call) scope rest p t h = call_all call ToNowhere scope rest p t None h.0
 
   simples_all : (ss : List SimpleTree) (scope : List ℕ) (rest : List Item) (p t : ℕ) → AllIn calls (simples_calls ss scope rest) → All (simples_code ss p t)
@@ -140,7 +88,7 @@ module _ (calls : List CallInText) where
   step_all (Some s) scope rest p t h = simple_all s scope rest p t h
 
   condition_all : (q : ExprTree) (p t to : ℕ) → All (expr_code q p t ++ (Op.JumpZero t to ∷ []))
-  condition_all q p t to = both (expr_code q p t) _ (all_plain (expr_code q p t) (expr_none q p t)) (plain (Op.JumpZero t to) refl, tt)
+  condition_all q p t to = both (expr_code q p t) _ (all_plain (expr_code q p t) (expr_plain q p t)) (plain (Op.JumpZero t to) refl, tt)
 
   test_all : (q : Option ExprTree) (p t to : ℕ) → All (test_code q p t to)
   test_all None p t to = tt

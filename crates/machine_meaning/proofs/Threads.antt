@@ -1,9 +1,6 @@
 -- Threads by their numbers, and the chunks that they hold.
 use Rattle.std.proofs.Common.{◌≡◌, ◌≢◌, ℕ, ◌+◌, ◌<◌, ◌≤◌, Bool, nat_eq, not, List, [], ◌∷◌, ◌++◌, Option, Some, None, refl, sym, ap, ◌∙◌, arith, cond, ⊎_elim}
-use Rattle.std.specs.List.{AllByRecursion}
 use Rattle.std.proofs.lemmas.Bool.{cond_both, cases_eq, cond-true, cond-false, eq-eqb, ne_eqb, eqb-true}
-use Rattle.std.proofs.lemmas.List.Sums.{sum_by-cons}
-use Rattle.machine_world.specs.Chains.{copies, held_copies}
 use Rattle.machine_world.specs.Numbered.{RiseBetween}
 use Rattle.machine_world.specs.Threads.{Thread, first_with, replaced, without}
 
@@ -95,50 +92,3 @@ none_from from next number (t ∷ ts) rise le =
     rises : (from next : ℕ) (threads : List Thread) → RiseBetween from next threads → from ≤ next
     rises from next [] rise = rise
     rises from next (u ∷ us) rise = let later = rises (u.number + 1) next us rise.1 in omega (arith, rise.0, later)
-
--- ---- chunks
-
-pub held_one : (chunk number : ℕ) (threads : List Thread) (t : Thread) → first_with number threads ≡ Some t → copies chunk t.core.chain ≤ held_copies chunk threads
-held_one chunk number [] t found = absurd cc
-held_one chunk number (u ∷ us) t found = ⊎_elim
-    (λ (same : u.number ≡ number).
-    let here : Some u ≡ Some t = sym (cond-true (nat_eq u.number number) (Some u) (first_with number us) (eq-eqb u.number number same)) ∙ found in
-    let equal : u ≡ t = cc in
-    let chain : copies chunk u.core.chain ≡ copies chunk t.core.chain = ap (λ (v : Thread). copies chunk v.core.chain) equal in
-    omega (arith, chain))
-    (λ apart. let rest = held_one chunk number us t (sym (cond-false (nat_eq u.number number) (Some u) (first_with number us) (ne_eqb u.number number apart)) ∙ found) in omega (arith, rest))
-    (cases_eq u.number number)
-
-pub held_two : (chunk one other : ℕ) (threads : List Thread) (t v : Thread) → (one ≡ other → ⊥) → first_with one threads ≡ Some t → first_with other threads ≡ Some v → copies chunk t.core.chain + copies chunk v.core.chain ≤ held_copies chunk threads
-held_two chunk one other [] t v apart found too = absurd cc
-held_two chunk one other (u ∷ us) t v apart found too = ⊎_elim
-    (λ (same : u.number ≡ one).
-    let here : Some u ≡ Some t = sym (cond-true (nat_eq u.number one) (Some u) (first_with one us) (eq-eqb u.number one same)) ∙ found in
-    let equal : u ≡ t = cc in
-    let chain : copies chunk u.core.chain ≡ copies chunk t.core.chain = ap (λ (w : Thread). copies chunk w.core.chain) equal in
-    let later : first_with other us ≡ Some v = sym (cond-false (nat_eq u.number other) (Some u) (first_with other us) (ne_eqb u.number other (λ e. apart (sym same ∙ e)))) ∙ too in
-    let rest = held_one chunk other us v later in
-    omega (arith, chain, rest))
-    (λ differ.
-    let first : first_with one us ≡ Some t = sym (cond-false (nat_eq u.number one) (Some u) (first_with one us) (ne_eqb u.number one differ)) ∙ found in
-    ⊎_elim
-    (λ (same : u.number ≡ other).
-    let here : Some u ≡ Some v = sym (cond-true (nat_eq u.number other) (Some u) (first_with other us) (eq-eqb u.number other same)) ∙ too in
-    let equal : u ≡ v = cc in
-    let chain : copies chunk u.core.chain ≡ copies chunk v.core.chain = ap (λ (w : Thread). copies chunk w.core.chain) equal in
-    let rest = held_one chunk one us t first in
-    omega (arith, chain, rest))
-    (λ differs. let rest = held_two chunk one other us t v apart first (sym (cond-false (nat_eq u.number other) (Some u) (first_with other us) (ne_eqb u.number other differs)) ∙ too) in omega (arith, rest))
-    (cases_eq u.number other))
-    (cases_eq u.number one)
-
--- what holds of each chunk that is in a chain holds of all of it
-pub each_chunk : (P : ℕ → Type 0) (chain : List ℕ) → ((chunk : ℕ) → 0 < copies chunk chain → P chunk) → AllByRecursion P chain
-each_chunk P [] each = tt
-each_chunk P (chunk ∷ chain) each = (
-  each chunk (let first = copies_cons chunk chunk chain in let one : ◌≡◌ {A = ℕ} (cond (nat_eq chunk chunk) 1 0) 1 = cond-true (nat_eq chunk chunk) 1 0 (eq-eqb chunk chunk refl) in omega (arith, first, one)),
-  each_chunk P chain (λ other some. each other (let first = copies_cons other chunk chain in omega (arith, first, some))),
-)
-  where
-    copies_cons : (chunk first : ℕ) (chain : List ℕ) → copies chunk (first ∷ chain) ≡ cond (nat_eq first chunk) 1 0 + copies chunk chain
-    copies_cons chunk first chain = sum_by-cons (λ (other : ℕ). cond (nat_eq other chunk) 1 0) first chain

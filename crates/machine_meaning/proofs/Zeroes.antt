@@ -3,25 +3,28 @@ use Rattle.std.proofs.Common.{◌≡◌, ◌<◌, ◌+◌, ℕ, zero, suc, Bool,
 use Rattle.std.specs.Prelude.{Option, Some, None, slice_index, slice_index_or, slice_get}
 use Rattle.std.specs.List.{AllByRecursion}
 use Rattle.std.proofs.Math.ListN.{get_or-append}
-use Rattle.c_tree.specs.declared.operators.UnaryOperator.{UnaryOperator}
 use Rattle.c_tree.specs.Sizes.{scalars, below}
 use Rattle.c_tree.specs.Temporaries.{function_temporaries}
 use Rattle.c_tree.specs.TextOrder.{simple_names}
-use Rattle.c_tree.specs.Trees.{ExprTree, Number, Local, Global, LocalElement, GlobalElement, Unary, Parenthesized, Binary, LogicalAnd, LogicalOr, Conditional, CallTree, CallFunction, CallTable, CallSpawn, CallModelled, RightTree, Computed, Called, SimpleTree, DeclareScalar, DeclareArray, DeclareWith, SetLocal, SetGlobal, SetLocalElement, SetGlobalElement, Calling, StmtTree, StmtTrees, Do, Empty, Block, If, IfElse, While, For, Break, Continue, Return, NoStmts, Then, FunctionTree, ProgramTree}
+use Rattle.c_tree.specs.Trees.{ExprTree, CallTree, CallFunction, CallTable, CallSpawn, CallModelled, RightTree, Computed, Called, SimpleTree, DeclareScalar, DeclareArray, DeclareWith, SetLocal, SetGlobal, SetLocalElement, SetGlobalElement, Calling, StmtTree, StmtTrees, Do, Empty, Block, If, IfElse, While, For, Break, Continue, Return, NoStmts, Then, FunctionTree, ProgramTree}
 use Rattle.c_tree.specs.WellScoped.{Context, context_of, IsSimpleScoped, AreSimplesScoped, with_names, scope_after, scope_after_all, IsStepScoped, IsStmtScoped, AreStmtsScoped, IsFunctionScoped, AreFunctionsScoped, IsWellScoped}
 use Rattle.flat_code.specs.declared.operations.Op.{Op}
 use Rattle.segment_laws.specs.Zeroes.{ZeroesSome}
-use Rattle.c_lower.specs.Operations.{unary_code}
 use Rattle.c_lower.specs.ExprCode.{expr_size, expr_code}
 use Rattle.c_lower.specs.CallCode.{arguments_code, call_code, set_code, held_code}
 use Rattle.c_lower.specs.StmtCode.{simple_size, simple_code, simples_size, simples_code, step_size, step_code, test_size, test_code, return_code, stmt_size, stmt_code, stmts_code}
 use Rattle.c_lower.specs.ProgramCode.{closing_code, first_temporary, lowered_function, lowered}
-use Rattle.c_lower.proofs.Lists.{all-append}
+use Rattle.c_lower.proofs.Lists.{all-append, all-weaker}
+use Rattle.c_lower.proofs.PlainCode.{is_reset, IsPlain, ArePlain, expr_plain, arguments_plain}
 
 -- what an operation resets has words
 abbrev ResetsSome : List ℕ → Op → Type 0
 ResetsSome sizes (Op.Zero a) = 0 < slice_index sizes a
 ResetsSome sizes _ = Unit {0}
+
+plain : (sizes : List ℕ) (op : Op) → is_reset op ≡ false → ResetsSome sizes op
+plain sizes (Op.Zero a) none = absurd (cc)
+plain sizes _ none = tt
 
 module _ (c : Context) (sizes : List ℕ) (words : (x w : ℕ) → x < length c.sizes → slice_index c.sizes x ≡ w → slice_index sizes x ≡ w) where
   abbrev All : List Op → Type 0
@@ -30,44 +33,14 @@ module _ (c : Context) (sizes : List ℕ) (words : (x w : ℕ) → x < length c.
   both : (xs ys : List Op) → All xs → All ys → All (xs ++ ys)
   both xs ys a b = all-append (ResetsSome sizes) xs ys a b
 
-  unary_all : (op : UnaryOperator) (k : ℕ) → All (unary_code op k)
-  unary_all UnaryOperator.Plus k = tt
-  unary_all UnaryOperator.Negate k = (tt, tt)
-  unary_all UnaryOperator.Complement k = (tt, tt)
-  unary_all UnaryOperator.Not k = (tt, tt)
+  all_plain : (ops : List Op) → ArePlain ops → All ops
+  all_plain ops h = all-weaker IsPlain (ResetsSome sizes) (λ op is. plain sizes op is.1) ops h
 
   expr_all : (e : ExprTree) (p k : ℕ) → All (expr_code e p k)
-  expr_all (Number v) p k = (tt, tt)
-  expr_all (Local x) p k = (tt, tt)
-  expr_all (Global g) p k = (tt, tt)
-  expr_all (LocalElement a i) p k = both (expr_code i p k) _ (expr_all i p k) (tt, tt)
-  expr_all (GlobalElement a i) p k = both (expr_code i p k) _ (expr_all i p k) (tt, tt)
-  expr_all (Unary op e) p k = both (expr_code e p k) _ (expr_all e p k) (unary_all op k)
-  expr_all (Parenthesized e) p k = expr_all e p k
-  expr_all (Binary op l r) p k =
-      let right = p + expr_size l in
-      both (expr_code l p k ++ expr_code r right (k + 1)) _ (both (expr_code l p k) _ (expr_all l p k) (expr_all r right (k + 1))) (tt, tt)
-  expr_all (LogicalAnd l r) p k =
-      let right = p + expr_size l + 1 in
-      let otherwise = right + expr_size r + 3 in
-      both (expr_code l p k ++ (Op.JumpZero k otherwise ∷ []) ++ expr_code r right k) _
-      (both (expr_code l p k ++ (Op.JumpZero k otherwise ∷ [])) _ (both (expr_code l p k) _ (expr_all l p k) (tt, tt)) (expr_all r right k)) (tt, (tt, (tt, (tt, tt))))
-  expr_all (LogicalOr l r) p k =
-      let right = p + expr_size l + 2 in
-      let one = right + expr_size r + 1 in
-      both (expr_code l p k ++ (Op.JumpZero k right ∷ Op.Jump one ∷ []) ++ expr_code r right k) _
-      (both (expr_code l p k ++ (Op.JumpZero k right ∷ Op.Jump one ∷ [])) _ (both (expr_code l p k) _ (expr_all l p k) (tt, (tt, tt))) (expr_all r right k)) (tt, (tt, (tt, (tt, tt))))
-  expr_all (Conditional q a b) p k =
-      let first = p + expr_size q + 1 in
-      let second = first + expr_size a + 1 in
-      both (expr_code q p k ++ (Op.JumpZero k second ∷ []) ++ expr_code a first k ++ (Op.Jump (second + expr_size b) ∷ [])) _
-      (both (expr_code q p k ++ (Op.JumpZero k second ∷ []) ++ expr_code a first k) _
-      (both (expr_code q p k ++ (Op.JumpZero k second ∷ [])) _ (both (expr_code q p k) _ (expr_all q p k) (tt, tt)) (expr_all a first k)) (tt, tt))
-      (expr_all b second k)
+  expr_all e p k = all_plain (expr_code e p k) (expr_plain e p k)
 
   arguments_all : (es : List ExprTree) (p k : ℕ) → All (arguments_code es p k)
-  arguments_all [] p k = tt
-  arguments_all (e ∷ es) p k = both (expr_code e p k) _ (expr_all e p k) (arguments_all es (p + expr_size e) (k + 1))
+  arguments_all es p k = all_plain (arguments_code es p k) (arguments_plain es p k)
 
   call_all : (call : CallTree) (p k : ℕ) (d : Option ℕ) → All (call_code call p k d)
   call_all (CallFunction s f es) p k d = both (arguments_code es p k) _ (arguments_all es p k) (tt, tt)

@@ -1,10 +1,10 @@
 -- The tree: a changed node concerns the one above it alone.
-use Rattle.std.proofs.Common.{◌≡◌, ◌≢◌, ℕ, zero, suc, ◌+◌, ◌*◌, ◌/◌, ◌<◌, ◌≤◌, ◌⊎◌, inl, inr, Bool, true, false, ◌||◌, List, length, replicate, refl, arith, slice_set}
-use Rattle.std.proofs.lemmas.List.{get_or-set_same, get_or-set_other, length-set, length-replicate, get_or-replicate}
+use Rattle.std.proofs.Common.{◌≡◌, ◌≢◌, ℕ, zero, suc, ◌+◌, ◌*◌, ◌/◌, ◌<◌, ◌≤◌, ◌⊎◌, inl, inr, Bool, true, false, ◌||◌, List, length, refl, arith, slice_set}
+use Rattle.std.proofs.lemmas.List.{get_or-set_same, get_or-set_other, length-set}
 use Rattle.ready_tree.specs.declared.bounds.Bounds.{Bounds}
 use Rattle.ready_tree.specs.declared.needs.Needs.{Needs}
 use Rattle.ready_tree.specs.Needs.{is_some_met, IsJoin}
-use Rattle.ready_tree.specs.Nodes.{doubled, IsLevel, IsWhole, IsNode, AreJoined, AreJoinedBut, node_at, no_needs, IsBlank}
+use Rattle.ready_tree.specs.Nodes.{doubled, IsLevel, IsWhole, IsNode, AreJoinedBut, node_at, no_needs}
 
 -- ---- levels
 
@@ -50,10 +50,6 @@ none_below bounds nodes i j is (inr e) none =
 
 -- ---- a change
 
--- nothing is excepted where the exception is no inner node
-pub no_exception : (nodes : List Needs) → AreJoinedBut nodes 0 → AreJoined nodes
-no_exception nodes a = record { whole = a.whole; node = λ i some below. a.node i some below (λ e. absurd (omega arith)) }
-
 pub whole_set : (nodes : List Needs) (i : ℕ) (value : Needs) → IsWhole nodes → IsWhole (slice_set nodes i value)
 whole_set nodes i value w = record {
   some = rw (length-set nodes i value) w.some;
@@ -79,32 +75,3 @@ step_up nodes n value a v some below = record {
   whole = whole_set nodes n value a.whole;
   node = λ i some_i below_i other. set_node nodes n value a v some below i some_i (rw (length-set nodes n value) at below_i) other (same_or_not i n);
 }
-
--- a leaf that is set excepts the node above it
-pub leaf_set : (nodes : List Needs) (leaf : ℕ) (value : Needs) → AreJoined nodes → length nodes / 2 ≤ leaf → leaf < length nodes → AreJoinedBut (slice_set nodes leaf value) (leaf / 2)
-leaf_set nodes leaf value a behind there = record {
-  whole = whole_set nodes leaf value a.whole;
-  node = λ i some below other.
-      let below_half : i < length nodes / 2 = rw (length-set nodes leaf value) at below in
-      rw (get_or-set_other nodes leaf i value no_needs (λ e. absurd (omega arith)), get_or-set_other nodes leaf (2 * i) value no_needs (λ e. other (omega arith)), get_or-set_other nodes leaf (2 * i + 1) value no_needs (λ e. other (omega arith)))
-      (a.node i some below_half);
-}
-
--- ---- a blank tree
-
-or_same : (a : Bool) → a ≡ (a || a)
-or_same true = refl
-or_same false = refl
-
-pub blank : (leaves places : ℕ) → 1 ≤ leaves → IsLevel leaves 1 → places < 16 * leaves → IsBlank (replicate (2 * leaves) no_needs) places
-blank leaves places some level enough =
-    let long : length (replicate (2 * leaves) no_needs) ≡ 2 * leaves = length-replicate (2 * leaves) no_needs in
-    let half : length (replicate (2 * leaves) no_needs) / 2 ≡ leaves = omega arith in
-    record {
-      joined = record {
-        whole = record { some = omega arith; even = omega arith; level = rw half level };
-        node = λ i some_i below. rw (get_or-replicate (2 * leaves) i no_needs no_needs (omega arith), get_or-replicate (2 * leaves) (2 * i) no_needs no_needs (omega arith), get_or-replicate (2 * leaves) (2 * i + 1) no_needs no_needs (omega arith))
-            (record { met = λ bounds. or_same (is_some_met bounds no_needs) });
-      };
-      enough = rw half enough;
-    }

@@ -1,96 +1,17 @@
 -- Places, and the tree above their blocks.
-use Rattle.std.proofs.Common.{◌≡◌, ◌≢◌, ℕ, zero, suc, ◌+◌, ◌-◌, ◌*◌, ◌/◌, ◌<◌, ◌≤◌, ◌⊎◌, inl, inr, Bool, true, false, Option, Some, None, List, [], ◌∷◌, ◌++◌, length, take, nat_lt, cond, filter, position, refl, ◌∙◌, sym, ap, arith, slice_set}
-use Rattle.std.proofs.lemmas.List.{get_or-set_same, get_or-set_other, length-set, length_push, get_or_append_left, take_more, append-nil, length-append}
+use Rattle.std.proofs.Common.{◌≡◌, ℕ, zero, suc, ◌+◌, ◌-◌, ◌*◌, ◌/◌, ◌<◌, ◌≤◌, Bool, true, false, Option, Some, None, List, [], ◌∷◌, ◌++◌, length, take, nat_lt, cond, filter, position, refl, ◌∙◌, sym, ap, arith, slice_set}
+use Rattle.std.proofs.lemmas.List.{length_push, take_more, length-append}
 use Rattle.std.proofs.lemmas.Bool.Decides.{nat_tests}
 use Rattle.std.proofs.lemmas.List.Sums.{position_or_len_is}
 use Rattle.std.specs.List.{position_or_len}
-use Rattle.ready_tree.specs.declared.bounds.Bounds.{Bounds}
 use Rattle.ready_tree.specs.declared.entries.Entry.{Entry}
 use Rattle.ready_tree.specs.declared.needs.Needs.{Needs}
 use Rattle.ready_tree.specs.Needs.{is_some_met}
-use Rattle.ready_tree.specs.Nodes.{doubled, AreJoined, AreJoinedBut, node_at, no_needs}
-use Rattle.ready_tree.specs.Entries.{entries_of, place_at, may_go, is_taken}
-use Rattle.ready_tree.specs.Trees.{Covers, CoversAll, HasPlaces, IsAbove, IsAboveBut, IsAboveIf, IsBlankIf}
+use Rattle.ready_tree.specs.Nodes.{doubled, node_at}
+use Rattle.ready_tree.specs.Entries.{entries_of, place_at, is_taken}
+use Rattle.ready_tree.specs.Trees.{Covers, CoversAll, IsAbove}
 use Rattle.ready_tree.proofs.NextLaws.{unmet_below}
-use Rattle.ready_tree.proofs.NodeLaws.{doubled_more, leaf_set}
-
--- ---- what isn't met below a node that isn't
-
-unmet : (a b : Bool) → (a ≡ true → b ≡ true) → b ≡ false → a ≡ false
-unmet true b up none = let e : b ≡ true = up refl in absurd (cc)
-unmet false b up none = refl
-
-pub not_met : (bounds : Bounds) (needs : Needs) (place : Option Entry) → Covers needs place → is_some_met bounds needs ≡ false → may_go bounds place ≡ false
-not_met bounds needs place covers none = unmet (may_go bounds place) (is_some_met bounds needs) (covers.met bounds) none
-
--- a place before the blocks that are skipped
-pub skipped_place : (bounds : Bounds) (nodes : List Needs) (places : List (Option Entry)) (leaf place : ℕ) → IsAbove nodes places →
-    ((other : ℕ) → length nodes / 2 ≤ other → other < leaf → is_some_met bounds (node_at nodes other) ≡ false) →
-    place / 16 < leaf - length nodes / 2 → place < length places → may_go bounds (place_at places place) ≡ false
-skipped_place bounds nodes places leaf place above before in_block there =
-    not_met bounds (node_at nodes (length nodes / 2 + place / 16)) (place_at places place) (above.covers place there) (before (length nodes / 2 + place / 16) (omega arith) (omega arith))
-
--- ---- a change
-
-same_or_not : (i n : ℕ) → (i ≡ n) ⊎ (i ≢ n)
-same_or_not i n = grind arith
-
--- one more at the end
-pub above_push : (nodes : List Needs) (places : List (Option Entry)) (entry : Option Entry) → IsAbove nodes places → length places < 16 * (length nodes / 2) →
-    IsAboveBut nodes (places ++ entry ∷ []) (length places / 16)
-above_push nodes places entry above room = record {
-  joined = above.joined;
-  fits = let long : length (places ++ entry ∷ []) ≡ length places + 1 = length_push places entry in omega arith;
-  covers = λ place there other.
-      let long : length (places ++ entry ∷ []) ≡ length places + 1 = length_push places entry in
-      let apart : place ≢ length places = λ e. other (ap (λ n. n / 16) e) in
-      let below : place < length places = omega arith in
-      rw (get_or_append_left places (entry ∷ []) None place below) (above.covers place below);
-}
-
--- another at a place
-pub above_set : (nodes : List Needs) (places : List (Option Entry)) (place : ℕ) (entry : Option Entry) → IsAbove nodes places →
-    IsAboveBut nodes (slice_set places place entry) (place / 16)
-above_set nodes places place entry above = record {
-  joined = above.joined;
-  fits = rw (length-set places place entry) above.fits;
-  covers = λ other there apart.
-      let below : other < length places = rw (length-set places place entry) at there in
-      rw (get_or-set_other places place other entry None (λ e. apart (ap (λ n. n / 16) e))) (above.covers other below);
-}
-
--- the leaf of the block is set
-pub leaf_but : (nodes : List Needs) (places : List (Option Entry)) (place : ℕ) (value : Needs) → IsAboveBut nodes places (place / 16) → place < length places →
-    AreJoinedBut (slice_set nodes (length nodes / 2 + place / 16) value) ((length nodes / 2 + place / 16) / 2)
-leaf_but nodes places place value but there =
-    let fits : length places ≤ 16 * (length nodes / 2) = but.fits in
-    let even : length nodes ≡ 2 * (length nodes / 2) = but.joined.whole.even in
-    leaf_set nodes (length nodes / 2 + place / 16) value but.joined (omega arith) (omega arith)
-
-covers_at : (nodes renewed : List Needs) (places : List (Option Entry)) (block other : ℕ) (value : Needs) → IsAboveBut nodes places block →
-    length nodes / 2 + block < length nodes →
-    node_at renewed (length nodes / 2 + other / 16) ≡ node_at (slice_set nodes (length nodes / 2 + block) value) (length nodes / 2 + other / 16) →
-    (other / 16 ≡ block → Covers value (place_at places other)) → other < length places → (other / 16 ≡ block) ⊎ (other / 16 ≢ block) →
-    Covers (node_at renewed (length nodes / 2 + other / 16)) (place_at places other)
-covers_at nodes renewed places block other value but inside same covers there (inl e) =
-    rw (same, e, get_or-set_same nodes (length nodes / 2 + block) value no_needs inside) (covers e)
-covers_at nodes renewed places block other value but inside same covers there (inr d) =
-    rw (same, get_or-set_other nodes (length nodes / 2 + block) (length nodes / 2 + other / 16) value no_needs (λ e. d (omega arith))) (but.covers other there d)
-
--- and the nodes above it are renewed
-pub renewed_above : (nodes renewed : List Needs) (places : List (Option Entry)) (place : ℕ) (value : Needs) → IsAboveBut nodes places (place / 16) → place < length places →
-    length renewed ≡ length nodes → AreJoined renewed →
-    ((leaf : ℕ) → length nodes / 2 ≤ leaf → node_at renewed leaf ≡ node_at (slice_set nodes (length nodes / 2 + place / 16) value) leaf) →
-    ((other : ℕ) → other < length places → other / 16 ≡ place / 16 → Covers value (place_at places other)) → IsAbove renewed places
-renewed_above nodes renewed places place value but there long joined leaves covers =
-    let fits : length places ≤ 16 * (length nodes / 2) = but.fits in
-    let even : length nodes ≡ 2 * (length nodes / 2) = but.joined.whole.even in
-    record {
-      joined = joined;
-      fits = rw long but.fits;
-      covers = λ other below.
-          rw long (covers_at nodes renewed places (place / 16) other value but (omega arith) (leaves (length nodes / 2 + other / 16) (omega arith)) (covers other below) below (same_or_not (other / 16) (place / 16)));
-    }
+use Rattle.ready_tree.proofs.NodeLaws.{doubled_more}
 
 -- ---- threads at places
 
@@ -132,16 +53,6 @@ emptied_some (Some other ∷ places) (suc place) entry some = ap suc (emptied_so
 
 -- ---- gathering
 
--- one more place was looked at
-pub entries_more_none : (places : List (Option Entry)) (i : ℕ) → i < length places → place_at places i ≡ None → entries_of (take (i + 1) places) ≡ entries_of (take i places)
-entries_more_none places i there none =
-    ap entries_of (take_more places i None there ∙ ap (λ place. take i places ++ place ∷ []) none) ∙ entries-append (take i places) (None ∷ []) ∙ append-nil (entries_of (take i places))
-
-pub entries_more_some : (places : List (Option Entry)) (i : ℕ) (entry : Entry) → i < length places → place_at places i ≡ Some entry →
-    entries_of (take (i + 1) places) ≡ entries_of (take i places) ++ entry ∷ []
-entries_more_some places i entry there some =
-    ap entries_of (take_more places i None there ∙ ap (λ place. take i places ++ place ∷ []) some) ∙ entries_push (take i places) entry
-
 -- the places without the empty ones
 pub entries_gathered : (places : List (Option Entry)) → entries_of (filter is_taken places) ≡ entries_of places
 entries_gathered [] = refl
@@ -171,13 +82,6 @@ pub first_none : (test : Option Entry → Bool) (places : List (Option Entry)) �
 first_none test places none =
     let e : position_or_len test places ≡ length places = position_or_len_is test places (length places) None (omega arith) (λ k h. none k h) (λ h. absurd (omega arith)) in
     sym (ap (λ (k : ℕ). cond (nat_lt k (length places)) (Some k) None) e ∙ none_is (length places) (length places) (omega arith))
-
--- no place stands above no threads
-pub blank_above : (nodes : List Needs) (count : ℕ) → IsBlankIf nodes count → IsAboveIf nodes []
-blank_above nodes count blank = λ some. record { joined = (blank some).joined; fits = omega arith; covers = λ place there. absurd (omega arith) }
-
-pub blank_room : (nodes : List Needs) (count : ℕ) → IsBlankIf nodes count → HasPlaces nodes count
-blank_room nodes count blank = λ some. (blank some).enough
 
 -- ---- one thread more
 

@@ -63,10 +63,6 @@ pub record IsShown (caps : List ℕ) (change places : List ℤ) (used r : ℕ) :
   pub eight : length change ≡ 8
   pub parts : take used places ++ given (drop r caps) (drop r change) ≡ shown caps change
 
-shown_first : (caps : List ℕ) (change : List ℤ) → 0 < length change → get_or change 0 (pos 0) ∷ given (drop 1 caps) (drop 1 change) ≡ shown caps change
-shown_first caps [] h = absurd (omega (arith, h))
-shown_first caps (d ∷ ds) h = refl
-
 pub shown_skip : (caps : List ℕ) (change places : List ℤ) (used r : ℕ) → r < 8 → get_or caps r 0 ≡ 0 → IsShown caps change places used r → IsShown caps change places used (r + 1)
 shown_skip caps change places used r below e is = record {
   some = is.some;

@@ -1,6 +1,5 @@
 -- A choice point that goes on: the event that is next, and its delivery.
-use Rattle.std.proofs.Common.{◌≡◌, ℕ, ◌+◌, ◌-◌, ◌*◌, ◌<◌, Bool, Option, Some, None, ap, ◌∙◌, arith, if◌then◌else◌}
-use Rattle.event_trace.specs.Lines.{FitsKind}
+use Rattle.std.proofs.Common.{◌≡◌, ℕ, ◌+◌, ◌-◌, ◌*◌, ◌<◌, Bool, Option, Some, None, ap, ◌∙◌, arith}
 use Rattle.choice_rules.specs.Deliveries.{delivery_of}
 use Rattle.event_trace.specs.declared.events.Event.{Event}
 use Rattle.event_trace.specs.declared.events.EventKind.{EventKind}
@@ -15,17 +14,13 @@ use Rattle.run_course.specs.Ranks.{long_rank, lines_rank, next_rank, under_rank}
 use Rattle.run_course.specs.Stands.{IsAtPoint}
 use Rattle.run_course.specs.Rest.{Rest}
 use Rattle.run_course.proofs.Came.{same_cost, same_count}
-use Rattle.thread_core.specs.Making.{IsEventInRange, after_event}
+use Rattle.thread_core.specs.Making.{after_event}
 use Rattle.thread_core.specs.Worlds.{Held}
 
 known_event : (n : Next) (event : Event) → known n ≡ Some (Some event) → n ≡ Next.Event event
 known_event Next.Unread event e = absurd (cc)
 known_event (Next.Event other) event e = let same : other ≡ event = cc in ap Next.Event same
 known_event Next.Over event e = absurd (cc)
-
-range_by : (kind : EventKind) → FitsKind kind → IsEventInRange kind
-range_by (EventKind.Arrive value) fits = tt
-range_by (EventKind.Message channel value) fits = let most = fits.0 in omega (arith, most)
 
 module _ (g : Setup) (state : State) (k : Kept) (held : Held) (left : Rest) (next : Option Event) (at : IsAtPoint g state k held left next) where
   pub resting : held.machine.running ≡ None

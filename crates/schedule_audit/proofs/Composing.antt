@@ -8,7 +8,6 @@ use Rattle.event_trace.specs.declared.events.Event.{Event}
 use Rattle.lawful_reading.specs.Given.{Given}
 use Rattle.lawful_reading.specs.State as reading
 use Rattle.lawful_reading.specs.State.{Segment, State, seen_of}
-use Rattle.lawful_reading.proofs.Once.{none_after}
 use Rattle.schedule_log.specs.declared.entries.Entry.{Entry}
 use Rattle.schedule_log.specs.declared.entries.Item.{Item}
 use Rattle.schedule_reading.specs.declared.reading.End.{End}
@@ -103,10 +102,3 @@ line_rules g state old line told new told' entry (Ok ruling.Allowed) is one r = 
 line_rules g state old line told new told' entry (Ok ruling.Refused) is one r = λ t other l. subst (λ (e : Entry). Refuses g state e) (sym (one other l)) (r t)
 line_rules g state old line told new told' entry (Ok ruling.OutOfSteps) is one r = (entry, is, r)
 line_rules g state old line told new told' entry (Err failure) is one r = tt
-
--- after the stop no line is allowed
-pub line_over : (g : Given) (state : State) (old : Kept) (line : List ℕ) (told : Option (List ℕ)) (new : Kept) (told' : Option (List ℕ)) → state.end ≡ reading.Stopped → state.segment ≡ None → RulesLine g state old line told new told' (Ok ruling.Refused)
-line_over g state old line told new told' stopped none = λ t entry l. record {
-  refused = λ after. none_after g state entry after stopped;
-  enough = not_beyond g state entry none;
-}

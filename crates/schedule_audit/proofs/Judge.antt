@@ -25,6 +25,7 @@ use Rattle.schedule_reading.specs.Kept.{Kept}
 use Rattle.schedule_reading.specs.Rulings.{Allows}
 use Rattle.schedule_reading.specs.Stands.{IsEnd, IsTold, IsTraceOf, Stands}
 use Rattle.lawful_reading.specs.Verdicts.{IsVerdictOf}
+use Rattle.lawful_reading.proofs.Verdicts.{cut_lines}
 
 -- ---- the first line feed
 
@@ -82,25 +83,6 @@ none_by false xs e f = lacks_all xs (grind (arith, nat_tests, e))
 
 pub none_left : (xs : List ℕ) → position feed xs ≡ None → Lacks 10 xs
 none_left xs e = none_by (nat_lt (position_or_len feed xs) (length xs)) xs refl e
-
--- ---- two lines at the beginning of one text
-
-tails : (x y : ℕ) (xs ys : List ℕ) → x ∷ xs ≡ y ∷ ys → xs ≡ ys
-tails x y xs ys e = cc
-
-heads : (x y : ℕ) (xs ys : List ℕ) → x ∷ xs ≡ y ∷ ys → x ≡ y
-heads x y xs ys e = cc
-
-no_feed : (y : ℕ) → 10 ≡ y → (y == 10) ≡ false → ⊥
-no_feed y e h = let no : true ≡ false = subst (λ (n : ℕ). (n == 10) ≡ false) (sym e) h in absurd (cc)
-
-cut_lines : (xs ys u v : List ℕ) → Lacks 10 xs → Lacks 10 ys → xs ++ 10 ∷ u ≡ ys ++ 10 ∷ v → (xs ≡ ys) × (u ≡ v)
-cut_lines [] [] u v a b e = (refl, tails 10 10 u v e)
-cut_lines [] (y ∷ ys) u v a b e = absurd (no_feed y (heads 10 y u (ys ++ 10 ∷ v) e) b.0)
-cut_lines (x ∷ xs) [] u v a b e = absurd (no_feed x (sym (heads x 10 (xs ++ 10 ∷ u) v e)) a.0)
-cut_lines (x ∷ xs) (y ∷ ys) u v a b e =
-    let rest = cut_lines xs ys u v a.1 b.1 (tails x y (xs ++ 10 ∷ u) (ys ++ 10 ∷ v) e) in
-    (ap (λ (n : ℕ). n ∷ xs) (heads x y (xs ++ 10 ∷ u) (ys ++ 10 ∷ v) e) ∙ ap (λ (l : List ℕ). y ∷ l) rest.0, rest.1)
 
 lacks_not : (xs ys : List ℕ) (u : List ℕ) → Lacks 10 (xs ++ 10 ∷ u) → ⊥
 lacks_not [] ys u l = absurd (let no : true ≡ false = l.0 in cc)

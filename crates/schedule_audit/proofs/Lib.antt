@@ -2,3 +2,4 @@ pub mod Composing
 pub mod Judge
 pub mod Lined
 pub mod Judged
+pub mod OtherOuts

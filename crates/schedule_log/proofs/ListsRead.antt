@@ -1,12 +1,11 @@
 -- A list of numbers, of which the first were read and the fields of the others are left.
-use Rattle.std.proofs.Common.{◌≡◌, ℕ, zero, suc, ◌+◌, ◌<◌, ◌≤◌, List, [], ◌∷◌, ◌++◌, length, take, drop, set, map, ap, sym, ◌∙◌, arith, length-append, Bool, false, ◌==◌, Option, Some, None, IfSome, IfNone}
+use Rattle.std.proofs.Common.{◌≡◌, ℕ, zero, suc, ◌+◌, ◌<◌, List, [], ◌∷◌, ◌++◌, length, drop, map, ap, sym, ◌∙◌, arith, Bool, false, ◌==◌, Option, Some, None, IfSome, IfNone}
 use Rattle.cap_text.specs.Decimals.{canonical_decimal}
 use Rattle.cap_text.specs.Pieces.{pieces}
 use Rattle.schedule_log.specs.EntryRanges.{FitsKey}
 use Rattle.schedule_log.specs.EntryText.{key_field}
 use Rattle.schedule_log.proofs.KeyPieces.{key_pieces, key_of_pieces}
 use Rattle.std.specs.List.{AllByRecursion}
-use Rattle.std.proofs.lemmas.List.{length-map, map_push, take_more_set, append_assoc}
 
 pub if_none : {T : Type 0} {P : Type 0} (o : Option T) → P → IfNone o P
 if_none None p = p
@@ -22,10 +21,6 @@ all_drop P zero all h = h
 all_drop P (suc n) [] h = tt
 all_drop P (suc n) (x ∷ all) h = all_drop P n all h.1
 
-pub all_push : {A : Type 0} (P : A → Type 0) (xs : List A) (x : A) → AllByRecursion P xs → P x → AllByRecursion P (xs ++ x ∷ [])
-all_push P [] x h p = (p, tt)
-all_push P (y ∷ xs) x h p = (h.0, all_push P xs x h.1 p)
-
 -- what is left begins with the field of the next number
 pub no_next : {A : Type 0} (P : A → Type 0) (f : A → List ℕ) (read : List A) (left : List (List ℕ)) (all : List A) → AllByRecursion P all → map f read ++ left ≡ map f all
     → 0 < length left → ((x : A) (rest : List (List ℕ)) → P x → left ≡ f x ∷ rest → ⊥) → ⊥
@@ -34,21 +29,6 @@ no_next {A} P f read left all h e some none = next (drop (length read) all) (all
     next : (others : List A) → AllByRecursion P others → left ≡ map f others → ⊥
     next [] g is = omega (arith, ap length is)
     next (x ∷ others) g is = none x (map f others) g.0 is
-
--- more than the most
-pub too_many : {A : Type 0} (f : A → List ℕ) (read : List A) (left : List (List ℕ)) (all : List A) → map f read ++ left ≡ map f all → length read ≡ 8 → 0 < length left → length all ≤ 8 → ⊥
-too_many f read left all e eight some most =
-    omega (arith, ap length e, length-append (map f read) left, length-map read f, length-map all f)
-
--- one more number
-pub read_more : {A : Type 0} (f : A → List ℕ) (places : List A) (i : ℕ) (x : A) (all left rest : List (List ℕ)) → i < length places → all ≡ map f (take i places) ++ left → left ≡ f x ∷ rest
-    → all ≡ map f (take (i + 1) (set places i x)) ++ rest
-read_more f places i x all left rest l e is =
-    e ∙ ap (λ y. map f (take i places) ++ y) is ∙ sym (append_assoc (map f (take i places)) (f x ∷ []) rest)
-    ∙ ap (λ y. y ++ rest) (sym (map_push f (take i places) x) ∙ ap (map f) (sym (take_more_set places i x l)))
-
-pub all_more : {A : Type 0} (P : A → Type 0) (places : List A) (i : ℕ) (x : A) → i < length places → AllByRecursion P (take i places) → P x → AllByRecursion P (take (i + 1) (set places i x))
-all_more P places i x l h p = rw (take_more_set places i x l) (all_push P (take i places) x h p)
 
 pub some_fields : (fields : List (List ℕ)) (b : Bool) → b ≡ (length fields == 0) → b ≡ false → 0 < length fields
 some_fields [] b e f = absurd (cc)

@@ -10,7 +10,7 @@ use Rattle.scheduler.specs.LawfulChoice.{is_eligible, IsLawfulChoice}
 use Rattle.scheduler.specs.Scores.{score}
 use Rattle.scheduler.specs.State.{SchedulerState, AreKnown, IsNoted, IsTaken, last_of, queue_of}
 use Rattle.scheduler.specs.declared.choices.Choice.{Choice}
-use Rattle.source_runs.specs.Layouts.{IsReady, tree_of}
+use Rattle.source_runs.specs.Layouts.{tree_of}
 use Rattle.source_runs.specs.declared.frames.Thread.{Thread}
 use Rattle.schedule_reading.specs.declared.reading.Under.{Under}
 use Rattle.schedule_reading.specs.Changes.{HasBegun, MayBegin}
@@ -45,9 +45,6 @@ module _ (g : Given) (state : State) (view whole : Kept) (same : view ≡ whole)
       let cost = chooses.stands.counted.most_cost in
       let fuel = chooses.stands.of.most_fuel in
       omega (arith, noted, cost, fuel)
-
-  pub is_ready : IsReady k.interpreter
-  is_ready = chooses.stands.of.ready
 
   module _ (uses : List ℕ) (within_whole : (r : ℕ) → r < 8 → slice_index uses r ≤ cap_in whole.core r) where
     within : (r : ℕ) → r < 8 → slice_index uses r ≤ cap_in k r

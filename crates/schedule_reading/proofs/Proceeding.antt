@@ -9,12 +9,12 @@ use Rattle.blocking_graph.specs.Edges.{count_of}
 use Rattle.choice_rules.specs.EdgeLines.{edge_entry}
 use Rattle.choice_rules.specs.Policy.{all_caps}
 use Rattle.lawful_reading.specs.Given.{Given, chunks_of}
-use Rattle.lawful_reading.specs.Happenings.{ComesAt, IsSilent, PutsNext, RestsNext}
+use Rattle.lawful_reading.specs.Happenings.{ComesAt, IsSilent, PutsNext}
 use Rattle.lawful_reading.specs.Reading.{IsBeyond, Needs}
 use Rattle.lawful_reading.specs.Segments.{IsOut}
 use Rattle.lawful_reading.specs.State as reading
 use Rattle.lawful_reading.specs.State.{Segment, State}
-use Rattle.lawful_reading.proofs.Moves.{not_put_and_rest, one_put, silent_puts, silent_rests}
+use Rattle.lawful_reading.proofs.Moves.{one_put, silent_puts, silent_rests}
 use Rattle.schedule_log.specs.declared.entries.Entry.{Entry}
 use Rattle.resource_monitor.specs.Monitor.{NoneAbove}
 use Rattle.scheduler.specs.declared.choices.Choice.{Choice}
@@ -266,11 +266,3 @@ module _ (g : Given) (state : State) (old : Core) (old_under : Under) (k : Core)
         records = let few = h.records in omega (arith, same, few);
         keys = let few = h.keys in omega (arith, same, few);
       }
-
-  -- ---- no output comes
-
-  pub out_rests : (thread : ℕ) (value : ℤ) (after : State) (segment : Segment) (steps : ℕ) (rested : source.Rested) → state.segment ≡ Some segment → RestsNext g.program g.policy.caps segment.here steps rested → IsOut g state thread value after → ⊥
-  out_rests thread value after segment steps rested under_way rests q =
-      let same : q.segment ≡ segment = same_segment state q.segment segment q.under_way under_way in
-      let puts : PutsNext g.program g.policy.caps segment.here q.steps q.word q.here = subst (λ (s : Segment). PutsNext g.program g.policy.caps s.here q.steps q.word q.here) same q.puts in
-      not_put_and_rest g.program g.policy.caps segment.here q.here q.steps steps q.word rested puts rests

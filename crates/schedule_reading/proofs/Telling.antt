@@ -1,5 +1,5 @@
 -- What threads tell of themselves: what they wait for, and what they need.
-use Rattle.std.proofs.Common.{◌≡◌, ℕ, Bool, true, false, List, Option, Some, None, IsSome, option_map, refl, sym, ap, ◌∙◌, if◌then◌else◌, nat_eq}
+use Rattle.std.proofs.Common.{◌≡◌, ℕ, Bool, true, false, List, Option, Some, None, option_map, refl, sym, ap, ◌∙◌, if◌then◌else◌, nat_eq}
 use Rattle.cap_word.specs.declared.calls.Block.{Block}
 use Rattle.cap_word.specs.declared.threads.ThreadId.{ThreadId}
 use Rattle.c_mean.specs.ModelledCalls.{Exchange}
@@ -26,10 +26,6 @@ at_of places thread (Some slot) wait e = at_by (nat_eq slot.number thread.number
 -- what a thread waits for is waited for at its place
 pub waits_at : (slots : Slab Slot) (places : List (Option Wait)) (thread : ThreadId) (wait : Wait) → waits_in slots places thread ≡ Some wait → at_place places thread.slot ≡ Some wait
 waits_at slots places thread wait e = at_of places thread (get slots thread.slot) wait e
-
-some_at : (slots : Slab Slot) (places : List (Option Wait)) (thread : ThreadId) (o : Option Wait) → waits_in slots places thread ≡ o → IsSome o → at_place places thread.slot ≡ o
-some_at slots places thread None e some = absurd (cc)
-some_at slots places thread (Some wait) e some = waits_at slots places thread wait e
 
 -- nobody is vouched for who waits for nothing
 vouched_on : (slots : Slab Slot) (places : List (Option Wait)) (thread : ThreadId) (need : Need) (o : Option Wait) → waits_in slots places thread ≡ o → option_map need_for o ≡ Some need → at_place places thread.slot ≡ None → ⊥

@@ -7,13 +7,12 @@ use Rattle.std.proofs.lemmas.Bool.{cases_eq}
 use Rattle.std.proofs.lemmas.Bool.Decides.{nat_tests}
 use Rattle.cap_word.specs.declared.threads.ThreadId.{ThreadId}
 use Rattle.ready_tree.specs.declared.entries.Entry.{Entry}
-use Rattle.ready_tree.specs.Entries.{entries_of}
 use Rattle.scheduler.specs.declared.choices.Choice.{Choice}
 use Rattle.scheduler.specs.declared.choosing.Candidate.{Candidate}
 use Rattle.scheduler.specs.declared.finding.Found.{Found}
 use Rattle.scheduler.specs.declared.scores.Rank.{Rank}
 use Rattle.scheduler.specs.LawfulChoice.{IsLawfulChoice}
-use Rattle.scheduler.specs.Queues.{queue_in, places_in, places_of, threads_of, passes_at}
+use Rattle.scheduler.specs.Queues.{queue_in, places_in, passes_at}
 use Rattle.blocking_graph.specs.declared.edges.EdgeLine.{EdgeLine}
 use Rattle.resource_monitor.specs.Monitor.{MonitorState}
 use Rattle.scheduler.specs.Scores.{comes_before, score, score_by}
@@ -45,15 +44,6 @@ pub passed_before : (node : ℕ) (queue : List (Option Entry)) (left rest : List
 passed_before node queue left rest next other none ne = subst (λ es. lookup (is_at (nat_cmp other)) es ≡ None) (sym next) (not_there node queue rest other ne none)
 
 module _ (eligible : ThreadId → Bool) (score : ℕ → ℤ) (last : ℕ → ℕ) (queues : BTreeMap ℕ (List (Option Entry))) where
-  -- ---- before any node was looked at
-
-  pub IsBestOf-none : (seen : ℕ → Type 0) → ((node : ℕ) → IsSome (find eligible (queue_in queues node)) → seen node → ⊥) → IsBestOf eligible score last queues seen None
-  IsBestOf-none seen none = record { ranked = tt; first = tt; place = tt; least = none }
-
-  pub none_passed : (node : ℕ) → IsSome (find eligible (queue_in queues node)) → IsPassed queues.entries node → ⊥
-  none_passed node some none =
-      not_none (find eligible (queue_in queues node)) (ap (λ (o : Option (List (Option Entry))). find eligible (threads_of (entries_of (places_of o)))) none) some
-
   -- ---- one node more
 
   below_by_rank : (a b : Rank) → IsRankOf score last a → IsRankOf score last b → is_rank_below a b ≡ comes_before score last a.node b.node

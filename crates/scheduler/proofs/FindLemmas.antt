@@ -9,7 +9,7 @@ use Rattle.ready_tree.specs.declared.entries.Entry.{Entry}
 use Rattle.ready_tree.specs.declared.needs.Need.{Need}
 use Rattle.ready_tree.specs.Entries.{entries_of, may_go}
 use Rattle.ready_tree.specs.Needs.{is_met, is_arrival}
-use Rattle.scheduler.specs.Queues.{AreExact, entries_in, passes_at, places_of, queues_of}
+use Rattle.scheduler.specs.Queues.{AreExact, entries_in, passes_at, queues_of}
 use Rattle.scheduler.proofs.QueueLemmas.{same_first}
 use Rattle.scheduler.proofs.StateLemmas.{entries_are}
 
@@ -46,12 +46,6 @@ exact_first bounds test places exact =
 pub all_map : {X : Type 0} (P Q : X → Type 0) (xs : List X) → ((x : X) → P x → Q x) → AllByRecursion P xs → AllByRecursion Q xs
 all_map P Q [] goes all = tt
 all_map P Q (x ∷ xs) goes all = (goes x all.0, all_map P Q xs goes all.1)
-
--- the needs of one queue say who passes where those of all do
-pub exact_here : (given : Bounds) (test : ThreadId → Bool) (queues : BTreeMap ℕ (List (Option Entry))) (node : ℕ) (queue : List (Option Entry)) → get nat_cmp queues node ≡ Some queue →
-    ((other : ℕ) → AreExact given test (entries_in queues other)) → AreExact given test (entries_of queue)
-exact_here given test queues node queue there known =
-    subst (λ (o : Option (List (Option Entry))). AreExact given test (entries_of (places_of o))) there (known node)
 
 -- the needs that a world vouches for say who passes, where the bounds do for each such need
 pub all_exact : (queues : BTreeMap ℕ (List (Option Entry))) (count : ℕ) → ((node : ℕ) → IsSome (get nat_cmp queues node) → node < count) → (vouches : ThreadId → Need → Type 0) (given : Bounds) (test : ThreadId → Bool) →

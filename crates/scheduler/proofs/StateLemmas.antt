@@ -1,6 +1,5 @@
 -- The state of a scheduler after one step on its queues.
 use Rattle.std.proofs.Common.{◌≡◌, ◌≢◌, ℕ, ◌+◌, ◌<◌, ◌≤◌, Bool, IsSome, ℤ, Option, Some, None, Contains, List, [], ◌∷◌, ◌++◌, length, map, set, get_or, get_or-set_same, get_or-set_other, slice_index, refl, sym, ap, ◌∙◌, subst, arith, rules, ⊎_elim}
-use Rattle.std.specs.List.{range_with_len}
 use Rattle.std.specs.BTreeMap.{BTreeMap, get}
 use Rattle.std.specs.Ordering.{nat_cmp}
 use Rattle.std.proofs.Math.Path.{fun_ext}
@@ -52,9 +51,6 @@ pub node-placed : (queues : BTreeMap ℕ (List (Option Entry))) (count node : �
     Contains (queue_in queues node) thread → node < count
 node-placed queues count node thread placed queued = placed node (some_entries (get nat_cmp queues node) (omega (arith, queued.1)))
 
-abbrev state_by : (ℕ → List Entry) → List ℕ → ℕ → SchedulerState
-state_by queue lasts count = record { queues = map queue (range_with_len 0 (length lasts)); lasts = lasts; noted = count }
-
 abbrev pub state_of : BTreeMap ℕ (List (Option Entry)) → List ℕ → ℕ → SchedulerState
 state_of queues lasts count = record { queues = queues_of queues (length lasts); lasts = lasts; noted = count }
 
@@ -91,12 +87,6 @@ joined_of old new node entry told same noted = record {
   lasts = same;
   noted = noted;
 }
-
--- a thread didn't join, and the places are as many as before
-pub unjoined_of : (queues new_queues : BTreeMap ℕ (List (Option Entry))) (old new : List ℕ) (count : ℕ) → new ≡ old →
-    ((other : ℕ) → entries_in new_queues other ≡ entries_in queues other) → state_of new_queues new count ≡ state_of queues old count
-unjoined_of queues new_queues old new count same each =
-    ap (λ (lasts : List ℕ). state_of new_queues lasts count) same ∙ ap (λ (queue : ℕ → List Entry). state_by queue old count) (fun_ext each)
 
 -- ---- a choice's thread left its queue, and its node's last was set
 

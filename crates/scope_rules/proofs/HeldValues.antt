@@ -27,8 +27,3 @@ pushed_pair_fact P F r (Err x) m e h = absurd m
 pub both_fact : {S T E : Type 0} (F : Type 0) (r : Result T E) (b : Result (S × T) E) → IfOk b (λ p. r ≡ Ok p.1) → OnOk r F → OnOk b F
 both_fact F r (Ok p) e h = rw e at h
 both_fact F r (Err y) e h = tt
-
--- what follows from two facts that hold where there was room
-pub both_hold : {T E : Type 0} (F G H : Type 0) (r : Result T E) → (F → G → H) → OnOk r F → OnOk r G → OnOk r H
-both_hold F G H (Ok v) f g h = f g h
-both_hold F G H (Err x) f g h = tt

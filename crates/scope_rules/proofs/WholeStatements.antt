@@ -1,19 +1,18 @@
 -- A block, or a statement with a body, that is resolved statement by statement is resolved as a whole.
-use Rattle.std.proofs.Common.{ℕ, ◌≡◌, ◌≤◌, ◌-◌, refl, sym, ap, subst, ◌∙◌, Bool, true, false, List, [], ◌∷◌, ◌++◌, append_assoc, append-nil, length, drop, Option}
+use Rattle.std.proofs.Common.{ℕ, ◌≡◌, ◌≤◌, ◌-◌, refl, sym, ap, subst, ◌∙◌, Bool, true, false, List, [], ◌∷◌, ◌++◌, append_assoc, append-nil, length, Option}
 use Rattle.std.specs.Prelude.{nat_lt, option_map, if◌then◌else◌}
-use Rattle.c_tree.specs.RawTrees.{RawExprTree, RawSimpleTree, RawStmtTree, RawIfElse}
-use Rattle.c_tree.specs.RawViews.{raw_in_order}
+use Rattle.c_tree.specs.RawTrees.{RawExprTree, RawStmtTree, RawIfElse}
+use Rattle.c_tree.specs.RawViews.{raw_in_order, as_body}
 use Rattle.c_tree.specs.Trees.{StmtTree, Block, If, IfElse, While, For}
-use Rattle.c_tree.specs.Views.{in_order}
 use Rattle.scope_rules.specs.declared.faults.Fault.{Fault}
 use Rattle.scope_rules.specs.Expressions.{expr_faults, expr_of}
 use Rattle.scope_rules.specs.Faults.{least_of}
 use Rattle.scope_rules.specs.Kept.{kept_with}
 use Rattle.scope_rules.specs.Making.{Making, with_statement, with_statements, stmts_list, opened, closed, switched, back}
-use Rattle.scope_rules.specs.Openings.{OpeningTree, OpenBlock, OpenIf, OpenWhile, OpenFor, ElseHead, raw_body, whole, body, with_body, head_of, opening_faults, body_start, is_in_loop}
+use Rattle.scope_rules.specs.Openings.{OpeningTree, OpenBlock, OpenIf, OpenWhile, OpenFor, ElseHead, whole, body, with_body, head_of, opening_faults, body_start, is_in_loop}
 use Rattle.scope_rules.specs.Places.{Spot}
 use Rattle.scope_rules.specs.Simples.{simples_of, simples_after, simple_of, simples_faults}
-use Rattle.scope_rules.specs.Statements.{inside, left, step_after, parts_faults, condition_faults, step_faults, stmt_of, stmts_of, stmt_after, stmts_after, stmt_faults, stmts_faults}
+use Rattle.scope_rules.specs.Statements.{inside, left, step_after, condition_faults, step_faults, stmt_of, stmt_after, stmts_after, stmt_faults, stmts_faults}
 use Rattle.scope_rules.proofs.Least.{least_of_append}
 use Rattle.scope_rules.proofs.LeastFaults.{is_not_less}
 use Rattle.scope_rules.proofs.NoFaults.{not_less}
@@ -61,17 +60,17 @@ kept_same site b x y h = kept_same_by site b x y (nat_lt 65535 site) refl h
 
 -- ---- bodies
 
-body_left : (s x : Spot) (ss : List RawStmtTree) → left s (stmt_after (inside x) (raw_body ss)) ≡ left s (stmts_after (inside x) (raw_in_order ss))
+body_left : (s x : Spot) (ss : List RawStmtTree) → left s (stmt_after (inside x) (as_body ss)) ≡ left s (stmts_after (inside x) (raw_in_order ss))
 body_left s x [] = refl
 body_left s x (t ∷ []) = refl
 body_left s x (t ∷ u ∷ ss) = refl
 
-body_faults : (gives loops : Bool) (x : Spot) (ss : List RawStmtTree) → stmts_faults gives loops (inside x) (raw_in_order ss) ≡ stmt_faults gives loops (inside x) (raw_body ss)
+body_faults : (gives loops : Bool) (x : Spot) (ss : List RawStmtTree) → stmts_faults gives loops (inside x) (raw_in_order ss) ≡ stmt_faults gives loops (inside x) (as_body ss)
 body_faults gives loops x [] = refl
 body_faults gives loops x (t ∷ []) = append-nil (stmt_faults gives loops (inside x) t)
 body_faults gives loops x (t ∷ u ∷ ss) = refl
 
-body_tree : (x : Spot) (ss : List RawStmtTree) → body (stmts_list (inside x) ss) ≡ stmt_of (inside x) (raw_body ss)
+body_tree : (x : Spot) (ss : List RawStmtTree) → body (stmts_list (inside x) ss) ≡ stmt_of (inside x) (as_body ss)
 body_tree x [] = refl
 body_tree x (t ∷ []) = refl
 body_tree x (t ∷ u ∷ ss) = ap Block (stmts_listed (inside x) (t ∷ u ∷ ss))
@@ -142,18 +141,18 @@ module _ (c : RawExprTree) (m : Making) (ss ts : List RawStmtTree) where
   first = stmts_after (inside s) (raw_in_order ss)
 
   abbrev turn : Spot
-  turn = inside (left s (stmt_after (inside s) (raw_body ss)))
+  turn = inside (left s (stmt_after (inside s) (as_body ss)))
 
   abbrev last : Spot
   last = stmts_after turn (raw_in_order ts)
 
   abbrev statement : RawStmtTree
-  statement = RawIfElse c (raw_body ss) (raw_body ts)
+  statement = RawIfElse c (as_body ss) (as_body ts)
 
   first_extends : Extends first.names s.names
   first_extends = stmts_extends (inside s) (raw_in_order ss)
 
-  turned : back (record { outer = s.outer; count = length s.names }) first ≡ left s (stmt_after (inside s) (raw_body ss))
+  turned : back (record { outer = s.outer; count = length s.names }) first ≡ left s (stmt_after (inside s) (as_body ss))
   turned = back_left s first (length s.names) s.outer refl refl first_extends ∙ sym (body_left s s ss)
 
   abbrev least_then : Option Fault
@@ -163,7 +162,7 @@ module _ (c : RawExprTree) (m : Making) (ss ts : List RawStmtTree) where
   faults_joined =
       let fc = expr_faults s.names c in
       append_assoc fc (stmts_faults m.gives m.loops (inside s) (raw_in_order ss)) (stmts_faults m.gives m.loops turn (raw_in_order ts))
-      ∙ (λ k. fc ++ (body_faults m.gives m.loops s ss k ++ body_faults m.gives m.loops (left s (stmt_after (inside s) (raw_body ss))) ts k))
+      ∙ (λ k. fc ++ (body_faults m.gives m.loops s ss k ++ body_faults m.gives m.loops (left s (stmt_after (inside s) (as_body ss))) ts k))
 
   abbrev elsed : Spot → StmtTree → Making
   elsed x b = record m {
@@ -180,13 +179,13 @@ module _ (c : RawExprTree) (m : Making) (ss ts : List RawStmtTree) where
   abbrev else_list : List StmtTree
   else_list = kept_all [] turn ts
 
-  switched_there : switched (with_statements (opened (OpenIf c) m) ss) ≡ elsed (left s (stmt_after (inside s) (raw_body ss))) (body then_list)
+  switched_there : switched (with_statements (opened (OpenIf c) m) ss) ≡ elsed (left s (stmt_after (inside s) (as_body ss))) (body then_list)
   switched_there = ap switched (after_all (opened (OpenIf c) m) ss) ∙ ap (λ x. elsed x (body then_list)) turned
 
   spot_after : back (record { outer = s.outer; count = length s.names }) last ≡ stmt_after s statement
   spot_after =
       back_left s last (length s.names) s.outer refl refl (stmts_extends turn (raw_in_order ts))
-      ∙ sym (body_left s (left s (stmt_after (inside s) (raw_body ss))) ts)
+      ∙ sym (body_left s (left s (stmt_after (inside s) (as_body ss))) ts)
 
   least_after : least_of least_then (stmts_faults m.gives m.loops turn (raw_in_order ts)) ≡ least_of m.least (stmt_faults m.gives m.loops s statement)
   least_after =
@@ -200,7 +199,7 @@ module _ (c : RawExprTree) (m : Making) (ss ts : List RawStmtTree) where
       let before = within_before turn (raw_in_order ts) h in
       let there = subst (λ n. n ≤ 65535) (sym (ap (λ x. x.site) turned)) before in
       let one = ap body (all_kept [] (inside s) ss there) ∙ body_tree s ss in
-      let two = ap body (all_kept [] turn ts h) ∙ body_tree (left s (stmt_after (inside s) (raw_body ss))) ts in
+      let two = ap body (all_kept [] turn ts h) ∙ body_tree (left s (stmt_after (inside s) (as_body ss))) ts in
       λ k. IfElse (expr_of s.names c) (one k) (two k)
 
   list_after : kept_with last.site m.body (IfElse (expr_of s.names c) (body then_list) (body else_list)) ≡ kept_with (stmt_after s statement).site m.body (stmt_of s statement)
@@ -208,8 +207,8 @@ module _ (c : RawExprTree) (m : Making) (ss ts : List RawStmtTree) where
       kept_same last.site m.body (IfElse (expr_of s.names c) (body then_list) (body else_list)) (stmt_of s statement) tree_after
       ∙ (λ k. kept_with (spot_after k).site m.body (stmt_of s statement))
 
-  pub closed_else : closed (with_statements (switched (with_statements (opened (OpenIf c) m) ss)) ts) ≡ with_statement m (RawIfElse c (raw_body ss) (raw_body ts))
+  pub closed_else : closed (with_statements (switched (with_statements (opened (OpenIf c) m) ss)) ts) ≡ with_statement m (RawIfElse c (as_body ss) (as_body ts))
   closed_else =
       ap (λ x. closed (with_statements x ts)) switched_there
-      ∙ (ap closed (after_all (elsed (left s (stmt_after (inside s) (raw_body ss))) (body then_list)) ts)
+      ∙ (ap closed (after_all (elsed (left s (stmt_after (inside s) (as_body ss))) (body then_list)) ts)
       ∙ (λ k. changed m (spot_after k) (least_after k) (list_after k)))

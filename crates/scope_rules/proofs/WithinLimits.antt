@@ -42,10 +42,6 @@ pub one_of_locals : (fs : List FunctionTree) (f : FunctionTree) (gs : List Funct
 one_of_locals [] f gs = omega arith
 one_of_locals (h ∷ fs) f gs = let k = one_of_locals fs f gs in omega arith
 
-pub one_of_params : (fs : List FunctionTree) (f : FunctionTree) (gs : List FunctionTree) → f.params ≤ most_params (fs ++ f ∷ gs)
-one_of_params [] f gs = omega arith
-one_of_params (h ∷ fs) f gs = let k = one_of_params fs f gs in omega arith
-
 pub signature_small : (fs : List FunctionTree) (i : ℕ) → (signature_at (map signature_of fs) i).params ≤ most_params fs
 signature_small [] i = omega arith
 signature_small (f ∷ fs) zero = omega arith

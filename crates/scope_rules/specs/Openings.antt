@@ -1,7 +1,7 @@
 -- What begins a block, or a statement with a body, and what it becomes with its body.
-use Rattle.std.specs.Prelude.{ℕ, Bool, true, List, [], ◌∷◌, ◌++◌, length, map, reverse, Option, option_map}
-use Rattle.c_tree.specs.RawTrees.{RawExprTree, RawSimpleTree, RawStmtTree, RawEmpty, RawBlock, RawIf, RawIfElse, RawWhile, RawFor}
-use Rattle.c_tree.specs.RawViews.{raw_expr_tree, raw_simple_tree, raw_in_order}
+use Rattle.std.specs.Prelude.{ℕ, Bool, true, List, [], ◌∷◌, ◌++◌, map, reverse, Option, option_map}
+use Rattle.c_tree.specs.RawTrees.{RawExprTree, RawSimpleTree, RawStmtTree, RawBlock, RawIf, RawWhile, RawFor}
+use Rattle.c_tree.specs.RawViews.{raw_expr_tree, raw_simple_tree, raw_in_order, as_body}
 use Rattle.c_tree.specs.Trees.{ExprTree, SimpleTree, StmtTree, Empty, Block, If, IfElse, While, For}
 use Rattle.c_tree.specs.Views.{expr_tree, simple_tree, stmt_tree, in_order}
 use Rattle.scope_rules.specs.declared.faults.Fault.{Fault}
@@ -27,18 +27,12 @@ opening_tree (Opening.If c) = OpenIf (raw_expr_tree c.now)
 opening_tree (Opening.While c) = OpenWhile (raw_expr_tree c.now)
 opening_tree (Opening.For p) = OpenFor (map raw_simple_tree p.now.init.items) (option_map raw_expr_tree p.now.condition) (option_map raw_simple_tree p.now.step)
 
--- statements as a body: a block, unless there is exactly one
-abbrev pub raw_body : List RawStmtTree → RawStmtTree
-raw_body [] = RawEmpty
-raw_body (s ∷ []) = s
-raw_body (s ∷ t ∷ ss) = RawBlock (raw_in_order (s ∷ t ∷ ss))
-
 -- the block, or the statement, with these statements in its body
 abbrev pub whole : OpeningTree → List RawStmtTree → RawStmtTree
 whole OpenBlock ss = RawBlock (raw_in_order ss)
-whole (OpenIf c) ss = RawIf c (raw_body ss)
-whole (OpenWhile c) ss = RawWhile c (raw_body ss)
-whole (OpenFor init c step) ss = RawFor init c step (raw_body ss)
+whole (OpenIf c) ss = RawIf c (as_body ss)
+whole (OpenWhile c) ss = RawWhile c (as_body ss)
+whole (OpenFor init c step) ss = RawFor init c step (as_body ss)
 
 -- the same with numbers in place of names; an else has the body before it
 pub data HeadTree : Type 0 where

@@ -1,9 +1,9 @@
 -- The call on a chunk that was linked.
-use Rattle.std.proofs.Common.{◌≡◌, ℕ, ◌+◌, ◌*◌, ◌<◌, ◌≤◌, true, List, ◌∷◌, length, Option, Some, None, Ok, slice_get, refl, sym, ap, subst, ◌∙◌, arith, lit<}
+use Rattle.std.proofs.Common.{◌≡◌, ℕ, ◌+◌, ◌*◌, ◌<◌, ◌≤◌, true, List, ◌∷◌, length, Option, Some, Ok, slice_get, refl, sym, ap, subst, ◌∙◌, arith, lit<}
 use Rattle.std.proofs.lemmas.Bool.{eq-eqb, leb-true}
 use Rattle.std.proofs.lemmas.List.{length-set}
 use Rattle.cap_word.specs.Word as word
-use Rattle.cap_word.specs.Runs.{Goes, Stops}
+use Rattle.cap_word.specs.Runs.{Goes}
 use Rattle.chunk_pool.specs.Pool.{Pool, Taken, taken_for, end_of, payload_place_of, payload_bytes_of, shape_of}
 use Rattle.chunk_pool.proofs.NeedLaws.{taken_for-fits, taken_for-sound, taken_for-shape}
 use Rattle.rv_machine.specs.Registers.{read, write}
@@ -16,7 +16,7 @@ use Rattle.stack_certificate.specs.Certificates.{fact_at}
 use Rattle.stack_certificate.specs.Parts.{transfer, call_instruction}
 use Rattle.stack_certificate.specs.Templates.{begin, kind_of, transfer_size}
 use Rattle.machine_world.specs.InPlace.{Frame, frame_bytes, return_word, ReturnsInto, IsStack, FramesAt, HeadersName, HasFrames, IsGoodAccess, words_through_call, joined}
-use Rattle.machine_world.specs.Local.{Local, NoRoom, local_step, linked_on, with_header, saved_tp, saved_sp}
+use Rattle.machine_world.specs.Local.{Local, local_step, linked_on, with_header, saved_tp, saved_sp}
 use Rattle.machine_world.specs.Places.{Checked, InOperation, InPrologue, Row, Empty, Linking, row_at, size_in, through_call, transfer_row}
 use Rattle.segment_laws.specs.Ways.{HasForm}
 use Rattle.segment_laws.proofs.Agreeing.{stack_agrees, headers_agree, word_in_same, in_front, stack_in, flats_agree}
@@ -32,17 +32,8 @@ use Rattle.segment_laws.proofs.Registers.{read-write_same, read-write_other, add
 use Rattle.segment_laws.proofs.Simulation.{Reaches}
 use Rattle.segment_laws.proofs.Standing.{Standing}
 use Rattle.segment_laws.proofs.Transfers.{ReadyToCall, call_step}
-use Rattle.segment_laws.proofs.Ways.{IsGoodState, Leads-one, Leads-then, ComesTo, HasForm-next}
+use Rattle.segment_laws.proofs.Ways.{IsGoodState, Leads-one, Leads-then, HasForm-next}
 use Rattle.chunk_pool.proofs.ShapeLaws.{words_of-payload, words_of-same, payload_place_of-same}
-
--- there is no chunk for the need
-pub finds_no_room : (c : Checked) (code : List ℕ) (l : Local) (t : FlatThread) (op : Op) (need : ℕ) (frame : Frame) (below : List Frame) (s : CallShape c t.frame.function t.frame.next op) → (at : AtLink c code l t op need frame below s) → taken_for at.at.areas.pool need ≡ None → ComesTo c code 5 l (Stops NoRoom)
-finds_no_room c code l t op need frame below s at none = record {
-  at = at.at;
-  leads = at.leads;
-  good = at.good;
-  move_is = at.step ∙ ap (λ (n : ℕ). linked_on at.at (taken_for at.at.areas.pool n)) at.need_is ∙ ap (linked_on at.at) none;
-}
 
 -- the frame of a function that is called on a chunk that was linked
 abbrev pub far_frame : Local → Taken → ℕ → Frame

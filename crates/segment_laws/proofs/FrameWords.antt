@@ -19,6 +19,7 @@ use Rattle.machine_world.specs.Areas.{Areas, with_byte}
 use Rattle.machine_world.specs.InPlace.{Frame, word_in, frame_bytes, IsFrame, IsStack, chain_below, low_below, IsGoodAccess}
 use Rattle.machine_world.specs.Local.{Local, machine_of, local_step}
 use Rattle.machine_world.specs.Places.{Checked}
+use Rattle.segment_laws.specs.Ways.{HasForm}
 use Rattle.segment_laws.proofs.Facts.{CodeFacts, IsOperationAt, Fit-areas}
 use Rattle.segment_laws.proofs.Inside.{Inside, IsWholeWord, IsGoodState-inside, pc_next, IsValueRegister, IsSet, set_register}
 use Rattle.segment_laws.proofs.Registers.{add-small, word_of-small, step-is, with_areas, effect-lw, move-sw}
@@ -73,30 +74,34 @@ pub record InFrame (l : Local) (frame : Frame) (offset : ℕ) : Type 0 where
   pub low_in : place_of l.areas.pool frame.chunk + 16 ≤ frame.low
   pub inside : frame.low + offset + 4 ≤ frame.low + frame.bytes
 
-pub InFrame-inside : (c : Checked) (code : List ℕ) (l : Local) (f i w : ℕ) (frame : Frame) (below : List Frame) (offset : ℕ) → CodeFacts c code → f < length c.flat.functions → Inside c l f i w frame below → offset % 4 ≡ 0 → offset + 4 ≤ frame_bytes c f → InFrame l frame offset
-InFrame-inside c code l f i w frame below offset facts there is aligned fits =
-    let sound = is.form.areas.pool in
+-- an aligned word at an offset of the front frame of a stack
+pub InFrame-at : (c : Checked) (code : List ℕ) (l : Local) (f : ℕ) (frame : Frame) (below : List Frame) (offset : ℕ) → CodeFacts c code → f < length c.flat.functions → HasForm c l → frame.bytes ≡ frame_bytes c f → read l.core.x 2 ≡ frame.low →
+    IsStack c l.areas.pool l.core.chain frame below → offset % 4 ≡ 0 → offset + 4 ≤ frame_bytes c f → InFrame l frame offset
+InFrame-at c code l f frame below offset facts there form bytes sp_is stack aligned fits =
+    let sound = form.areas.pool in
     let fact = facts.frame f there in
-    let frame_is = stack_frame c l.areas.pool l.core.chain frame below is.stack in
-    let bytes : frame.bytes ≡ frame_bytes c f = is.body.bytes in
+    let frame_is = stack_frame c l.areas.pool l.core.chain frame below stack in
     let bytes_aligned : frame.bytes % 16 ≡ 0 = ap (λ (n : ℕ). n % 16) bytes ∙ fact.aligned in
-    let low_aligned : frame.low % 16 ≡ 0 = stack_aligned c code l.areas.pool l.core.chain frame below facts sound bytes_aligned is.stack in
+    let low_aligned : frame.low % 16 ≡ 0 = stack_aligned c code l.areas.pool l.core.chain frame below facts sound bytes_aligned stack in
     let place = place_of-aligned l.areas.pool frame.chunk sound in
     let bounded : end_of l.areas.pool frame.chunk ≤ 0x8400_0000 = place_of-bounded l.areas.pool frame.chunk sound frame_is.chunk in
     let lowest : place_of l.areas.pool frame.chunk + 16 ≤ frame.low = frame_is.lowest in
     let highest : frame.low + frame.bytes ≤ end_of l.areas.pool frame.chunk = frame_is.highest in
     let inside : frame.low + offset + 4 ≤ frame.low + frame.bytes = omega (arith, bytes, fits) in
     let small : offset < 2 ^ 32 = omega (arith, inside, highest, bounded) in
-    let sum : read l.core.x 2 + offset < 2 ^ 32 = omega (arith, is.sp_is, inside, highest, bounded) in
+    let sum : read l.core.x 2 + offset < 2 ^ 32 = omega (arith, sp_is, inside, highest, bounded) in
     record {
       payload = record { chunk_below = frame_is.chunk; low = omega (arith, lowest); high = omega (arith, inside, highest); aligned = omega (arith, low_aligned, aligned) };
-      address = ap (word.add (read l.core.x 2)) (word_of-small offset small) ∙ add-small (read l.core.x 2) offset sum ∙ ap (λ (n : ℕ). n + offset) is.sp_is;
+      address = ap (word.add (read l.core.x 2)) (word_of-small offset small) ∙ add-small (read l.core.x 2) offset sum ∙ ap (λ (n : ℕ). n + offset) sp_is;
       ends = record { behind = omega (arith, lowest); by = omega (arith, inside, lowest) };
       low_aligned = low_aligned;
       place_aligned = place;
       low_in = lowest;
       inside = inside;
     }
+
+pub InFrame-inside : (c : Checked) (code : List ℕ) (l : Local) (f i w : ℕ) (frame : Frame) (below : List Frame) (offset : ℕ) → CodeFacts c code → f < length c.flat.functions → Inside c l f i w frame below → offset % 4 ≡ 0 → offset + 4 ≤ frame_bytes c f → InFrame l frame offset
+InFrame-inside c code l f i w frame below offset facts there is aligned fits = InFrame-at c code l f frame below offset facts there is.form is.body.bytes is.sp_is is.stack aligned fits
 
 -- a frame ends below the end of the map
 pub frame_bounded : (c : Checked) (l : Local) (f i w : ℕ) (frame : Frame) (below : List Frame) → Inside c l f i w frame below → frame.low + frame.bytes ≤ 0x8400_0000
@@ -194,11 +199,3 @@ store_at c code l f i w op frame below rs1 rs2 offset value imm facts at word is
       registers = λ r. refl;
       areas = refl;
     }
-
--- sw rs, offset(sp)
-pub store_word : (c : Checked) (code : List ℕ) (l : Local) (f i w : ℕ) (op : Op) (frame : Frame) (below : List Frame) (rs offset value : ℕ) → CodeFacts c code → IsOperationAt c code f i op → IsWholeWord c f w op → Inside c l f i w frame below →
-    instruction_at code l.core.pc ≡ Ok (Instr.Sw 2 rs (pos offset)) → offset % 4 ≡ 0 → offset + 4 ≤ frame_bytes c f → (offset ≡ (fact_at c.certificate f).ra → ⊥) → read l.core.x rs ≡ value →
-    IsStored c code l f i w frame below offset value
-store_word c code l f i w op frame below rs offset value facts at word is fetch aligned fits not_ra value_is =
-    let in_frame = InFrame-inside c code l f i w frame below offset facts at.function is aligned fits in
-    store_at c code l f i w op frame below 2 rs offset value (pos offset) facts at word is fetch in_frame in_frame.address aligned not_ra value_is

@@ -143,13 +143,13 @@ module _ (c : Checked) (code : List ℕ) (facts : CodeFacts c code) (calls : Cal
       straight l t op (flat_step c.flat t) simulates stands is not (λ finish e. absurd (subst NoFinish e (goes_alone c.flat t op never))) refl
 
   call : (l : Local) (t : FlatThread) (site g : ℕ) (d : Option ℕ) (args : List ℕ) (move : FlatMove) → Simulates c l t → standing c.flat t.frame ≡ Some (Op.Call site d g args) → flat_step c.flat t ≡ move → Outcome c code l t
-  call l t site g d args (Goes after) simulates stands step = from_call c code l t after step (call_or_cut c code facts calls needs l t after site g d args simulates stands step)
+  call l t site g d args (Goes after) simulates stands step = from_call c code l t after step (call_or_cut c code facts calls l t after site g d args simulates stands step)
   call l t site g d args (Asks asked waiting) simulates stands step = no_question t (Op.Call site d g args) asked waiting (λ q. q) (does_is t (Op.Call site d g args) (Asks asked waiting) stands step)
   call l t site g d args (Stops (Finished finish)) simulates stands step = absurd (subst NoFinish (does_is t (Op.Call site d g args) (Stops (Finished finish)) stands step) (call_goes c.flat t site g d args))
   call l t site g d args (Stops Lost) simulates stands step = Losing step
 
   table : (l : Local) (t : FlatThread) (site number i x : ℕ) (d : Option ℕ) (move : FlatMove) → Simulates c l t → standing c.flat t.frame ≡ Some (Op.CallTable site d number i x) → flat_step c.flat t ≡ move → Outcome c code l t
-  table l t site number i x d (Goes after) simulates stands step = from_call c code l t after step (table_or_cut c code facts calls needs l t after site number i x d formed simulates stands step)
+  table l t site number i x d (Goes after) simulates stands step = from_call c code l t after step (table_or_cut c code facts calls l t after site number i x d formed simulates stands step)
   table l t site number i x d (Asks asked waiting) simulates stands step = no_question t (Op.CallTable site d number i x) asked waiting (λ q. q) (does_is t (Op.CallTable site d number i x) (Asks asked waiting) stands step)
   table l t site number i x d (Stops (Finished finish)) simulates stands step =
       Stopping finish step (from_trap c code l t finish (table_trap c code l t site number i x d finish facts (there_is l t (Op.CallTable site d number i x) simulates stands) simulates (does_is t (Op.CallTable site d number i x) (Stops (Finished finish)) stands step)))

@@ -15,7 +15,7 @@ use Rattle.segment_laws.specs.Silent.{local_in}
 
 -- ---- chunks
 
-held_one : (chunk number : ℕ) (threads : List Thread) (t : Thread) → first_with number threads ≡ Some t → copies chunk t.core.chain ≤ held_copies chunk threads
+pub held_one : (chunk number : ℕ) (threads : List Thread) (t : Thread) → first_with number threads ≡ Some t → copies chunk t.core.chain ≤ held_copies chunk threads
 held_one chunk number [] t found = absurd cc
 held_one chunk number (u ∷ us) t found = ⊎_elim
     (λ (same : u.number ≡ number).
@@ -26,7 +26,7 @@ held_one chunk number (u ∷ us) t found = ⊎_elim
     (λ apart. let rest = held_one chunk number us t (sym (cond-false (nat_eq u.number number) (Some u) (first_with number us) (ne_eqb u.number number apart)) ∙ found) in omega (arith, rest))
     (cases_eq u.number number)
 
-held_two : (chunk one other : ℕ) (threads : List Thread) (t v : Thread) → (one ≡ other → ⊥) → first_with one threads ≡ Some t → first_with other threads ≡ Some v → copies chunk t.core.chain + copies chunk v.core.chain ≤ held_copies chunk threads
+pub held_two : (chunk one other : ℕ) (threads : List Thread) (t v : Thread) → (one ≡ other → ⊥) → first_with one threads ≡ Some t → first_with other threads ≡ Some v → copies chunk t.core.chain + copies chunk v.core.chain ≤ held_copies chunk threads
 held_two chunk one other [] t v apart found too = absurd cc
 held_two chunk one other (u ∷ us) t v apart found too = ⊎_elim
     (λ (same : u.number ≡ one).
@@ -50,7 +50,7 @@ held_two chunk one other (u ∷ us) t v apart found too = ⊎_elim
     (cases_eq u.number one)
 
 -- what holds of each chunk that is in a chain holds of all of it
-each_chunk : (P : ℕ → Type 0) (chain : List ℕ) → ((chunk : ℕ) → 0 < copies chunk chain → P chunk) → AllByRecursion P chain
+pub each_chunk : (P : ℕ → Type 0) (chain : List ℕ) → ((chunk : ℕ) → 0 < copies chunk chain → P chunk) → AllByRecursion P chain
 each_chunk P [] each = tt
 each_chunk P (chunk ∷ chain) each = (
   each chunk (let first = copies_cons chunk chunk chain in let one : ◌≡◌ {A = ℕ} (cond (nat_eq chunk chunk) 1 0) 1 = cond-true (nat_eq chunk chunk) 1 0 (eq-eqb chunk chunk refl) in omega (arith, first, one)),

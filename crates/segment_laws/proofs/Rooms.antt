@@ -15,7 +15,7 @@ use Rattle.stack_certificate.specs.Templates.{kind_of}
 use Rattle.machine_world.specs.InPlace.{Frame}
 use Rattle.machine_world.specs.Local.{Local, NoRoom, linked_on}
 use Rattle.machine_world.specs.Places.{Checked, row_at}
-use Rattle.segment_laws.specs.Calls.{CallFacts}
+use Rattle.segment_laws.specs.Calls.{CallFacts, CallsAlike, Enters, FindsNoRoom}
 use Rattle.segment_laws.proofs.Calling.{values_length, arguments_loaded}
 use Rattle.segment_laws.proofs.CallShapes.{CallShape, call_shape}
 use Rattle.segment_laws.proofs.FarCalls.{calls_far}
@@ -28,7 +28,6 @@ use Rattle.segment_laws.proofs.Finish.{Reaches-after}
 use Rattle.segment_laws.proofs.FlatSteps.{function_there, was_there}
 use Rattle.segment_laws.proofs.Simulation.{During, Simulates, Reaches}
 use Rattle.segment_laws.proofs.Ways.{Leads, Leads-then, ComesTo}
-use Rattle.segment_laws.proofs.Needs.{NeedsFit}
 use Rattle.segment_laws.proofs.Members.{IsMemberAt-formed}
 use Rattle.segment_laws.proofs.TableSteps.{entered, readies, first_argument, was_member, not_lost_goes}
 use Rattle.segment_laws.proofs.Firsts.{frames-first}
@@ -44,7 +43,11 @@ cut_after c code m l middle after first (Came reaches) = Came (Reaches-after c c
 cut_after c code m l middle after first (Cut n comes none cut) =
     Cut (m + n) (record { at = comes.at; leads = Leads-then c code m n l middle comes.at first comes.leads; good = comes.good; move_is = comes.move_is }) none cut
 
-module _ (c : Checked) (code : List ℕ) (facts : CodeFacts c code) (calls : CallFacts c) (needs : NeedsFit c) where
+alike : {c : Checked} {code : List ℕ} {l : Local} {after : FlatThread} → CallsOrCut c code l after → CallsAlike c code l after
+alike (Came reaches) = Enters reaches
+alike (Cut n comes none cut) = FindsNoRoom n comes
+
+module _ (c : Checked) (code : List ℕ) (facts : CodeFacts c code) (calls : CallFacts c) where
   abbrev called : FlatThread → ℕ → List ℕ → FlatThread
   called t g values = record { frame = pushed c.flat g values; below = t.frame ∷ t.below; globals = t.globals }
 
@@ -140,6 +143,9 @@ module _ (c : Checked) (code : List ℕ) (facts : CodeFacts c code) (calls : Cal
       let same : called t g values.value ≡ after = (let e = values.move in cc) in
       subst (CallsOrCut c code l) same (call_during l t site g d args values.value simulates.frame simulates.below there simulates.during values.is)
 
+  pub call_alike : (l : Local) (t after : FlatThread) (site g : ℕ) (d : Option ℕ) (args : List ℕ) → Simulates c l t → standing c.flat t.frame ≡ Some (Op.Call site d g args) → flat_step c.flat t ≡ Goes after → CallsAlike c code l after
+  call_alike l t after site g d args simulates stands step = alike (call_or_cut l t after site g d args simulates stands step)
+
   -- ---- calls through a table
 
   table_during : (l : Local) (t : FlatThread) (site table i x k v : ℕ) (d : Option ℕ) → IsWellFormed c.flat → IsOperationAt c code t.frame.function t.frame.next (Op.CallTable site d table i x) → Simulates c l t →
@@ -174,3 +180,6 @@ module _ (c : Checked) (code : List ℕ) (facts : CodeFacts c code) (calls : Cal
       let value = was_there (scalar t x) (enters_by (members_of c.flat table) c.flat t index.value) (Goes after) index.move (not_lost_goes after) in
       let member = was_member c t after table index.value value.value value.move in
       subst (CallsOrCut c code l) member.1 (table_during l t site table i x index.value value.value d formed there simulates index.is value.is member.0)
+
+  pub table_alike : (l : Local) (t after : FlatThread) (site table i x : ℕ) (d : Option ℕ) → IsWellFormed c.flat → Simulates c l t → standing c.flat t.frame ≡ Some (Op.CallTable site d table i x) → flat_step c.flat t ≡ Goes after → CallsAlike c code l after
+  table_alike l t after site table i x d formed simulates stands step = alike (table_or_cut l t after site table i x d formed simulates stands step)

@@ -2,7 +2,7 @@
 -- of a chunk or of a row.
 use Rattle.std.proofs.Common.{◌≡◌, ℕ, ◌+◌, ◌-◌, ◌*◌, ◌<◌, ◌≤◌, true, false, List, length, Some, None, ap, ◌∙◌, arith}
 use Rattle.std.specs.Prelude.{nat_le, nat_lt}
-use Rattle.std.proofs.lemmas.Bool.{cond-true, cond-false, lt-ltb, le-ltb, le-leb, lt-leb, and_from, and_left, and_right}
+use Rattle.std.proofs.lemmas.Bool.{cond-true, cond-false, lt-ltb, le-ltb, le-leb, and_from, and_right}
 use Rattle.chunk_pool.specs.Pool.{Pool, place_of, end_of, payload_place_of, chunk_at, IsPool}
 use Rattle.chunk_pool.proofs.AddressLaws.{chunk_at-some}
 use Rattle.machine_world.specs.Areas.{Areas, InGlobals, InTables, InPayload, globals_place, tables_place, is_within, payload_spot, spot_of}
@@ -19,9 +19,6 @@ pub record Fit (areas : Areas) : Type 0 where
 
 outside : (place : ℕ) (words : List ℕ) (address : ℕ) → place + 4 * length words ≤ address → is_within place words address ≡ false
 outside place words address past = and_right (nat_le place address) (nat_lt address (place + 4 * length words)) (le-ltb address (place + 4 * length words) past)
-
-before : (place : ℕ) (words : List ℕ) (address : ℕ) → address < place → is_within place words address ≡ false
-before place words address low = and_left (nat_le place address) (nat_lt address (place + 4 * length words)) (lt-leb place address low)
 
 inside : (place : ℕ) (words : List ℕ) (address : ℕ) → place ≤ address → address < place + 4 * length words → is_within place words address ≡ true
 inside place words address low high = and_from (nat_le place address) (nat_lt address (place + 4 * length words)) (le-leb place address low) (lt-ltb address (place + 4 * length words) high)

@@ -3,8 +3,7 @@
 use Rattle.std.proofs.Common.{◌≡◌, ℕ, ◌+◌, ◌%◌, ◌^◌, ◌<◌, ◌≤◌, List, ◌∷◌, length, pos, Ok, refl, sym, ap, subst, ◌∙◌, arith, inl}
 use Rattle.cap_word.specs.Word as word
 use Rattle.cap_word.specs.Runs.{Goes}
-use Rattle.chunk_pool.specs.Pool.{Pool, with_word as with_pool_word, place_of, payload_place_of, end_of}
-use Rattle.chunk_pool.proofs.AddressLaws.{place_of-aligned, place_of-bounded}
+use Rattle.chunk_pool.specs.Pool.{Pool, with_word as with_pool_word, payload_place_of}
 use Rattle.rv_code.specs.declared.instructions.Instr.{Instr}
 use Rattle.rv_machine.specs.Access.{accessed}
 use Rattle.rv_machine.specs.Bytes.{with_word}
@@ -18,8 +17,8 @@ use Rattle.machine_world.specs.Local.{Local, machine_of, local_step}
 use Rattle.machine_world.specs.Places.{Checked, Place, IsAt, Row, NoFrame, Empty, Fresh, Linking, Whole, row_of, function_of, operation_of}
 use Rattle.segment_laws.specs.Ways.{HasForm}
 use Rattle.segment_laws.proofs.Facts.{CodeFacts, Fit-areas}
-use Rattle.segment_laws.proofs.FrameWords.{InFrame, stack_frame, stack_aligned}
-use Rattle.segment_laws.proofs.Registers.{add-small, word_of-small, step-is, access-is, with_areas, move-sw}
+use Rattle.segment_laws.proofs.FrameWords.{InFrame-at, InFrame}
+use Rattle.segment_laws.proofs.Registers.{step-is, access-is, with_areas, move-sw}
 use Rattle.segment_laws.proofs.Stacks.{AreAway, IsFront, IsOnce, stack_away, IsStack-with_word, HeadersName-with_word}
 use Rattle.segment_laws.proofs.Ways.{IsGoodState, Leads, Leads-one, HasForm-next}
 use Rattle.segment_laws.proofs.Words.{word_number, stored-payload, writable-payload}
@@ -108,28 +107,7 @@ once_standing c l form chunk =
 -- an aligned word at an offset of a frame of so many bytes
 pub InFrame-standing : (c : Checked) (code : List ℕ) (l : Local) (place : Place) (row : Row) (frame : Frame) (below : List Frame) (offset : ℕ) → CodeFacts c code → Standing c l place row frame below → frame.bytes ≡ frame_bytes c (function_of place) →
     function_of place < length c.flat.functions → offset % 4 ≡ 0 → offset + 4 ≤ frame_bytes c (function_of place) → InFrame l frame offset
-InFrame-standing c code l place row frame below offset facts is bytes there aligned fits =
-    let sound = is.form.areas.pool in
-    let fact = facts.frame (function_of place) there in
-    let frame_is = stack_frame c l.areas.pool l.core.chain frame below is.stack in
-    let bytes_aligned : frame.bytes % 16 ≡ 0 = ap (λ (n : ℕ). n % 16) bytes ∙ fact.aligned in
-    let low_aligned : frame.low % 16 ≡ 0 = stack_aligned c code l.areas.pool l.core.chain frame below facts sound bytes_aligned is.stack in
-    let place_is = place_of-aligned l.areas.pool frame.chunk sound in
-    let bounded : end_of l.areas.pool frame.chunk ≤ 0x8400_0000 = place_of-bounded l.areas.pool frame.chunk sound frame_is.chunk in
-    let lowest : place_of l.areas.pool frame.chunk + 16 ≤ frame.low = frame_is.lowest in
-    let highest : frame.low + frame.bytes ≤ end_of l.areas.pool frame.chunk = frame_is.highest in
-    let inside : frame.low + offset + 4 ≤ frame.low + frame.bytes = omega (arith, bytes, fits) in
-    let small : offset < 2 ^ 32 = omega (arith, inside, highest, bounded) in
-    let sum : read l.core.x 2 + offset < 2 ^ 32 = omega (arith, is.sp_is, inside, highest, bounded) in
-    record {
-      payload = record { chunk_below = frame_is.chunk; low = omega (arith, lowest); high = omega (arith, inside, highest); aligned = omega (arith, low_aligned, aligned) };
-      address = ap (word.add (read l.core.x 2)) (word_of-small offset small) ∙ add-small (read l.core.x 2) offset sum ∙ ap (λ (n : ℕ). n + offset) is.sp_is;
-      ends = record { behind = omega (arith, lowest); by = omega (arith, inside, lowest) };
-      low_aligned = low_aligned;
-      place_aligned = place_is;
-      low_in = lowest;
-      inside = inside;
-    }
+InFrame-standing c code l place row frame below offset facts is bytes there aligned fits = InFrame-at c code l (function_of place) frame below offset facts there is.form bytes is.sp_is is.stack aligned fits
 
 -- the pool after a word at an offset of the frame is written
 abbrev pub pool_with : Local → Frame → ℕ → ℕ → Pool

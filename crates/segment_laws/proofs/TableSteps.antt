@@ -1,5 +1,5 @@
 -- Calls through a table of flat code, and the machine that stands for it.
-use Rattle.std.proofs.Common.{◌≡◌, ℕ, zero, suc, ◌+◌, ◌*◌, ◌^◌, ◌<◌, ◌≤◌, Bool, List, [], ◌∷◌, length, get_or, pos, Option, Some, refl, sym, ap, subst, ◌∙◌, arith, ⊎_elim}
+use Rattle.std.proofs.Common.{◌≡◌, ℕ, zero, suc, ◌+◌, ◌*◌, ◌^◌, ◌<◌, ◌≤◌, Bool, List, [], ◌∷◌, length, get_or, pos, Option, Some, refl, sym, ap, ◌∙◌, arith, ⊎_elim}
 use Rattle.std.proofs.lemmas.Bool.{cases_lt, lt-ltb, le-ltb}
 use Rattle.cap_word.specs.Word as word
 use Rattle.cap_word.specs.Word.{word_of}
@@ -11,18 +11,13 @@ use Rattle.flat_code.specs.declared.operations.Op.{Op}
 use Rattle.flat_code.specs.Codes.{members_of}
 use Rattle.flat_code.specs.Frames.{FlatThread, Finished, Lost, pushed, standing}
 use Rattle.flat_code.specs.Step.{FlatMove, on, scalar, where_in, trapped, enters, enters_by, does, flat_step}
-use Rattle.flat_code.specs.WellFormed.{IsWellFormed}
 use Rattle.stack_certificate.specs.Certificates.{fact_at, table_address, member_count}
 use Rattle.stack_certificate.specs.Templates.{kind_of}
 use Rattle.machine_world.specs.InPlace.{Frame}
-use Rattle.machine_world.specs.Local.{Local, Trapped}
+use Rattle.machine_world.specs.Local.{Local}
 use Rattle.machine_world.specs.Places.{Checked}
-use Rattle.segment_laws.specs.Calls.{CallFacts, CallsAlike, Enters, FindsNoRoom}
 use Rattle.segment_laws.proofs.Calling.{row_before}
-use Rattle.segment_laws.proofs.CallShapes.{CallShape, call_shape}
-use Rattle.segment_laws.proofs.CallSteps.{ComesTo-after, transfers}
 use Rattle.segment_laws.proofs.Facts.{CodeFacts, IsOperationAt}
-use Rattle.segment_laws.proofs.Finish.{Reaches-after}
 use Rattle.segment_laws.proofs.FlatSteps.{function_there, was_there}
 use Rattle.segment_laws.proofs.Guards.{IsGuarded, guard_passes, guard_traps}
 use Rattle.segment_laws.proofs.Immediate.{fetch_at, is_t1, is_a0, load_immediate}
@@ -34,7 +29,6 @@ use Rattle.segment_laws.proofs.Straight.{one_word}
 use Rattle.segment_laws.proofs.Ways.{Leads, Leads-then}
 use Rattle.segment_laws.specs.Tables.{TableTrapsAlike}
 use Rattle.segment_laws.proofs.Entries.{count_is, few_members, load_entry}
-use Rattle.segment_laws.proofs.Members.{IsMemberAt-formed}
 
 -- ---- the words before the transfer
 
@@ -102,10 +96,6 @@ readies c code l t site table i x k v d frame below facts there during index val
 
 -- ---- the call
 
-alike_after : (c : Checked) (code : List ℕ) (m : ℕ) (l middle : Local) (after : FlatThread) → Leads c code m l middle → CallsAlike c code middle after → CallsAlike c code l after
-alike_after c code m l middle after first (Enters reaches) = Enters (Reaches-after c code m l middle after first reaches)
-alike_after c code m l middle after first (FindsNoRoom n comes) = FindsNoRoom (m + n) (ComesTo-after c code m n l middle (Stops Rattle.machine_world.specs.Local.NoRoom) first comes)
-
 abbrev pub entered : Checked → FlatThread → ℕ → ℕ → FlatThread
 entered c t g v = record { frame = pushed c.flat g (v ∷ []); below = t.frame ∷ t.below; globals = t.globals }
 
@@ -113,28 +103,6 @@ entered c t g v = record { frame = pushed c.flat g (v ∷ []); below = t.frame �
 pub first_argument : (xs : List ℕ) (v : ℕ) → read xs 10 ≡ v → (j : ℕ) → j < 1 → read xs (10 + j) ≡ get_or (v ∷ []) j 0
 first_argument xs v e zero lt = e
 first_argument xs v e (suc j) lt = absurd (omega arith)
-
-calls_member : (c : Checked) (code : List ℕ) (l : Local) (t : FlatThread) (site table i x k v : ℕ) (d : Option ℕ) → CodeFacts c code → CallFacts c → IsWellFormed c.flat → IsOperationAt c code t.frame.function t.frame.next (Op.CallTable site d table i x) → Simulates c l t →
-    scalar t i ≡ Some k → scalar t x ≡ Some v → k < length (members_of c.flat table) → CallsAlike c code l (entered c t (get_or (members_of c.flat table) k 0) v)
-calls_member c code l t site table i x k v d facts calls formed there simulates index value inside =
-    let op : Op = Op.CallTable site d table i x in
-    let g = get_or (members_of c.flat table) k 0 in
-    let frame = simulates.frame in
-    let below = simulates.below in
-    let member = IsMemberAt-formed c table k formed there.formed.0 inside in
-    let room = (calls.entries g member.known).room in
-    let ready = readies c code l t site table i x k v d frame below facts there simulates.during index value inside (omega (arith, room)) in
-    let s : CallShape c t.frame.function t.frame.next op = call_shape c code t.frame.function t.frame.next g op there member.contained in
-    alike_after c code 10 l ready.next (entered c t g v) ready.leads
-    (transfers c code facts calls ready.next t op g (v ∷ []) frame below there s
-    (record {
-      during = ready.during;
-      calls = member.contained;
-      known = member.known;
-      count = sym member.one;
-      arguments_in = first_argument ready.next.core.x v ready.argument;
-      ready = ready.entry_is;
-    }))
 
 -- ---- a step of the flat thread
 
@@ -160,16 +128,6 @@ was_member c t after table k v e =
     (λ (past : length (members_of c.flat table) ≤ k).
     absurd (let trap : trapped t TrapKind.Table ≡ Goes after = sym (ap (λ (b : Bool). where_in b t TrapKind.Table move) (le-ltb k (length (members_of c.flat table)) past)) ∙ e in cc))
     (cases_lt k (length (members_of c.flat table)))
-
-pub table_call_alike : (c : Checked) (code : List ℕ) (l : Local) (t after : FlatThread) (site table i x : ℕ) (d : Option ℕ) → CodeFacts c code → CallFacts c → IsWellFormed c.flat → Simulates c l t → standing c.flat t.frame ≡ Some (Op.CallTable site d table i x) → flat_step c.flat t ≡ Goes after → CallsAlike c code l after
-table_call_alike c code l t after site table i x d facts calls formed simulates stands step =
-    let op : Op = Op.CallTable site d table i x in
-    let there = facts.operation t.frame.function t.frame.next op (function_there c l t simulates) stands in
-    let move : does c.flat t op ≡ Goes after = sym (ap (λ (o : Option Op). on o (does c.flat t)) stands) ∙ step in
-    let index = was_there (scalar t i) (λ k. on (scalar t x) (enters_by (members_of c.flat table) c.flat t k)) (Goes after) move (not_lost_goes after) in
-    let value = was_there (scalar t x) (enters_by (members_of c.flat table) c.flat t index.value) (Goes after) index.move (not_lost_goes after) in
-    let member = was_member c t after table index.value value.value value.move in
-    subst (CallsAlike c code l) member.1 (calls_member c code l t site table i x index.value value.value d facts calls formed there simulates index.is value.is member.0)
 
 -- the index was out of range
 was_past : (c : Checked) (t : FlatThread) (table k v : ℕ) (finish : Finish) → enters_by (members_of c.flat table) c.flat t k v ≡ Stops (Finished finish) → (length (members_of c.flat table) ≤ k) × (finish ≡ record { trap = Some TrapKind.Table; globals = t.globals })

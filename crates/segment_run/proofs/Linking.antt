@@ -1,5 +1,5 @@
 -- LINK, UNLINK and END as the code does them.
-use Rattle.std.proofs.Common.{◌≡◌, ◌≢◌, ℕ, zero, suc, ◌+◌, ◌-◌, ◌<◌, ◌≤◌, Bool, List, ◌∷◌, set, Option, Some, None, refl, sym, ap, subst, ◌∙◌, arith, cond}
+use Rattle.std.proofs.Common.{◌≡◌, ◌≢◌, ℕ, zero, suc, ◌+◌, ◌-◌, ◌<◌, ◌≤◌, Bool, List, ◌∷◌, set, Some, None, refl, sym, ap, subst, ◌∙◌, arith, cond}
 use Rattle.std.proofs.lemmas.Bool.{eq-eqb}
 use Rattle.cap_word.specs.Word as word
 use Rattle.cap_word.specs.Runs.{Goes, Stops}
@@ -124,11 +124,6 @@ unlinked_thread thread p below = record {
 
 abbrev pub given_areas : Areas → ℕ → Areas
 given_areas areas chunk = record areas { pool = after_give areas.pool chunk }
-
--- the chunk that the code goes on with is the next one of the chain, if there is one
-abbrev pub IsNext : Pool → ℕ → ℕ → Option ℕ → ℕ → Type 0
-IsNext p chunk saved None below = below ≡ chunk
-IsNext p chunk saved (Some next) below = below ≡ next
 
 pub unlink_goes : (areas : Areas) (thread : Thread) (below : ℕ) → IsPool areas.pool → Owns (thread_of areas thread) → (front : HasFront areas.pool thread) →
     (1 ≤ front.below → below ≡ chunk_below areas.pool thread.chunk) →

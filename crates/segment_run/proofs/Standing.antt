@@ -1,6 +1,5 @@
 -- Where an address stands in the code of a valid pair: in one function, and there in one operation.
 use Rattle.std.proofs.Common.{◌≡◌, ℕ, zero, suc, ◌+◌, ◌-◌, ◌<◌, ◌≤◌, List, [], ◌∷◌, length, get_or, Option, Some, None, slice_get, refl, sym, ap, subst, ◌∙◌, arith, ⊎_elim}
-use Rattle.std.specs.List.Sorted.{IsStrictlyIncreasing}
 use Rattle.std.proofs.lemmas.Bool.{cases_eq, cases_lt}
 use Rattle.flat_code.specs.Codes.{FlatCode, function_at, operation_at, site_of}
 use Rattle.flat_code.specs.declared.operations.Op.{Op}
@@ -8,9 +7,7 @@ use Rattle.stack_image.specs.declared.images.Image.{Image}
 use Rattle.stack_certificate.specs.Certificates.{fact_at}
 use Rattle.stack_certificate.specs.Templates.{words_before, size, size_at, kind_of}
 use Rattle.stack_certificate.specs.declared.certificates.Certificate.{Certificate}
-use Rattle.stack_certificate.specs.declared.sites.LinkKind.{LinkKind}
 use Rattle.stack_certificate.proofs.AddressLemmas.{words_step}
-use Rattle.certificate_rules.specs.Sites.{fact_numbers}
 use Rattle.certificate_rules.specs.Validity.{IsValid}
 use Rattle.machine_world.specs.Keys.{site_in}
 use Rattle.machine_world.specs.Places.{Checked, InOperation, IsAt, size_in}
@@ -48,9 +45,6 @@ has_word c address f i word at = has_word_of c address f i word (operation_at c.
 module _ (flat : FlatCode) (image : Image) (certificate : Certificate) (valid : IsValid flat image certificate) where
   abbrev c : Checked
   c = record { flat = flat; certificate = certificate }
-
-  pub rising : IsStrictlyIncreasing (fact_numbers certificate.sites)
-  rising = (((valid.holds 1 0 5).v1 refl).sites refl).rising
 
   pub same_count : length certificate.functions ≡ length flat.functions
   same_count = (((valid.holds 1 0 3).v1 refl).functions refl).0
@@ -101,14 +95,6 @@ module _ (flat : FlatCode) (image : Image) (certificate : Certificate) (valid : 
       let over : words_before flat certificate f (length (function_at flat f).ops) ≡ (fact_at certificate f).words = ((valid.holds 6 f (length (function_at flat f).ops)).v6 refl).over at.0 refl in
       omega (arith, has.next, has.small, inside, over)
 
-  pub one_call : (address f g site other : ℕ) → IsInCall c address f site → IsInCall c address g other → (f ≡ g) × (site ≡ other)
-  one_call address f g site other first second =
-      let same : InOperation f first.operation first.word ≡ InOperation g second.operation second.word = one_place flat image certificate address (InOperation f first.operation first.word) (InOperation g second.operation second.word) valid first.at second.at in
-      let function : f ≡ g = cc in
-      let operation : first.operation ≡ second.operation = cc in
-      let sites : Some site ≡ Some other = sym first.site_is ∙ (λ i. site_in (operation_at flat (function i) (operation i))) ∙ second.site_is in
-      (function, cc)
-
 -- an element stands at each index
 pub some_at : {X : Type 0} (xs : List X) (k : ℕ) → k < length xs → (x : X) × (slice_get xs k ≡ Some x)
 some_at [] k small = absurd (omega arith)
@@ -123,12 +109,6 @@ at_index (y ∷ xs) (suc j) x small is = at_index xs j x (omega arith) is
 
 pub read_operation : (flat : FlatCode) (f j : ℕ) (ops : List Op) (op : Op) → ops ≡ (function_at flat f).ops → j < length ops → op ≡ get_or ops j op → operation_at flat f j ≡ Some op
 read_operation flat f j ops op are small is = ap (λ (xs : List Op). slice_get xs j) (sym are) ∙ at_index ops j op small is
-
-pub read_size : (c : Checked) (f j n : ℕ) (op : Op) (kind : LinkKind) → operation_at c.flat f j ≡ Some op → kind ≡ kind_of c.certificate op → n ≡ size_at (function_at c.flat f).sizes kind (operation_at c.flat f j)
-    → words_before c.flat c.certificate f j + n ≡ words_before c.flat c.certificate f (j + 1)
-read_size c f j n op kind there is size_is =
-    let size_there : n ≡ size (function_at c.flat f).sizes (kind_of c.certificate op) op = size_is ∙ (λ i. size_at (function_at c.flat f).sizes (is i) (there i)) in
-    ap (λ (k : ℕ). words_before c.flat c.certificate f j + k) size_there ∙ next_words c f j op there
 
 -- the site of a call that is read
 pub read_site : (c : Checked) (address f g j site : ℕ) (op : Op) (call : IsInCall c address g site) → f ≡ g → j ≡ call.operation → operation_at c.flat f j ≡ Some op → site_of op ≡ Some site

@@ -23,10 +23,6 @@ stacked-push (x ∷ xs) item rest = stacked-push xs item (item_of x ∷ rest)
 pub to_do-push : (items : List Item) (item : Item) → to_do (items ++ item ∷ []) ≡ item_of item ∷ to_do items
 to_do-push items item = stacked-push items item []
 
-pub items-push : (c : Context) (items : List Item) (item : Item) → AreItems c items → IsItem c item → AreItems c (items ++ item ∷ [])
-items-push c [] item all one = (one, tt)
-items-push c (x ∷ xs) item all one = (all.0, items-push c xs item all.1 one)
-
 pub items-pop : (c : Context) (items : List Item) (item : Item) → AreItems c (items ++ item ∷ []) → AreItems c items × IsItem c item
 items-pop c [] item all = (tt, all.0)
 items-pop c (x ∷ xs) item all = let both = items-pop c xs item all.1 in ((all.0, both.0), both.1)

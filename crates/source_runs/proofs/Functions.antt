@@ -7,10 +7,9 @@ use Rattle.std.proofs.lemmas.List.{length-map, get_or-map, get_or_append_left, g
 use Rattle.std.proofs.lemmas.List.Sums.{sum_by-cons}
 use Rattle.c_tree.specs.Sizes.{scalars, declared_words}
 use Rattle.c_tree.specs.Trees.{FunctionTree, ProgramTree, NoStmts}
-use Rattle.c_tree.specs.Views.{function_tree, table_row}
+use Rattle.c_tree.specs.Views.{function_tree}
 use Rattle.c_tree.specs.WellScoped.{AreFunctionsScoped, IsFunctionScoped, IsMember, IsTable, IsWellScoped, Signature, signature_of}
 use Rattle.c_tree.specs.declared.facts.Function.{Function}
-use Rattle.c_tree.specs.declared.facts.TableFact.{TableFact}
 use Rattle.c_mean.proofs.LayoutLemmas.{widths_length}
 use Rattle.c_mean.specs.Frames.{function_at}
 use Rattle.c_mean.specs.Layout.{widths_of}
@@ -95,12 +94,6 @@ starts-more widths starts i words count here each x lt = ⊎_elim
     (cases_lt x i)
 
 -- ---- tables
-
-pub table-is : (tree : ProgramTree) (ts : List TableFact) (t : ℕ) (x : TableFact) → map table_row ts ≡ tree.tables → t < length ts → x ≡ get_or ts t x → slice_index_or tree.tables t [] ≡ x.members.items
-table-is tree ts t x e h is = ap (λ (rows : List (List ℕ)). slice_index_or rows t []) (sym e) ∙ (get_or-map table_row ts t x [] h ∙ ap table_row (sym is))
-
-pub table-count : (tree : ProgramTree) (ts : List TableFact) → map table_row ts ≡ tree.tables → length ts ≡ length tree.tables
-table-count tree ts e = sym (length-map ts table_row) ∙ ap length e
 
 table-from : (ss : List Signature) (tables : List (List ℕ)) (t : ℕ) → t < length tables → AllByRecursion (IsTable ss) tables → AllByRecursion (IsMember ss) (slice_index_or tables t [])
 table-from ss [] t lt h = absurd (omega arith)

@@ -61,10 +61,6 @@ module _ (names globals : List (List ℕ)) where
 
   -- ---- a few arguments
 
-  pub values-none : (es : List Expr) → length es ≡ 0 → of es ≡ Ok []
-  values-none [] h = refl
-  values-none (e ∷ es) h = absurd (omega arith)
-
   pub values-one : (es : List Expr) (e : Expr) → length es ≡ 1 → e ≡ get_or es 0 e → of es ≡ with_first (value names globals (expr_tree e)) (Ok [])
   values-one [] e h is = absurd (omega arith)
   values-one (x ∷ []) e h is = ap (λ (y : Expr). with_first (value names globals (expr_tree y)) (Ok [])) (sym is)

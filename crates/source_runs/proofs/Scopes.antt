@@ -1,5 +1,5 @@
 -- The parts of a statement that is well scoped are so.
-use Rattle.std.proofs.Common.{◌≡◌, ℕ, zero, suc, ◌<◌, List, [], ◌∷◌, length, sym, arith, subst}
+use Rattle.std.proofs.Common.{◌≡◌, ℕ, zero, suc, List, [], ◌∷◌, sym, subst}
 use Rattle.std.specs.Prelude.{false, Option, Some, None, slice_get, slice_index_or}
 use Rattle.c_tree.specs.TextOrder.{simple_names}
 use Rattle.c_tree.specs.Trees.{ExprTree, RightTree, SimpleTree, StmtTree, Do, Empty, Block, If, IfElse, While, For, Break, Continue, Return}
@@ -97,11 +97,6 @@ module _ (c : Context) where
   start-scoped (Return v) k s is h = cc
 
 -- ---- a part of a list that is there
-
-pub there-is : {A : Type 0} (xs : List A) (k : ℕ) → k < length xs → None ≡ slice_get xs k → ⊥
-there-is [] k h e = absurd (omega arith)
-there-is (x ∷ xs) zero h e = cc
-there-is (x ∷ xs) (suc k) h e = there-is xs k (omega arith) e
 
 pub at-there : {A : Type 0} (xs : List A) (k : ℕ) (a d : A) → Some a ≡ slice_get xs k → slice_index_or xs k d ≡ a
 at-there [] k a d e = cc

@@ -1,7 +1,7 @@
 -- Rows that are cut from words, where a word or a row of them is written, and where a frame or a run starts.
 use Rattle.std.proofs.Common.{◌≡◌, ℕ, zero, suc, ◌+◌, ◌-◌, ◌<◌, ◌≤◌, List, [], ◌∷◌, ◌++◌, length, take, drop, map, sym, ap, ◌∙◌, arith, refl, set, get_or, append_assoc}
 use Rattle.std.specs.Prelude.{replicate, sum, slice_index, slice_set}
-use Rattle.std.proofs.lemmas.List.{length-append, length-replicate, get_or-set_same, set-set, set-get_or, take-set-le, drop-set-lt, drop-set-add, take-replicate, drop-replicate, take_at, drop_at, drop_all, take_all, take_more}
+use Rattle.std.proofs.lemmas.List.{length-append, length-replicate, get_or-set_same, set-set, take-set-le, drop-set-lt, drop-set-add, take-replicate, drop-replicate, take_at, drop_at, drop_all, take_all, take_more}
 use Rattle.std.proofs.lemmas.List.Edits.{fill_more}
 use Rattle.std.proofs.lemmas.List.Sums.{sum_by-cons}
 use Rattle.cap_word.specs.Rows.{row, width, with_word, with_zeros, zeros, scalars}
@@ -38,17 +38,10 @@ row-set (n ∷ ns) words (suc x) i at v e h =
     let past : n ≤ n + j = omega arith in
     rw (there, take-set-le n words (n + j) v past, drop-set-add n words j v) (ap (λ (rows : List (List ℕ)). take n words ∷ rows) (row-set ns (drop n words) x i j v refl h))
 
--- a scalar is written
-pub scalar-set : (ns words : List ℕ) (x at v : ℕ) → at ≡ sum (take x ns) → slice_index ns x ≡ 1 → rows_of ns (slice_set words at v) ≡ with_word (rows_of ns words) x 0 v
-scalar-set ns words x at v e one = row-set ns words x 0 at v (omega arith) (omega arith)
-
 -- ---- a row that is filled with 0 from its start on
 
 abbrev pub filled : List (List ℕ) → ℕ → ℕ → List (List ℕ)
 filled rows x i = slice_set rows x (replicate i 0 ++ drop i (row rows x))
-
-pub filled-none : (rows : List (List ℕ)) (x : ℕ) → rows ≡ filled rows x 0
-filled-none rows x = sym (set-get_or rows x [])
 
 pub filled-more : (rows : List (List ℕ)) (x i : ℕ) → x < length rows → i < width rows x → with_word (filled rows x i) x i 0 ≡ filled rows x (i + 1)
 filled-more rows x i there h =

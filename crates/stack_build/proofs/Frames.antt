@@ -6,14 +6,11 @@ use Rattle.flat_code.specs.declared.functions.FlatFunction.{FlatFunction}
 use Rattle.flat_code.specs.Codes.{FlatCode}
 use Rattle.flat_code.specs.Weight.{weight_of}
 use Rattle.checkpoint_place.specs.declared.plans.Plan.{Plan}
-use Rattle.checkpoint_place.specs.declared.refusals.PlaceError.{PlaceError}
 use Rattle.checkpoint_place.specs.declared.refusals.PlaceError.TheVariants as place
 use Rattle.checkpoint_place.specs.Refusal.{is_too_large, refusal_from}
-use Rattle.codegen_link.specs.declared.options.Options.{Options}
 use Rattle.stack_plan.specs.Plans.{IsEnough, weights_of}
-use Rattle.stack_build.specs.Builds.{frame_refusal, IsTooLarge}
+use Rattle.stack_build.specs.Builds.{frame_refusal}
 use Rattle.stack_build.specs.Refusals.{of_place}
-use Rattle.stack_build.specs.declared.refusals.BuildError.TheVariants.{Memory}
 
 fit-tests : (max_path w : ℕ) → w ≤ max_path → w ≤ 2032 → is_too_large max_path w ≡ false
 fit-tests max_path w h k = grind (arith, nat_tests)
@@ -43,11 +40,3 @@ none-too-large code max_path plan h =
 
 pub frames-fit : (code : FlatCode) (max_path : ℕ) (plan : Plan) → IsEnough code max_path plan → frame_refusal code max_path ≡ None
 frames-fit code max_path plan h = ap (option_map of_place) (none-too-large code max_path plan h)
-
--- neither want of memory nor a placement's refusal is that of too large a code
-pub memory-not-code : (code : FlatCode) (options : Options) → IsTooLarge code options Memory → ⊥
-memory-not-code code options h = let e = h.3 in cc
-
-pub place-not-code : (code : FlatCode) (options : Options) (error : PlaceError) → IsTooLarge code options (of_place error) → ⊥
-place-not-code code options (place.FrameTooLarge f bytes) h = let e = h.3 in cc
-place-not-code code options place.Memory h = let e = h.3 in cc

@@ -1,16 +1,15 @@
 -- Summaries at each level, while places change.
-use Rattle.std.proofs.Common.{◌≡◌, ◌≢◌, ℕ, zero, suc, false, ◌+◌, ◌<◌, ◌≤◌, ◌/◌, ◌%◌, Option, Some, None, List, [], ◌∷◌, ◌++◌, length, slice_set, refl, ap, ◌∙◌, subst, ⊎_elim, arith}
+use Rattle.std.proofs.Common.{◌≡◌, ◌≢◌, ℕ, false, ◌+◌, ◌<◌, ◌≤◌, ◌/◌, ◌%◌, Option, Some, None, List, length, slice_set, ap, ◌∙◌, subst, ⊎_elim, arith}
 use Rattle.std.proofs.lemmas.Bool.{cases_eq}
 use Rattle.std.proofs.lemmas.Bool.Decides.{nat_tests}
-use Rattle.std.proofs.lemmas.List.{get_or-set_same, get_or-set_other, length-set, length_push, get_or_append_left}
-use Rattle.std.proofs.Math.Seq.{get_or-append_seam}
+use Rattle.std.proofs.lemmas.List.{get_or-set_same, get_or-set_other, length-set}
 use Rattle.ready_tree.specs.declared.bounds.Bounds.{Bounds}
 use Rattle.stride_rule.specs.declared.clients.Client.{Client}
 use Rattle.stride_rule.specs.declared.levels.Levels.{Levels}
 use Rattle.stride_rule.specs.declared.rows.Row.{Row}
 use Rattle.stride_rule.specs.declared.summaries.Summary.{Summary}
 use Rattle.stride_rule.specs.Clients.{goes_before}
-use Rattle.stride_rule.specs.Levels.{AreLevels, AreLevelsBut, HasRoom, IsCovered, IsThere}
+use Rattle.stride_rule.specs.Levels.{AreLevels, AreLevelsBut, IsCovered, IsThere}
 use Rattle.stride_rule.specs.Rows.{row_at, row_grown}
 use Rattle.stride_rule.specs.Search.{met_with}
 use Rattle.stride_rule.specs.Summaries.{Covers, Includes, may_help, summary_at}
@@ -65,47 +64,6 @@ module _ (at : ℕ → ℕ) (level : List Summary) (ps : List (Option Row)) wher
       })
       (cases_eq (at place) (at k))
 
-  -- one more stands behind the others
-  pub covered_push : (row : Option Row) → AreCovered → IsCovered level (at (length ps)) row → (place : ℕ) → place < length (ps ++ row ∷ []) → IsCovered level (at place) (row_at (ps ++ row ∷ []) place)
-  covered_push row covered its place below =
-      let long : length (ps ++ row ∷ []) ≡ length ps + 1 = length_push ps row in
-      ⊎_elim
-      (λ (same : place ≡ length ps). rw (same, get_or-append_seam ps row [] None) its)
-      (λ (apart : place ≢ length ps).
-      let within : place < length ps = omega arith in
-      rw (get_or_append_left ps (row ∷ []) None place within) (covered place within))
-      (cases_eq place (length ps))
-
--- ---- one summary is of one more place
-
-pub cover_set : (level : List Summary) (i : ℕ) (s : Summary) → Includes s (summary_at level i) → (other : ℕ) (row : Option Row) → IsCovered level other row → IsCovered (slice_set level i s) other row
-cover_set level i s includes other row covered =
-    ⊎_elim
-    (λ (same : other ≡ i). record {
-      there = rw (length-set level i s) covered.there;
-      covers = rw (same, get_or-set_same level i s _ (subst (λ (k : ℕ). k < length level) same covered.there))
-          (includes_covers s (summary_at level i) row includes (subst (λ (k : ℕ). Covers (summary_at level k) row) same covered.covers));
-    })
-    (λ (apart : other ≢ i). record {
-      there = rw (length-set level i s) covered.there;
-      covers = rw (get_or-set_other level i other s _ apart) covered.covers;
-    })
-    (cases_eq other i)
-
-pub cover_set_its : (level : List Summary) (i : ℕ) (s : Summary) (row : Option Row) → i < length level → Covers s row → IsCovered (slice_set level i s) i row
-cover_set_its level i s row there covers = record { there = rw (length-set level i s) there; covers = rw (get_or-set_same level i s _ there) covers }
-
-pub cover_push : (level : List Summary) (s : Summary) (other : ℕ) (row : Option Row) → IsCovered level other row → IsCovered (level ++ s ∷ []) other row
-cover_push level s other row covered =
-    let long : length (level ++ s ∷ []) ≡ length level + 1 = length_push level s in
-    let there : other < length level = covered.there in
-    record { there = omega arith; covers = rw (get_or_append_left level (s ∷ []) _ other there) covered.covers }
-
-pub cover_push_its : (level : List Summary) (s : Summary) (i : ℕ) (row : Option Row) → i ≡ length level → Covers s row → IsCovered (level ++ s ∷ []) i row
-cover_push_its level s i row is covers =
-    let long : length (level ++ s ∷ []) ≡ length level + 1 = length_push level s in
-    record { there = omega arith; covers = rw (is, get_or-append_seam level s [] _) covers }
-
 -- ---- numbers of summaries
 
 pub by_256 : (place : ℕ) → place / 16 / 16 ≡ place / 256
@@ -132,24 +90,6 @@ levels_but levels ps k row are = record {
   small = covered_but (λ place. place / 16) levels.small.items ps k row are.small;
   middle = covered_but (λ place. place / 256) levels.middle.items ps k row are.middle;
   large = covered_but (λ place. place / 4096) levels.large.items ps k row are.large;
-}
-
-pub levels_room : (levels : Levels) (ps : List (Option Row)) → AreLevels levels ps → HasRoom levels (length ps)
-levels_room levels ps are = by (length ps) refl where
-  by : (n : ℕ) → n ≡ length ps → HasRoom levels n
-  by zero e = record { small = omega arith; middle = omega arith; large = omega arith }
-  by (suc n) e =
-      let small : n / 16 < length levels.small.items = (are.small n (omega arith)).there in
-      let middle : n / 256 < length levels.middle.items = (are.middle n (omega arith)).there in
-      let large : n / 4096 < length levels.large.items = (are.large n (omega arith)).there in
-      record { small = omega arith; middle = omega arith; large = omega arith }
-
-pub levels_push : (levels : Levels) (ps : List (Option Row)) (row : Option Row) → AreLevels levels ps → IsCovered levels.small.items (length ps / 16) row → IsCovered levels.middle.items (length ps / 256) row →
-    IsCovered levels.large.items (length ps / 4096) row → AreLevels levels (ps ++ row ∷ [])
-levels_push levels ps row are small middle large = record {
-  small = covered_push (λ place. place / 16) levels.small.items ps row are.small small;
-  middle = covered_push (λ place. place / 256) levels.middle.items ps row are.middle middle;
-  large = covered_push (λ place. place / 4096) levels.large.items ps row are.large large;
 }
 
 -- ---- a level over the one below
@@ -213,9 +153,6 @@ block_16 place other start from to = omega arith
 
 pub block_256 : (place other : ℕ) → place % 256 ≡ 0 → place ≤ other → other < place + 256 → other / 256 ≡ place / 256
 block_256 place other start from to = omega arith
-
-pub block_4096 : (place other : ℕ) → place % 4096 ≡ 0 → place ≤ other → other < place + 4096 → other / 4096 ≡ place / 4096
-block_4096 place other start from to = omega arith
 
 pub passed_block : (bounds : Bounds) (best : Option Client) (level : List Summary) (i n : ℕ) (row : Option Row) → may_help bounds best (summary_at level i) ≡ false → n ≡ i → IsCovered level n row → met_with bounds best row ≡ best
 passed_block bounds best level i n row none same covered = no_help bounds best (summary_at level i) row none (subst (λ (k : ℕ). Covers (summary_at level k) row) same covered.covers)

@@ -12,28 +12,14 @@ use Rattle.stride_rule.specs.Choices.{IsFirst}
 use Rattle.stride_rule.specs.Clients.{IsAbsent, client_of, pass_in, with_growth, grown, without}
 use Rattle.stride_rule.specs.Told.{with_need, without_need}
 use Rattle.stride_rule.specs.Rows.{clients_of, needs_in}
-use Rattle.stride_rule.specs.Tickets.{AreTickets, stride_of, tickets_of}
-use Rattle.stride_rule.specs.State.{StrideState, IsClient, IsNear, IsKept, new_rule, with_client, after_choice, after_segment, after_segment_for, after_leaving}
+use Rattle.stride_rule.specs.Tickets.{stride_of, tickets_of}
+use Rattle.stride_rule.specs.State.{StrideState, IsClient, IsNear, IsKept, with_client, after_choice, after_segment, after_segment_for, after_leaving}
 use Rattle.stride_rule.proofs.ClientLemmas.{by_test, all_to, all_append, pass-of_client, all-client, all-without, once-grown, once-without, once-append}
 use Rattle.stride_rule.proofs.RowLemmas.{clients_appended, needs_appended}
 use Rattle.stride_rule.proofs.OrderLemmas.{not_before-le}
 
 pub stride-le : (tickets : List (ℕ × ℕ)) (thread : ℕ) → stride_of tickets thread ≤ 1048576
 stride-le tickets thread = div-le_self 1048576 (tickets_of tickets thread)
-
--- ---- at first
-
-pub kept_new : (tickets : List (ℕ × ℕ)) → AreTickets tickets → IsKept (new_rule tickets)
-kept_new tickets are = record {
-  tickets = are;
-  counted = omega arith;
-  latest = omega arith;
-  greatest = omega arith;
-  clients = tt;
-  once = tt;
-  near = λ e. tt;
-  there = λ n e. absurd cc;
-}
 
 -- ---- what is said of each part of a state says what the state is
 

@@ -1,5 +1,5 @@
 -- What a summary says of the places that it covers.
-use Rattle.std.proofs.Common.{◌≡◌, ℕ, zero, suc, ◌+◌, ◌<◌, ◌≤◌, ◌||◌, Bool, true, false, Option, Some, None, List, [], ◌∷◌, length, drop, refl, sym, ap, ◌∙◌, arith}
+use Rattle.std.proofs.Common.{◌≡◌, ℕ, zero, suc, ◌<◌, ◌≤◌, ◌||◌, Bool, true, false, Option, Some, None, List, [], ◌∷◌, length, drop, refl, ap, ◌∙◌, arith}
 use Rattle.std.proofs.Math.Seq.{drop-nil}
 use Rattle.ready_tree.specs.declared.bounds.Bounds.{Bounds}
 use Rattle.ready_tree.specs.Needs.{is_met, is_some_met}
@@ -72,10 +72,3 @@ module _ (bounds : Bounds) where
       ap (λ (b : Option Client). met_among bounds b ps) here ∙ met_past best ps zero j (omega arith) (λ k from to there. none (suc k) (omega arith) (omega arith) (omega arith))
   met_past best (p ∷ ps) (suc i) zero order none = absurd (omega arith)
   met_past best (p ∷ ps) (suc i) (suc j) order none = met_past best ps i j (omega arith) (λ k from to there. none (suc k) (omega arith) (omega arith) (omega arith))
-
-  pub met_one : (best : Option Client) (ps : List (Option Row)) (i : ℕ) → i < length ps → met_among bounds best (drop i ps) ≡ met_among bounds (met_with bounds best (row_at ps i)) (drop (i + 1) ps)
-  met_one best [] i there = absurd (omega arith)
-  met_one best (p ∷ ps) zero there = refl
-  met_one best (p ∷ ps) (suc i) there =
-      let next : ◌≡◌ {A = ℕ} (suc i + 1) (suc (i + 1)) = omega arith in
-      met_one best ps i (omega arith) ∙ ap (λ (n : ℕ). met_among bounds (met_with bounds best (row_at ps i)) (drop {A = Option Row} n (p ∷ ps))) (sym next)

@@ -32,10 +32,6 @@ or_right : (a b : Bool) → b ≡ true → (a || b) ≡ true
 or_right true b e = refl
 or_right false b e = e
 
-test_cases : (b : Bool) → (b ≡ true) ⊎ (b ≡ false)
-test_cases true = inl refl
-test_cases false = inr refl
-
 -- a thread of the list of which a fact holds that holds of all, and that passes the test
 record Passing (P : Thread → Type 0) (test : Thread → Bool) : Type 0 where
   thread : Thread
@@ -110,9 +106,6 @@ something test none None e = absurd (let x : false ≡ true = sym none ∙ e in 
 something test none (Some wait) e = (wait, refl)
 
 module _ (accepted : Acceptance) (most : ℕ) (st : State) (kept : IsKept accepted most st) where
-  thread_at : ℕ → Record → Thread
-  thread_at place r = thread_of_record st.areas.pool st.waits place r
-
   members : AllByRecursion (IsOfRecord number_of (thread_of_record st.areas.pool st.waits) st.records.slots) (threads_of st)
   members = thread_members number_of (thread_of_record st.areas.pool st.waits) st.records.slots st.next
 

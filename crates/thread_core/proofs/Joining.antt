@@ -8,7 +8,7 @@ use Rattle.accepted_pairs.specs.Acceptance.{Acceptance}
 use Rattle.machine_world.specs.Local as local
 use Rattle.machine_world.specs.Local.{LocalMove, local_step}
 use Rattle.machine_world.specs.Threads as machine
-use Rattle.machine_world.specs.Threads.{Thread, World, Setting, thread_of, moved, step}
+use Rattle.machine_world.specs.Threads.{Thread, Setting, thread_of, moved, step}
 use Rattle.segment_run.specs.Contexts.{code_of}
 use Rattle.segment_run.specs.declared.segments.Segment.{Segment}
 use Rattle.segment_run.specs.declared.segments.Segment.TheVariants as answer
@@ -66,15 +66,6 @@ pub record IsGoing (accepted : Acceptance) (most : ℕ) (thread : ThreadId) (old
   pub rest : KeepsRest accepted most old now
   pub same : SamePlaces old now
   pub may : MayRun accepted most now thread
-
-pub going : (accepted : Acceptance) (most : ℕ) (thread : ThreadId) (old : State) → MayRun accepted most old thread → IsGoing accepted most thread old old
-going accepted most thread old may = record {
-  steps = 0;
-  goes_on = refl;
-  rest = record { caps = refl; backlog = refl; chunks = refl; begun = refl };
-  same = λ place. refl;
-  may = may;
-}
 
 pub again : (accepted : Acceptance) (most : ℕ) (thread : ThreadId) (old now new : State) (answered : Option Turn) → IsGoing accepted most thread old now → OnTold accepted most thread now answered new → OnTold accepted most thread old answered new
 again accepted most thread old now new answered is then =

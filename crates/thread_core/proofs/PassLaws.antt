@@ -4,18 +4,17 @@ use Rattle.std.proofs.lemmas.List.{length-map}
 use Rattle.std.proofs.Math.Nat.{mod-eq_of_lt}
 use Rattle.slab.specs.Slab.{Slab, get}
 use Rattle.cap_word.specs.Word.{add}
-use Rattle.cap_word.specs.declared.stops.Stop.{Stop}
 use Rattle.cap_word.specs.declared.threads.ThreadId.{ThreadId}
 use Rattle.accepted_pairs.specs.Acceptance.{Acceptance}
 use Rattle.machine_world.specs.Local.{Core, LocalMove, local_step, passed, with_result}
-use Rattle.machine_world.specs.Threads.{Thread, thread_of, replaced, moved, step, retired, Stops}
+use Rattle.machine_world.specs.Threads.{Thread, thread_of, replaced, moved, step, retired}
 use Rattle.segment_run.specs.Contexts.{checked_of, code_of, local_of, IsOwned}
 use Rattle.segment_run.proofs.Owning.{IsOwned-owns}
 use Rattle.segment_run.specs.declared.contexts.Context.{Context}
 use Rattle.segment_run.specs.declared.contexts.Fuel.{Fuel}
 use Rattle.machine_world.specs.WellFormed.{IsWellFormed}
 use Rattle.thread_exchange.specs.Exchanges.{Exchanging}
-use Rattle.segment_laws.proofs.Silent.{step_moves, step_fuel}
+use Rattle.segment_laws.proofs.Silent.{step_moves}
 use Rattle.thread_waits.specs.Waiting.{wait_at}
 use Rattle.segment_laws.specs.Found.{IsNumbered}
 use Rattle.segment_laws.proofs.Changing.{record_written}
@@ -78,11 +77,6 @@ module _ (accepted : Acceptance) (most : ℕ) (st : State) (thread : ThreadId) (
       step_moves (setting_of accepted most st) (machine_of most st) (thread_of_record st.areas.pool st.waits thread.slot r) move
       (it_runs ∙ ap Some (sym (its_number r e))) (its_thread_by r e) (omega arith) is
 
-  pub its_fuel : (r : Record) → get st.records thread.slot ≡ Some r → st.fuel.left ≡ 0 → step (setting_of accepted most st) (machine_of most st) ≡ Stops Stop.Fuel
-  its_fuel r e none =
-      step_fuel (setting_of accepted most st) (machine_of most st) (thread_of_record st.areas.pool st.waits thread.slot r)
-      (it_runs ∙ ap Some (sym (its_number r e))) (its_thread_by r e) (omega arith)
-
 -- ---- behind its ECALL
 
 next_word : (pc : ℕ) → pc < 2 ^ 32 - 4 → add pc 4 ≡ pc + 4
@@ -93,14 +87,6 @@ next_word pc h = mod-eq_of_lt (omega arith)
 pub passed_core : (st : State) (context : Context) (answer : Option ℕ) → context.pc < 2 ^ 32 - 4 → (local_of st.areas (passed_context context answer)).core ≡ passed (local_of st.areas context).core answer
 passed_core st context None h = ap (λ (pc : ℕ). record { pc = pc; x = context.x; chain = (local_of st.areas context).core.chain }) (sym (next_word context.pc h))
 passed_core st context (Some value) h = ap (λ (pc : ℕ). record { pc = pc; x = with_result context.x (Some value); chain = (local_of st.areas context).core.chain }) (sym (next_word context.pc h))
-
--- one instruction of the thread has retired, and the exchange may have changed; its record has that context
-pub record IsPassed (st : State) (thread : ThreadId) (context : Context) (new : State) : Type 0 where
-  pub written : HasContext st thread context new
-  pub rest : new ≡ record st { exchange = new.exchange; records = new.records; fuel = new.fuel; waits = record st.waits { clock = st.waits.clock + 1 } }
-  pub fuel : new.fuel.left + 1 ≡ st.fuel.left
-  pub caps : new.exchange.caps ≡ st.exchange.caps
-  pub backlog : new.exchange.backlog ≡ st.exchange.backlog
 
 slot_or_not : (k slot : ℕ) → (k ≡ slot) ⊎ (k ≢ slot)
 slot_or_not k slot = grind arith

@@ -1,6 +1,6 @@
 -- The least numbers of blocks of places, and trees that have them.
 use Rattle.std.proofs.Common.{◌≡◌, ◌≢◌, ℕ, ◌+◌, ◌*◌, ◌/◌, ◌<◌, ◌≤◌, ◌⊎◌, inl, inr, List, length, min, Option, Some, None, refl, sym, ◌∙◌, ap, subst, arith, below_more, slice_index_or, slice_set}
-use Rattle.std.proofs.lemmas.List.{get_or_past, get_or-set_same, get_or-set_other, length-set}
+use Rattle.std.proofs.lemmas.List.{get_or-set_same, get_or-set_other, length-set}
 use Rattle.thread_waits.specs.declared.waits.Wait.{Wait}
 use Rattle.thread_waits.specs.Counted.{IsBetween, IsLeafOf, IsLeastBetween, IsTreeOf, no_number, number_or}
 
@@ -21,9 +21,6 @@ lesser_is a b (inr h) = inl (omega arith)
 module _ (number : Option Wait → Option ℕ) where
   -- ---- place by place
 
-  pub none_between : (places : List (Option Wait)) (start : ℕ) → IsLeastBetween number places start start no_number
-  none_between places start = record { most = omega arith; lowest = λ k from before. absurd (omega arith); stands = λ d. absurd (d refl) }
-
   stands_by : (places : List (Option Wait)) (start end least next value : ℕ) → start ≤ end → IsLeastBetween number places start end least → next ≡ number_or (number (slice_index_or places end None)) →
       value ≢ no_number → (value ≡ least) ⊎ (value ≡ next) → IsBetween number places start (end + 1) value
   stands_by places start end least next value order so is d (inl same) =
@@ -43,43 +40,6 @@ module _ (number : Option Wait → Option ℕ) where
         (λ past. subst (λ (n : ℕ). min least next ≤ n) is (omega arith)) k before from;
     stands = λ d. stands_by places start end least next (min least next) order so is d (lesser_is least next (past_or_not least next));
   }
-
-  -- nobody waits past the places
-  none_past : number None ≡ None → (places : List (Option Wait)) (k : ℕ) → length places ≤ k → number_or (number (slice_index_or places k None)) ≡ no_number
-  none_past none places k past = rw (get_or_past places k None past, none) refl
-
-  low_by : number None ≡ None → (places : List (Option Wait)) (start end least k : ℕ) → IsLeastBetween number places start end least → length places ≤ end → start ≤ k → (k < end) ⊎ (end ≤ k) →
-      least ≤ number_or (number (slice_index_or places k None))
-  low_by none places start end least k so all from (inl h) = so.lowest k from h
-  low_by none places start end least k so all from (inr h) = rw (none_past none places k (omega arith)) so.most
-
-  pub wider : number None ≡ None → (places : List (Option Wait)) (start end further least : ℕ) → end ≤ further → length places ≤ end → IsLeastBetween number places start end least →
-      IsLeastBetween number places start further least
-  wider none places start end further least order all so = record {
-    most = so.most;
-    lowest = λ k from before. low_by none places start end least k so all from (past_or_not end k);
-    stands = λ d.
-        let s : IsBetween number places start end least = so.stands d in
-        let before : s.place < end = s.before in
-        record { place = s.place; from = s.from; before = omega arith; number_is = s.number_is };
-  }
-
-  block_by : number None ≡ None → (places : List (Option Wait)) (block start end least : ℕ) → start ≡ 16 * block → IsLeastBetween number places start end least →
-      (end ≡ start + 16) ⊎ ((end ≤ start + 16) × (length places ≤ end)) → IsLeafOf number places block least
-  block_by none places block start end least e so (inl f) =
-      subst (λ (n : ℕ). IsLeastBetween number places n (n + 16) least) e (subst (λ (n : ℕ). IsLeastBetween number places start n least) f so)
-  block_by none places block start end least e so (inr h) =
-      subst (λ (n : ℕ). IsLeastBetween number places n (n + 16) least) e (wider none places start end (start + 16) least h.0 h.1 so)
-
-  whole_or_last : (long start end : ℕ) → end ≡ min long (start + 16) → (long < start + 16) ⊎ (start + 16 ≤ long) → (end ≡ start + 16) ⊎ ((end ≤ start + 16) × (long ≤ end))
-  whole_or_last long start end e (inl h) = inr (omega arith, omega arith)
-  whole_or_last long start end e (inr h) = inl (omega arith)
-
-  -- the places of a block, or those that there are of it
-  pub block_least : number None ≡ None → (places : List (Option Wait)) (block start end least : ℕ) → start ≡ 16 * block → end ≡ min (length places) (start + 16) →
-      IsLeastBetween number places start end least → IsLeafOf number places block least
-  block_least none places block start end least e f so =
-      block_by none places block start end least e so (whole_or_last (length places) start end f (past_or_not (start + 16) (length places)))
 
   -- ---- changes
 

@@ -13,10 +13,10 @@ use Rattle.scope_rules.specs.declared.meanings.Found.{Found}
 use Rattle.scope_rules.specs.Names.{Binding, find}
 use Rattle.scope_rules.specs.Meanings.{function_of}
 use Rattle.scope_rules.specs.Calls.{next}
-use Rattle.scope_rules.specs.Items.{Sofar, at_start, modelled_names, item_faults, item_after}
+use Rattle.scope_rules.specs.Items.{Sofar, modelled_names, item_faults, item_after}
 use Rattle.workload.proofs.Words.{same_itself}
 use Rattle.workload.proofs.Pieces.{chain_name}
-use Rattle.workload.proofs.Items.{first_item, link_item, worker_item, main_item}
+use Rattle.workload.proofs.Items.{link_item, worker_item, main_item}
 
 -- a defined function's name, where these are the definitions of the source
 abbrev pub defined : List Binding → List ℕ → Bool → ℕ → Binding
@@ -118,12 +118,6 @@ find_latest defs zero = (length modelled_names, find_here (defined defs (chain_n
 find_latest defs (suc m) = (length (chain_names defs m), find_here (defined defs (chain_name (suc m)) true 1) (chain_names defs m))
 
 -- what each line breaks, and makes
-
-pub first_fine : (defs : List Binding) (p : ℕ → ℕ) → item_faults defs at_start (first_item p) ≡ []
-first_fine defs p = refl
-
-pub first_after : (defs : List Binding) (p : ℕ → ℕ) → item_after defs at_start (first_item p) ≡ sofar (chain_names defs 0) 0 (first_tree ∷ [])
-first_after defs p = refl
 
 pub link_fine : (defs names : List Binding) (site : ℕ) (functions : List FunctionTree) (p : ℕ → ℕ) (i m position : ℕ) → find (chain_name i) names ≡ None → find (codes "x") names ≡ None → find (codes "r") names ≡ None
     → bytes_eq (chain_name i) (chain_name m) ≡ false → find (chain_name m) names ≡ Some (chain_found defs m position)

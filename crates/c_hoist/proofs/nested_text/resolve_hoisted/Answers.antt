@@ -2,7 +2,6 @@ use Rattle.std.proofs.Common.{ap, sym, subst, ◌∙◌, length}
 use Rattle.c_tree.specs.RawProgramView.{raw_program_tree}
 use Rattle.c_tree.specs.ProgramView.{program_tree}
 use Rattle.c_tree.specs.WellScoped.{AreSiteNumbers}
-use Rattle.c_tree.specs.WholeForParts.{AreForPartsWhole}
 use Rattle.grammar_laws.specs.Nested.{is_call}
 use Rattle.grammar_laws.specs.Places.{items_places}
 use Rattle.grammar_laws.specs.Ranks.{ranks}
@@ -13,9 +12,6 @@ use Rattle.hoist_parts.proofs.Temporaries.{items_small}
 use Rattle.hoist_parts.proofs.Whole.{items_hoisted_whole}
 use Rattle.hoist_meaning.proofs.TreeCounts.{each_call}
 use Rattle.c_hoist.proofs.nested_text.resolve_hoisted.Goals as goal
-
-pub rewritten-requires : goal.rewritten-requires
-rewritten-requires c = subst AreForPartsWhole (sym c.into_items.ensures) c.requires
 
 pub finish-requires : goal.finish-requires
 finish-requires c =

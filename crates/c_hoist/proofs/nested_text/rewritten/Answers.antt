@@ -2,7 +2,6 @@ use Rattle.std.proofs.Common.{◌≡◌, rules, sym, ap, subst, ◌∙◌, [], �
 use Rattle.std.proofs.lemmas.List.{nil_from_length}
 use Rattle.std.specs.Vec.Iter.{into_iter_items}
 use Rattle.c_tree.specs.RawViews.{raw_item_tree, raw_item_trees}
-use Rattle.c_tree.specs.WholeForParts.{AreForPartsWhole}
 use Rattle.grammar_laws.specs.Nested.{is_call}
 use Rattle.grammar_laws.specs.Places.{item_places, items_places}
 use Rattle.scope_rules.specs.Reading.{HasRead}
@@ -17,12 +16,8 @@ loop-item-init c =
       rw c.deref.ensures.value at c.in_ok-new.ensures,
       ap (λ xs. items_hoisted (raw_item_trees xs)) gives.0,
       search rules,
-      subst (λ xs. AreForPartsWhole (raw_item_trees xs)) (sym gives.0) c.requires,
       omega (arith, ap length gives.0, gives.1),
     )
-
-pub item-requires : goal.item-requires
-item-requires c = (subst (λ xs. AreForPartsWhole (raw_item_trees xs)) c.in-Some.ensures.steps.0 c.loop-item.invariant.4).0
 
 pub loop-item-preserved : goal.loop-item-preserved
 loop-item-preserved c =
@@ -34,21 +29,20 @@ loop-item-preserved c =
       c.in_ok-rewritten.ensures.read (raw_item_trees c.args.raw.items) read c.loop-item.invariant.1,
       append_assoc read (one ∷ []) (items_hoisted rest) ∙ (sym (ap (λ xs. read ++ items_hoisted (raw_item_trees xs)) steps.0) ∙ c.loop-item.invariant.2),
       c.in_ok-rewritten.ensures.places ∙ (ap (λ ps. ps ++ item_places is_call one) c.loop-item.invariant.3 ∙ sym (places_of_one_more read one)),
-      (subst (λ xs. AreForPartsWhole (raw_item_trees xs)) steps.0 c.loop-item.invariant.4).1,
-      omega (arith, ap length steps.0, steps.1, c.loop-item.invariant.5),
+      omega (arith, ap length steps.0, steps.1, c.loop-item.invariant.4),
     )
 
 pub returns-clause-read : goal.returns-clause-read
 returns-clause-read c =
     let ts = raw_item_trees c.args.raw.items in
     let read = c.loop-item.invariant.0 in
-    let none : into_iter_items c.loop-item.item-iterator ≡ [] = nil_from_length (into_iter_items c.loop-item.item-iterator) (omega (arith, c.in-None.ensures.steps.0, c.loop-item.invariant.5)) in
+    let none : into_iter_items c.loop-item.item-iterator ≡ [] = nil_from_length (into_iter_items c.loop-item.item-iterator) (omega (arith, c.in-None.ensures.steps.0, c.loop-item.invariant.4)) in
     let all = sym (append-nil read) ∙ (sym (ap (λ xs. read ++ items_hoisted (raw_item_trees xs)) none) ∙ c.loop-item.invariant.2) in
     subst (λ is. HasRead c.loop-item.rewritten.resolver (items_hoisted ts) is) all (read_of_hoisted c.loop-item.rewritten.resolver ts read c.loop-item.invariant.1)
 
 pub returns-clause-places : goal.returns-clause-places
 returns-clause-places c =
     let read = c.loop-item.invariant.0 in
-    let none : into_iter_items c.loop-item.item-iterator ≡ [] = nil_from_length (into_iter_items c.loop-item.item-iterator) (omega (arith, c.in-None.ensures.steps.0, c.loop-item.invariant.5)) in
+    let none : into_iter_items c.loop-item.item-iterator ≡ [] = nil_from_length (into_iter_items c.loop-item.item-iterator) (omega (arith, c.in-None.ensures.steps.0, c.loop-item.invariant.4)) in
     let all = sym (append-nil read) ∙ (sym (ap (λ xs. read ++ items_hoisted (raw_item_trees xs)) none) ∙ c.loop-item.invariant.2) in
     c.loop-item.invariant.3 ∙ ap (items_places is_call) all

@@ -2,7 +2,6 @@ use Rattle.std.proofs.Common.{◌≡◌, List, ◌++◌, length}
 use Rattle.std.specs.Vec.Iter.{into_iter_items, into_iter_len}
 use Rattle.c_tree.specs.RawTrees.{RawItemTree}
 use Rattle.c_tree.specs.RawViews.{raw_item_trees}
-use Rattle.c_tree.specs.WholeForParts.{AreForPartsWhole}
 use Rattle.grammar_laws.specs.Nested.{is_call}
 use Rattle.grammar_laws.specs.Places.{items_places}
 use Rattle.scope_rules.specs.Reading.{HasRead}
@@ -15,5 +14,4 @@ invariant-loop-item l =
     × HasRead l.rewritten.resolver (raw_item_trees l.fn.raw.items) read
     × (read ++ items_hoisted (raw_item_trees (into_iter_items l.item-iterator)) ≡ items_hoisted (raw_item_trees l.fn.raw.items))
     × (l.rewritten.places.items ≡ items_places is_call read)
-    × AreForPartsWhole (raw_item_trees (into_iter_items l.item-iterator))
     × (into_iter_len l.item-iterator ≡ length (into_iter_items l.item-iterator))

@@ -5,7 +5,7 @@ use Rattle.std.proofs.lemmas.Result.{on_ok_weaker}
 use Rattle.c_tree.specs.RawViews.{name_tree, raw_stmt_trees, raw_item_tree}
 use Rattle.grammar_laws.specs.Nested.{is_call}
 use Rattle.grammar_laws.specs.Places.{stmts_places, item_places}
-use Rattle.call_places.proofs.NoNames.{no_declared, no_used, no_parameters}
+use Rattle.grammar_laws.proofs.NoNames.{no_declared, no_used, no_parameters}
 use Rattle.call_places.proofs.calls.add_places_of_calls.Goals as goal
 
 pub returns-in-Function : goal.returns-in-Function

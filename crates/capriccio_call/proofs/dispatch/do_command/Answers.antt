@@ -3,7 +3,7 @@ use Rattle.codegen_link.specs.declared.options.Options.{Options}
 use Rattle.command_words.specs.declared.commands.Command.{Command}
 use Rattle.command_words.specs.WordList.{request_of}
 use Rattle.pair_commands.specs.BuildsFiles.{Builds}
-use Rattle.command_outcomes.specs.Done.{Outside}
+use Rattle.command_outcomes.specs.Done.{Outside, outside_by}
 use Rattle.capriccio_call.specs.Due.{Does}
 use Rattle.command_options.specs.Options.{sizes_of}
 use Rattle.pair_commands.specs.Graphs.{Graphs}
@@ -47,8 +47,8 @@ run_pair-requires g c =
 pub returns-in-Graph : goal.returns-in-Graph
 returns-in-Graph g c =
     let F = g.F.Shelf in let S = g.S.Source in let K = g.K.Sink in let a = c.args in
-    let before : Outside = record { files = F.files a.shelf.now; loads = F.load_faults a.shelf.now; stores = F.store_faults a.shelf.now; left = S.left a.trace.now; reads = S.faults a.trace.now; taken = K.taken a.out.now; writes = K.faults a.out.now } in
-    let after : Outside = record { files = F.files c.do_graph.new.shelf; loads = F.load_faults c.do_graph.new.shelf; stores = F.store_faults c.do_graph.new.shelf; left = S.left a.trace.now; reads = S.faults a.trace.now; taken = K.taken c.do_graph.new.out; writes = K.faults c.do_graph.new.out } in
+    let before : Outside = outside_by F.files F.load_faults F.store_faults S.left S.faults K.taken K.faults a.shelf.now a.trace.now a.out.now in
+    let after : Outside = outside_by F.files F.load_faults F.store_faults S.left S.faults K.taken K.faults c.do_graph.new.shelf a.trace.now c.do_graph.new.out in
     let R : Options → Type 0 = λ o. EndsAs IsStatus (Graphs before.files c.in-Graph.source.now o.max_path) before after c.do_graph.result in
     let done : R (sizes_of c.in-Graph.placement) = subst R c.options_of.ensures (c.do_graph.ensures before.left before.reads) in
     let Q : Command → Type 0 = λ x. EndsAs IsEnd (Does (request_of x) before) before after c.ended_without_world.result in
@@ -58,8 +58,8 @@ returns-in-Graph g c =
 pub returns-in-Check : goal.returns-in-Check
 returns-in-Check g c =
     let F = g.F.Shelf in let S = g.S.Source in let K = g.K.Sink in let a = c.args in
-    let before : Outside = record { files = F.files a.shelf.now; loads = F.load_faults a.shelf.now; stores = F.store_faults a.shelf.now; left = S.left a.trace.now; reads = S.faults a.trace.now; taken = K.taken a.out.now; writes = K.faults a.out.now } in
-    let after : Outside = record { files = F.files c.do_check.new.shelf; loads = F.load_faults c.do_check.new.shelf; stores = F.store_faults c.do_check.new.shelf; left = S.left a.trace.now; reads = S.faults a.trace.now; taken = K.taken c.do_check.new.out; writes = K.faults c.do_check.new.out } in
+    let before : Outside = outside_by F.files F.load_faults F.store_faults S.left S.faults K.taken K.faults a.shelf.now a.trace.now a.out.now in
+    let after : Outside = outside_by F.files F.load_faults F.store_faults S.left S.faults K.taken K.faults c.do_check.new.shelf a.trace.now c.do_check.new.out in
     let Q : Command → Type 0 = λ x. EndsAs IsEnd (Does (request_of x) before) before after c.ended_without_world-in-Check.result in
     let P : Result Ended Stop → Type 0 = λ r. EndsAs IsEnd (Checks before.files c.in-Check.source.now c.in-Check.image.now c.in-Check.certificate.now) before after r in
     subst Q (sym c.in-Check.is) (subst P (sym c.ended_without_world-in-Check.ensures) (ends-without (Checks before.files c.in-Check.source.now c.in-Check.image.now c.in-Check.certificate.now) before after c.do_check.result (c.do_check.ensures before.left before.reads)))
@@ -67,8 +67,8 @@ returns-in-Check g c =
 pub returns-in-Serve : goal.returns-in-Serve
 returns-in-Serve g c =
     let F = g.F.Shelf in let S = g.S.Source in let K = g.K.Sink in let a = c.args in
-    let before : Outside = record { files = F.files a.shelf.now; loads = F.load_faults a.shelf.now; stores = F.store_faults a.shelf.now; left = S.left a.trace.now; reads = S.faults a.trace.now; taken = K.taken a.out.now; writes = K.faults a.out.now } in
-    let after : Outside = record { files = F.files c.serve.new.shelf; loads = F.load_faults c.serve.new.shelf; stores = F.store_faults c.serve.new.shelf; left = S.left c.serve.new.trace; reads = S.faults c.serve.new.trace; taken = K.taken c.serve.new.out; writes = K.faults c.serve.new.out } in
+    let before : Outside = outside_by F.files F.load_faults F.store_faults S.left S.faults K.taken K.faults a.shelf.now a.trace.now a.out.now in
+    let after : Outside = outside_by F.files F.load_faults F.store_faults S.left S.faults K.taken K.faults c.serve.new.shelf c.serve.new.trace c.serve.new.out in
     let P : Options → Type 0 = λ o. EndsAs IsEnd (Serves before.files before.left c.in-Serve.source.now o c.in-Serve.policy) before after c.serve.result in
     let Q : Command → Type 0 = λ x. EndsAs IsEnd (Does (request_of x) before) before after c.serve.result in
     let done : P (sizes_of c.in-Serve.placement) = subst P c.options_of-in-Serve.ensures (c.serve.ensures) in
@@ -77,16 +77,16 @@ returns-in-Serve g c =
 pub returns-in-Run : goal.returns-in-Run
 returns-in-Run g c =
     let F = g.F.Shelf in let S = g.S.Source in let K = g.K.Sink in let a = c.args in
-    let before : Outside = record { files = F.files a.shelf.now; loads = F.load_faults a.shelf.now; stores = F.store_faults a.shelf.now; left = S.left a.trace.now; reads = S.faults a.trace.now; taken = K.taken a.out.now; writes = K.faults a.out.now } in
-    let after : Outside = record { files = F.files c.run_pair.new.shelf; loads = F.load_faults c.run_pair.new.shelf; stores = F.store_faults c.run_pair.new.shelf; left = S.left c.run_pair.new.trace; reads = S.faults c.run_pair.new.trace; taken = K.taken c.run_pair.new.out; writes = K.faults c.run_pair.new.out } in
+    let before : Outside = outside_by F.files F.load_faults F.store_faults S.left S.faults K.taken K.faults a.shelf.now a.trace.now a.out.now in
+    let after : Outside = outside_by F.files F.load_faults F.store_faults S.left S.faults K.taken K.faults c.run_pair.new.shelf c.run_pair.new.trace c.run_pair.new.out in
     let Q : Command → Type 0 = λ x. EndsAs IsEnd (Does (request_of x) before) before after c.run_pair.result in
     subst Q (sym c.in-Run.is) (c.run_pair.ensures)
 
 pub returns-in-Build : goal.returns-in-Build
 returns-in-Build g c =
     let F = g.F.Shelf in let S = g.S.Source in let K = g.K.Sink in let a = c.args in
-    let before : Outside = record { files = F.files a.shelf.now; loads = F.load_faults a.shelf.now; stores = F.store_faults a.shelf.now; left = S.left a.trace.now; reads = S.faults a.trace.now; taken = K.taken a.out.now; writes = K.faults a.out.now } in
-    let after : Outside = record { files = F.files c.do_build.new.shelf; loads = F.load_faults c.do_build.new.shelf; stores = F.store_faults c.do_build.new.shelf; left = S.left a.trace.now; reads = S.faults a.trace.now; taken = K.taken c.do_build.new.out; writes = K.faults c.do_build.new.out } in
+    let before : Outside = outside_by F.files F.load_faults F.store_faults S.left S.faults K.taken K.faults a.shelf.now a.trace.now a.out.now in
+    let after : Outside = outside_by F.files F.load_faults F.store_faults S.left S.faults K.taken K.faults c.do_build.new.shelf a.trace.now c.do_build.new.out in
     let R : Options → Type 0 = λ o. EndsAs IsStatus (Builds before.files c.in-Build.source.now c.in-Build.image.now c.in-Build.certificate.now o) before after c.do_build.result in
     let done : R (sizes_of c.in-Build.placement) = subst R c.options_of-in-Build.ensures (c.do_build.ensures before.left before.reads) in
     let Q : Command → Type 0 = λ x. EndsAs IsEnd (Does (request_of x) before) before after c.ended_without_world-in-Build.result in
@@ -106,8 +106,8 @@ demo-requires-clause-few g c =
 pub returns-in-Demo : goal.returns-in-Demo
 returns-in-Demo g c =
     let F = g.F.Shelf in let S = g.S.Source in let K = g.K.Sink in let a = c.args in
-    let before : Outside = record { files = F.files a.shelf.now; loads = F.load_faults a.shelf.now; stores = F.store_faults a.shelf.now; left = S.left a.trace.now; reads = S.faults a.trace.now; taken = K.taken a.out.now; writes = K.faults a.out.now } in
-    let after : Outside = record { files = F.files a.shelf.now; loads = F.load_faults a.shelf.now; stores = F.store_faults a.shelf.now; left = S.left a.trace.now; reads = S.faults a.trace.now; taken = K.taken c.demo.new.out; writes = K.faults c.demo.new.out } in
+    let before : Outside = outside_by F.files F.load_faults F.store_faults S.left S.faults K.taken K.faults a.shelf.now a.trace.now a.out.now in
+    let after : Outside = outside_by F.files F.load_faults F.store_faults S.left S.faults K.taken K.faults a.shelf.now a.trace.now c.demo.new.out in
     let Q : Command → Type 0 = λ x. EndsAs IsEnd (Does (request_of x) before) before after c.demo.result in
     subst Q (sym c.in-Demo.is) (c.demo.ensures before.files before.loads before.stores before.left before.reads)
 
@@ -119,8 +119,8 @@ do_audit-requires g c =
 pub returns-in-Audit : goal.returns-in-Audit
 returns-in-Audit g c =
     let F = g.F.Shelf in let S = g.S.Source in let K = g.K.Sink in let a = c.args in
-    let before : Outside = record { files = F.files a.shelf.now; loads = F.load_faults a.shelf.now; stores = F.store_faults a.shelf.now; left = S.left a.trace.now; reads = S.faults a.trace.now; taken = K.taken a.out.now; writes = K.faults a.out.now } in
-    let after : Outside = record { files = F.files c.do_audit.new.shelf; loads = F.load_faults c.do_audit.new.shelf; stores = F.store_faults c.do_audit.new.shelf; left = S.left c.do_audit.new.trace; reads = S.faults c.do_audit.new.trace; taken = K.taken c.do_audit.new.out; writes = K.faults c.do_audit.new.out } in
+    let before : Outside = outside_by F.files F.load_faults F.store_faults S.left S.faults K.taken K.faults a.shelf.now a.trace.now a.out.now in
+    let after : Outside = outside_by F.files F.load_faults F.store_faults S.left S.faults K.taken K.faults c.do_audit.new.shelf c.do_audit.new.trace c.do_audit.new.out in
     let Q : Command → Type 0 = λ x. EndsAs IsEnd (Does (request_of x) before) before after c.ended_without_world-in-Audit.result in
     let P : Result Ended Stop → Type 0 = λ r. EndsAs IsEnd (Audits before.files before.left c.in-Audit.source.now c.in-Audit.log.now c.in-Audit.options) before after r in
     subst Q (sym c.in-Audit.is) (subst P (sym c.ended_without_world-in-Audit.ensures) (ends-without (Audits before.files before.left c.in-Audit.source.now c.in-Audit.log.now c.in-Audit.options) before after c.do_audit.result c.do_audit.ensures))
@@ -128,8 +128,8 @@ returns-in-Audit g c =
 pub returns-in-Budget : goal.returns-in-Budget
 returns-in-Budget g c =
     let F = g.F.Shelf in let S = g.S.Source in let K = g.K.Sink in let a = c.args in
-    let before : Outside = record { files = F.files a.shelf.now; loads = F.load_faults a.shelf.now; stores = F.store_faults a.shelf.now; left = S.left a.trace.now; reads = S.faults a.trace.now; taken = K.taken a.out.now; writes = K.faults a.out.now } in
-    let after : Outside = record { files = F.files c.do_budget.new.shelf; loads = F.load_faults c.do_budget.new.shelf; stores = F.store_faults c.do_budget.new.shelf; left = S.left a.trace.now; reads = S.faults a.trace.now; taken = K.taken c.do_budget.new.out; writes = K.faults c.do_budget.new.out } in
+    let before : Outside = outside_by F.files F.load_faults F.store_faults S.left S.faults K.taken K.faults a.shelf.now a.trace.now a.out.now in
+    let after : Outside = outside_by F.files F.load_faults F.store_faults S.left S.faults K.taken K.faults c.do_budget.new.shelf a.trace.now c.do_budget.new.out in
     let Q : Command → Type 0 = λ x. EndsAs IsEnd (Does (request_of x) before) before after c.ended_without_world-in-Budget.result in
     let P : Result Ended Stop → Type 0 = λ r. EndsAs IsEnd (Budgets before.files c.in-Budget.source.now c.in-Budget.image.now c.in-Budget.certificate.now) before after r in
     subst Q (sym c.in-Budget.is) (subst P (sym c.ended_without_world-in-Budget.ensures) (ends-without (Budgets before.files c.in-Budget.source.now c.in-Budget.image.now c.in-Budget.certificate.now) before after c.do_budget.result (c.do_budget.ensures before.left before.reads)))

@@ -4,7 +4,7 @@ use Rattle.command_words.specs.WordList.{request_of}
 use Rattle.command_words.specs.declared.commands.WordsError.{WordsError}
 use Rattle.command_outcomes.specs.declared.stops.Cause.TheVariants.{Usage}
 use Rattle.capriccio_call.specs.Due.{Does, IsDue}
-use Rattle.command_outcomes.specs.Done.{Outside}
+use Rattle.command_outcomes.specs.Done.{Outside, outside_by}
 use Rattle.command_outcomes.proofs.Ending.{ends-follow, refused-at-once, memory-at-once}
 use Rattle.capriccio_commands.specs.Ends.{IsEnd}
 use Rattle.capriccio_call.proofs.dispatch.do_words.Goals as goal
@@ -17,14 +17,14 @@ returns-in-Ok g c =
     let request = request_of c.in-Ok.command in
     let F = g.F.Shelf in let S = g.S.Source in let K = g.K.Sink in
     let a = c.args in
-    let before : Outside = record { files = F.files a.shelf.now; loads = F.load_faults a.shelf.now; stores = F.store_faults a.shelf.now; left = S.left a.trace.now; reads = S.faults a.trace.now; taken = K.taken a.out.now; writes = K.faults a.out.now } in
+    let before : Outside = outside_by F.files F.load_faults F.store_faults S.left S.faults K.taken K.faults a.shelf.now a.trace.now a.out.now in
     ends-follow IsEnd (Does request before) (IsDue (map (λ word. string_bytes word) a.words.now.items) before) _ _ c.do_command.result (λ o h. inl (request, c.in-Ok.ensures.read, h)) c.do_command.ensures
 
 pub returns-in-Err-NotWords : goal.returns-in-Err-NotWords
 returns-in-Err-NotWords g c =
     let F = g.F.Shelf in let S = g.S.Source in let K = g.K.Sink in
     let a = c.args in
-    let before : Outside = record { files = F.files a.shelf.now; loads = F.load_faults a.shelf.now; stores = F.store_faults a.shelf.now; left = S.left a.trace.now; reads = S.faults a.trace.now; taken = K.taken a.out.now; writes = K.faults a.out.now } in
+    let before : Outside = outside_by F.files F.load_faults F.store_faults S.left S.faults K.taken K.faults a.shelf.now a.trace.now a.out.now in
     let none = c.in-Err-NotWords.ensures.refused (ap (λ (e : WordsError). Err e) c.in-Err-NotWords.field-0-is) in
     refused-at-once IsEnd (IsDue (map (λ word. string_bytes word) a.words.now.items) before) before Usage (inr (none, refl))
 
@@ -32,5 +32,5 @@ pub returns-in-Err-Memory : goal.returns-in-Err-Memory
 returns-in-Err-Memory g c =
     let F = g.F.Shelf in let S = g.S.Source in let K = g.K.Sink in
     let a = c.args in
-    let before : Outside = record { files = F.files a.shelf.now; loads = F.load_faults a.shelf.now; stores = F.store_faults a.shelf.now; left = S.left a.trace.now; reads = S.faults a.trace.now; taken = K.taken a.out.now; writes = K.faults a.out.now } in
+    let before : Outside = outside_by F.files F.load_faults F.store_faults S.left S.faults K.taken K.faults a.shelf.now a.trace.now a.out.now in
     memory-at-once IsEnd (IsDue (map (λ word. string_bytes word) a.words.now.items) before) before

@@ -1,7 +1,7 @@
 use Rattle.std.proofs.Common.{◌≤◌, ◌+◌, ◌*◌, refl, sym, subst}
 use Rattle.std.proofs.lemmas.Result.{err_from_is_err_and}
 use Rattle.accepted_pairs.specs.Accepting.{accepted_tree}
-use Rattle.command_outcomes.specs.Done.{Outside}
+use Rattle.command_outcomes.specs.Done.{Outside, outside_by}
 use Rattle.pair_commands.specs.Runs.{RunsOn, Serves, setup_of}
 use Rattle.command_outcomes.proofs.Ending.{ends-follow, stopped, keeps-itself}
 use Rattle.capriccio_commands.specs.Ends.{IsEnd}
@@ -16,8 +16,8 @@ pub returns-in_err-accepted : goal.returns-in_err-accepted
 returns-in_err-accepted g c =
     let p = err_from_is_err_and c.from_residual.result c.from_residual.ensures.1 in
     let F = g.F.Shelf in let S = g.S.Source in let K = g.K.Sink in let a = c.args in let shelf = c.accept_source.new.shelf in
-    let before : Outside = record { files = F.files a.shelf.now; loads = F.load_faults a.shelf.now; stores = F.store_faults a.shelf.now; left = S.left a.trace.now; reads = S.faults a.trace.now; taken = K.taken a.out.now; writes = K.faults a.out.now } in
-    let after : Outside = record { files = F.files shelf; loads = F.load_faults shelf; stores = F.store_faults shelf; left = S.left a.trace.now; reads = S.faults a.trace.now; taken = K.taken a.out.now; writes = K.faults a.out.now } in
+    let before : Outside = outside_by F.files F.load_faults F.store_faults S.left S.faults K.taken K.faults a.shelf.now a.trace.now a.out.now in
+    let after : Outside = outside_by F.files F.load_faults F.store_faults S.left S.faults K.taken K.faults shelf a.trace.now a.out.now in
     let step = c.in_err-accepted.ensures in
     rw (p.1, p.2) (stopped IsEnd (Serves before.files before.left a.source.now a.sizes a.policy) before after c.in_err-accepted.field-0.0 step.files step.stores
     (keeps-itself before.left) refl (keeps-itself before.taken) refl (step.answer before.left a.policy))
@@ -25,7 +25,7 @@ returns-in_err-accepted g c =
 pub returns : goal.returns
 returns g c =
     let F = g.F.Shelf in let S = g.S.Source in let K = g.K.Sink in let a = c.args in
-    let before : Outside = record { files = F.files a.shelf.now; loads = F.load_faults a.shelf.now; stores = F.store_faults a.shelf.now; left = S.left a.trace.now; reads = S.faults a.trace.now; taken = K.taken a.out.now; writes = K.faults a.out.now } in
+    let before : Outside = outside_by F.files F.load_faults F.store_faults S.left S.faults K.taken K.faults a.shelf.now a.trace.now a.out.now in
     let accepted = c.in_ok-accepted.accepted in
     let step = c.in_ok-accepted.ensures in
     let is = step.answer before.left a.policy in

@@ -1,6 +1,6 @@
 use Rattle.std.proofs.Common.{◌≡◌, ℕ}
-use Rattle.cap_text.specs.Decimals.{canonical_decimal}
-use Rattle.decisions.proofs.Decisions.{text_same, begins_decided, decimal_decided, decided_by}
+use Rattle.lawful_reading.proofs.Deciding.{decided_by, text_same}
+use Rattle.decisions.proofs.Decisions.{begins_decided, decimal_decided}
 use Rattle.decisions.proofs.texts.texts_are_decided.Goals as goal
 
 pub returns-clause-same : goal.returns-clause-same

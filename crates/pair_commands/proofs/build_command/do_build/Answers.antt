@@ -1,7 +1,7 @@
 use Rattle.std.proofs.Common.{◌≡◌, ◌≢◌, ◌∙◌, ℕ, List, [], ◌∷◌, Err, refl, subst}
 use Rattle.std.proofs.lemmas.Result.{err_from_is_err_and}
 use Rattle.pair_commands.specs.BuildsFiles.{Builds, stored_products}
-use Rattle.command_outcomes.specs.Done.{Outside, WhereTold, AreStored}
+use Rattle.command_outcomes.specs.Done.{Outside, WhereTold, AreStored, outside_beside}
 use Rattle.command_outcomes.specs.Steps.{AreStores, IsPrinted, IsStatus}
 use Rattle.command_outcomes.proofs.Ending.{keeps-itself, stopped, stores-cut, printed-ends, stored-after, stores-after}
 use Rattle.pair_commands.proofs.build_command.do_build.Goals as goal
@@ -10,8 +10,8 @@ pub returns-in_err-products : goal.returns-in_err-products
 returns-in_err-products g c = λ left reads.
     let p = err_from_is_err_and c.from_residual.result c.from_residual.ensures.1 in
     let F = g.F.Shelf in let K = g.K.Sink in let a = c.args in let shelf = c.build_source.new.shelf in
-    let before : Outside = record { files = F.files a.shelf.now; loads = F.load_faults a.shelf.now; stores = F.store_faults a.shelf.now; left = left; reads = reads; taken = K.taken a.out.now; writes = K.faults a.out.now } in
-    let after : Outside = record { files = F.files shelf; loads = F.load_faults shelf; stores = F.store_faults shelf; left = left; reads = reads; taken = K.taken a.out.now; writes = K.faults a.out.now } in
+    let before : Outside = outside_beside F.files F.load_faults F.store_faults left reads K.taken K.faults a.shelf.now a.out.now in
+    let after : Outside = outside_beside F.files F.load_faults F.store_faults left reads K.taken K.faults shelf a.out.now in
     let step = c.in_err-products.ensures in
     rw (p.1, p.2) (stopped IsStatus (Builds before.files a.source.now a.image.now a.certificate.now a.options) before after c.in_err-products.field-0.0 step.files step.stores (keeps-itself left) refl (keeps-itself before.taken) refl (step.answer a.image.now a.certificate.now))
 
@@ -19,8 +19,8 @@ pub returns-in_err-store_both : goal.returns-in_err-store_both
 returns-in_err-store_both g c = λ left reads.
     let p = err_from_is_err_and c.from_residual-in_err-store_both.result c.from_residual-in_err-store_both.ensures.1 in
     let F = g.F.Shelf in let K = g.K.Sink in let a = c.args in let loaded = c.build_source.new.shelf in let shelf = c.store_both.new.shelf in
-    let before : Outside = record { files = F.files a.shelf.now; loads = F.load_faults a.shelf.now; stores = F.store_faults a.shelf.now; left = left; reads = reads; taken = K.taken a.out.now; writes = K.faults a.out.now } in
-    let after : Outside = record { files = F.files shelf; loads = F.load_faults shelf; stores = F.store_faults shelf; left = left; reads = reads; taken = K.taken a.out.now; writes = K.faults a.out.now } in
+    let before : Outside = outside_beside F.files F.load_faults F.store_faults left reads K.taken K.faults a.shelf.now a.out.now in
+    let after : Outside = outside_beside F.files F.load_faults F.store_faults left reads K.taken K.faults shelf a.out.now in
     let outcome = stored_products a.image.now a.certificate.now c.in_ok-products.products in
     let first = c.in_ok-products.ensures in
     let is = first.answer a.image.now a.certificate.now in
@@ -37,8 +37,8 @@ returns-in_err-store_both g c = λ left reads.
 pub returns : goal.returns
 returns g c = λ left reads.
     let F = g.F.Shelf in let K = g.K.Sink in let a = c.args in let loaded = c.build_source.new.shelf in let shelf = c.store_both.new.shelf in
-    let before : Outside = record { files = F.files a.shelf.now; loads = F.load_faults a.shelf.now; stores = F.store_faults a.shelf.now; left = left; reads = reads; taken = K.taken a.out.now; writes = K.faults a.out.now } in
-    let after : Outside = record { files = F.files shelf; loads = F.load_faults shelf; stores = F.store_faults shelf; left = left; reads = reads; taken = K.taken c.print.new.out; writes = K.faults c.print.new.out } in
+    let before : Outside = outside_beside F.files F.load_faults F.store_faults left reads K.taken K.faults a.shelf.now a.out.now in
+    let after : Outside = outside_beside F.files F.load_faults F.store_faults left reads K.taken K.faults shelf c.print.new.out in
     let outcome = stored_products a.image.now a.certificate.now c.in_ok-products.products in
     let first = c.in_ok-products.ensures in
     let is = first.answer a.image.now a.certificate.now in

@@ -9,7 +9,8 @@ use Rattle.schedule_reading.specs.declared.rulings.Failure.{Failure}
 use Rattle.schedule_reading.specs.declared.rulings.Ruling.{Ruling}
 use Rattle.schedule_reading.specs.Closing.{HasProceeded, IsPut, RulesWithin}
 use Rattle.schedule_reading.specs.Kept.{Kept}
-use Rattle.schedule_reading.proofs.Outs.{out_late, out_other, out_ruled}
+use Rattle.schedule_reading.proofs.Outs.{out_ruled}
+use Rattle.schedule_audit.proofs.OtherOuts.{out_late, out_other}
 use Rattle.schedule_audit.proofs.segments.out.Goals as goal
 
 pub returns-in_err-happening : goal.returns-in_err-happening

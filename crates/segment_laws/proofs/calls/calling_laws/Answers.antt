@@ -1,4 +1,5 @@
-use Rattle.segment_laws.proofs.CallSteps.{call_alike, return_alike, end_alike}
+use Rattle.segment_laws.proofs.CallSteps.{return_alike, end_alike}
+use Rattle.segment_laws.proofs.Rooms.{call_alike}
 use Rattle.segment_laws.proofs.calls.calling_laws.Goals as goal
 
 pub returns-clause-calls : goal.returns-clause-calls

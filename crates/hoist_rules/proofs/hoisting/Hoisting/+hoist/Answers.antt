@@ -40,7 +40,7 @@ expression-returns-in_ok-whole-in-Chain-clause-before t c =
     ap raw_expr_tree c.in-Chain.is ∙ raw_expr_tree-Chain first rest ∙ ap (raw_chained (raw_expr_tree first.value)) (sym (operand.operands_seen rest.items)) in
     let made = rw (c.of-left.ensures, c.deref-in-Chain-3.ensures.value) at c.in_ok-chain-in-Chain.ensures.before in
     operand.chain_before c.args.self.now.next c.expression-in-Chain.new.self.next c.is_left_alone.result (raw_expr_tree c.args.raw.now) (raw_expr_tree first.value) l (operand_trees rest.items)
-    (so_far c.args.self.now.statements) (so_far c.expression-in-Chain.new.self.statements) (so_far c.operands.new.self.statements)
+    (so_far c.args.self.now.receiver) (so_far c.expression-in-Chain.new.self.receiver) (so_far c.operands.new.self.receiver)
     whole (rw (← c.deref-in-Chain.ensures) c.in_ok-operand-in-Chain.ensures.left)
     (rw (← c.deref-in-Chain.ensures) c.in_ok-operand-in-Chain.ensures.next) (rw (← c.deref-in-Chain-2.ensures) c.is_left_alone.ensures)
     (rw (← c.deref-in-Chain.ensures) c.in_ok-operand-in-Chain.ensures.before) made
@@ -105,7 +105,7 @@ kept-returns-clause-kept t c = c.in_ok-expression.ensures.left ∙ no_left c.arg
 
 pub kept-returns-clause-outer : goal.kept-returns-clause-outer
 kept-returns-clause-outer t c =
-    let before = so_far c.args.self.now.statements in
+    let before = so_far c.args.self.now.receiver in
     c.in_ok-expression.ensures.before ∙ ap (then_all before) (no_before c.args.self.now.next (raw_expr_tree c.args.raw.now) c.requires) ∙ then_none before
 
 pub kept-returns-clause-next : goal.kept-returns-clause-next
@@ -119,7 +119,7 @@ operand-returns-in_ok-with-in-Ok-clause-left t c =
 
 pub operand-returns-in_ok-with-in-Ok-clause-before : goal.operand-returns-in_ok-with-in-Ok-clause-before
 operand-returns-in_ok-with-in-Ok-clause-before t c =
-    joined.plain_before c.args.self.now.next _ c.args.operator _ c.args.is_alone _ (chain_tree c.args.left) (raw_expr_tree c.args.right.now) (so_far c.args.self.now.statements) _ _
+    joined.plain_before c.args.self.now.next _ c.args.operator _ c.args.is_alone _ (chain_tree c.args.left) (raw_expr_tree c.args.right.now) (so_far c.args.self.now.receiver) _ _
     c.holds_call-is_calling.ensures (sym c.is_branching.ensures ∙ c.if-is_branching.false) c.needs_name.ensures c.in_ok-left.ensures.next c.in_ok-left.ensures.before c.in-Ok.ensures.before
 
 pub expression-returns-in_ok-name_part-in-Call-clause-before : goal.expression-returns-in_ok-name_part-in-Call-clause-before
@@ -127,7 +127,7 @@ expression-returns-in_ok-name_part-in-Call-clause-before t c =
     let seen : raw_expr_tree c.args.raw.now ≡ RawCall (name_tree c.in-Call.name) (raw_expr_trees c.in-Call.arguments.items) =
     ap raw_expr_tree c.in-Call.is ∙ raw_expr_tree-Call c.in-Call.name c.in-Call.arguments in
     let made = c.in_ok-arguments-in-Call.ensures in
-    calling.call_pushed c.args.self.now.next _ _ (raw_expr_tree c.args.raw.now) _ (name_tree c.in-Call.name) (raw_expr_trees c.in-Call.arguments.items) _ _ (so_far c.args.self.now.statements) _ _
+    calling.call_pushed c.args.self.now.next _ _ (raw_expr_tree c.args.raw.now) _ (name_tree c.in-Call.name) (raw_expr_trees c.in-Call.arguments.items) _ _ (so_far c.args.self.now.receiver) _ _
     seen c.is_spawn.ensures (ap raw_expr_trees c.deref-in-Call.ensures.value) made.left made.before made.next c.in_ok-call-in-Call.ensures c.in_ok-name_part-in-Call.ensures.statements
 
 pub expression-returns-in_ok-name_part-in-Ok-expression-clause-before : goal.expression-returns-in_ok-name_part-in-Ok-expression-clause-before
@@ -138,7 +138,7 @@ expression-returns-in_ok-name_part-in-Ok-expression-clause-before t c =
     ap raw_expr_tree c.in-TableCall.is ∙ raw_expr_tree-TableCall c.in-TableCall.name c.in-TableCall.index c.in-TableCall.argument in
     let part = c.in_ok-index-in-TableCall.ensures in
     let rest = c.in-Ok-expression.ensures in
-    calling.table_pushed c.args.self.now.next _ _ _ (raw_expr_tree c.args.raw.now) _ (name_tree c.in-TableCall.name) i e _ _ _ _ _ (so_far c.args.self.now.statements) _ _ _
+    calling.table_pushed c.args.self.now.next _ _ _ (raw_expr_tree c.args.raw.now) _ (name_tree c.in-TableCall.name) i e _ _ _ _ _ (so_far c.args.self.now.receiver) _ _ _
     seen (ap raw_expr_tree c.deref-in-TableCall.ensures) (ap raw_expr_tree c.deref-in-TableCall-3.ensures) (ap raw_expr_tree c.deref-in-TableCall-2.ensures)
     c.holds_call.ensures part.left part.before part.next rest.left rest.before rest.next c.in_ok-call-in-Ok-expression.ensures c.in_ok-name_part-in-Ok-expression.ensures.statements
 
@@ -155,12 +155,12 @@ expression-returns-in_ok-choice-in-Ok-kept-clause-next t c =
 
 pub expression-returns-in-Number-clause-before : goal.expression-returns-in-Number-clause-before
 expression-returns-in-Number-clause-before t c =
-    let s = so_far c.args.self.now.statements in
+    let s = so_far c.args.self.now.receiver in
     sym (then_none s) ∙ ap (λ e. then_all s (before c.args.self.now.next e)) (sym (ap raw_expr_tree c.in-Number.is ∙ raw_expr_tree-Number c.in-Number.value))
 
 pub expression-returns-in_ok-copied-in-Name-clause-before : goal.expression-returns-in_ok-copied-in-Name-clause-before
 expression-returns-in_ok-copied-in-Name-clause-before t c =
-    let s = so_far c.args.self.now.statements in
+    let s = so_far c.args.self.now.receiver in
     sym (then_none s) ∙ ap (λ e. then_all s (before c.args.self.now.next e)) (sym (ap raw_expr_tree c.in-Name.is ∙ raw_expr_tree-Name c.in-Name.name))
 
 pub expression-returns-in_ok-used-in-Conditional-clause-before : goal.expression-returns-in_ok-used-in-Conditional-clause-before
@@ -180,14 +180,14 @@ expression-returns-in_ok-used-in-Conditional-clause-before t c =
     let b = raw_expr_tree c.deref-then-is_branched-2.result.now in
     let p = in_block (before m a ++ set_to number (left_of m a) ∷ []) in
     let q = in_block (before o b ++ set_to number (left_of o b) ∷ []) in
-    let declaration : Received = then_all (so_far c.expression-in-Conditional.new.self.statements) (declared n ∷ []) in
+    let declaration : Received = then_all (so_far c.expression-in-Conditional.new.self.receiver) (declared n ∷ []) in
     let one = c.in_ok-branch-in-Conditional.ensures in
     let other = c.in_ok-branch-in-Conditional-2.ensures in
     let opened = c.in_ok-number-in-Conditional.ensures.statements in
     let turned = c.in_ok-otherwise-in-Conditional.ensures.statements ∙ ap then_else (one.statements ∙ ap (λ r. then_all r (p ∷ [])) opened) in
     let closed = c.in_ok-close-in-Conditional.ensures.statements ∙ ap then_close (other.statements ∙ ap (λ r. then_all r (q ∷ [])) turned) in
     calling.chosen_pushed c.args.self.now.next n m o number _ (raw_expr_tree c.args.raw.now) condition first second _ _ _ _ _ x p q
-    (so_far c.args.self.now.statements) (so_far c.expression-in-Conditional.new.self.statements) declaration (so_far c.close.new.self.statements)
+    (so_far c.args.self.now.receiver) (so_far c.expression-in-Conditional.new.self.receiver) declaration (so_far c.close.new.self.receiver)
     seen (ap raw_expr_tree c.deref-in-Conditional-3.ensures) (ap raw_expr_tree c.deref-in-Conditional.ensures)
     (ap raw_expr_tree c.deref-then-is_branched.ensures) (ap raw_expr_tree c.deref-in-Conditional-2.ensures) (ap raw_expr_tree c.deref-then-is_branched-2.ensures)
     c.either_holds_call-is_branched.ensures c.if-is_branched.true test.left test.before test.next

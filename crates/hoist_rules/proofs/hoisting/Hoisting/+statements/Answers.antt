@@ -22,56 +22,56 @@ statements-loop-stmt-preserved t c =
     let cut : drop i raw ≡ item ∷ drop (i + 1) raw = drop_at raw i item c.loop-stmt-test.true c.stmt-item.is in
     let made = c.in_ok-statement.ensures in
     record {
-      statements = body.turn_statements at.self.next c.statement.new.self.next (raw_stmt_tree item) ss (so_far at.self.statements) (so_far c.statement.new.self.statements) _
+      statements = body.turn_statements at.self.next c.statement.new.self.next (raw_stmt_tree item) ss (so_far at.self.receiver) (so_far c.statement.new.self.receiver) _
           made.statements made.next (rw cut at at.invariant.statements);
       next = body.turn_names at.self.next c.statement.new.self.next _ (raw_stmt_tree item) ss made.next (rw cut at at.invariant.next);
     }
 
 pub statement-returns-in_ok-simple-in-Simple-clause-statements : goal.statement-returns-in_ok-simple-in-Simple-clause-statements
 statement-returns-in_ok-simple-in-Simple-clause-statements t c =
-    let s = so_far c.args.self.now.statements in
+    let s = so_far c.args.self.now.receiver in
     let k = c.args.self.now.next in
     let p = raw_simple_tree c.in-Simple.simple in
     let seen : raw_stmt_tree c.args.raw.now ≡ RawDo p = ap raw_stmt_tree c.in-Simple.is ∙ raw_stmt_tree-Simple c.in-Simple.simple in
     let made = raw_stmt_tree-Simple c.in_ok-simple-in-Simple.simple ∙ ap RawDo c.in_ok-simple-in-Simple.ensures.left in
     on_ok_weaker c.push.result
-    (λ h. then_pushed s (so_far c.simple.new.self.statements) (so_far c.push.new.self.statements) (simple_before k p) _ _ c.in_ok-simple-in-Simple.ensures.before h made
+    (λ h. then_pushed s (so_far c.simple.new.self.receiver) (so_far c.push.new.self.receiver) (simple_before k p) _ _ c.in_ok-simple-in-Simple.ensures.before h made
     ∙ ap (λ x. then_all s (hoisted k x)) (sym seen)) c.push.ensures.statements
 
 pub statement-returns-in_ok-returned-in-Return-clause-statements : goal.statement-returns-in_ok-returned-in-Return-clause-statements
 statement-returns-in_ok-returned-in-Return-clause-statements t c =
-    let s = so_far c.args.self.now.statements in
+    let s = so_far c.args.self.now.receiver in
     let k = c.args.self.now.next in
     let v = option_map raw_expr_tree c.in-Return.value in
     let seen : raw_stmt_tree c.args.raw.now ≡ RawReturn c.in-Return.at v = ap raw_stmt_tree c.in-Return.is ∙ raw_stmt_tree-Return c.in-Return.at c.in-Return.value in
     on_ok_weaker c.push-in-Return.result
-    (λ h. then_pushed s (so_far c.returned.new.self.statements) (so_far c.push-in-Return.new.self.statements) (returned_before k v) _ _
+    (λ h. then_pushed s (so_far c.returned.new.self.receiver) (so_far c.push-in-Return.new.self.receiver) (returned_before k v) _ _
     c.in_ok-returned-in-Return.ensures.statements h c.in_ok-returned-in-Return.ensures.left
     ∙ ap (λ x. then_all s (hoisted k x)) (sym seen)) c.push-in-Return.ensures.statements
 
 pub body-returns-in_ok-close-clause-statements : goal.body-returns-in_ok-close-clause-statements
 body-returns-in_ok-close-clause-statements t c =
     body.block_after c.args.self.now.next c.open.new.self.next (raw_stmt_tree c.args.raw.now)
-    (so_far c.args.self.now.statements) (so_far c.open.new.self.statements) (so_far c.statement.new.self.statements) (so_far c.close.new.self.statements)
+    (so_far c.args.self.now.receiver) (so_far c.open.new.self.receiver) (so_far c.statement.new.self.receiver) (so_far c.close.new.self.receiver)
     c.in_ok-open.ensures.statements c.in_ok-open.ensures.next c.in_ok-statement.ensures.statements c.in_ok-close.ensures.statements
     (sym c.stmt_moves.ensures ∙ c.if-stmt_moves.true)
 
 pub body-returns-in_ok-statement-2-clause-statements : goal.body-returns-in_ok-statement-2-clause-statements
 body-returns-in_ok-statement-2-clause-statements t c =
-    body.single_after c.args.self.now.next (raw_stmt_tree c.args.raw.now) (so_far c.args.self.now.statements) (so_far c.statement-else-stmt_moves.new.self.statements)
+    body.single_after c.args.self.now.next (raw_stmt_tree c.args.raw.now) (so_far c.args.self.now.receiver) (so_far c.statement-else-stmt_moves.new.self.receiver)
     c.in_ok-statement-2.ensures.statements (sym c.stmt_moves.ensures ∙ c.if-stmt_moves.false)
 
 pub repeated-returns-clause-statements : goal.repeated-returns-clause-statements
 repeated-returns-clause-statements t c =
     body.whole_after (opening_tree c.args.opening) c.args.self.now.next c.open.new.self.next (raw_stmt_tree c.args.body.now)
-    (so_far c.args.self.now.statements) (so_far c.open.new.self.statements) (so_far c.statement.new.self.statements) (so_far c.close.new.self.statements)
+    (so_far c.args.self.now.receiver) (so_far c.open.new.self.receiver) (so_far c.statement.new.self.receiver) (so_far c.close.new.self.receiver)
     c.in_ok-open.ensures.statements c.in_ok-open.ensures.next c.in_ok-statement.ensures.statements c.in_ok-close.ensures.statements
 
 pub statement-returns-in_ok-close-in-Block-clause-statements : goal.statement-returns-in_ok-close-in-Block-clause-statements
 statement-returns-in_ok-close-in-Block-clause-statements t c =
     let seen = ap raw_stmt_tree c.in-Block.is ∙ raw_stmt_tree-Block c.in-Block.stmts in
     body.statements_after c.args.self.now.next c.open.new.self.next (raw_stmt_tree c.args.raw.now) (raw_stmt_trees c.in-Block.stmts.items) (raw_stmt_trees c.deref.result.now)
-    (so_far c.args.self.now.statements) (so_far c.open.new.self.statements) (so_far c.statements.new.self.statements) (so_far c.close.new.self.statements)
+    (so_far c.args.self.now.receiver) (so_far c.open.new.self.receiver) (so_far c.statements.new.self.receiver) (so_far c.close.new.self.receiver)
     seen (ap raw_stmt_trees c.deref.ensures.value) c.in_ok-open-in-Block.ensures.statements c.in_ok-open-in-Block.ensures.next
     c.in_ok-statements-in-Block.ensures.statements c.in_ok-close-in-Block.ensures.statements
 
@@ -84,8 +84,8 @@ statement-returns-in_ok-close-in-IfElse-clause-statements t c =
     body.both_after c.args.self.now.next c.open_if.new.self.next c.otherwise.new.self.next (raw_stmt_tree c.args.raw.now)
     (raw_stmt_tree c.in-IfElse.then.value) (raw_stmt_tree c.in-IfElse.otherwise.value) (raw_stmt_tree c.deref-in-IfElse.result.now) (raw_stmt_tree c.deref-in-IfElse-2.result.now)
     (raw_expr_tree c.in-IfElse.condition)
-    (so_far c.args.self.now.statements) (so_far c.open_if.new.self.statements) (so_far c.statement.new.self.statements) (so_far c.otherwise.new.self.statements)
-    (so_far c.statement-in-IfElse.new.self.statements) (so_far c.close-in-IfElse.new.self.statements)
+    (so_far c.args.self.now.receiver) (so_far c.open_if.new.self.receiver) (so_far c.statement.new.self.receiver) (so_far c.otherwise.new.self.receiver)
+    (so_far c.statement-in-IfElse.new.self.receiver) (so_far c.close-in-IfElse.new.self.receiver)
     seen (ap raw_stmt_tree c.deref-in-IfElse.ensures) (ap raw_stmt_tree c.deref-in-IfElse-2.ensures) test.statements test.next first.statements (turn.next ∙ first.next)
     turn.statements c.in_ok-statement-in-IfElse-2.ensures.statements c.in_ok-close-in-IfElse.ensures.statements
 

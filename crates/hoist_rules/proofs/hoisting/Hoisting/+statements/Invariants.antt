@@ -6,7 +6,7 @@ use Rattle.hoist_rules.proofs.hoisting.Hoisting.+statements.Given as goal
 
 abbrev pub invariant-statements-loop-stmt : goal.invariant-statements-loop-stmt
 invariant-statements-loop-stmt l = record {
-  statements : then_all (so_far l.self.statements) (all_hoisted l.self.next (raw_stmt_trees (drop l.stmt-index l.raw)))
-      ≡ then_all (so_far l.initial.self.statements) (all_hoisted l.initial.self.next (raw_stmt_trees l.raw));
+  statements : then_all (so_far l.self.receiver) (all_hoisted l.self.next (raw_stmt_trees (drop l.stmt-index l.raw)))
+      ≡ then_all (so_far l.initial.self.receiver) (all_hoisted l.initial.self.next (raw_stmt_trees l.raw));
   next : l.self.next + stmts_names (raw_stmt_trees (drop l.stmt-index l.raw)) ≡ l.initial.self.next + stmts_names (raw_stmt_trees l.raw);
 }

@@ -32,7 +32,7 @@ returns-else-is_empty-clause-before t c =
     let P : RawExprTree → Type 0 = λ e. before k e ≡ value_before k e in
     let equal : before k (raw_expr_tree c.args.raw.now) ≡ value_before k (raw_expr_tree c.args.raw.now) =
     subst P (sym same) (some_chain P (joined_value_before k) (raw_expr_tree first.value) (map raw_operand_tree rest.items) some) in
-    subst (λ x. OnOk c.expression.result (so_far c.expression.new.self.statements ≡ then_all (so_far c.args.self.now.statements) x)) equal c.expression.ensures.before
+    subst (λ x. OnOk c.expression.result (so_far c.expression.new.self.receiver ≡ then_all (so_far c.args.self.now.receiver) x)) equal c.expression.ensures.before
 
 pub returns-else-is_empty-clause-next : goal.returns-else-is_empty-clause-next
 returns-else-is_empty-clause-next t c =
