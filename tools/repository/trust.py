@@ -46,7 +46,7 @@ class Citations:
         self.clauses = [it for it in clauses if not isinstance(it, CodeType)]
 
     def below(self, starts, without=None):
-        """What these rest on, themselves among them, if `without` and what only it leads to is left out."""
+        """What these rest on, themselves included, without one of them and what only it leads to."""
         found, todo = set(), [it for it in starts if it != without]
         while todo:
             it = todo.pop()
@@ -61,13 +61,15 @@ class Citations:
         return len(self.of) - len(self.below(starts, id(definition)))
 
 
-# A definition has a row of its own if so many stand behind it alone, and these are not nearly all of what stands behind one with a row.
+# A definition has a row if at least so many stand behind it alone, and less than this share of what
+# stands behind one above it that has a row.
 LEAST_BEHIND, LEAST_SHARE = 30, 0.8
 
 
 def dearest(definitions, citations):
     """The definitions behind which most others stand, with their number, the most first."""
-    counted = sorted(((citations.behind(it), it) for it in definitions), key=lambda it: (-it[0], it[1].name))
+    counted = [(citations.behind(it), it) for it in definitions]
+    counted.sort(key=lambda it: (-it[0], it[1].name))
     rows = []
     for number, it in counted:
         if number < LEAST_BEHIND:
@@ -83,7 +85,7 @@ def says(it):
 
 
 def costs(definitions):
-    """Two tables: what stands under each definition that a clause cites, and what stands behind one definition alone."""
+    """Two tables: what each definition that a clause cites rests on, and what only one leads to."""
     citations, by_id = Citations(definitions), {id(it): it for it in definitions}
     yield from table("Definition that a clause cites", "Definitions under it", "Lines")
     for it in citations.clauses:
@@ -157,7 +159,8 @@ def grouped(module, wanted):
 def group_row(module, group):
     first, last = group[0].first, group[-1].last
     lines = f"{first}" if first == last else f"{first}-{last}"
-    return row(", ".join(f"`{it.name}`" for it in group), f"{module.path.stem}:{lines}", says(group[0]))
+    names = ", ".join(f"`{it.name}`" for it in group)
+    return row(names, f"{module.path.stem}:{lines}", says(group[0]))
 
 
 def crate_part(crate, definitions, types):
