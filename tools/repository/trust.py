@@ -46,7 +46,7 @@ class Citations:
         self.clauses = [it for it in clauses if not isinstance(it, CodeType)]
 
     def below(self, starts, without=None):
-        """What these rest on, themselves included, without one of them and what only it leads to."""
+        """What these rest on, and themselves, without one of them and what only it leads to."""
         found, todo = set(), [it for it in starts if it != without]
         while todo:
             it = todo.pop()
