@@ -4,7 +4,7 @@ use Rattle.std.specs.Prelude.{if◌then◌else◌}
 use Rattle.std.proofs.lemmas.Bool.{cond_both}
 use Rattle.std.proofs.lemmas.Bool.Decides.{nat_tests}
 use Rattle.std.proofs.lemmas.List.{length-map}
-use Rattle.cap_word.specs.Calls.{Call, Blocking, Immediate}
+use Rattle.cap_word.specs.Calls.{Call, Blocking, Immediate, most_threads}
 use Rattle.cap_word.specs.Runs as runs
 use Rattle.cap_word.specs.declared.stops.Stop.{Stop}
 use Rattle.cap_word.specs.declared.traps.TrapKind.{TrapKind}
@@ -13,7 +13,7 @@ use Rattle.chunk_pool.specs.Pool.{Taken, taken_for}
 use Rattle.machine_world.specs.Local as local
 use Rattle.machine_world.specs.Local.{LocalMove, local_step}
 use Rattle.machine_world.specs.Runs.{Action, Deliver, Advance, Pick, is_between, delivered, advanced, may_run, picked_at, picked, after_action, after_actions, and_then}
-use Rattle.machine_world.specs.Threads.{Blocked, Thread, World, Setting, thread_of, replaced, without, most_threads, resumed, start_core, Move, Goes, Puts, Spawns, Blocks, Ends, Stops, Wrong, unless_trap, printed, package_call, spawned, asked, stopped, moved, step_of, step_on, step}
+use Rattle.machine_world.specs.Threads.{Blocked, Thread, World, Setting, thread_of, replaced, without, resumed, start_core, Move, Goes, Puts, Spawns, Blocks, Ends, Stops, Wrong, unless_trap, printed, package_call, spawned, asked, stopped, moved, step_of, step_on, step}
 
 -- ---- actions
 

@@ -2,7 +2,7 @@
 use Rattle.std.proofs.Common.{◌≡◌, ℕ, ◌^◌, ◌<◌, nat_eq, nat_le, List, [], ◌∷◌, length, Option, Some, None, sym, subst}
 use Rattle.std.proofs.lemmas.Bool.{cond_both}
 use Rattle.std.specs.Prelude.{option_map}
-use Rattle.cap_word.specs.Calls.{Call, Blocking, Immediate, call_with}
+use Rattle.cap_word.specs.Calls.{Call, Blocking, Immediate, call_with, most_threads}
 use Rattle.cap_word.specs.ModelledCalls.{call_numbered}
 use Rattle.cap_word.specs.Runs.{Goes, Asks, Stops}
 use Rattle.cap_word.specs.declared.calls.Ask.{Ask}
@@ -15,7 +15,7 @@ use Rattle.machine_world.specs.Local as local
 use Rattle.stack_certificate.specs.Registers.{tp, t1, a0, a1}
 use Rattle.machine_world.specs.Local.{Local, LocalMove, Ended, Trapped, NoRoom, Wrong, asks_or_wrong, linked_on, unlinked_front, unlinked_on, chunk_with_payload, ended, trapped, system_call, machine_of, local_move, local_step}
 use Rattle.machine_world.specs.Threads as machine
-use Rattle.machine_world.specs.Threads.{Thread, World, Setting, Move, most_threads, printed, spawned, unless_trap, asked, stopped, moved, step}
+use Rattle.machine_world.specs.Threads.{Thread, World, Setting, Move, spawned, unless_trap, moved, step}
 use Rattle.machine_world.specs.WellFormed.{AreWords}
 use Rattle.rv_machine.specs.Registers.{read}
 use Rattle.rv_machine.specs.Rows as rows

@@ -16,6 +16,15 @@ abbrev pub is_blocking : Call → Bool
 is_blocking (Blocking block) = true
 is_blocking (Immediate ask) = false
 
+-- the call is `accept`
+abbrev pub is_accept : Block → Bool
+is_accept Block.Accept = true
+is_accept (Block.Wait channel) = false
+is_accept (Block.Sleep ticks) = false
+is_accept Block.Yield = false
+is_accept (Block.Take resource amount) = false
+is_accept (Block.WaitFor channel ticks) = false
+
 -- a call of the table with its first and its second argument; a call that takes fewer ignores the rest
 abbrev pub call_with : ModelledCall → ℕ → ℕ → Call
 call_with ModelledCall.Accept a b = Blocking Block.Accept
@@ -40,6 +49,10 @@ call_of number arguments = option_and_then (call_on arguments) (call_numbered nu
 -- the start of a thread that runs a function, by its number, with an argument
 abbrev pub spawn_of : ℕ → ℕ → Call
 spawn_of function argument = Immediate (Ask.Spawn function argument)
+
+-- the maximum number of live threads
+abbrev pub most_threads : ℕ
+most_threads = 65535
 
 -- what a thread asks of its world: the call, with the globals at that moment
 pub record Question : Type 0 where

@@ -2,7 +2,7 @@
 -- clock. A thread that hasn't run yet is always ready.
 use Rattle.std.specs.Prelude.{ℕ, Bool, true, false, not, ◌&&◌, List, Option, Some, None, filter_map, slice_get}
 use Rattle.std.specs.List.{list_any}
-use Rattle.cap_word.specs.declared.calls.Block.{Block}
+use Rattle.cap_word.specs.Calls.{is_accept}
 use Rattle.c_mean.specs.ModelledCalls.{Exchange, wakes_at}
 use Rattle.c_mean.specs.ModelledCalls as table
 use Rattle.c_mean.specs.World.{Rest, Fresh, Blocked, Ended}
@@ -22,15 +22,6 @@ is_ready_at caps x clock since None = false
 -- a waiting thread is ready at a clock
 abbrev pub is_ready : Policy → Seen → ℕ → Waiter → Bool
 is_ready policy seen clock w = is_ready_at policy.caps seen.source.exchange clock w.since (rest_of seen w.thread)
-
--- the call is `accept`
-abbrev pub is_accept : Block → Bool
-is_accept Block.Accept = true
-is_accept (Block.Wait channel) = false
-is_accept (Block.Sleep ticks) = false
-is_accept Block.Yield = false
-is_accept (Block.Take resource amount) = false
-is_accept (Block.WaitFor channel ticks) = false
 
 -- it is blocked at `accept`
 abbrev pub is_accepting : Option Rest → Bool

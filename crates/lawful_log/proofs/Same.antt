@@ -8,12 +8,12 @@ use Rattle.c_mean.specs.ModelledCalls.{wakes_at}
 use Rattle.c_mean.specs.World.{Rest, Fresh, Blocked as Blocks, Ended}
 use Rattle.c_tree.specs.Trees.{ProgramTree}
 use Rattle.choice_rules.specs.Readiness as rules
-use Rattle.choice_rules.specs.Readiness.{is_accept}
+use Rattle.cap_word.specs.Calls.{is_accept}
 use Rattle.machine_world.specs.Places.{Checked}
-use Rattle.machine_world.specs.Runs.{may_run}
+use Rattle.machine_world.specs.Runs.{may_run, is_blocked_at_accept}
 use Rattle.machine_world.specs.StandsForWorld.{StandsForRest}
 use Rattle.machine_world.specs.Threads.{Blocked, Thread, World, Setting}
-use Rattle.lawful_log.specs.Tests.{is_blocked_at_accept, waking_time}
+use Rattle.lawful_log.specs.Tests.{waking_time}
 use Rattle.lawful_log.specs.Waiting.{SinceIs}
 
 -- blocked at the same since the same clock, or at the start

@@ -16,10 +16,9 @@ use Rattle.lawful_log.specs.Good.{checked_of}
 use Rattle.lawful_log.specs.Setup.{Setup, setting_of}
 use Rattle.lawful_log.specs.State.{State, seen_of}
 use Rattle.lawful_log.specs.Beside.{IsChosenAs, IsChosen}
-use Rattle.lawful_log.specs.Tests.{is_blocked_at_accept}
 use Rattle.lawful_log.specs.Waiting.{IsWaiting, AreWaiting}
 use Rattle.lawful_log.proofs.Told.{ready_same, accept_same}
-use Rattle.machine_world.specs.Runs.{advanced, may_run}
+use Rattle.machine_world.specs.Runs.{advanced, may_run, is_blocked_at_accept}
 use Rattle.machine_world.specs.StandsForWorld.{StandsForWorld}
 use Rattle.rule_state.specs.Strides.{StridesState, IsFirstAtNode, IsChoiceByStrides}
 use Rattle.scheduler.specs.declared.choices.Choice.{Choice}

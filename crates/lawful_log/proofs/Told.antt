@@ -15,7 +15,7 @@ use Rattle.lawful_log.specs.Good.{checked_of}
 use Rattle.lawful_log.specs.Setup.{Setup, setting_of}
 use Rattle.lawful_log.specs.State.{State, seen_of}
 use Rattle.machine_world.specs.Numbered.{IsNumbered}
-use Rattle.machine_world.specs.Runs.{advanced, may_run}
+use Rattle.machine_world.specs.Runs.{advanced, may_run, is_blocked_at_accept}
 use Rattle.machine_world.specs.StandsForWorld.{StandsForWorld, StandsForRest}
 use Rattle.machine_world.specs.Threads.{Thread}
 use Rattle.resource_monitor.specs.Monitor.{MonitorState}
@@ -24,7 +24,6 @@ use Rattle.scheduler.specs.Scores.{score}
 use Rattle.scheduler.specs.State.{SchedulerState, queue_of, last_of}
 use Rattle.scheduler.specs.declared.choices.Choice.{Choice}
 use Rattle.lawful_log.specs.Beside.{HasLasts, IsChosen}
-use Rattle.lawful_log.specs.Tests.{is_blocked_at_accept}
 use Rattle.lawful_log.specs.Waiting.{IsWaiting, AreWaiting}
 use Rattle.lawful_log.proofs.Any.{any_same}
 use Rattle.lawful_log.proofs.Same.{RestsAlike, alike_rest, ready_alike, accept_alike}

@@ -3,7 +3,8 @@ use Rattle.std.proofs.Common.{◌≡◌, ℕ, zero, suc, List, [], ◌∷◌, �
 use Rattle.cap_word.specs.Runs.{Goes, Asks, Stops, moves}
 use Rattle.c_tree.specs.Trees.{ProgramTree}
 use Rattle.c_mean.specs.World.{Segment, SegmentMove, Rested, segment_step, segment_machine}
-use Rattle.lawful_reading.specs.Happenings.{live_in, most_live, IsSilent, PutsNext, RestsNext, IsCrowdedNext, ComesAt}
+use Rattle.lawful_reading.specs.Happenings.{live_in, IsSilent, PutsNext, RestsNext, IsCrowdedNext, ComesAt}
+use Rattle.cap_word.specs.Calls.{most_threads}
 use Rattle.lawful_reading.proofs.Deciding.{Decided, decided_by, both_decided, either_decided, only_decided, number_same, list_same}
 use Rattle.lawful_reading.proofs.Moves.{not_both, same_next}
 
@@ -70,7 +71,7 @@ module _ (program : ProgramTree) (caps : List ℕ) (start : Segment) where
       (after_silence n (λ here. (rested : Rested) × (segment_step program caps here ≡ Stops rested)) (λ here. stops_by (segment_step program caps here)))
 
   abbrev CrowdedHere : Segment → Type 0
-  CrowdedHere here = (live_in here.world ≡ most_live) × ((after : Segment) × ((segment_step program caps here ≡ Goes after) × (length after.world.threads ≡ suc (length here.world.threads))))
+  CrowdedHere here = (live_in here.world ≡ most_threads) × ((after : Segment) × ((segment_step program caps here ≡ Goes after) × (length after.world.threads ≡ suc (length here.world.threads))))
 
   pub crowded_decided : (steps : ℕ) → Decided (IsCrowdedNext program caps start steps)
   crowded_decided n =
@@ -78,7 +79,7 @@ module _ (program : ProgramTree) (caps : List ℕ) (start : Segment) where
       (λ (h : (here : Segment) × (IsSilent program caps start n here × CrowdedHere here)). record { here = h.0; silent = h.1.0; live = h.1.1.0; after = h.1.1.1.0; starts = h.1.1.1.1.0; one_more = h.1.1.1.1.1 })
       (λ c. (c.here, (c.silent, (c.live, (c.after, (c.starts, c.one_more))))))
       (after_silence n CrowdedHere
-      (λ here. both_decided (number_same (live_in here.world) most_live)
+      (λ here. both_decided (number_same (live_in here.world) most_threads)
       (goes_by (λ after. length after.world.threads ≡ suc (length here.world.threads)) (λ after. number_same (length after.world.threads) (suc (length here.world.threads))) (segment_step program caps here))))
 
   pub comes_decided : (steps : ℕ) → Decided (ComesAt program caps start steps)

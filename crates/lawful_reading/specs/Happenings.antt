@@ -1,5 +1,6 @@
 -- What the running thread does next, and after how many steps, by the source's own run.
 use Rattle.std.specs.Prelude.{◌≡◌, ℕ, suc, Bool, true, false, List, [], ◌∷◌, ◌++◌, length, count_by, ◌⊎◌}
+use Rattle.cap_word.specs.Calls.{most_threads}
 use Rattle.cap_word.specs.Runs.{Goes, Stops, moves}
 use Rattle.c_tree.specs.Trees.{ProgramTree}
 use Rattle.c_mean.specs.World as source
@@ -16,10 +17,6 @@ lives Ended = false
 -- the number of threads that haven't ended, including the running one
 abbrev pub live_in : source.World → ℕ
 live_in world = count_by lives world.threads
-
--- the maximum number of live threads
-abbrev pub most_live : ℕ
-most_live = 65535
 
 -- ---- what comes next
 
@@ -50,7 +47,7 @@ pub record RestsNext (program : ProgramTree) (caps : List ℕ) (start : source.S
 pub record IsCrowdedNext (program : ProgramTree) (caps : List ℕ) (start : source.Segment) (steps : ℕ) : Type 0 where
   pub here : source.Segment
   pub silent : IsSilent program caps start steps here
-  pub live : live_in here.world ≡ most_live
+  pub live : live_in here.world ≡ most_threads
   pub after : source.Segment
   pub starts : segment_step program caps here ≡ Goes after
   pub one_more : length after.world.threads ≡ suc (length here.world.threads)

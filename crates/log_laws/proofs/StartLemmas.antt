@@ -10,7 +10,7 @@ use Rattle.c_mean.specs.World as source
 use Rattle.c_mean.specs.World.{Rest, Fresh, Segment, thread_moves, segment_machine}
 use Rattle.c_mean.proofs.SegmentLemmas.{asks_in_world}
 use Rattle.c_tree.specs.WellScoped.{IsWellScoped}
-use Rattle.cap_word.specs.Calls.{Call, Question, Blocking, Immediate}
+use Rattle.cap_word.specs.Calls.{Call, Question, Blocking, Immediate, most_threads}
 use Rattle.cap_word.specs.declared.stops.Stop.{Stop}
 use Rattle.cap_word.specs.declared.traps.TrapKind.{TrapKind}
 use Rattle.c_mean.specs.Frames.{Waiting}
@@ -25,12 +25,12 @@ use Rattle.flat_code.specs.declared.operations.Op.{Op}
 use Rattle.lawful_log.specs.Setup.{Setup, setting_of}
 use Rattle.lawful_log.specs.Good.{checked_of}
 use Rattle.machine_world.specs.Local as local
-use Rattle.machine_world.specs.Local.{Local, LocalMove, NoRoom, local_step}
+use Rattle.machine_world.specs.Local.{LocalMove, NoRoom, local_step}
 use Rattle.machine_world.specs.InPlace.{Frame}
 use Rattle.machine_world.specs.Rests.{IsAtCall}
 use Rattle.machine_world.specs.Runs.{Action, Deliver, Advance, Pick, Step, after_action, picked, picked_at, may_run, is_between, delivered, advanced}
 use Rattle.machine_world.specs.Threads as machine
-use Rattle.machine_world.specs.Threads.{Blocked, World, Thread, Move, most_threads, package_call, printed, spawned, unless_trap, step, moved, thread_of}
+use Rattle.machine_world.specs.Threads.{Blocked, World, Thread, Move, package_call, printed, spawned, unless_trap, step, moved, thread_of}
 use Rattle.machine_world.specs.WellFormed.{IsWellFormed, IsWellFormedIf, KeepsWellFormed, DeliversWords}
 use Rattle.machine_world.proofs.FormWorlds.{KeepsWellFormed-step, IsWellFormedIf-action}
 use Rattle.machine_meaning.specs.AsSource.{AsksCall, IsStepAsSource, IsAlongSource}

@@ -1,7 +1,7 @@
 -- What a step of the world leaves of the number of the next thread and of the pool's shape, and when it finds no chunk.
 use Rattle.std.proofs.Common.{◌≡◌, ℕ, ◌+◌, nat_eq, nat_le, length, Option, Some, None, refl, subst, arith, cond}
 use Rattle.std.proofs.lemmas.Bool.{cond_both}
-use Rattle.cap_word.specs.Calls.{Call, Blocking, Immediate}
+use Rattle.cap_word.specs.Calls.{Call, Blocking, Immediate, most_threads}
 use Rattle.cap_word.specs.Runs.{Goes, Asks, Stops}
 use Rattle.cap_word.specs.declared.stops.Stop.{Stop}
 use Rattle.cap_word.specs.declared.traps.TrapKind.{TrapKind}
@@ -12,7 +12,7 @@ use Rattle.machine_world.specs.Held.{KeepsShape}
 use Rattle.machine_world.specs.Local as local
 use Rattle.machine_world.specs.Local.{Local, LocalMove, Ended, Trapped, NoRoom, Wrong, local_step}
 use Rattle.machine_world.specs.Threads as machine
-use Rattle.machine_world.specs.Threads.{Thread, World, Setting, Move, moved, most_threads, package_call, printed, spawned, unless_trap}
+use Rattle.machine_world.specs.Threads.{Thread, World, Setting, Move, moved, package_call, printed, spawned, unless_trap}
 use Rattle.machine_world.proofs.HeldLaws.{KeepsShape-step}
 
 -- the next number is the same, or one more where a thread has started; the pool has its shape

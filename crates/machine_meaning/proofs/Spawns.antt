@@ -2,7 +2,7 @@
 use Rattle.std.proofs.Common.{◌≡◌, ◌≢◌, ℕ, zero, suc, ◌+◌, ◌^◌, ◌<◌, ◌≤◌, List, [], ◌∷◌, ◌++◌, length, map, Option, Some, None, refl, sym, ap, subst, ◌∙◌, arith, length-append, ⊎_elim}
 use Rattle.std.specs.Prelude.{slice_get, slice_index, nat_le}
 use Rattle.std.proofs.lemmas.Bool.{cases_eq, cond_both}
-use Rattle.cap_word.specs.Calls.{spawn_of}
+use Rattle.cap_word.specs.Calls.{spawn_of, most_threads}
 use Rattle.cap_word.specs.Runs.{moves}
 use Rattle.cap_word.specs.declared.stops.Stop.{Stop}
 use Rattle.c_lower.specs.ProgramCode.{lowered}
@@ -28,7 +28,7 @@ use Rattle.machine_world.specs.Rests.{IsAtCall, AtStart, PastCall}
 use Rattle.machine_world.specs.StandsFor.{Waits, StandAtCall, StandsForThread}
 use Rattle.machine_world.specs.StandsForWorld.{StandsForRest}
 use Rattle.machine_world.specs.Threads as machine
-use Rattle.machine_world.specs.Threads.{Thread, World, Setting, first_with, thread_of, replaced, retired, resumed, with_thread, start_core, most_threads, spawned, starts, Move}
+use Rattle.machine_world.specs.Threads.{Thread, World, Setting, first_with, thread_of, replaced, retired, resumed, with_thread, start_core, spawned, starts, Move}
 use Rattle.machine_world.specs.WellFormed.{IsWellFormed, KeepsWellFormed}
 use Rattle.rv_machine.specs.Registers.{read}
 use Rattle.segment_laws.proofs.Registers.{read-write_same}

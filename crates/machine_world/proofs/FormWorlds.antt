@@ -5,7 +5,7 @@ use Rattle.std.specs.List.{AllByRecursion}
 use Rattle.std.proofs.lemmas.Bool.{cond_both, cases_eq, cases_lt, cond-true, cond-false, eq-eqb, ne_eqb, eqb-false}
 use Rattle.std.proofs.lemmas.List.{length-set, get_or_past}
 use Rattle.std.proofs.lemmas.List.Elements.{All-set, All-get_or, All-append, All-drop, All-replicate, All-from_recursion}
-use Rattle.cap_word.specs.Calls.{Call, Blocking, Immediate}
+use Rattle.cap_word.specs.Calls.{Call, Blocking, Immediate, most_threads}
 use Rattle.cap_word.specs.Runs as runs
 use Rattle.cap_word.specs.declared.calls.Ask.{Ask}
 use Rattle.cap_word.specs.declared.calls.Block.{Block}
@@ -19,11 +19,11 @@ use Rattle.machine_world.specs.Chains.{held_copies, AreAllFree}
 use Rattle.machine_world.specs.Counted.{IsCounted, KeepsCounted, IsCountedIf}
 use Rattle.machine_world.specs.Held.{copies}
 use Rattle.machine_world.specs.Local as local
-use Rattle.machine_world.specs.Local.{Local, LocalMove, local_step, passed, with_result}
+use Rattle.machine_world.specs.Local.{Local, LocalMove, local_step, passed}
 use Rattle.machine_world.specs.Numbered.{RiseBetween}
 use Rattle.machine_world.specs.Places.{Checked}
 use Rattle.machine_world.specs.Runs.{empty_world, started_on, start_world, Action, Deliver, Advance, Pick, Step, delivered, advanced, may_run, picked_at, picked, is_between, world_of, after_action}
-use Rattle.machine_world.specs.Threads.{Blocked, Thread, World, Setting, first_with, thread_of, replaced, without, with_thread, start_core, start_registers, most_threads, Move, Goes, Puts, Spawns, Blocks, Ends, Stops, Wrong, retired, resumed, unless_trap, printed, result_of, result_on, package_call, spawned, asked, stopped, moved, step_of, step_on, step}
+use Rattle.machine_world.specs.Threads.{Blocked, Thread, World, Setting, first_with, thread_of, replaced, without, with_thread, start_core, start_registers, Move, Goes, Puts, Spawns, Blocks, Ends, Stops, Wrong, retired, resumed, unless_trap, printed, result_of, result_on, package_call, spawned, asked, stopped, moved, step_of, step_on, step}
 use Rattle.machine_world.specs.WellFormed.{AreWords, AreWellFormed, IsCore, IsExchange, most_fuel, IsWellFormed, KeepsWellFormed, IsWellFormedIf, DeliversWords}
 use Rattle.machine_world.proofs.CountedLaws.{counted_start, counted_step, counted_action}
 use Rattle.machine_world.proofs.FormLaws.{word-below, HasForm, KeepsForm, KeepsForm-step, AreWellFormed-taken, AreAddresses-taken, IsCore-passed, IsCore-with_result}

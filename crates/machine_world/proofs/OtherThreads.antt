@@ -2,7 +2,7 @@
 use Rattle.std.proofs.Common.{◌≡◌, ◌≢◌, ℕ, Bool, nat_eq, not, List, [], ◌∷◌, ◌++◌, length, Option, Some, None, refl, sym, ap, ◌∙◌, cond, ⊎_elim}
 use Rattle.std.specs.Prelude.{nat_le}
 use Rattle.std.proofs.lemmas.Bool.{cond_both, cases_eq, cond-true, cond-false, eq-eqb, ne_eqb, eqb-true}
-use Rattle.cap_word.specs.Calls.{Call, Blocking, Immediate}
+use Rattle.cap_word.specs.Calls.{Call, Blocking, Immediate, most_threads}
 use Rattle.cap_word.specs.Runs as runs
 use Rattle.cap_word.specs.declared.stops.Stop.{Stop}
 use Rattle.cap_word.specs.declared.traps.TrapKind.{TrapKind}
@@ -11,7 +11,7 @@ use Rattle.chunk_pool.specs.Pool.{Taken, taken_for}
 use Rattle.machine_world.specs.Alone.{KeepsThread}
 use Rattle.machine_world.specs.Local as local
 use Rattle.machine_world.specs.Local.{LocalMove, local_step}
-use Rattle.machine_world.specs.Threads.{Thread, World, Setting, first_with, thread_of, replaced, without, most_threads, Move, Stops, resumed, unless_trap, printed, package_call, spawned, asked, stopped, moved, step_of, step_on, step}
+use Rattle.machine_world.specs.Threads.{Thread, World, Setting, first_with, thread_of, replaced, without, Move, Stops, resumed, unless_trap, printed, package_call, spawned, asked, stopped, moved, step_of, step_on, step}
 
 -- ---- threads by number
 

@@ -1,5 +1,6 @@
 -- Runs of the machine world: deliveries, advances of the clock, picks of a thread, and steps, one action after another.
-use Rattle.std.specs.Prelude.{ℕ, zero, suc, Bool, true, ◌&&◌, List, [], ◌∷◌, Option, Some, None, is_none, if◌then◌else◌, nat_le}
+use Rattle.std.specs.Prelude.{ℕ, zero, suc, Bool, true, false, ◌&&◌, List, [], ◌∷◌, Option, Some, None, is_none, if◌then◌else◌, nat_le}
+use Rattle.cap_word.specs.Calls.{is_accept}
 use Rattle.cap_word.specs.declared.calls.Block.{Block}
 use Rattle.c_mean.specs.ModelledCalls.{BlockingRow, blocking_row, is_ready, sleeps_until, Delivery, is_dropped, with_delivery}
 use Rattle.c_mean.specs.World.{empty_exchange}
@@ -55,6 +56,11 @@ picked_row w thread block row = record w {
 abbrev pub picked_at : Setting → World → Thread → Option Blocked → World
 picked_at s w thread None = record w { running = Some thread.number }
 picked_at s w thread (Some blocked) = picked_row w thread blocked.block (blocking_row s.caps w.exchange blocked.block)
+
+-- the call at which it is blocked is `accept`
+abbrev pub is_blocked_at_accept : Option Blocked → Bool
+is_blocked_at_accept None = false
+is_blocked_at_accept (Some blocked) = is_accept blocked.block
 
 -- a thread that hasn't run yet may run, and a blocked thread if it is ready
 abbrev pub may_run : Setting → World → Option Blocked → Bool

@@ -1,7 +1,7 @@
 -- All threads over one pool: the world of live threads, and what one step of the running thread leads to. The idea of
 -- cooperative threads on linked chunks is Capriccio's (SOSP 2003).
 use Rattle.std.specs.Prelude.{ℕ, ◌+◌, List, [], ◌∷◌, ◌++◌, length, map, filter, replicate, not, Option, Some, None, if◌then◌else◌, nat_eq, nat_le}
-use Rattle.cap_word.specs.Calls.{Call, Blocking, Immediate}
+use Rattle.cap_word.specs.Calls.{Call, Blocking, Immediate, most_threads}
 use Rattle.cap_word.specs.Runs as runs
 use Rattle.cap_word.specs.declared.calls.Ask.{Ask}
 use Rattle.cap_word.specs.declared.calls.Block.{Block}
@@ -44,10 +44,6 @@ pub record Setting : Type 0 where
   pub fuel : ℕ
   pub backlog : ℕ
   pub caps : List ℕ
-
--- the maximum number of live threads
-abbrev pub most_threads : ℕ
-most_threads = 65535
 
 -- ---- threads by number
 

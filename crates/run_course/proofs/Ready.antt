@@ -1,41 +1,26 @@
 -- What the world tells of its threads, as the laws of the choice take it.
-use Rattle.std.proofs.Common.{◌≡◌, ℕ, ◌&&◌, ◌||◌, Bool, false, not, nat_eq, List, [], ◌∷◌, Option, Some, None, refl, ap, ◌∙◌}
+use Rattle.std.proofs.Common.{◌≡◌, ℕ, ◌&&◌, ◌||◌, Bool, false, not, nat_eq, List, [], ◌∷◌, Option, Some, refl, ap, ◌∙◌}
 use Rattle.std.specs.Prelude.{if◌then◌else◌}
 use Rattle.std.specs.List.{list_any}
 use Rattle.std.proofs.lemmas.Bool.{cond-true, eq-eqb}
-use Rattle.cap_word.specs.declared.calls.Block.{Block}
 use Rattle.cap_word.specs.declared.threads.ThreadId.{ThreadId}
 use Rattle.choice_rules.specs.Seen.{Waiter}
-use Rattle.choice_rules.specs.Readiness.{is_accept, any_ready, any_elsewhere}
+use Rattle.choice_rules.specs.Readiness.{any_ready, any_elsewhere}
 use Rattle.choice_rules.specs.Waiting.{IsPlaced}
 use Rattle.lawful_log.specs.Setup.{Setup, setting_of}
 use Rattle.lawful_log.specs.State.{State, seen_of}
 use Rattle.event_trace.specs.declared.events.Event.{Event}
-use Rattle.lawful_log.specs.Tests.{is_blocked_at_accept}
 use Rattle.lawful_log.specs.Waiting.{IsWaiting}
 use Rattle.lawful_log.specs.Within.{IsBetween}
 use Rattle.lawful_log.proofs.Told.{any_told, elsewhere_told}
-use Rattle.machine_world.specs.Runs.{advanced, may_run}
-use Rattle.machine_world.specs.Threads.{Blocked, Thread, World, Setting, thread_of}
-use Rattle.thread_core.specs.Ready.{runs_now, is_ready_thread, is_at_accept_blocked, is_at_accept_thread, passes, is_same_number, passes_at, is_ready_in, is_at_accept_in, any_ready_in, any_elsewhere_in}
+use Rattle.machine_world.specs.Runs.{advanced, may_run, is_blocked_at_accept}
+use Rattle.machine_world.specs.Threads.{Thread, World, Setting, thread_of}
+use Rattle.thread_core.specs.Ready.{runs_now, is_ready_thread, is_at_accept_thread, passes, is_same_number, passes_at, is_ready_in, is_at_accept_in, any_ready_in, any_elsewhere_in}
 use Rattle.thread_core.specs.Worlds.{Held}
-use Rattle.thread_waits.specs.Waiting.{is_at_accept_block}
 
 any_alike : {X : Type 0} (f h : X → Bool) → ((x : X) → f x ≡ h x) → (xs : List X) → list_any f xs ≡ list_any h xs
 any_alike f h same [] = refl
 any_alike f h same (x ∷ xs) = ap (λ (b : Bool). b || list_any f xs) (same x) ∙ ap (λ (b : Bool). h x || b) (any_alike f h same xs)
-
-accept_alike : (b : Block) → is_at_accept_block b ≡ is_accept b
-accept_alike Block.Accept = refl
-accept_alike (Block.Wait channel) = refl
-accept_alike (Block.Sleep ticks) = refl
-accept_alike Block.Yield = refl
-accept_alike (Block.Take resource amount) = refl
-accept_alike (Block.WaitFor channel ticks) = refl
-
-accepting_alike : (b : Option Blocked) → is_at_accept_blocked b ≡ is_blocked_at_accept b
-accepting_alike None = refl
-accepting_alike (Some b) = accept_alike b.block
 
 passing : (test : Thread → Bool) (held : Held) (t : ThreadId) (thread : Thread) → IsPlaced held.places t → thread_of held.machine t.number ≡ Some thread → passes_at test held t ≡ test thread
 passing test held t thread placed live =
@@ -60,7 +45,7 @@ module _ (g : Setup) (state : State) (held : Held) (known : Option (Option Event
   ready_told t x same placed v = passing (is_ready_thread held.setting held.machine) held t v.thread placed (live_there t x same v) ∙ ready_thread v.thread
 
   pub accept_told : (t : ThreadId) (x : Waiter) → t.number ≡ x.thread → IsPlaced held.places t → (v : IsWaiting state.machine x) → is_at_accept_in held t ≡ is_blocked_at_accept v.thread.blocked
-  accept_told t x same placed v = passing is_at_accept_thread held t v.thread placed (live_there t x same v) ∙ accepting_alike v.thread.blocked
+  accept_told t x same placed v = passing is_at_accept_thread held t v.thread placed (live_there t x same v)
 
   pub any_ready_told : any_ready_in held ≡ any_ready g.policy (seen_of state) held.machine.clock
   any_ready_told =
@@ -71,6 +56,6 @@ module _ (g : Setup) (state : State) (held : Held) (known : Option (Option Event
   pub any_elsewhere_told : any_elsewhere_in held ≡ any_elsewhere g.policy (seen_of state) held.machine.clock
   any_elsewhere_told =
       any_alike (λ thread. is_ready_thread held.setting held.machine thread && not (is_at_accept_thread thread)) (λ thread. may_run (setting_of g) (advanced state.machine held.machine.clock) thread.blocked && not (is_blocked_at_accept thread.blocked))
-      (λ thread. ap (λ (b : Bool). b && not (is_at_accept_thread thread)) (ready_thread thread) ∙ ap (λ (b : Bool). may_run (setting_of g) (advanced state.machine held.machine.clock) thread.blocked && not b) (accepting_alike thread.blocked)) held.machine.threads
+      (λ thread. ap (λ (b : Bool). b && not (is_at_accept_thread thread)) (ready_thread thread)) held.machine.threads
       ∙ ap (λ (l : List Thread). list_any (λ thread. may_run (setting_of g) (advanced state.machine held.machine.clock) thread.blocked && not (is_blocked_at_accept thread.blocked)) l) threads_are
       ∙ elsewhere_told g state held.machine.clock is.stands is.formed.counted.numbered is.threads

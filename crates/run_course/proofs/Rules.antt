@@ -17,13 +17,12 @@ use Rattle.lawful_log.specs.Good.{checked_of}
 use Rattle.lawful_log.specs.Setup.{Setup, setting_of}
 use Rattle.lawful_log.specs.State.{Segment, State, seen_of}
 use Rattle.lawful_log.specs.Beside.{IsChosenAs, IsChosen}
-use Rattle.lawful_log.specs.Tests.{is_blocked_at_accept}
 use Rattle.lawful_log.specs.Waiting.{IsWaiting, AreWaiting}
 use Rattle.lawful_log.specs.Within.{IsWithin}
 use Rattle.lawful_log.proofs.Own.{found_below}
 use Rattle.lawful_log.proofs.Told.{choice_told}
 use Rattle.machine_world.specs.Numbered.{IsNumbered}
-use Rattle.machine_world.specs.Runs.{advanced, may_run}
+use Rattle.machine_world.specs.Runs.{advanced, may_run, is_blocked_at_accept}
 use Rattle.machine_world.specs.StandsForWorld.{StandsForWorld}
 use Rattle.machine_world.specs.Threads.{World, thread_of}
 use Rattle.ready_tree.specs.declared.needs.Need.{Need}

@@ -4,7 +4,7 @@ use Rattle.std.specs.Prelude.{IfSome, nat_le, if◌then◌else◌}
 use Rattle.std.specs.List.{AllByRecursion}
 use Rattle.std.proofs.lemmas.Bool.{cond_both}
 use Rattle.std.proofs.lemmas.Bool.Decides.{nat_tests}
-use Rattle.cap_word.specs.Calls.{Call, Blocking, Immediate}
+use Rattle.cap_word.specs.Calls.{Call, Blocking, Immediate, most_threads}
 use Rattle.cap_word.specs.Runs as runs
 use Rattle.cap_word.specs.declared.calls.Block.{Block}
 use Rattle.cap_word.specs.declared.stops.Stop.{Stop}
@@ -15,9 +15,9 @@ use Rattle.chunk_pool.specs.Pool.{Taken, taken_for}
 use Rattle.lawful_log.specs.Tests.{waking_time}
 use Rattle.machine_world.specs.Areas.{Areas}
 use Rattle.machine_world.specs.Local as local
-use Rattle.machine_world.specs.Local.{Local, LocalMove, local_step}
+use Rattle.machine_world.specs.Local.{LocalMove, local_step}
 use Rattle.machine_world.specs.Runs.{empty_world, started_on, start_world, Pick, delivered, advanced, may_run, picked_at, picked, is_between, after_action}
-use Rattle.machine_world.specs.Threads.{Blocked, Thread, World, Setting, thread_of, first_with, replaced, without, with_thread, most_threads, Move, Goes, Puts, Spawns, Blocks, Ends, Stops, Wrong, retired, resumed, unless_trap, printed, result_of, package_call, spawned, asked, stopped, moved, step_of, step_on, step}
+use Rattle.machine_world.specs.Threads.{Blocked, Thread, World, Setting, thread_of, first_with, replaced, without, with_thread, Move, Goes, Puts, Spawns, Blocks, Ends, Stops, Wrong, retired, resumed, unless_trap, printed, result_of, package_call, spawned, asked, stopped, moved, step_of, step_on, step}
 use Rattle.thread_core.specs.Turns.{Tells, IsTurn}
 use Rattle.thread_core.specs.Worlds.{Held}
 use Rattle.thread_core.specs.declared.turns.Turn.{Turn}

@@ -3,7 +3,6 @@ use Rattle.std.proofs.Common.{◌≡◌, ℕ, zero, suc, ◌||◌, ◌&&◌, not
 use Rattle.std.specs.Prelude.{slice_get, slice_index_or}
 use Rattle.std.specs.List.{AllByRecursion, list_any}
 use Rattle.std.proofs.lemmas.Bool.{eqb-true}
-use Rattle.cap_word.specs.declared.calls.Block.{Block}
 use Rattle.c_mean.specs.ModelledCalls.{Exchange}
 use Rattle.c_mean.specs.World as source
 use Rattle.c_mean.specs.World.{Fresh, Blocked}
@@ -139,17 +138,9 @@ module _ (tree : ProgramTree) (slots : Slab Slot) (places : List (Option Wait)) 
 
   -- ---- at `accept`
 
-  accepts : (block : Block) → rules.is_accept block ≡ waits_of.is_at_accept_block block
-  accepts Block.Accept = refl
-  accepts (Block.Wait channel) = refl
-  accepts (Block.Sleep ticks) = refl
-  accepts Block.Yield = refl
-  accepts (Block.Take resource amount) = refl
-  accepts (Block.WaitFor channel ticks) = refl
-
   accept_by : (since : ℕ) (r : Rest) (there : source.Rest) (o : Option Wait) → RestsAs tree r there → WaitsAs r o → IsSince since o → rules.is_accepting (Some there) ≡ waits_of.is_at_accept o
   accept_by since (rest.Fresh function argument) there o rests waits_as is = rw (rests, waits_as) refl
-  accept_by since (rest.Blocked block thread) there o rests waits_as is = rw (rests, waits_as.1) (accepts block)
+  accept_by since (rest.Blocked block thread) there o rests waits_as is = rw (rests, waits_as.1) refl
   accept_by since rest.Away there o rests waits_as is = absurd (subst (IsSince since) waits_as is)
 
   pub accept_agrees : (w : Waiter) (is : IsWaiter slots places w) → rules.is_accepting (slice_get rests w.thread) ≡ waits_of.is_at_accept (at_place places is.has.place)

@@ -10,7 +10,7 @@ use Rattle.c_mean.specs.World as source
 use Rattle.c_mean.specs.World.{Segment, with_printed, with_started}
 use Rattle.choice_rules.specs.Clock.{latest}
 use Rattle.lawful_reading.specs.Given.{Given}
-use Rattle.lawful_reading.specs.Happenings.{most_live}
+use Rattle.cap_word.specs.Calls.{most_threads}
 use Rattle.lawful_reading.specs.State.{State}
 use Rattle.ready_tree.specs.declared.needs.Need.{Need}
 use Rattle.scheduler.specs.State.{SchedulerState, IsJoined, IsTold, last_of}
@@ -117,7 +117,7 @@ module _ (g : Given) (state : State) (last : Segment) (crowds : Bool) (k : Core)
 -- ---- a thread is started
 
 module _ (g : Given) (state : State) (last : Segment) (crowds : Bool) (k : Core) (under : Under) (function argument : ℕ) (may : MayAnswer g state last k under (Ask.Spawn function argument)) where
-  pub spawn_crowds : (new : Core) (under' : Under) → crowds ≡ true → k.threads.live ≡ most_live → Answers g state last crowds new under' (Ok (Some happening.IsCrowded))
+  pub spawn_crowds : (new : Core) (under' : Under) → crowds ≡ true → k.threads.live ≡ most_threads → Answers g state last crowds new under' (Ok (Some happening.IsCrowded))
   spawn_crowds new under' asked live = (
     (
       sym may.beside.are.live ∙ live,
@@ -131,7 +131,7 @@ module _ (g : Given) (state : State) (last : Segment) (crowds : Bool) (k : Core)
   )
 
   pub spawn_goes : (mid new : Core) (under' : Under) (thread : ThreadId) → HasAdded k.threads function (Some argument) mid.threads thread → IsJoined k.scheduler mid.scheduler 0 thread →
-      IsTold k.scheduler mid.scheduler 0 (record { thread = thread; need = Need.Nothing }) → (crowds ≡ true → k.threads.live ≡ most_live → ⊥) → HasResumed k mid new under under' thread.number → Answers g state last crowds new under' (Ok None)
+      IsTold k.scheduler mid.scheduler 0 (record { thread = thread; need = Need.Nothing }) → (crowds ≡ true → k.threads.live ≡ most_threads → ⊥) → HasResumed k mid new under under' thread.number → Answers g state last crowds new under' (Ok None)
   spawn_goes mid new under' thread added joined told few r = (
     gone_to g state last k mid new under under' thread.number (Ask.Spawn function argument) may r [] refl (sym (added.number ∙ may.beside.are.count)) (sym (append-nil last.world.outputs))
         (beside_more g state last.world.threads last.world.exchange last.number k.threads mid.threads k.scheduler mid.scheduler under.choice.thread thread function argument may.beside added joined told may.there),

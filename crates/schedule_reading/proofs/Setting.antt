@@ -8,13 +8,13 @@ use Rattle.slab.specs.Slab.{get}
 use Rattle.source_runs.specs.Threads.{IsThread, globals_of, running_of, waiting_of}
 use Rattle.source_runs.specs.declared.frames.Thread.{Thread}
 use Rattle.thread_exchange.specs.Exchanges.{Exchanging, MayResume, row_of}
-use Rattle.thread_waits.specs.Waiting.{wait_at}
+use Rattle.thread_waits.specs.Waiting.{wait_at, IsUntrapped}
 use Rattle.thread_waits.specs.declared.waits.Wait.{Wait}
 use Rattle.schedule_reading.specs.declared.threads.Rest.{Rest}
 use Rattle.schedule_reading.specs.declared.threads.Rest.TheVariants as rest
 use Rattle.schedule_reading.specs.declared.threads.Slot.{Slot}
 use Rattle.schedule_reading.specs.Changes.{GoesOn, HasBegun, KeepsOthers, MayBegin, MayGo}
-use Rattle.schedule_reading.specs.Told.{AreUntrapped, IsUntrapped, ThreadsState, WaitsAs}
+use Rattle.schedule_reading.specs.Told.{AreUntrapped, ThreadsState, WaitsAs}
 use Rattle.schedule_reading.proofs.Waits.{set_other, set_same, there_if}
 
 -- both of what a call ensures

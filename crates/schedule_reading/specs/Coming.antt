@@ -1,6 +1,6 @@
 -- What the source's run of the running thread does next, compared with what is kept.
 use Rattle.std.specs.Prelude.{◌≡◌, ℕ, suc, ◌+◌, ◌-◌, ◌^◌, ◌<◌, ◌≤◌, Bool, true, List, [], ◌∷◌, ◌++◌, length, Option, None, Some, Result, Ok, Err, slice_set}
-use Rattle.cap_word.specs.Calls.{Immediate}
+use Rattle.cap_word.specs.Calls.{Immediate, most_threads}
 use Rattle.cap_word.specs.Runs.{Goes, Stops}
 use Rattle.cap_word.specs.declared.calls.Ask.{Ask}
 use Rattle.cap_word.specs.declared.calls.Block.{Block}
@@ -9,7 +9,7 @@ use Rattle.c_mean.specs.Steps.{source_step}
 use Rattle.c_mean.specs.World as source
 use Rattle.c_mean.specs.World.{segment_step}
 use Rattle.lawful_reading.specs.Given.{Given}
-use Rattle.lawful_reading.specs.Happenings.{IsCrowdedNext, IsSilent, PutsNext, RestsNext, live_in, most_live}
+use Rattle.lawful_reading.specs.Happenings.{IsCrowdedNext, IsSilent, PutsNext, RestsNext, live_in}
 use Rattle.lawful_reading.specs.State.{State}
 use Rattle.scheduler.specs.State.{last_of}
 use Rattle.source_runs.specs.Steps.{IsAskThere, asks}
@@ -145,7 +145,7 @@ pub record StartsAt (g : Given) (last : source.Segment) : Type 0 where
 
 -- it does so while the maximum number is live
 abbrev pub CrowdsAt : Given → source.Segment → Type 0
-CrowdsAt g last = (live_in last.world ≡ most_live) × StartsAt g last
+CrowdsAt g last = (live_in last.world ≡ most_threads) × StartsAt g last
 
 abbrev pub Answers : Given → State → source.Segment → Bool → Core → Under → Result (Option Happening) Failure → Type 0
 Answers g state last crowds k under (Ok None) = GoesTo g state last [] k under × (crowds ≡ true → CrowdsAt g last → ⊥)

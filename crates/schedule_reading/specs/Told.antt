@@ -1,12 +1,12 @@
 -- What the threads of a log's run expose: which are ready, and what each waits for.
-use Rattle.std.specs.Prelude.{◌≡◌, ℕ, ◌≤◌, Bool, List, Option, Some, None, option_map, if◌then◌else◌, nat_eq, slice_index_or}
+use Rattle.std.specs.Prelude.{◌≡◌, ℕ, Bool, List, Option, Some, None, option_map, if◌then◌else◌, nat_eq, slice_index_or}
 use Rattle.slab.specs.Slab.{Slab, get}
 use Rattle.cap_word.specs.declared.threads.ThreadId.{ThreadId}
 use Rattle.ready_tree.specs.declared.needs.Need.{Need}
-use Rattle.thread_exchange.specs.Exchanges.{Exchanging, row_of}
+use Rattle.thread_exchange.specs.Exchanges.{Exchanging}
 use Rattle.thread_waits.specs.Needs.{need_for}
 use Rattle.thread_waits.specs.Waiting as waits
-use Rattle.thread_waits.specs.Waiting.{Waiting, wait_at, latest}
+use Rattle.thread_waits.specs.Waiting.{Waiting, wait_at, IsUntrapped}
 use Rattle.thread_waits.specs.declared.waits.Wait.{Wait}
 use Rattle.schedule_reading.specs.declared.threads.Rest.{Rest}
 use Rattle.schedule_reading.specs.declared.threads.Rest.TheVariants as rest
@@ -54,12 +54,6 @@ VouchesIn slots places thread need = option_map need_for (waits_in slots places 
 
 abbrev pub Vouches : ThreadsState → ThreadId → Need → Type 0
 Vouches threads thread need = VouchesIn threads.slots threads.waits.places thread need
-
--- the call at which a thread waits was no trap, and it has waited since a possible clock
-abbrev pub IsUntrapped : Exchanging → Option Wait → Type 0
-IsUntrapped x None = Unit {0}
-IsUntrapped x (Some Wait.Fresh) = Unit {0}
-IsUntrapped x (Some (Wait.At block since)) = ((row_of x block).trap ≡ None) × (since ≤ latest)
 
 -- this holds of all waiting threads
 abbrev pub AreUntrapped : Exchanging → Waiting → Type 0

@@ -400,7 +400,8 @@ impl FunctionResolver {
         Ok(())
     }
 
-    /// The body is at its end.
+    /// The body is at its end. Each block that was opened must have been closed: the statements
+    /// of an open one are lost.
     ///
     /// # Errors
     ///

@@ -41,7 +41,7 @@ pub mod Agreeing
 pub mod Linking
 pub mod FarCalls
 pub mod Unlinking
-pub mod CallSteps
+pub mod ReturnSteps
 pub mod StandingCode
 pub mod FramePlaces
 pub mod ValidFacts

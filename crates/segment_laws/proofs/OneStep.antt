@@ -14,7 +14,7 @@ use Rattle.machine_world.specs.Local.{Local, Ended, Trapped, NoRoom, local_step}
 use Rattle.machine_world.specs.Places.{Checked}
 use Rattle.machine_world.specs.Rests.{AreFlatFrames, IsAtCall}
 use Rattle.segment_laws.specs.Calls.{CallFacts, EndsAlike}
-use Rattle.segment_laws.proofs.CallSteps.{return_alike, end_alike}
+use Rattle.segment_laws.proofs.ReturnSteps.{return_alike, end_alike}
 use Rattle.segment_laws.specs.Asking.{AtAsk}
 use Rattle.segment_laws.proofs.AskSteps.{step_asks, step_starts}
 use Rattle.segment_laws.proofs.Facts.{CodeFacts, IsOperationAt}

@@ -8,14 +8,13 @@ use Rattle.accepted_pairs.specs.Acceptance.{Acceptance}
 use Rattle.machine_world.specs.Threads.{Thread, World, Stops, Move, step}
 use Rattle.machine_world.specs.WellFormed.{IsWellFormed}
 use Rattle.segment_run.specs.Contexts.{checked_of, core_of}
-use Rattle.thread_waits.specs.Waiting.{Waiting, wait_at}
+use Rattle.thread_waits.specs.Waiting.{Waiting, wait_at, IsUntrapped}
 use Rattle.thread_waits.specs.declared.waits.Wait.{Wait}
 use Rattle.segment_laws.specs.Found.{IsNumbered, threads_in}
 use Rattle.segment_laws.proofs.Changing.{all_same}
 use Rattle.thread_core.specs.Kept.{IsKept, IsRunningThere}
 use Rattle.thread_core.specs.States.{number_of, thread_of_record, blocked_of, machine_of, setting_of, number_in}
 use Rattle.thread_core.specs.Steps.{Runs, KeepsRest, Told, TellsIf, held_in}
-use Rattle.thread_core.specs.Waiting.{IsUntrapped}
 use Rattle.thread_core.specs.Worlds.{KeepsPlaces}
 use Rattle.thread_core.specs.declared.records.Record.{Record}
 use Rattle.thread_core.specs.declared.state.State.{State}

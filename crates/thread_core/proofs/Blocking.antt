@@ -30,7 +30,7 @@ use Rattle.segment_run.specs.Segments.{IsAtModel}
 use Rattle.segment_run.specs.declared.contexts.Context.{Context}
 use Rattle.segment_run.specs.declared.contexts.Fuel.{Fuel}
 use Rattle.thread_exchange.specs.Exchanges.{row_of}
-use Rattle.thread_waits.specs.Waiting.{Waiting, wait_at}
+use Rattle.thread_waits.specs.Waiting.{Waiting, wait_at, IsUntrapped}
 use Rattle.thread_waits.specs.declared.waits.Wait.{Wait}
 use Rattle.segment_laws.specs.Found.{IsNumbered}
 use Rattle.segment_laws.proofs.Changing.{record_written}
@@ -39,7 +39,6 @@ use Rattle.thread_core.specs.Parts.{ContextIs, HasContext, passed_context}
 use Rattle.thread_core.specs.States.{number_of, thread_of_record, threads_of, blocked_of, machine_of, setting_of}
 use Rattle.thread_core.specs.Steps.{Runs, LocalIs, Told, TellsIf, held_in}
 use Rattle.thread_core.specs.Turns.{HasKeyOf, HasKey}
-use Rattle.thread_core.specs.Waiting.{IsUntrapped}
 use Rattle.thread_core.specs.declared.records.Record.{Record}
 use Rattle.thread_core.specs.declared.state.State.{State}
 use Rattle.thread_core.specs.declared.turns.Turn.{Turn}

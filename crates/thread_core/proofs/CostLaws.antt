@@ -3,7 +3,7 @@ use Rattle.std.proofs.Common.{◌≡◌, ℕ, zero, suc, ◌+◌, add-zero, arit
 use Rattle.segment_laws.specs.Silent.{GoesOn}
 use Rattle.std.specs.Prelude.{nat_le}
 use Rattle.std.proofs.lemmas.Bool.{cond_both}
-use Rattle.cap_word.specs.Calls.{Call, Blocking, Immediate}
+use Rattle.cap_word.specs.Calls.{Call, Blocking, Immediate, most_threads}
 use Rattle.cap_word.specs.Runs as runs
 use Rattle.cap_word.specs.declared.stops.Stop.{Stop}
 use Rattle.cap_word.specs.declared.traps.TrapKind.{TrapKind}
@@ -11,7 +11,7 @@ use Rattle.c_mean.specs.ModelledCalls.{blocking_row, immediate_row}
 use Rattle.chunk_pool.specs.Pool.{Taken, taken_for}
 use Rattle.machine_world.specs.Local as local
 use Rattle.machine_world.specs.Local.{LocalMove, local_step}
-use Rattle.machine_world.specs.Threads.{Thread, World, Setting, thread_of, most_threads, Move, Goes, Puts, Spawns, Blocks, Ends, Stops, Wrong, unless_trap, printed, package_call, spawned, asked, stopped, moved, step_of, step_on, step}
+use Rattle.machine_world.specs.Threads.{Thread, World, Setting, thread_of, Move, Goes, Puts, Spawns, Blocks, Ends, Stops, Wrong, unless_trap, printed, package_call, spawned, asked, stopped, moved, step_of, step_on, step}
 
 -- an instruction has retired
 pub record Retires (w after : World) : Type 0 where

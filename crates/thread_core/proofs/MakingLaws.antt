@@ -1,5 +1,5 @@
 -- The world with its first thread.
-use Rattle.std.proofs.Common.{◌≡◌, ◌≢◌, ℕ, zero, suc, ◌+◌, ◌-◌, ◌*◌, ◌/◌, ◌%◌, ◌<◌, ◌≤◌, ◌^◌, ◌⊎◌, inl, inr, List, [], ◌∷◌, length, map, slice_set, Option, Some, None, option_map, IsSome, Bool, true, false, if◌then◌else◌, refl, sym, ◌∙◌, ap, subst, arith, slice_index_or}
+use Rattle.std.proofs.Common.{◌≡◌, ◌≢◌, ℕ, zero, suc, ◌+◌, ◌-◌, ◌*◌, ◌/◌, ◌%◌, ◌<◌, ◌≤◌, ◌^◌, ◌⊎◌, inl, inr, List, [], ◌∷◌, length, map, slice_set, Option, Some, None, option_map, IsSome, if◌then◌else◌, refl, sym, ◌∙◌, ap, subst, arith, slice_index_or}
 use Rattle.std.proofs.lemmas.Bool.{cases_eq}
 use Rattle.slab.specs.Slab.{get, Updates}
 use Rattle.cap_word.specs.declared.threads.ThreadId.{ThreadId}
@@ -27,14 +27,13 @@ use Rattle.stack_certificate.specs.Certificates.{fact_at}
 use Rattle.stack_certificate.specs.declared.certificates.Certificate.{Certificate}
 use Rattle.stack_image.specs.declared.images.Image.{Image}
 use Rattle.thread_exchange.specs.Exchanges.{Exchanging}
-use Rattle.thread_waits.specs.Waiting.{wait_at, Waiting}
+use Rattle.thread_waits.specs.Waiting.{wait_at, Waiting, IsUntrapped}
 use Rattle.thread_waits.specs.declared.waits.Wait.{Wait}
 use Rattle.segment_laws.specs.Found.{at_place, IsNumbered}
 use Rattle.segment_laws.proofs.Changing.{record_added}
 use Rattle.machine_meaning.specs.UnderWay.{StandsSettled}
 use Rattle.machine_meaning.proofs.BetweenSegments.{starts_law}
 use Rattle.thread_core.specs.Kept.{AreAligned, IsKept, HasCome, RunsAt, IsRunningThere}
-use Rattle.thread_core.specs.Waiting.{IsUntrapped}
 use Rattle.thread_core.specs.Making.{IsPolicy, start_areas}
 use Rattle.thread_core.specs.FirstParts.{AreParts}
 use Rattle.thread_core.specs.States.{number_of, numbers_of, number_in, blocked_of, threads_of, machine_of, setting_of, thread_of_record}

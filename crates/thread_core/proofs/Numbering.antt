@@ -2,7 +2,7 @@
 use Rattle.std.proofs.Common.{◌≡◌, ℕ, zero, suc, ◌+◌, nat_eq, List, [], ◌∷◌, ◌++◌, length, Option, Some, None, refl, sym, ◌∙◌, ap, subst}
 use Rattle.std.specs.Prelude.{nat_le}
 use Rattle.std.proofs.lemmas.Bool.{cond_both}
-use Rattle.cap_word.specs.Calls.{Call, Blocking, Immediate}
+use Rattle.cap_word.specs.Calls.{Call, Blocking, Immediate, most_threads}
 use Rattle.cap_word.specs.Runs as runs
 use Rattle.cap_word.specs.declared.stops.Stop.{Stop}
 use Rattle.cap_word.specs.declared.traps.TrapKind.{TrapKind}
@@ -11,7 +11,7 @@ use Rattle.chunk_pool.specs.Pool.{Taken, taken_for}
 use Rattle.machine_world.specs.Local as local
 use Rattle.machine_world.specs.Local.{LocalMove, local_step}
 use Rattle.machine_world.specs.Runs.{may_run, picked, picked_at, is_between, after_action, Pick}
-use Rattle.machine_world.specs.Threads.{Blocked, Thread, World, Setting, first_with, thread_of, most_threads, Move, Goes, Puts, Spawns, Blocks, Ends, Stops, Wrong, unless_trap, printed, package_call, spawned, asked, stopped, moved, step_of, step_on, step}
+use Rattle.machine_world.specs.Threads.{Blocked, Thread, World, Setting, first_with, thread_of, Move, Goes, Puts, Spawns, Blocks, Ends, Stops, Wrong, unless_trap, printed, package_call, spawned, asked, stopped, moved, step_of, step_on, step}
 use Rattle.segment_laws.specs.Silent.{GoesOn}
 use Rattle.machine_meaning.proofs.Threads.{number_of, replaced_same, without_same}
 use Rattle.thread_core.specs.Sources.{AreFrom}

@@ -12,11 +12,10 @@ use Rattle.machine_world.specs.WellFormed.{IsWellFormed, IsWellFormedIf, Deliver
 use Rattle.machine_world.proofs.FormWorlds.{IsWellFormedIf-action}
 use Rattle.segment_run.specs.Contexts.{checked_of}
 use Rattle.thread_exchange.specs.Exchanges.{Exchanging, after_delivery}
-use Rattle.thread_waits.specs.Waiting.{Waiting, wait_at}
+use Rattle.thread_waits.specs.Waiting.{Waiting, wait_at, IsUntrapped}
 use Rattle.thread_waits.specs.declared.waits.Wait.{Wait}
 use Rattle.machine_meaning.specs.UnderWay.{IsSettled}
 use Rattle.thread_core.specs.States.{machine_of, setting_of, number_in}
-use Rattle.thread_core.specs.Waiting.{IsUntrapped}
 use Rattle.thread_core.specs.Kept.{IsKept, HasCome}
 use Rattle.thread_core.specs.declared.state.State.{State}
 

@@ -31,7 +31,7 @@ use Rattle.machine_world.proofs.FormWorlds.{IsWellFormedIf-action}
 use Rattle.segment_run.specs.Contexts.{checked_of, code_of, core_of, local_of, IsReady}
 use Rattle.segment_run.specs.declared.contexts.Context.{Context}
 use Rattle.thread_exchange.specs.Exchanges.{Exchanging, MayResume, row_of}
-use Rattle.thread_waits.specs.Waiting.{Waiting, wait_at}
+use Rattle.thread_waits.specs.Waiting.{Waiting, wait_at, IsUntrapped}
 use Rattle.thread_waits.specs.declared.waits.Wait.{Wait}
 use Rattle.segment_laws.specs.Found.{IsNumbered, threads_in}
 use Rattle.segment_laws.proofs.Changing.{record_written, all_same}
@@ -41,7 +41,7 @@ use Rattle.c_mean.specs.ModelledCalls.{is_past, wake_of}
 use Rattle.thread_core.specs.Parts.{answered_context}
 use Rattle.thread_core.specs.Ready.{is_ready_in}
 use Rattle.thread_core.specs.Steps.{held_in, SamePlaces, Runs, MayRun}
-use Rattle.thread_core.specs.Waiting.{IsUntrapped, wait_of}
+use Rattle.thread_core.specs.Waiting.{wait_of}
 use Rattle.thread_core.specs.declared.records.Record.{Record}
 use Rattle.thread_core.specs.declared.state.State.{State}
 use Rattle.thread_core.proofs.OutsideLaws.{untrapped_same}

@@ -11,7 +11,8 @@ use Rattle.accepted_pairs.specs.Accepting.{accepted_tree}
 use Rattle.certificate_rules.specs.Validity.{IsValid}
 use Rattle.chunk_pool.specs.Pool.{Taken, taken_for, FitsNone}
 use Rattle.machine_world.specs.Areas.{Areas}
-use Rattle.machine_world.specs.Threads.{start_core, most_threads, Move}
+use Rattle.machine_world.specs.Threads.{start_core, Move}
+use Rattle.cap_word.specs.Calls.{most_threads}
 use Rattle.segment_run.specs.Contexts.{checked_of, code_of, local_of, core_of, AreOf}
 use Rattle.segment_run.specs.Passing.{RestsBefore, RestsBehind}
 use Rattle.segment_run.specs.Segments.{IsAtAsk}

@@ -15,7 +15,8 @@ use Rattle.chunk_pool.specs.Pool.{Taken, taken_for, FitsNone}
 use Rattle.flat_code.specs.declared.operations.Op.{Op}
 use Rattle.machine_meaning.proofs.Formed.{formed}
 use Rattle.machine_world.specs.Places.{Checked}
-use Rattle.machine_world.specs.Threads.{Thread, World, Setting, Stops, Spawns, thread_of, starts, spawned, retired, resumed, with_thread, most_threads, moved, step_of, step_on, step}
+use Rattle.machine_world.specs.Threads.{Thread, World, Setting, Stops, Spawns, thread_of, starts, spawned, retired, resumed, with_thread, moved, step_of, step_on, step}
+use Rattle.cap_word.specs.Calls.{most_threads}
 use Rattle.machine_world.specs.WellFormed.{IsWellFormed, KeepsWellFormed}
 use Rattle.machine_world.proofs.FormWorlds.{KeepsWellFormed-step}
 use Rattle.segment_run.specs.Contexts.{checked_of, code_of, local_of}

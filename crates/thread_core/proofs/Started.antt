@@ -20,7 +20,8 @@ use Rattle.machine_world.specs.Local.{with_header}
 use Rattle.machine_world.specs.Places.{size_in}
 use Rattle.machine_world.specs.Rests.{IsResting, AtCall}
 use Rattle.stack_certificate.specs.Certificates.{fact_at}
-use Rattle.machine_world.specs.Threads.{Thread, World, Setting, Move, thread_of, resumed, replaced, start_core, most_threads}
+use Rattle.machine_world.specs.Threads.{Thread, World, Setting, Move, thread_of, resumed, replaced, start_core}
+use Rattle.cap_word.specs.Calls.{most_threads}
 use Rattle.machine_world.specs.WellFormed.{IsWellFormed}
 use Rattle.segment_laws.proofs.ValidFacts.{CodeFacts-valid}
 use Rattle.segment_laws.specs.Facts.{CodeFacts}
@@ -36,7 +37,7 @@ use Rattle.segment_laws.specs.Found.{IsNumbered, KeepsRecords, threads_in}
 use Rattle.segment_laws.proofs.Changing.{thread_found, record_added, record_written}
 use Rattle.segment_laws.specs.Kept.{KeepsChunks}
 use Rattle.segment_laws.proofs.SameRest.{rests_law}
-use Rattle.thread_waits.specs.Waiting.{Waiting, wait_at}
+use Rattle.thread_waits.specs.Waiting.{Waiting, wait_at, IsUntrapped}
 use Rattle.thread_waits.specs.declared.waits.Wait.{Wait}
 use Rattle.machine_meaning.proofs.Forms.{has_form}
 use Rattle.machine_meaning.proofs.Fresh.{kept_starting}
@@ -44,7 +45,6 @@ use Rattle.thread_core.specs.Kept.{IsKept, RunsAt, IsRunningThere}
 use Rattle.thread_core.specs.Parts.{passed_context}
 use Rattle.thread_core.specs.States.{number_of, thread_of_record, threads_of, blocked_of, machine_of, setting_of, number_in}
 use Rattle.thread_core.specs.Steps.{Runs, LocalIs, Told, TellsIf, held_in}
-use Rattle.thread_core.specs.Waiting.{IsUntrapped}
 use Rattle.thread_core.specs.declared.records.Record.{Record}
 use Rattle.thread_core.specs.declared.state.State.{State}
 use Rattle.thread_core.specs.declared.turns.Turn.{Turn}

@@ -8,13 +8,13 @@ use Rattle.cap_word.specs.declared.threads.ThreadId.{ThreadId}
 use Rattle.accepted_pairs.specs.Acceptance.{Acceptance}
 use Rattle.machine_world.specs.Threads.{Thread, Setting, first_with}
 use Rattle.thread_waits.specs.Waiting as waits
-use Rattle.thread_waits.specs.Waiting.{wait_at}
+use Rattle.thread_waits.specs.Waiting.{wait_at, IsUntrapped}
 use Rattle.thread_waits.specs.declared.waits.Wait.{Wait}
 use Rattle.segment_laws.specs.Found.{IsNumbered}
 use Rattle.segment_laws.proofs.Changing.{thread_found}
 use Rattle.thread_core.specs.States.{number_of, thread_of_record, threads_of, machine_of, setting_of, numbers_of, number_in}
 use Rattle.thread_core.specs.Kept.{IsKept, RunsAt, IsRunningThere}
-use Rattle.thread_core.specs.Waiting.{wait_of, waits_for_in, IsUntrapped}
+use Rattle.thread_core.specs.Waiting.{wait_of, waits_for_in}
 use Rattle.thread_core.specs.Ready.{is_same_number, passes, is_ready_thread, runs_now, is_at_accept_thread}
 use Rattle.ready_tree.specs.declared.bounds.Bounds.{Bounds}
 use Rattle.ready_tree.specs.declared.needs.Need.{Need}

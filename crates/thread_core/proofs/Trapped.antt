@@ -2,7 +2,7 @@
 use Rattle.std.proofs.Common.{◌≡◌, ℕ, nat_eq, List, length, Option, Some, None, refl, sym, ap, subst, ◌∙◌, cond}
 use Rattle.std.specs.Prelude.{nat_le}
 use Rattle.std.proofs.lemmas.Bool.{cond_both}
-use Rattle.cap_word.specs.Calls.{Call, Blocking, Immediate}
+use Rattle.cap_word.specs.Calls.{Call, Blocking, Immediate, most_threads}
 use Rattle.cap_word.specs.Runs.{Goes, Asks, Stops, moves}
 use Rattle.cap_word.specs.declared.calls.Block.{Block}
 use Rattle.cap_word.specs.declared.stops.Stop.{Stop}
@@ -20,10 +20,10 @@ use Rattle.certificate_rules.specs.Validity.{IsValid}
 use Rattle.chunk_pool.specs.Pool.{Taken, taken_for}
 use Rattle.flat_code.specs.declared.operations.Op.{Op}
 use Rattle.machine_world.specs.Local as local
-use Rattle.machine_world.specs.Local.{Local, LocalMove, Ended, Trapped, NoRoom, Wrong, local_step}
+use Rattle.machine_world.specs.Local.{LocalMove, Ended, Trapped, NoRoom, Wrong, local_step}
 use Rattle.machine_world.specs.Places.{Checked}
 use Rattle.machine_world.specs.Threads as machine
-use Rattle.machine_world.specs.Threads.{Thread, World, Setting, thread_of, most_threads, Move, retired, resumed, result_of, unless_trap, printed, answered, blocks, package_call, spawned, starts, asked, stopped, moved, step_of, step_on, step}
+use Rattle.machine_world.specs.Threads.{Thread, World, Setting, thread_of, Move, retired, resumed, result_of, unless_trap, printed, answered, blocks, package_call, spawned, starts, asked, moved, step_of, step_on, step}
 use Rattle.machine_world.specs.WellFormed.{IsWellFormed}
 use Rattle.machine_meaning.specs.AsSource.{AsksCall, IsStepAsSource}
 use Rattle.stack_certificate.specs.Certificates.{fact_at, need_of}

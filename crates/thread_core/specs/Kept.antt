@@ -8,11 +8,10 @@ use Rattle.accepted_pairs.specs.Acceptance.{Acceptance}
 use Rattle.accepted_pairs.specs.Accepting.{accepted_tree}
 use Rattle.machine_world.specs.WellFormed.{IsWellFormed}
 use Rattle.segment_run.specs.Contexts.{checked_of, code_of, local_of, AreOf, IsReady}
-use Rattle.thread_waits.specs.Waiting.{wait_at}
+use Rattle.thread_waits.specs.Waiting.{wait_at, IsUntrapped}
 use Rattle.segment_laws.specs.Found.{IsNumbered}
 use Rattle.machine_meaning.specs.Running.{IsRunning}
 use Rattle.machine_meaning.specs.UnderWay.{IsSettled}
-use Rattle.thread_core.specs.Waiting.{IsUntrapped}
 use Rattle.thread_core.specs.States.{number_of, threads_of, setting_of, machine_of}
 use Rattle.thread_core.specs.declared.records.Record.{Record}
 use Rattle.thread_core.specs.declared.state.State.{State}

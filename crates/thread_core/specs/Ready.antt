@@ -3,9 +3,8 @@
 use Rattle.std.specs.Prelude.{◌≡◌, ℕ, ◌≤◌, ◌&&◌, Bool, false, not, map, All, Contains, Option, Some, None, if◌then◌else◌, nat_eq, slice_index_or}
 use Rattle.std.specs.List.{list_any}
 use Rattle.cap_word.specs.declared.threads.ThreadId.{ThreadId}
-use Rattle.machine_world.specs.Runs.{may_run, asleep_until}
-use Rattle.machine_world.specs.Threads.{Blocked, Thread, World, Setting, thread_of}
-use Rattle.thread_waits.specs.Waiting.{is_at_accept_block}
+use Rattle.machine_world.specs.Runs.{is_blocked_at_accept, may_run, asleep_until}
+use Rattle.machine_world.specs.Threads.{Thread, World, Setting, thread_of}
 use Rattle.thread_core.specs.Worlds.{Held}
 
 -- the segment in progress is that of this thread
@@ -16,12 +15,8 @@ runs_now (Some running) number = nat_eq running number
 abbrev pub is_ready_thread : Setting → World → Thread → Bool
 is_ready_thread s w thread = if runs_now w.running thread.number then false else may_run s w thread.blocked
 
-abbrev pub is_at_accept_blocked : Option Blocked → Bool
-is_at_accept_blocked None = false
-is_at_accept_blocked (Some blocked) = is_at_accept_block blocked.block
-
 abbrev pub is_at_accept_thread : Thread → Bool
-is_at_accept_thread thread = is_at_accept_blocked thread.blocked
+is_at_accept_thread thread = is_blocked_at_accept thread.blocked
 
 -- ---- one thread, by its place and number
 

@@ -1,9 +1,8 @@
 -- What a live thread waits for.
-use Rattle.std.specs.Prelude.{◌≡◌, ◌≤◌, Option, Some, None, if◌then◌else◌, nat_eq}
+use Rattle.std.specs.Prelude.{Option, Some, None, if◌then◌else◌, nat_eq}
 use Rattle.slab.specs.Slab.{get}
 use Rattle.cap_word.specs.declared.threads.ThreadId.{ThreadId}
-use Rattle.thread_exchange.specs.Exchanges.{Exchanging, row_of}
-use Rattle.thread_waits.specs.Waiting.{wait_at, latest}
+use Rattle.thread_waits.specs.Waiting.{wait_at}
 use Rattle.thread_waits.specs.declared.waits.Wait.{Wait}
 use Rattle.thread_core.specs.declared.records.Record.{Record}
 use Rattle.thread_core.specs.declared.state.State.{State}
@@ -15,9 +14,3 @@ wait_of st thread (Some r) = if nat_eq r.number thread.number then wait_at st.wa
 -- what a thread waits for at a place, if its record is there
 abbrev pub waits_for_in : State → ThreadId → Option Wait
 waits_for_in st thread = wait_of st thread (get st.records thread.slot)
-
--- the call at which a thread waits was no trap, and it has waited since a possible clock
-abbrev pub IsUntrapped : Exchanging → Option Wait → Type 0
-IsUntrapped x None = Unit {0}
-IsUntrapped x (Some Wait.Fresh) = Unit {0}
-IsUntrapped x (Some (Wait.At block since)) = ((row_of x block).trap ≡ None) × (since ≤ latest)

@@ -46,9 +46,9 @@ pub struct State {
 
 impl State {
     ghost use Rattle.thread_core.specs.Standings.{standing_for};
-    ghost use Rattle.thread_core.specs.Waiting.{waits_for_in, IsUntrapped};
+    ghost use Rattle.thread_core.specs.Waiting.{waits_for_in};
     ghost use Rattle.thread_waits.specs.Needs.{need_for};
-    ghost use Rattle.thread_waits.specs.Waiting.{is_ready_in, is_at_accept};
+    ghost use Rattle.thread_waits.specs.Waiting.{is_ready_in, is_at_accept, IsUntrapped};
 
     /// Returns what a live thread waits for, unless it is the running one.
     pub(crate) fn waits_for(&self, thread: ThreadId) -> Option<Wait>

@@ -1,8 +1,10 @@
 -- Waiting threads by place, and which of them are ready.
 use Rattle.std.specs.Prelude.{◌≡◌, ℕ, ◌+◌, ◌<◌, ◌≤◌, ◌^◌, ◌&&◌, Bool, true, false, not, List, map, All, Contains, Option, Some, None, slice_index_or}
 use Rattle.std.specs.List.{list_any}
+use Rattle.cap_word.specs.Calls.{is_accept}
 use Rattle.cap_word.specs.declared.calls.Block.{Block}
 use Rattle.c_mean.specs.ModelledCalls.{Exchange, is_ready, sleeps_until}
+use Rattle.thread_exchange.specs.Exchanges.{Exchanging, row_of}
 use Rattle.thread_waits.specs.declared.waits.Wait.{Wait}
 
 -- the wait at each place, None if no thread waits there, and the clock
@@ -21,17 +23,9 @@ abbrev pub is_ready_for : List ℕ → Exchange → ℕ → Wait → Bool
 is_ready_for caps x clock Wait.Fresh = true
 is_ready_for caps x clock (Wait.At block since) = is_ready caps x clock since block
 
-abbrev pub is_at_accept_block : Block → Bool
-is_at_accept_block Block.Accept = true
-is_at_accept_block (Block.Wait channel) = false
-is_at_accept_block (Block.Sleep ticks) = false
-is_at_accept_block Block.Yield = false
-is_at_accept_block (Block.Take resource amount) = false
-is_at_accept_block (Block.WaitFor channel ticks) = false
-
 abbrev pub is_at_accept_for : Wait → Bool
 is_at_accept_for Wait.Fresh = false
-is_at_accept_for (Wait.At block since) = is_at_accept_block block
+is_at_accept_for (Wait.At block since) = is_accept block
 
 -- no thread is ready at a place where no thread waits
 abbrev pub is_ready_in : List ℕ → Exchange → ℕ → Option Wait → Bool
@@ -89,3 +83,9 @@ IsWaitInRange (Wait.At block since) = IsBlockInRange block × (since ≤ latest)
 abbrev pub IsWaitInRangeIf : Option Wait → Type 0
 IsWaitInRangeIf None = Unit {0}
 IsWaitInRangeIf (Some wait) = IsWaitInRange wait
+
+-- the call at which a thread waits was no trap, and it has waited since a possible clock
+abbrev pub IsUntrapped : Exchanging → Option Wait → Type 0
+IsUntrapped x None = Unit {0}
+IsUntrapped x (Some Wait.Fresh) = Unit {0}
+IsUntrapped x (Some (Wait.At block since)) = ((row_of x block).trap ≡ None) × (since ≤ latest)

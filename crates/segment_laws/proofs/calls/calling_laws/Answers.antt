@@ -1,4 +1,4 @@
-use Rattle.segment_laws.proofs.CallSteps.{return_alike, end_alike}
+use Rattle.segment_laws.proofs.ReturnSteps.{return_alike, end_alike}
 use Rattle.segment_laws.proofs.Rooms.{call_alike}
 use Rattle.segment_laws.proofs.calls.calling_laws.Goals as goal
 

@@ -2,7 +2,7 @@ use Rattle.std.proofs.Common.{◌≡◌, true, None, Ok, refl, sym, ap, ◌∙�
 use Rattle.cap_word.specs.declared.calls.Ask.TheVariants.{Spawn}
 use Rattle.c_mean.specs.World.{Segment}
 use Rattle.lawful_reading.specs.Given.{Given}
-use Rattle.lawful_reading.specs.Happenings.{most_live}
+use Rattle.cap_word.specs.Calls.{most_threads}
 use Rattle.lawful_reading.specs.State.{State}
 use Rattle.schedule_reading.specs.Changes.{KeepsAll}
 use Rattle.schedule_reading.specs.Coming.{Answers, MayAnswer}
@@ -26,7 +26,7 @@ pub returns-clause-answers : goal.returns-clause-answers
 returns-clause-answers g c =
     let mid : Core = record { policy = c.self.inside.policy; interpreter = c.self.inside.interpreter; words = c.self.inside.globals.items; threads = c.add.new.self; scheduler = c.enqueue_for.new.self; graph = c.self.inside.graph; monitor = c.self.inside.monitor; free = c.self.inside.free; cost = c.self.inside.cost; left = c.self.inside.left } in
     let k : Core = record mid { threads = c.self.inside.threads; scheduler = c.self.inside.scheduler } in
-    let few : c.args.crowds ≡ true → c.self.inside.threads.live ≡ most_live → ⊥ = λ asked live. elim c.else-crowds.branch [
+    let few : c.args.crowds ≡ true → c.self.inside.threads.live ≡ most_threads → ⊥ = λ asked live. elim c.else-crowds.branch [
       | else-crowds-via-then-crowds+else-live-eq-MOST_LIVE w ↦ w.if-live-eq-MOST_LIVE.false (w.live.ensures ∙ live)
       | else-crowds-via-else-crowds w ↦ (cc)
     ] in

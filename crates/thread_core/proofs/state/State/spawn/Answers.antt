@@ -3,7 +3,7 @@ use Rattle.std.proofs.lemmas.Bool.{false≢true}
 use Rattle.c_lower.specs.ProgramCode.{lowered}
 use Rattle.accepted_pairs.specs.Accepting.{accepted_tree}
 use Rattle.chunk_pool.specs.Pool.{FitsNone}
-use Rattle.machine_world.specs.Threads.{most_threads}
+use Rattle.cap_word.specs.Calls.{most_threads}
 use Rattle.segment_run.proofs.Calls.{as_many}
 use Rattle.stack_certificate.specs.Certificates.{fact_at}
 use Rattle.cap_word.specs.declared.stops.Stop.{Stop}
