@@ -150,14 +150,14 @@ module _ (c : tree.Context) (d : flat.Context) (t n : ℕ) (suits : Suits c d t 
   call_formed scope (CallFunction s f es) p k place h low m o r =
       let args = all_arguments scope es p k h.2 low m (omega arith) in
       both (arguments_code es p k) _ args.0
-      ((suits.called f h.0, arguments_count es k ∙ h.1 ∙ sym (suits.params f), args.1, subst (λ g. IsResultPlace d g place) (sym (suits.results f)) r), tt)
+      (rw suits.signatures (h.0, arguments_count es k ∙ h.1, args.1, r), tt)
   call_formed scope (CallTable s table i e) p k place h low m o r =
       both (expr_code i p k ++ expr_code e (p + expr_size i) (k + 1)) _
       (both (expr_code i p k) _ (expr_formed scope i p k h.1 low (omega arith) (omega arith)) (expr_formed scope e (p + expr_size i) (k + 1) h.2 (omega arith) (omega arith) (omega arith)))
       ((rw suits.tables h.0, temporary k low (omega (arith, expr_takes_one i)), temporary (k + 1) (omega arith) (omega (arith, expr_takes_one e)), r), tt)
   call_formed scope (CallSpawn s f e) p k place h low m o r =
       both (expr_code e p k) _ (expr_formed scope e p k h.2 low m (omega arith))
-      ((suits.called f h.0, suits.params f ∙ h.1, temporary k low (omega (arith, expr_takes_one e)), r), tt)
+      (rw suits.signatures (h.0, h.1, temporary k low (omega (arith, expr_takes_one e)), r), tt)
   call_formed scope (CallModelled s call es) p k place h low m o r =
       let args = all_arguments scope es p k h.1 low m (omega arith) in
       let count : modelled_parameters (number_of call) ≡ Some (length (arguments_in es k)) = modelled_count call ∙ ap (λ x. Some x) (sym (arguments_count es k ∙ h.0)) in

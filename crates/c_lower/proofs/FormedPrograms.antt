@@ -1,10 +1,11 @@
 -- The code of a well scoped program is well formed.
-use Rattle.std.proofs.Common.{◌≡◌, ◌<◌, ◌≤◌, ◌+◌, ◌^◌, ℕ, zero, suc, Bool, true, false, List, [], ◌∷◌, ◌++◌, length, length-append, append_assoc, map, take, max, get_or, refl, ap, ◌∙◌, lit<, arith}
+use Rattle.std.proofs.Common.{◌≡◌, ◌<◌, ◌≤◌, ◌+◌, ◌^◌, ℕ, zero, suc, Bool, true, false, List, [], ◌∷◌, ◌++◌, length, length-append, append_assoc, map, take, max, get_or, refl, sym, ap, subst, ◌∙◌, lit<, arith}
 use Rattle.std.specs.Prelude.{if◌then◌else◌, sum, replicate}
 use Rattle.std.specs.List.{AllByRecursion}
 use Rattle.std.proofs.Math.ListN.{get_or-append}
 use Rattle.std.proofs.lemmas.Bool.{false≢true}
 use Rattle.std.proofs.lemmas.List.Sums.{sum_by-cons, sum_by-append}
+use Rattle.cap_word.specs.Signatures.{signature_at, IsTable}
 use Rattle.c_tree.specs.Sizes.{scalars, below, declared_words}
 use Rattle.c_tree.specs.Temporaries.{stmts_temporaries, function_temporaries}
 use Rattle.c_tree.specs.TextOrder.{stmts_names}
@@ -18,7 +19,7 @@ use Rattle.flat_code.specs.WellFormed as flat
 use Rattle.flat_code.specs.WellFormed.{IsOperation, IsFunction, IsWellFormed}
 use Rattle.c_lower.specs.StmtCode.{stmts_size, stmts_code}
 use Rattle.c_lower.specs.ProgramCode.{closing_code, first_temporary, function_ops, function_sizes, lowered_function, lowered_global, lowered}
-use Rattle.c_lower.proofs.Lists.{all-append, all-weaker, map-map}
+use Rattle.c_lower.proofs.Lists.{all-append, map-map}
 use Rattle.c_lower.proofs.Suits.{Suits}
 use Rattle.c_lower.proofs.CodeSizes.{stmts_length}
 use Rattle.c_lower.proofs.Formed.{stmts_formed}
@@ -60,19 +61,9 @@ parameters_first (suc n) xs = ap (λ ys. 1 ∷ ys) (parameters_first n xs)
 
 -- ---- signatures
 
-same_params : (fs : List FunctionTree) (f : ℕ) → (flat.signature_at (map flat.signature_of (map lowered_function fs)) f).params ≡ (tree.signature_at (map tree.signature_of fs) f).params
-same_params [] f = refl
-same_params (g ∷ fs) zero = refl
-same_params (g ∷ fs) (suc f) = same_params fs f
-
-same_results : (fs : List FunctionTree) (f : ℕ) → (flat.signature_at (map flat.signature_of (map lowered_function fs)) f).gives ≡ (tree.signature_at (map tree.signature_of fs) f).gives
-same_results [] f = refl
-same_results (g ∷ fs) zero = refl
-same_results (g ∷ fs) (suc f) = same_results fs f
-
-same_count : (fs : List FunctionTree) → length (map flat.signature_of (map lowered_function fs)) ≡ length (map tree.signature_of fs)
-same_count [] = refl
-same_count (f ∷ fs) = omega (arith, same_count fs)
+same_signatures : (fs : List FunctionTree) → map flat.signature_of (map lowered_function fs) ≡ map tree.signature_of fs
+same_signatures [] = refl
+same_signatures (f ∷ fs) = ap (λ ss. tree.signature_of f ∷ ss) (same_signatures fs)
 
 lowered_count : (fs : List FunctionTree) → length (map lowered_function fs) ≡ length fs
 lowered_count [] = refl
@@ -92,9 +83,7 @@ function_suits p f =
       words = λ x w h e. get_or-append f.sizes (scalars n) 0 x h ∙ e;
       temporary = λ k low high. (omega (arith, count, scalars_count n), temporary_word f.sizes n k low high);
       globals = same_globals p;
-      called = λ g h. omega (arith, same_count p.functions);
-      params = same_params p.functions;
-      results = same_results p.functions;
+      signatures = same_signatures p.functions;
       tables = refl;
       gives = refl;
     }
@@ -140,21 +129,14 @@ functions_formed p (f ∷ fs) h short = (function_formed p f h.0 short.0, functi
 
 -- ---- programs
 
-table_formed : (p : ProgramTree) (row : List ℕ) → tree.IsTable (map tree.signature_of p.functions) row → flat.IsTable (map flat.signature_of (map lowered_function p.functions)) row
-table_formed p row h = (
-  h.0,
-  all-weaker (tree.IsMember (map tree.signature_of p.functions)) (flat.IsMember (map flat.signature_of (map lowered_function p.functions)))
-      (λ f m. (omega (arith, same_count p.functions, m.0), same_params p.functions f ∙ m.1, same_results p.functions f ∙ m.2)) row h.1,
-)
-
 pub program_formed : (p : ProgramTree) → IsWellScoped p → AllByRecursion (λ f. length f.ops ≤ 2 ^ 32) (map lowered_function p.functions) → IsWellFormed (lowered p)
 program_formed p h short = record {
   functions = functions_formed p p.functions h.bodies short;
   main_defined = omega (arith, lowered_count p.functions, h.main_defined);
-  main_params = same_params p.functions p.main ∙ h.main_params;
+  main_params = ap (λ ss. (signature_at ss p.main).params) (same_signatures p.functions) ∙ h.main_params;
   sites = sites_distinct p h.site_numbers.0;
   global_words = rw (same_globals p) h.global_words;
-  tables = all-weaker (tree.IsTable (map tree.signature_of p.functions)) (flat.IsTable (map flat.signature_of (map lowered_function p.functions))) (table_formed p) p.tables h.tables;
+  tables = subst (λ ss. AllByRecursion (IsTable ss) p.tables) (sym (same_signatures p.functions)) h.tables;
   table_members = h.table_members;
 }
 

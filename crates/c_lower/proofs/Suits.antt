@@ -10,8 +10,6 @@ pub record Suits (c : tree.Context) (d : flat.Context) (t n : ℕ) : Type 0 wher
   pub words : (x w : ℕ) → x < length c.sizes → slice_index c.sizes x ≡ w → slice_index d.sizes x ≡ w
   pub temporary : (k : ℕ) → t ≤ k → k < t + n → flat.IsScalar d k
   pub globals : d.globals ≡ c.globals
-  pub called : (f : ℕ) → f < length c.signatures → f < length d.signatures
-  pub params : (f : ℕ) → (flat.signature_at d.signatures f).params ≡ (tree.signature_at c.signatures f).params
-  pub results : (f : ℕ) → (flat.signature_at d.signatures f).gives ≡ (tree.signature_at c.signatures f).gives
+  pub signatures : d.signatures ≡ c.signatures
   pub tables : d.tables ≡ c.tables
   pub gives : d.gives ≡ c.gives

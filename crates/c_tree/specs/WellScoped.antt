@@ -1,16 +1,12 @@
 -- When a program is well scoped: everything that lets the crates above index without a test.
-use Rattle.std.specs.Prelude.{ℕ, ◌^◌, ◌<◌, ◌≤◌, ◌≡◌, Bool, true, false, IsTrue, eqb, ◌||◌, List, [], ◌∷◌, length, map, sum, slice_index, slice_index_or, Option, Some, None}
+use Rattle.std.specs.Prelude.{ℕ, ◌^◌, ◌<◌, ◌≤◌, ◌≡◌, Bool, true, false, IsTrue, eqb, ◌||◌, List, [], ◌∷◌, length, map, sum, slice_index, Option, Some, None}
 use Rattle.std.specs.List.{IsDistinct, AllByRecursion}
 use Rattle.cap_word.specs.ModelledCalls.{parameters_of, gives_result}
+use Rattle.cap_word.specs.Signatures.{Signature, signature_at, IsTable}
 use Rattle.c_tree.specs.Trees.{ExprTree, Number, Local, Global, LocalElement, GlobalElement, Unary, Parenthesized, Binary, LogicalAnd, LogicalOr, Conditional, CallTree, CallFunction, CallTable, CallSpawn, CallModelled, RightTree, Computed, Called, SimpleTree, DeclareScalar, DeclareArray, DeclareWith, SetLocal, SetGlobal, SetLocalElement, SetGlobalElement, Calling, StmtTree, StmtTrees, Do, Empty, Block, If, IfElse, While, For, Break, Continue, Return, NoStmts, Then, FunctionTree, ProgramTree}
 use Rattle.c_tree.specs.TextOrder.{Declared, simple_names, stmts_names, program_sites, counting}
 use Rattle.c_tree.specs.Sizes.{below, declared_words, sizes_of}
 use Rattle.c_tree.specs.Temporaries.{function_temporaries}
-
--- the number of a function's parameters, and whether its calls give a result
-pub record Signature : Type 0 where
-  pub params : ℕ
-  pub gives : Bool
 
 abbrev pub signature_of : FunctionTree → Signature
 signature_of f = record { params = f.params; gives = f.gives }
@@ -26,10 +22,6 @@ pub record Context : Type 0 where
 
 abbrev pub context_of : ProgramTree → FunctionTree → Context
 context_of p f = record { signatures = map signature_of p.functions; globals = map (λ g. g.words) p.globals; tables = length p.tables; sizes = f.sizes; gives = f.gives }
-
--- the signature of function f, which exists
-abbrev pub signature_at : List Signature → ℕ → Signature
-signature_at ss f = slice_index_or ss f (record { params = 0; gives = false })
 
 -- whether x is in scope
 abbrev pub visible : ℕ → List ℕ → Bool
@@ -161,13 +153,6 @@ AreFunctionsScoped p (f ∷ fs) = IsFunctionScoped p f × AreFunctionsScoped p f
 -- numbers of sites: all different, and below their count
 abbrev pub AreSiteNumbers : List ℕ → Type 0
 AreSiteNumbers ns = IsDistinct eqb ns × AllByRecursion (λ n. n < length ns) ns
-
--- a member of a table: an int function with one parameter
-abbrev pub IsMember : List Signature → ℕ → Type 0
-IsMember ss f = (f < length ss) × ((signature_at ss f).params ≡ 1) × ((signature_at ss f).gives ≡ true)
-
-abbrev pub IsTable : List Signature → List ℕ → Type 0
-IsTable ss row = (1 ≤ length row) × AllByRecursion (IsMember ss) row
 
 -- a program
 pub record IsWellScoped (p : ProgramTree) : Type 0 where

@@ -7,7 +7,8 @@ use Rattle.call_graph.specs.Lists.{has}
 use Rattle.call_graph.proofs.IndexLemmas.{by_eq}
 use Rattle.cycle_break.proofs.NumberLemmas.{true_false}
 use Rattle.call_cycles.specs.Cycles.{Calls, IsWay, IsOnCycle}
-use Rattle.call_cycles.specs.Marks.{is_marked, AreOffCycles, IsClosed, Marks}
+use Rattle.call_cycles.specs.Marks.{AreOffCycles, IsClosed, Marks}
+use Rattle.cycle_break.specs.Trail.{is_marked}
 use Rattle.call_cycles.proofs.MarkLemmas.{has-either, has-left, mark-stays}
 
 pub none-marked : (n g : ℕ) → is_marked (replicate n false) g ≡ true → ⊥

@@ -1,5 +1,5 @@
 -- Marks that are set, and the list of what was marked.
-use Rattle.std.proofs.Common.{◌≡◌, inl, inr, ⊎_elim, ◌⊎◌, ℕ, zero, suc, ◌+◌, ◌<◌, ◌≤◌, ◌==◌, Bool, true, false, List, [], ◌∷◌, ◌++◌, length, length-append, set, get_or, refl, sym, ap, ◌∙◌, subst, arith}
+use Rattle.std.proofs.Common.{◌≡◌, inl, inr, ⊎_elim, ◌⊎◌, ℕ, zero, suc, ◌+◌, ◌<◌, ◌≤◌, ◌==◌, Bool, true, false, List, [], ◌∷◌, ◌++◌, length, length-append, set, refl, sym, ap, ◌∙◌, subst, arith}
 use Rattle.std.specs.Prelude.{Some, slice_get}
 use Rattle.std.proofs.lemmas.Bool.{cases_lt}
 use Rattle.std.proofs.lemmas.List.{length-set, get_or-set_same, get_or-set_other, get_or_past}
@@ -12,7 +12,8 @@ use Rattle.call_graph.proofs.ListLemmas.{by_test}
 use Rattle.call_graph.proofs.IndexLemmas.{by_eq}
 use Rattle.cycle_break.proofs.NumberLemmas.{has-head, has-cases, true_false}
 use Rattle.call_cycles.specs.Cycles.{functions_called, Calls}
-use Rattle.call_cycles.specs.Marks.{is_marked, unmarked, AreSeen, Marks}
+use Rattle.call_cycles.specs.Marks.{unmarked, AreSeen, Marks}
+use Rattle.cycle_break.specs.Trail.{is_marked}
 
 -- ---- numbers in lists
 

@@ -6,7 +6,8 @@ use Rattle.flat_code.specs.Codes.{FlatCode}
 use Rattle.call_graph.specs.Lists.{has}
 use Rattle.cycle_break.proofs.NumberLemmas.{true_false}
 use Rattle.call_cycles.specs.Cycles.{Calls, IsWay, Reaches, IsOnCycle, IsLeastOf}
-use Rattle.call_cycles.specs.Marks.{is_marked, Marks}
+use Rattle.call_cycles.specs.Marks.{Marks}
+use Rattle.cycle_break.specs.Trail.{is_marked}
 use Rattle.call_cycles.proofs.MarkLemmas.{has-either, has-left}
 
 -- one call more

@@ -1,13 +1,9 @@
 -- Functions that are marked once, and kept in a list until they are visited.
-use Rattle.std.specs.Prelude.{ℕ, ◌≡◌, ◌⊎◌, ◌+◌, Bool, true, false, if◌then◌else◌, List, [], ◌∷◌, length}
-use Rattle.std.specs.List.{slice_index_or}
+use Rattle.std.specs.Prelude.{ℕ, ◌≡◌, ◌⊎◌, ◌+◌, Bool, true, if◌then◌else◌, List, [], ◌∷◌, length}
 use Rattle.call_graph.specs.Lists.{has}
+use Rattle.cycle_break.specs.Trail.{is_marked}
 use Rattle.flat_code.specs.Codes.{FlatCode, members_of}
 use Rattle.call_cycles.specs.Cycles.{Calls, IsOnCycle}
-
--- whether a function is marked
-abbrev pub is_marked : List Bool → ℕ → Bool
-is_marked marks f = slice_index_or marks f false
 
 -- the number of functions that aren't marked
 abbrev pub unmarked : List Bool → ℕ

@@ -12,7 +12,8 @@ use Rattle.std.specs.Prelude.{eqb}
 use Rattle.flat_code.specs.declared.operations.Op.{Op}
 use Rattle.flat_code.specs.declared.functions.FlatFunction.{FlatFunction}
 use Rattle.flat_code.specs.Codes.{FlatCode, site_of}
-use Rattle.flat_code.specs.WellFormed.{context_of, signature_of, IsOperation, IsFunction, IsMember, IsTable, IsWellFormed, site_numbers}
+use Rattle.flat_code.specs.WellFormed.{context_of, signature_of, IsOperation, IsFunction, IsWellFormed, site_numbers}
+use Rattle.cap_word.specs.Signatures.{IsMember, IsTable}
 use Rattle.call_graph.specs.declared.sites.GraphSite.{GraphSite}
 use Rattle.call_graph.specs.declared.sites.Target.TheVariants.{Function, Table}
 use Rattle.call_graph.specs.FlatCalls.{call_site, call_sites_from}

@@ -4,4 +4,5 @@ pub mod Word
 pub mod Rows
 pub mod ModelledCalls
 pub mod Calls
+pub mod Signatures
 pub mod Runs

@@ -7,7 +7,8 @@ use Rattle.std.proofs.lemmas.Option.{none-some, same_Some}
 use Rattle.call_graph.proofs.ListLemmas.{by_test, all-at}
 use Rattle.flat_code.specs.declared.operations.Op.{Op}
 use Rattle.flat_code.specs.Codes.{FlatCode, function_at, operation_at, members_of}
-use Rattle.flat_code.specs.WellFormed.{IsFunction, IsOperation, IsTable, IsWellFormed, context_of, signature_of}
+use Rattle.flat_code.specs.WellFormed.{IsFunction, IsOperation, IsWellFormed, context_of, signature_of}
+use Rattle.cap_word.specs.Signatures.{IsTable}
 use Rattle.stack_certificate.specs.declared.certificates.Certificate.{Certificate}
 use Rattle.stack_certificate.specs.Templates.{kind_of}
 use Rattle.certificate_rules.specs.Sites.{certified_site}

@@ -10,7 +10,8 @@ use Rattle.std.proofs.lemmas.Option.{slice_get-get_or}
 use Rattle.flat_code.specs.declared.operations.Op.{Op}
 use Rattle.flat_code.specs.declared.functions.FlatFunction.{FlatFunction}
 use Rattle.flat_code.specs.Codes.{FlatCode, function_at, operation_at, members_of}
-use Rattle.flat_code.specs.WellFormed.{IsMember, IsTable, IsWellFormed, signature_of}
+use Rattle.flat_code.specs.WellFormed.{IsWellFormed, signature_of}
+use Rattle.cap_word.specs.Signatures.{IsMember, IsTable}
 use Rattle.call_graph.specs.Callees.{greatest}
 use Rattle.checkpoint_place.specs.declared.plans.Plan.{Plan}
 use Rattle.stack_certificate.specs.declared.certificates.Certificate.{Certificate}

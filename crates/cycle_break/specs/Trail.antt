@@ -9,7 +9,7 @@ use Rattle.cycle_break.specs.Walk.{Walked}
 abbrev pub come : List ℕ → Walked
 come left = record { left = left; back = [] }
 
--- whether a function is marked as visited
+-- whether a function is marked
 abbrev pub is_marked : List Bool → ℕ → Bool
 is_marked visited function = slice_index_or visited function false
 

@@ -11,7 +11,8 @@ use Rattle.flat_code.specs.Codes.{FlatCode, function_at}
 use Rattle.call_graph.specs.Lists.{has}
 use Rattle.call_graph.proofs.ListLemmas.{by_test}
 use Rattle.call_cycles.specs.Cycles.{functions_called, Calls, IsWay, Reaches, IsOnCycle, IsLeast}
-use Rattle.call_cycles.specs.Marks.{is_marked, unmarked}
+use Rattle.call_cycles.specs.Marks.{unmarked}
+use Rattle.cycle_break.specs.Trail.{is_marked}
 use Rattle.call_cycles.proofs.ClosedLemmas.{none-marked}
 use Rattle.call_cycles.proofs.MarkLemmas.{marks-one}
 use Rattle.call_cycles.proofs.OrderLemmas.{cycle-within}

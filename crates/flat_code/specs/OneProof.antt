@@ -7,7 +7,8 @@ use mathlib.Core.Bool.{Bool-set}
 use Rattle.flat_code.specs.declared.operations.Op.{Op}
 use Rattle.flat_code.specs.declared.functions.FlatFunction.{FlatFunction}
 use Rattle.flat_code.specs.Codes.{FlatCode}
-use Rattle.flat_code.specs.WellFormed.{Signature, Context, IsScalar, IsResultPlace, IsReturned, IsOperation, IsFunction, IsTable, IsWellFormed}
+use Rattle.flat_code.specs.WellFormed.{Context, IsScalar, IsResultPlace, IsReturned, IsOperation, IsFunction, IsWellFormed}
+use Rattle.cap_word.specs.Signatures.{Signature, IsTable}
 
 number_set : IsSet ℕ
 number_set = Coded-set coded_ℕ

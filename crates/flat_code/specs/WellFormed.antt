@@ -1,22 +1,14 @@
 -- When a program of flat code is well formed: everything that lets the crates above index without a test.
-use Rattle.std.specs.Prelude.{ℕ, ◌^◌, ◌<◌, ◌≤◌, ◌≡◌, Bool, true, false, IsTrue, eqb, List, length, map, sum, take, replicate, filter_map, flat_map, slice_index, slice_index_or, Option, Some, None}
+use Rattle.std.specs.Prelude.{ℕ, ◌^◌, ◌<◌, ◌≤◌, ◌≡◌, Bool, true, false, IsTrue, eqb, List, length, map, sum, take, replicate, filter_map, flat_map, slice_index, Option, Some, None}
 use Rattle.std.specs.List.{IsDistinct, AllByRecursion}
+use Rattle.cap_word.specs.Signatures.{Signature, signature_at, IsTable}
 use Rattle.flat_code.specs.declared.operations.Op.{Op}
 use Rattle.flat_code.specs.declared.functions.FlatFunction.{FlatFunction}
 use Rattle.flat_code.specs.Codes.{FlatCode, site_of}
 use Rattle.flat_code.specs.Modelled.{modelled_parameters, modelled_gives}
 
--- the number of a function's parameters, and whether its calls give a result
-pub record Signature : Type 0 where
-  pub params : ℕ
-  pub gives : Bool
-
 abbrev pub signature_of : FlatFunction → Signature
 signature_of f = record { params = f.params; gives = f.gives }
-
--- the signature of function f, which exists
-abbrev pub signature_at : List Signature → ℕ → Signature
-signature_at ss f = slice_index_or ss f (record { params = 0; gives = false })
 
 -- what a function's operations may name: functions, sizes of globals, the number of tables, sizes of its own
 -- variables, whether it gives a result, and the number of its operations
@@ -83,13 +75,6 @@ pub record IsFunction (code : FlatCode) (f : FlatFunction) : Type 0 where
   pub words : sum f.sizes ≤ 2 ^ 20
   pub count : length f.ops ≤ 2 ^ 32
   pub ops : AllByRecursion (IsOperation (context_of code f)) f.ops
-
--- a member of a table: a function with one parameter that gives a result
-abbrev pub IsMember : List Signature → ℕ → Type 0
-IsMember ss f = (f < length ss) × ((signature_at ss f).params ≡ 1) × ((signature_at ss f).gives ≡ true)
-
-abbrev pub IsTable : List Signature → List ℕ → Type 0
-IsTable ss row = (1 ≤ length row) × AllByRecursion (IsMember ss) row
 
 -- the numbers of all sites, function by function
 abbrev pub site_numbers : FlatCode → List ℕ

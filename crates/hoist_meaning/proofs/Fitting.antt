@@ -7,14 +7,14 @@ use Rattle.std.proofs.lemmas.Bool.Decides.{nat_tests}
 use Rattle.cap_word.specs.Calls.{Call, Blocking, Immediate, call_of, call_with}
 use Rattle.cap_word.specs.Runs.{Goes, Asks, Stops}
 use Rattle.cap_word.specs.declared.calls.Ask.{Ask}
-use Rattle.cap_word.specs.declared.calls.Block.{Block as BlockingCall}
 use Rattle.cap_word.specs.declared.traps.TrapKind.{TrapKind}
 use Rattle.cap_word.specs.ModelledCalls.{number_of}
 use Rattle.cap_word.specs.declared.modelled_calls.ModelledCall.{ModelledCall}
 use Rattle.c_tree.specs.Sizes.{below}
 use Rattle.c_tree.specs.TextOrder.{simple_names}
 use Rattle.c_tree.specs.Trees.{CallTree, CallFunction, CallTable, CallSpawn, CallModelled, RightTree, Computed, Called, SimpleTree, DeclareScalar, DeclareArray, DeclareWith, SetLocal, SetGlobal, SetLocalElement, SetGlobalElement, Calling, StmtTree, StmtTrees, Do, Empty, Block, If, IfElse, While, For, Break, Continue, Return, NoStmts, Then, FunctionTree, ProgramTree}
-use Rattle.c_tree.specs.WellScoped.{signature_of, signature_at, Context, context_of, with_names, scope_after, scope_after_all, IsCallScoped, IsRightScoped, IsSimpleScoped, AreSimplesScoped, IsStepScoped, IsReturnScoped, IsStmtScoped, AreStmtsScoped, AreFunctionsScoped, IsMember, IsTable, IsWellScoped}
+use Rattle.c_tree.specs.WellScoped.{signature_of, Context, context_of, with_names, scope_after, scope_after_all, IsCallScoped, IsRightScoped, IsSimpleScoped, AreSimplesScoped, IsStepScoped, IsReturnScoped, IsStmtScoped, AreStmtsScoped, AreFunctionsScoped, IsWellScoped}
+use Rattle.cap_word.specs.Signatures.{signature_at, IsMember, IsTable}
 use Rattle.c_mean.specs.ToDo.{Item, Simply, Choose, Test, Enter, Back, Leave, Skip, GiveBack, GiveBackWord, Fail, WhileLoop, ForLoop, step_item, all_before, turn_before}
 use Rattle.c_mean.specs.Frames.{Place, Nowhere, InLocal, InGlobal, InLocalElement, InGlobalElement, Returned, WaitingFrame, Running, Waiting, function_at}
 use Rattle.c_mean.specs.Sites.{Target, ToNowhere, ToLocal, ToGlobal, ToLocalElement, ToGlobalElement, ToCaller, CallInText, right_calls, simple_calls, simples_calls, step_calls, returned_calls, stmt_calls, stmts_calls, function_calls}

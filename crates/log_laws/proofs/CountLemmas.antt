@@ -8,7 +8,8 @@ use Rattle.chunk_pool.specs.Pool.{fits, all_free, taken_for, payload_bytes_of, I
 use Rattle.chunk_pool.proofs.FreeLaws.{copies-held}
 use Rattle.chunk_pool.proofs.NeedLaws.{taken_for-none}
 use Rattle.machine_world.proofs.HeldLaws.{copies-cons}
-use Rattle.machine_world.specs.Chains.{copies, held_copies, IsPartition}
+use Rattle.machine_world.specs.Chains.{held_copies, IsPartition}
+use Rattle.machine_world.specs.Held.{copies}
 use Rattle.machine_world.specs.Threads.{Thread, World, first_with}
 use Rattle.log_laws.specs.Rooms.{roomy_below, roomy, all_held}
 

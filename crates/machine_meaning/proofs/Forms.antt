@@ -9,8 +9,7 @@ use Rattle.chunk_pool.specs.Pool.{Pool, chunk_of}
 use Rattle.flat_code.specs.WellFormed as flat
 use Rattle.machine_world.specs.Alone.{KeepsChunk}
 use Rattle.machine_world.specs.Areas.{Areas}
-use Rattle.machine_world.specs.Chains.{copies}
-use Rattle.machine_world.specs.Held.{copies_in, KeepsShape}
+use Rattle.machine_world.specs.Held.{copies_in, KeepsShape, copies}
 use Rattle.machine_world.specs.Local.{Local, Ended, local_step}
 use Rattle.machine_world.specs.Places.{Checked}
 use Rattle.machine_world.specs.StandsForWorld.{StandsForRest}

@@ -17,7 +17,7 @@ use Rattle.flat_code.specs.declared.functions.FlatFunction.{FlatFunction}
 use Rattle.machine_meaning.proofs.Lowered.{function_is}
 use Rattle.machine_meaning.proofs.Formed.{formed}
 use Rattle.machine_world.specs.Areas.{Areas}
-use Rattle.machine_world.specs.Chains.{copies}
+use Rattle.machine_world.specs.Held.{copies}
 use Rattle.machine_world.specs.Globals.{AreGlobals}
 use Rattle.stack_certificate.specs.Registers.{a0}
 use Rattle.machine_world.specs.Local.{Core, with_header}

@@ -1,16 +1,17 @@
 -- The flat code of a program that is well scoped has each function's operations in their place.
-use Rattle.std.proofs.Common.{◌≡◌, ℕ, zero, suc, ◌+◌, ◌<◌, ◌≤◌, Bool, true, false, List, [], ◌∷◌, ◌++◌, map, length, Option, Some, None, refl, sym, ap, ◌∙◌, subst, arith, length-append, get_or}
+use Rattle.std.proofs.Common.{◌≡◌, ℕ, zero, suc, ◌+◌, ◌<◌, false, List, [], ◌∷◌, ◌++◌, map, length, Some, refl, sym, ap, ◌∙◌, subst, arith, length-append}
 use Rattle.std.specs.Prelude.{slice_get, slice_index, slice_index_or}
 use Rattle.std.specs.List.{AllByRecursion}
 use Rattle.std.proofs.lemmas.List.{length-map, get_or-map, get_or_append_left}
 use Rattle.c_tree.specs.Sizes as words
 use Rattle.c_tree.specs.Temporaries.{function_temporaries}
 use Rattle.c_tree.specs.Trees.{FunctionTree, ProgramTree, NoStmts}
-use Rattle.c_tree.specs.WellScoped.{Signature, signature_of, IsFunctionScoped, AreFunctionsScoped, IsMember, IsTable, IsWellScoped}
+use Rattle.c_tree.specs.WellScoped.{signature_of, IsFunctionScoped, AreFunctionsScoped, IsWellScoped}
+use Rattle.cap_word.specs.Signatures.{Signature, IsMember, IsTable}
 use Rattle.c_mean.specs.Frames.{function_at}
 use Rattle.flat_code.specs.declared.operations.Op.{Op}
 use Rattle.flat_code.specs.declared.functions.FlatFunction.{FlatFunction}
-use Rattle.flat_code.specs.Codes.{FlatCode, operation_at}
+use Rattle.flat_code.specs.Codes.{operation_at}
 use Rattle.flat_code.specs.Codes as codes
 use Rattle.c_lower.specs.ProgramCode.{closing_code, function_ops, function_sizes, lowered_function, lowered}
 use Rattle.c_lower.specs.StmtCode.{stmts_size, stmts_code}

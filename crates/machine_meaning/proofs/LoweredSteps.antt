@@ -12,16 +12,17 @@ use Rattle.cap_word.specs.ModelledCalls.{number_of}
 use Rattle.c_tree.specs.Temporaries.{expr_temporaries, arguments_temporaries, call_temporaries}
 use Rattle.c_tree.specs.TextOrder.{call_site}
 use Rattle.c_tree.specs.Trees.{ExprTree, CallTree, CallFunction, CallTable, CallSpawn, CallModelled, FunctionTree, ProgramTree, NoStmts}
-use Rattle.c_tree.specs.WellScoped.{signature_of, signature_at, IsExprScoped, AreExprsScoped, IsCallScoped}
+use Rattle.c_tree.specs.WellScoped.{signature_of, IsExprScoped, AreExprsScoped, IsCallScoped}
+use Rattle.cap_word.specs.Signatures.{signature_at}
 use Rattle.c_mean.specs.Frames.{Place, Running, Waiting, function_at, pushed}
 use Rattle.c_mean.specs.Sites.{target_of, function_calls}
-use Rattle.c_mean.specs.Steps.{SourceMove, to_do, with_names, valued, all_valued, on_value, stored, assigned, delivered, waits_at, entered, entered_where, entered_by, asks_if, called, assigns, does, branched, returned, gives_back, performs_first, source_step}
+use Rattle.c_mean.specs.Steps.{SourceMove, to_do, valued, all_valued, on_value, waits_at, entered, entered_where, entered_by, asks_if, called}
 use Rattle.c_mean.specs.Values.{Value, with_first}
 use Rattle.c_mean.proofs.CallLemmas.{known, counted}
 use Rattle.flat_code.specs.declared.operations.Op.{Op}
 use Rattle.flat_code.specs.Codes.{FlatCode, operation_at, members_of}
-use Rattle.flat_code.specs.Frames.{FlatFrame, FlatThread, FlatWaiting, End, Finished, Lost, site_in}
-use Rattle.flat_code.specs.Step.{FlatMove, on, first, scalar, scalars, both, where_in, within, puts, enters, enters_by, place_in, returns, flat_step, flat_machine, finishing_move}
+use Rattle.flat_code.specs.Frames.{FlatFrame, FlatThread, FlatWaiting, Finished, site_in}
+use Rattle.flat_code.specs.Step.{on, first, scalars, both, where_in, enters, enters_by, place_in, flat_step, flat_machine, finishing_move}
 use Rattle.flat_code.specs.Step as flat
 use Rattle.flat_code.specs.Frames as frames
 use Rattle.c_lower.specs.CallCode.{arguments_in}

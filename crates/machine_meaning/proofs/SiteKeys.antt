@@ -7,7 +7,8 @@ use Rattle.chunk_pool.specs.Pool.{Pool}
 use Rattle.flat_code.specs.Codes.{operation_at}
 use Rattle.flat_code.specs.declared.operations.Op.{Op}
 use Rattle.machine_world.specs.InPlace.{Frame}
-use Rattle.machine_world.specs.Keys.{site_in, with_site, sites_of, key_of}
+use Rattle.machine_world.specs.Keys.{with_site, sites_of, key_of}
+use Rattle.flat_code.specs.Frames.{site_in}
 use Rattle.machine_world.specs.Local.{Core}
 use Rattle.machine_world.specs.Places.{Checked}
 use Rattle.machine_world.specs.Rests.{IsResting, AtStart, AtCall, PastCall}

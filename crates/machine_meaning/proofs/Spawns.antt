@@ -3,6 +3,7 @@ use Rattle.std.proofs.Common.{◌≡◌, ◌≢◌, ℕ, zero, suc, ◌+◌, ◌
 use Rattle.std.specs.Prelude.{slice_get, slice_index, nat_le}
 use Rattle.std.proofs.lemmas.Bool.{cases_eq, cond_both}
 use Rattle.cap_word.specs.Calls.{spawn_of, most_threads}
+use Rattle.cap_word.specs.Signatures.{Signature, signature_at}
 use Rattle.cap_word.specs.Runs.{moves}
 use Rattle.cap_word.specs.declared.stops.Stop.{Stop}
 use Rattle.c_lower.specs.ProgramCode.{lowered}
@@ -105,9 +106,9 @@ module _ (program : ProgramTree) (image : Image) (certificate : Certificate) (sc
     params_g =
         let program_there : g < length program.functions = omega (arith, there_g, Rattle.std.proofs.lemmas.List.length-map program.functions Rattle.c_lower.specs.ProgramCode.lowered_function) in
         let flat_params : (codes.function_at (lowered program) g).params ≡ (function_at program g).params = ap (λ (h : FlatFunction). h.params) (function_is program scoped g program_there) in
-        let signature : flat.signature_at (map flat.signature_of (lowered program).functions) g ≡ flat.signature_of (codes.function_at (lowered program) g) =
+        let signature : signature_at (map flat.signature_of (lowered program).functions) g ≡ flat.signature_of (codes.function_at (lowered program) g) =
         Rattle.std.proofs.lemmas.List.get_or-map flat.signature_of (lowered program).functions g _ _ there_g in
-        sym flat_params ∙ ap (λ (t : flat.Signature). t.params) (sym signature) ∙ formed_op.1
+        sym flat_params ∙ ap (λ (t : Signature). t.params) (sym signature) ∙ formed_op.1
 
     given : (k argument : ℕ) (taken : Taken) → k < length (argument ∷ []) → slice_index (argument ∷ []) k ≡ read (start_core taken (fact_at certificate g).entry argument).x (a0 + k)
     given zero argument taken lt = refl

@@ -1,12 +1,8 @@
 -- Held and free chunks are exactly the pool.
-use Rattle.std.specs.Prelude.{◌≡◌, ℕ, ◌+◌, List, [], ◌∷◌, nat_eq, if◌then◌else◌, nat_lt}
-use Rattle.std.specs.List.{count_by}
+use Rattle.std.specs.Prelude.{◌≡◌, ℕ, ◌+◌, List, [], ◌∷◌, if◌then◌else◌, nat_lt}
+use Rattle.machine_world.specs.Held.{copies}
 use Rattle.machine_world.specs.Threads.{Thread, World}
 use Rattle.chunk_pool.specs.Pool.{Pool, all_free}
-
--- how often a chunk occurs in a list of chunks
-abbrev pub copies : ℕ → List ℕ → ℕ
-copies chunk chunks = count_by (λ other. nat_eq other chunk) chunks
 
 -- how often a chunk occurs in the chains of threads
 abbrev pub held_copies : ℕ → List Thread → ℕ

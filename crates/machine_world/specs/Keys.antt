@@ -1,7 +1,8 @@
 -- What the frames of a thread determine: its key, and the maximum length of its chain.
 use Rattle.std.specs.Prelude.{ℕ, ◌+◌, Bool, true, false, List, [], ◌∷◌, take, Option, Some, None, if◌then◌else◌}
 use Rattle.flat_code.specs.declared.operations.Op.{Op}
-use Rattle.flat_code.specs.Codes.{operation_at, site_of}
+use Rattle.flat_code.specs.Codes.{operation_at}
+use Rattle.flat_code.specs.Frames.{site_in}
 use Rattle.stack_certificate.specs.declared.sites.LinkKind.{LinkKind}
 use Rattle.stack_certificate.specs.Templates.{kind_of}
 use Rattle.machine_world.specs.InPlace.{Frame}
@@ -12,10 +13,6 @@ abbrev pub standing : Checked → Frame → Option Op
 standing c frame = operation_at c.flat frame.function frame.operation
 
 -- ---- keys
-
-abbrev pub site_in : Option Op → Option ℕ
-site_in None = None
-site_in (Some op) = site_of op
 
 abbrev pub with_site : Option ℕ → List ℕ → List ℕ
 with_site None sites = sites

@@ -15,10 +15,10 @@ use Rattle.c_mean.specs.Steps.{source_resume}
 use Rattle.chunk_pool.specs.Pool.{Pool}
 use Rattle.rv_machine.specs.Registers.{read}
 use Rattle.flat_code.specs.declared.operations.Op.{Op}
-use Rattle.flat_code.specs.Frames.{FlatFrame}
+use Rattle.flat_code.specs.Frames.{FlatFrame, site_in}
 use Rattle.machine_world.specs.Globals.{AreGlobals}
 use Rattle.machine_world.specs.InPlace.{Frame}
-use Rattle.machine_world.specs.Keys.{standing, site_in}
+use Rattle.machine_world.specs.Keys.{standing}
 use Rattle.stack_certificate.specs.Registers.{a0}
 use Rattle.machine_world.specs.Local.{Core, Local}
 use Rattle.machine_world.specs.Places.{Checked}

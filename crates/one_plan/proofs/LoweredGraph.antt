@@ -6,6 +6,7 @@ use Rattle.std.proofs.lemmas.Bool.{false≢true}
 use Rattle.std.proofs.lemmas.List.{length-map}
 use Rattle.std.proofs.lemmas.List.Elements.{All-from_recursion, recursion_from_All}
 use Rattle.std.proofs.lemmas.List.Sorted.{All-permutation}
+use Rattle.cap_word.specs.Signatures.{IsMember, IsTable}
 use Rattle.c_tree.specs.Sizes.{scalars, below}
 use Rattle.c_tree.specs.Temporaries.{function_temporaries}
 use Rattle.c_tree.specs.Trees.{FunctionTree, ProgramTree}
@@ -30,28 +31,15 @@ use Rattle.stack_plan.specs.Plans.{IsGraphOf}
 
 -- ---- what a body's operations may name
 
-abbrev called_signature : tree.Signature → flat.Signature
-called_signature s = record { params = s.params; gives = s.gives }
-
 abbrev body_context : ProgramTree → FunctionTree → flat.Context
 body_context p f = record {
-  signatures = map called_signature (map tree.signature_of p.functions);
+  signatures = map tree.signature_of p.functions;
   globals = map (λ g. g.words) p.globals;
   tables = length p.tables;
   sizes = f.sizes ++ scalars (function_temporaries f);
   gives = f.gives;
   ops = stmts_size f.body + 1;
 }
-
-called-params : (ss : List tree.Signature) (f : ℕ) → (flat.signature_at (map called_signature ss) f).params ≡ (tree.signature_at ss f).params
-called-params [] f = refl
-called-params (s ∷ ss) zero = refl
-called-params (s ∷ ss) (suc f) = called-params ss f
-
-called-gives : (ss : List tree.Signature) (f : ℕ) → (flat.signature_at (map called_signature ss) f).gives ≡ (tree.signature_at ss f).gives
-called-gives [] f = refl
-called-gives (s ∷ ss) zero = refl
-called-gives (s ∷ ss) (suc f) = called-gives ss f
 
 scalars-length : (n : ℕ) → length (scalars n) ≡ n
 scalars-length zero = refl
@@ -68,15 +56,12 @@ body-suits : (p : ProgramTree) (f : FunctionTree) → Suits (tree.context_of p f
 body-suits p f =
     let n = function_temporaries f in
     let count = length-append f.sizes (scalars n) in
-    let signatures = map tree.signature_of p.functions in
     record {
       local = λ x h. omega (arith, count);
       words = λ x w h e. get_or-append f.sizes (scalars n) 0 x h ∙ e;
       temporary = λ k low high. (omega (arith, count, scalars-length n), one-word f.sizes n k low high);
       globals = refl;
-      called = λ g h. omega (arith, length-map signatures called_signature);
-      params = called-params signatures;
-      results = called-gives signatures;
+      signatures = refl;
       tables = refl;
       gives = refl;
     }
@@ -92,23 +77,20 @@ module _ (p : ProgramTree) (scoped : IsWellScoped p) where
   abbrev IsSite : GraphSite → Type 0
   IsSite = IsSiteOf (length p.functions) p.tables
 
-  signatures-length : length (map called_signature (map tree.signature_of p.functions)) ≡ length p.functions
-  signatures-length = length-map (map tree.signature_of p.functions) called_signature ∙ length-map p.functions tree.signature_of
-
-  members-there : (row : List ℕ) → AllByRecursion (tree.IsMember (map tree.signature_of p.functions)) row → AllByRecursion (λ f. f < length p.functions) row
+  members-there : (row : List ℕ) → AllByRecursion (IsMember (map tree.signature_of p.functions)) row → AllByRecursion (λ f. f < length p.functions) row
   members-there row all =
-      all-weaker (tree.IsMember (map tree.signature_of p.functions)) (λ f. f < length p.functions)
+      all-weaker (IsMember (map tree.signature_of p.functions)) (λ f. f < length p.functions)
       (λ f member. let lt = member.0 in omega (arith, lt, length-map p.functions tree.signature_of)) row all
 
   table-target : (t : ℕ) → t < length p.tables → IsTargetOf (length p.functions) p.tables (Table t)
   table-target t lt =
-      let table = all-at (tree.IsTable (map tree.signature_of p.functions)) p.tables t [] scoped.tables lt in
+      let table = all-at (IsTable (map tree.signature_of p.functions)) p.tables t [] scoped.tables lt in
       record { some = omega (arith, table.0); all = members-there (get_or p.tables t []) table.1 }
 
   op-site : (f : FunctionTree) (caller : ℕ) (op : Op) (ss : List GraphSite) → caller < length p.functions → IsOperation (body_context p f) op →
       AllByRecursion IsSite ss → AllByRecursion IsSite (cons_option (call_site caller op) ss)
   op-site f caller (Op.Call site d g args) ss lt is all =
-      (record { caller = lt; target = record { some = omega arith; all = (omega (arith, is.0, signatures-length), tt) } }, all)
+      (record { caller = lt; target = record { some = omega arith; all = (omega (arith, is.0, length-map p.functions tree.signature_of), tt) } }, all)
   op-site f caller (Op.CallTable site d t i s) ss lt is all = (record { caller = lt; target = table-target t is.0 }, all)
   op-site f caller _ ss lt is all = all
 
@@ -134,7 +116,7 @@ module _ (p : ProgramTree) (scoped : IsWellScoped p) where
       let count : function_count graph ≡ length p.functions =
       ap length is.weights ∙ (length-map (map lowered_function p.functions) (λ (g : FlatFunction). weight_of g.sizes) ∙ length-map p.functions lowered_function) in
       let rows : AllByRecursion (λ row. AllByRecursion (λ f. f < length p.functions) row) p.tables =
-      all-weaker (tree.IsTable (map tree.signature_of p.functions)) (λ row. AllByRecursion (λ f. f < length p.functions) row) (λ row table. members-there row table.1) p.tables scoped.tables in
+      all-weaker (IsTable (map tree.signature_of p.functions)) (λ row. AllByRecursion (λ f. f < length p.functions) row) (λ row table. members-there row table.1) p.tables scoped.tables in
       let sites : AllByRecursion IsSite graph.sites =
       recursion_from_All IsSite graph.sites
       (All-permutation IsSite (call_sites_from 0 (lowered p).functions) graph.sites is.sites

@@ -35,9 +35,6 @@ IsAboveIf nodes places = 1 ≤ length nodes → IsAbove nodes places
 abbrev pub IsAboveButIf : List Needs → List (Option Entry) → ℕ → Type 0
 IsAboveButIf nodes places block = 1 ≤ length nodes → IsAboveBut nodes places block
 
-abbrev pub AreJoinedIf : List Needs → Type 0
-AreJoinedIf nodes = 1 ≤ length nodes → AreJoined nodes
-
 abbrev pub IsBlankIf : List Needs → ℕ → Type 0
 IsBlankIf nodes places = 1 ≤ length nodes → IsBlank nodes places
 

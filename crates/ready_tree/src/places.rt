@@ -2,7 +2,8 @@
 ghost use Rattle.std.specs.Prelude.{◌≡◌, ℕ, ◌+◌, ◌*◌, ◌/◌, ◌<◌, ◌≤◌, ◌^◌, ◌++◌, ◌∷◌, [], None, Some, Option, true, false, length, position, slice_set, IfOk, OnOk, OnErr};
 ghost use Rattle.ready_tree.specs.declared.entries.Entry.{Entry};
 ghost use Rattle.ready_tree.specs.Entries.{entries_of, place_at, may_go, is_of, is_taken};
-ghost use Rattle.ready_tree.specs.Trees.{Covers, CoversAll, AreJoinedIf, IsAboveIf, IsAboveButIf, HasPlaces, HasRoom, IsBlankIf, IsGathered};
+ghost use Rattle.ready_tree.specs.Trees.{Covers, CoversAll, IsAboveIf, IsAboveButIf, HasPlaces, HasRoom, IsBlankIf, IsGathered};
+ghost use Rattle.ready_tree.specs.NeedTrees.{AreJoinedIf};
 
 use crate::bounds::Bounds;
 use crate::entries::Entry;

@@ -15,7 +15,7 @@ use Rattle.lawful_log.specs.Within.{IsBetween}
 use Rattle.lawful_log.proofs.Told.{any_told, elsewhere_told}
 use Rattle.machine_world.specs.Runs.{advanced, may_run, is_blocked_at_accept}
 use Rattle.machine_world.specs.Threads.{Thread, World, Setting, thread_of}
-use Rattle.thread_core.specs.Ready.{runs_now, is_ready_thread, is_at_accept_thread, passes, is_same_number, passes_at, is_ready_in, is_at_accept_in, any_ready_in, any_elsewhere_in}
+use Rattle.thread_core.specs.Ready.{is_same_number, is_ready_thread, is_at_accept_thread, passes, passes_at, is_ready_in, is_at_accept_in, any_ready_in, any_elsewhere_in}
 use Rattle.thread_core.specs.Worlds.{Held}
 
 any_alike : {X : Type 0} (f h : X → Bool) → ((x : X) → f x ≡ h x) → (xs : List X) → list_any f xs ≡ list_any h xs
@@ -31,7 +31,7 @@ passing test held t thread placed live =
 module _ (g : Setup) (state : State) (held : Held) (known : Option (Option Event)) (is : IsBetween g state known held.machine) (setting_is : held.setting ≡ setting_of g) where
   ready_thread : (thread : Thread) → is_ready_thread held.setting held.machine thread ≡ may_run (setting_of g) (advanced state.machine held.machine.clock) thread.blocked
   ready_thread thread =
-      ap (λ (o : Option ℕ). if runs_now o thread.number then false else may_run held.setting held.machine thread.blocked) (ap (λ (w : World). w.running) is.machine_is ∙ is.stands.between)
+      ap (λ (o : Option ℕ). if is_same_number o thread.number then false else may_run held.setting held.machine thread.blocked) (ap (λ (w : World). w.running) is.machine_is ∙ is.stands.between)
       ∙ ap (λ (s : Setting). may_run s held.machine thread.blocked) setting_is
       ∙ ap (λ (w : World). may_run (setting_of g) w thread.blocked) is.machine_is
 

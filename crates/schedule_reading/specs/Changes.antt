@@ -4,7 +4,8 @@ use Rattle.slab.specs.Slab.{get}
 use Rattle.cap_word.specs.declared.calls.Block.{Block}
 use Rattle.cap_word.specs.declared.threads.ThreadId.{ThreadId}
 use Rattle.c_tree.specs.Trees.{ProgramTree}
-use Rattle.c_tree.specs.WellScoped.{signature_at, signature_of}
+use Rattle.c_tree.specs.WellScoped.{signature_of}
+use Rattle.cap_word.specs.Signatures.{signature_at}
 use Rattle.c_mean.specs.Steps.{source_resume, started}
 use Rattle.c_mean.specs.World.{empty_exchange}
 use Rattle.source_runs.specs.Threads.{IsFull, IsThread, globals_of, running_of, waiting_of}

@@ -1,12 +1,13 @@
 -- What a reading keeps, compared with the state of the lawful reading.
-use Rattle.std.specs.Prelude.{◌≡◌, ◌≢◌, ℕ, ◌+◌, ◌-◌, ◌*◌, ◌^◌, ◌<◌, ◌≤◌, IsTrue, List, ◌++◌, length, drop, map, option_map, option_to_list, Option, None, Some, IsSome, IfSome, count_by, slice_get}
+use Rattle.std.specs.Prelude.{◌≡◌, ◌≢◌, ℕ, ◌+◌, ◌-◌, ◌<◌, ◌≤◌, IsTrue, List, ◌++◌, length, drop, map, option_map, option_to_list, Option, None, Some, IsSome, IfSome, count_by, slice_get}
 use Rattle.std.specs.List.{AllByRecursion}
 use Rattle.blocking_graph.specs.Edges.{count_of, edges_of}
 use Rattle.cap_word.specs.declared.threads.ThreadId.{ThreadId}
 use Rattle.c_mean.specs.ModelledCalls.{Exchange}
 use Rattle.c_mean.specs.World as source
 use Rattle.c_tree.specs.Trees.{ProgramTree}
-use Rattle.c_tree.specs.WellScoped.{signature_at, signature_of}
+use Rattle.c_tree.specs.WellScoped.{signature_of}
+use Rattle.cap_word.specs.Signatures.{signature_at}
 use Rattle.choice_rules.specs.Choice.{is_open}
 use Rattle.choice_rules.specs.Clock.{latest}
 use Rattle.choice_rules.specs.EdgeLines.{edge_entry}

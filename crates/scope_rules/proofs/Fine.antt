@@ -10,7 +10,8 @@ use Rattle.c_tree.specs.RawTemporaries.{raw_item_temporaries, AreWithinTemporari
 use Rattle.c_tree.specs.Trees.{FunctionTree, ProgramTree}
 use Rattle.c_tree.specs.TextOrder.{stmts_names}
 use Rattle.c_tree.specs.Temporaries.{capped}
-use Rattle.c_tree.specs.WellScoped.{signature_of, signature_at, Context, IsFunctionScoped, AreFunctionsScoped, IsMember, IsTable}
+use Rattle.c_tree.specs.WellScoped.{signature_of, Context, IsFunctionScoped, AreFunctionsScoped}
+use Rattle.cap_word.specs.Signatures.{signature_at, IsMember, IsTable}
 use Rattle.scope_rules.specs.declared.faults.Rule.{Rule}
 use Rattle.scope_rules.specs.declared.meanings.Meaning.{Meaning}
 use Rattle.scope_rules.specs.declared.meanings.Found.{Found}

@@ -2,7 +2,8 @@
 use Rattle.std.proofs.Common.{ℕ, ◌≡◌, ◌<◌, refl, subst, Bool, true, false, List, [], ◌∷◌, length, Some}
 use Rattle.std.specs.Prelude.{slice_index, IsTrue, eqb, ◌||◌, if◌then◌else◌}
 use Rattle.std.specs.Str.{bytes_eq}
-use Rattle.c_tree.specs.WellScoped.{Context, signature_at, visible}
+use Rattle.c_tree.specs.WellScoped.{Context, visible}
+use Rattle.cap_word.specs.Signatures.{signature_at}
 use Rattle.scope_rules.specs.declared.meanings.Meaning.{Meaning}
 use Rattle.scope_rules.specs.declared.meanings.Found.{Found}
 use Rattle.scope_rules.specs.Names.{Binding, find}

@@ -9,7 +9,8 @@ use Rattle.c_tree.specs.Trees.{CallTree, CallFunction, CallTable, CallSpawn, Cal
 use Rattle.c_tree.specs.TextOrder.{Declared, simple_names, simples_names, step_names, stmt_names, stmts_names, call_site, right_sites, returned_sites, simple_sites, simples_sites, step_sites, stmt_sites, stmts_sites, functions_sites, program_sites, counting}
 use Rattle.c_tree.specs.Sizes.{scalars, below}
 use Rattle.c_tree.specs.Temporaries.{call_temporaries, right_temporaries, held_temporaries, simple_temporaries, simples_temporaries, step_temporaries, returned_temporaries, stmt_temporaries, stmts_temporaries}
-use Rattle.c_tree.specs.WellScoped.{Context, context_of, Signature, signature_of, signature_at, call_gives, IsCallScoped, IsRightScoped, IsSimpleScoped, AreSimplesScoped, IsConditionScoped, IsStepScoped, IsReturnScoped, with_names, scope_after, scope_after_all, IsStmtScoped, AreStmtsScoped, IsFunctionScoped, AreFunctionsScoped, AreSiteNumbers, IsTable, IsWellScoped}
+use Rattle.c_tree.specs.WellScoped.{Context, context_of, signature_of, call_gives, IsCallScoped, IsRightScoped, IsSimpleScoped, AreSimplesScoped, IsConditionScoped, IsStepScoped, IsReturnScoped, with_names, scope_after, scope_after_all, IsStmtScoped, AreStmtsScoped, IsFunctionScoped, AreFunctionsScoped, AreSiteNumbers, IsWellScoped}
+use Rattle.cap_word.specs.Signatures.{Signature, signature_at, IsTable}
 use Rattle.scope_rules.specs.Numbered.{number_at, call_numbered, right_numbered, simple_numbered, stmt_numbered, stmts_numbered, function_numbered, numbered}
 use Rattle.scope_rules.proofs.Growth.{numbers}
 

@@ -4,7 +4,8 @@ use Rattle.std.specs.Prelude.{nat_eq, ◌||◌, ◌&&◌}
 use Rattle.std.proofs.lemmas.List.{length-map}
 use Rattle.cap_word.specs.ModelledCalls.{parameters_of, gives_result}
 use Rattle.c_tree.specs.RawTrees.{NameTree, RawExprTree, RawNumber, RawName, RawElement, RawUnary, RawParenthesized, RawBinary, RawLogicalAnd, RawLogicalOr, RawConditional, RawCall, RawTableCall}
-use Rattle.c_tree.specs.WellScoped.{Context, signature_at, IsCallScoped, call_gives, IsRightScoped}
+use Rattle.c_tree.specs.WellScoped.{Context, IsCallScoped, call_gives, IsRightScoped}
+use Rattle.cap_word.specs.Signatures.{signature_at}
 use Rattle.scope_rules.specs.declared.faults.Rule.{Rule}
 use Rattle.scope_rules.specs.declared.meanings.Meaning.{Meaning}
 use Rattle.scope_rules.specs.declared.meanings.Found.{Found}

@@ -7,7 +7,8 @@ use Rattle.c_tree.specs.RawTrees.{RawItemTree}
 use Rattle.c_tree.specs.RawTemporaries.{AreWithinTemporaries}
 use Rattle.c_tree.specs.TextOrder.{program_sites}
 use Rattle.c_tree.specs.Temporaries.{capped}
-use Rattle.c_tree.specs.WellScoped.{signature_of, signature_at, IsWellScoped}
+use Rattle.c_tree.specs.WellScoped.{signature_of, IsWellScoped}
+use Rattle.cap_word.specs.Signatures.{signature_at}
 use Rattle.c_tree.proofs.SiteNumbers.{counting_site_numbers}
 use Rattle.scope_rules.specs.Names.{find}
 use Rattle.scope_rules.specs.Meanings.{function_in}

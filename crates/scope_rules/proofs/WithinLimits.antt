@@ -5,7 +5,8 @@ use Rattle.cap_word.specs.declared.limits.Which.{Which}
 use Rattle.c_tree.specs.Trees.{FunctionTree, ProgramTree}
 use Rattle.c_tree.specs.Sizes.{declared_words}
 use Rattle.c_tree.specs.TextOrder.{program_sites}
-use Rattle.c_tree.specs.WellScoped.{signature_of, signature_at}
+use Rattle.c_tree.specs.WellScoped.{signature_of}
+use Rattle.cap_word.specs.Signatures.{signature_at}
 use Rattle.scope_rules.specs.Limits.{most_locals, most_params, exceeded}
 use Rattle.scope_rules.proofs.NoFaults.{not_less}
 

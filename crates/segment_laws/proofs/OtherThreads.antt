@@ -6,9 +6,9 @@ use Rattle.std.proofs.lemmas.List.{get_or-set_other}
 use Rattle.std.proofs.lemmas.List.Sums.{sum_by-cons}
 use Rattle.chunk_pool.specs.Pool.{Pool, Taken, chunk_of, with_word, taken_for, all_free}
 use Rattle.chunk_pool.proofs.NeedLaws.{taken_for-leaves, taken_for-keeps}
-use Rattle.machine_world.specs.Chains.{copies, held_copies}
+use Rattle.machine_world.specs.Chains.{held_copies}
 use Rattle.machine_world.specs.Counted.{IsCounted}
-use Rattle.machine_world.specs.Held.{copies_in}
+use Rattle.machine_world.specs.Held.{copies_in, copies}
 use Rattle.machine_world.specs.Local.{with_header}
 use Rattle.machine_world.specs.Threads.{Thread, World, first_with, thread_of, replaced, without}
 use Rattle.segment_laws.specs.Silent.{local_in}

@@ -5,7 +5,8 @@ use Rattle.std.proofs.lemmas.List.{length-map, get_or-map}
 use Rattle.flat_code.specs.declared.functions.FlatFunction.{FlatFunction}
 use Rattle.flat_code.specs.declared.operations.Op.{Op}
 use Rattle.flat_code.specs.Codes.{FlatCode, function_at}
-use Rattle.flat_code.specs.WellFormed.{Context, Signature, signature_of, signature_at, IsScalar, context_of}
+use Rattle.flat_code.specs.WellFormed.{Context, signature_of, IsScalar, context_of}
+use Rattle.cap_word.specs.Signatures.{Signature, signature_at}
 use Rattle.stack_certificate.specs.declared.sites.LinkKind.{LinkKind}
 use Rattle.stack_certificate.specs.Certificates.{fact_at}
 use Rattle.stack_certificate.specs.Parts.{load, arguments, transfer, result}

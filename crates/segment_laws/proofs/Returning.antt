@@ -11,7 +11,8 @@ use Rattle.flat_code.specs.declared.operations.Op.{Op}
 use Rattle.flat_code.specs.Codes.{FlatCode, function_at, operation_at, result_place}
 use Rattle.flat_code.specs.Frames.{FlatFrame, FlatThread, with_result}
 use Rattle.flat_code.specs.Step.{scalar, place_in, answered}
-use Rattle.flat_code.specs.WellFormed.{Signature, signature_of, signature_at, IsResultPlace, context_of}
+use Rattle.flat_code.specs.WellFormed.{signature_of, IsResultPlace, context_of}
+use Rattle.cap_word.specs.Signatures.{Signature, signature_at}
 use Rattle.stack_certificate.specs.declared.sites.LinkKind.{LinkKind}
 use Rattle.stack_certificate.specs.Certificates.{fact_at}
 use Rattle.stack_certificate.specs.Parts.{load, transfer}

@@ -7,7 +7,8 @@ use Rattle.std.proofs.lemmas.List.{length-map, get_or-map}
 use Rattle.flat_code.specs.declared.functions.FlatFunction.{FlatFunction}
 use Rattle.flat_code.specs.declared.operations.Op.{Op}
 use Rattle.flat_code.specs.Codes.{FlatCode, function_at, operation_at, members_of}
-use Rattle.flat_code.specs.WellFormed.{Signature, signature_of, signature_at, IsOperation, IsFunction, IsMember, IsTable, IsWellFormed, context_of}
+use Rattle.flat_code.specs.WellFormed.{signature_of, IsOperation, IsFunction, IsWellFormed, context_of}
+use Rattle.cap_word.specs.Signatures.{Signature, signature_at, IsMember, IsTable}
 use Rattle.stack_image.specs.declared.images.Image.{Image}
 use Rattle.stack_certificate.specs.declared.certificates.Certificate.{Certificate}
 use Rattle.stack_certificate.specs.declared.sites.LinkKind.{LinkKind}

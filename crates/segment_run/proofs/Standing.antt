@@ -9,7 +9,7 @@ use Rattle.stack_certificate.specs.Templates.{words_before, size, size_at, kind_
 use Rattle.stack_certificate.specs.declared.certificates.Certificate.{Certificate}
 use Rattle.stack_certificate.proofs.AddressLemmas.{words_step}
 use Rattle.certificate_rules.specs.Validity.{IsValid}
-use Rattle.machine_world.specs.Keys.{site_in}
+use Rattle.flat_code.specs.Frames.{site_in}
 use Rattle.machine_world.specs.Places.{Checked, InOperation, IsAt, size_in}
 use Rattle.segment_laws.proofs.OnePlace.{one_place}
 use Rattle.accepted_pairs.specs.CodeLists.{StandsIn}

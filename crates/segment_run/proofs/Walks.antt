@@ -14,7 +14,8 @@ use Rattle.flat_code.specs.Codes.{FlatCode, function_at, operation_at, result_pl
 use Rattle.machine_meaning.proofs.Formed.{formed, follows}
 use Rattle.machine_meaning.proofs.Zeroes.{program_zeroes}
 use Rattle.machine_world.specs.InPlace.{Frame, IsRunning, HeadersName, FramesAt, HasFrames, ReturnsInto, joined, words_through_call, frame_bytes, return_word}
-use Rattle.machine_world.specs.Keys.{standing, site_in, with_site, sites_of, key_of}
+use Rattle.machine_world.specs.Keys.{standing, with_site, sites_of, key_of}
+use Rattle.flat_code.specs.Frames.{site_in}
 use Rattle.stack_certificate.specs.Registers.{sp}
 use Rattle.machine_world.specs.Local.{Core}
 use Rattle.machine_world.specs.Places.{Checked, Place, InOperation, IsAt, Row, Whole, row_at, size_in, before_transfer, through_call}

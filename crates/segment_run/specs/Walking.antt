@@ -4,7 +4,8 @@ use Rattle.chunk_pool.specs.Pool.{Pool}
 use Rattle.flat_code.specs.Codes.{operation_at}
 use Rattle.flat_code.specs.declared.operations.Op.{Op}
 use Rattle.machine_world.specs.InPlace.{Frame, IsStack, HeadersName, frame_bytes, return_word}
-use Rattle.machine_world.specs.Keys.{site_in, sites_of, key_of}
+use Rattle.machine_world.specs.Keys.{sites_of, key_of}
+use Rattle.flat_code.specs.Frames.{site_in}
 use Rattle.machine_world.specs.Local.{Core}
 use Rattle.machine_world.specs.Places.{Checked, Place, InOperation, IsAt}
 use Rattle.machine_world.specs.Rests.{IsAtCall, IsPastCall}

@@ -8,7 +8,8 @@ use Rattle.std.proofs.lemmas.List.Sums.{sum_by-cons}
 use Rattle.c_tree.specs.Sizes.{scalars, declared_words}
 use Rattle.c_tree.specs.Trees.{FunctionTree, ProgramTree, NoStmts}
 use Rattle.c_tree.specs.Views.{function_tree}
-use Rattle.c_tree.specs.WellScoped.{AreFunctionsScoped, IsFunctionScoped, IsMember, IsTable, IsWellScoped, Signature, signature_of}
+use Rattle.c_tree.specs.WellScoped.{AreFunctionsScoped, IsFunctionScoped, IsWellScoped, signature_of}
+use Rattle.cap_word.specs.Signatures.{IsMember, IsTable, Signature}
 use Rattle.c_tree.specs.declared.facts.Function.{Function}
 use Rattle.c_mean.proofs.LayoutLemmas.{widths_length}
 use Rattle.c_mean.specs.Frames.{function_at}

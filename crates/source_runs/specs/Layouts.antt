@@ -2,7 +2,8 @@
 use Rattle.std.specs.Prelude.{◌≡◌, ◌^◌, ℕ, ◌<◌, List, [], ◌∷◌, map, sum}
 use Rattle.c_tree.specs.ProgramView.{program_tree}
 use Rattle.c_tree.specs.Trees.{FunctionTree, ProgramTree}
-use Rattle.c_tree.specs.WellScoped.{Context, IsWellScoped, context_of, signature_at, signature_of}
+use Rattle.c_tree.specs.WellScoped.{Context, IsWellScoped, context_of, signature_of}
+use Rattle.cap_word.specs.Signatures.{signature_at}
 use Rattle.c_mean.specs.Frames.{function_at}
 use Rattle.c_mean.specs.Layout.{widths_of}
 use Rattle.source_items.specs.Rows.{AreStarts}

@@ -9,7 +9,8 @@ use Rattle.flat_code.specs.declared.functions.FlatFunction.{FlatFunction}
 use Rattle.flat_code.specs.declared.operations.Op.{Op}
 use Rattle.flat_code.specs.Codes.{FlatCode, function_at}
 use Rattle.flat_code.specs.Modelled.{modelled_parameters}
-use Rattle.flat_code.specs.WellFormed.{signature_of, signature_at, Context, context_of, IsScalar, IsResultPlace, IsReturned, IsOperation, IsFunction, IsWellFormed}
+use Rattle.flat_code.specs.WellFormed.{signature_of, Context, context_of, IsScalar, IsResultPlace, IsReturned, IsOperation, IsFunction, IsWellFormed}
+use Rattle.cap_word.specs.Signatures.{signature_at}
 use Rattle.stack_certificate.specs.declared.functions.FunctionFact.{FunctionFact}
 use Rattle.stack_certificate.specs.Places.{HasPlace, HavePlaces}
 use Rattle.stack_certificate.specs.Templates.{HasPlaces}

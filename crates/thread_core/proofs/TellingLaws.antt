@@ -15,7 +15,7 @@ use Rattle.segment_laws.proofs.Changing.{thread_found}
 use Rattle.thread_core.specs.States.{number_of, thread_of_record, threads_of, machine_of, setting_of, numbers_of, number_in}
 use Rattle.thread_core.specs.Kept.{IsKept, RunsAt, IsRunningThere}
 use Rattle.thread_core.specs.Waiting.{wait_of, waits_for_in}
-use Rattle.thread_core.specs.Ready.{is_same_number, passes, is_ready_thread, runs_now, is_at_accept_thread}
+use Rattle.thread_core.specs.Ready.{is_same_number, passes, is_ready_thread, is_at_accept_thread}
 use Rattle.ready_tree.specs.declared.bounds.Bounds.{Bounds}
 use Rattle.ready_tree.specs.declared.needs.Need.{Need}
 use Rattle.ready_tree.specs.Needs.{is_met, is_arrival, is_same_need}
@@ -53,7 +53,7 @@ not_by number n (inl same) d = absurd (d same.1)
 not_by number n (inr other) d = other.0
 
 runs_not : (st : State) (running : Option ThreadId) → IsRunningThere st running → (place : ℕ) (r : Record) → IsNumbered number_of st.records.slots st.next → get st.records place ≡ Some r →
-    (RunsAt running place → ⊥) → runs_now (number_in running) r.number ≡ false
+    (RunsAt running place → ⊥) → is_same_number (number_in running) r.number ≡ false
 runs_not st None there place r numbered e here = refl
 runs_not st (Some thread) there place r numbered e here =
     not_by thread.number r.number (eq_cases thread.number r.number) (λ same. here (numbered.unique thread.slot place there.0 r there.1 e (there.2 ∙ same)))
@@ -68,7 +68,7 @@ runs_yes_by st thread there place r e here (inl same) =
     rw m (same_eq r.number)
 runs_yes_by st thread there place r e here (inr other) = absurd (here other.1)
 
-runs_yes : (st : State) (running : Option ThreadId) → IsRunningThere st running → (place : ℕ) (r : Record) → get st.records place ≡ Some r → ((RunsAt running place → ⊥) → ⊥) → runs_now (number_in running) r.number ≡ true
+runs_yes : (st : State) (running : Option ThreadId) → IsRunningThere st running → (place : ℕ) (r : Record) → get st.records place ≡ Some r → ((RunsAt running place → ⊥) → ⊥) → is_same_number (number_in running) r.number ≡ true
 runs_yes st None there place r e here = absurd (here (λ runs. runs))
 runs_yes st (Some thread) there place r e here = runs_yes_by st thread there place r e here (eq_cases thread.slot place)
 
@@ -97,12 +97,12 @@ module _ (accepted : Acceptance) (most : ℕ) (st : State) (kept : IsKept accept
   -- ---- who runs
 
   -- who waits isn't the one that runs
-  pub not_running : (place : ℕ) (r : Record) (wait : Wait) → get st.records place ≡ Some r → wait_at st.waits place ≡ Some wait → runs_now (number_in st.running) r.number ≡ false
+  pub not_running : (place : ℕ) (r : Record) (wait : Wait) → get st.records place ≡ Some r → wait_at st.waits place ≡ Some wait → is_same_number (number_in st.running) r.number ≡ false
   not_running place r wait there waits =
       runs_not st st.running kept.running place r kept.numbered there (λ runs. two_ways (wait_at st.waits place) wait (kept.aligned.runs place runs) waits)
 
   -- who doesn't wait is
-  pub is_running : (place : ℕ) (r : Record) → get st.records place ≡ Some r → wait_at st.waits place ≡ None → runs_now (number_in st.running) r.number ≡ true
+  pub is_running : (place : ℕ) (r : Record) → get st.records place ≡ Some r → wait_at st.waits place ≡ None → is_same_number (number_in st.running) r.number ≡ true
   is_running place r there none =
       runs_yes st st.running kept.running place r there (λ not_here. none_some (wait_at st.waits place) none (kept.aligned.waits place r there not_here))
 

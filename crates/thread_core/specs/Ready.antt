@@ -7,13 +7,13 @@ use Rattle.machine_world.specs.Runs.{is_blocked_at_accept, may_run, asleep_until
 use Rattle.machine_world.specs.Threads.{Thread, World, Setting, thread_of}
 use Rattle.thread_core.specs.Worlds.{Held}
 
--- the segment in progress is that of this thread
-abbrev pub runs_now : Option ℕ → ℕ → Bool
-runs_now None number = false
-runs_now (Some running) number = nat_eq running number
+-- the number is that of this thread
+abbrev pub is_same_number : Option ℕ → ℕ → Bool
+is_same_number None number = false
+is_same_number (Some other) number = nat_eq other number
 
 abbrev pub is_ready_thread : Setting → World → Thread → Bool
-is_ready_thread s w thread = if runs_now w.running thread.number then false else may_run s w thread.blocked
+is_ready_thread s w thread = if is_same_number w.running thread.number then false else may_run s w thread.blocked
 
 abbrev pub is_at_accept_thread : Thread → Bool
 is_at_accept_thread thread = is_blocked_at_accept thread.blocked
@@ -23,10 +23,6 @@ is_at_accept_thread thread = is_blocked_at_accept thread.blocked
 abbrev pub passes : (Thread → Bool) → Option Thread → Bool
 passes test None = false
 passes test (Some thread) = test thread
-
-abbrev pub is_same_number : Option ℕ → ℕ → Bool
-is_same_number None number = false
-is_same_number (Some other) number = nat_eq other number
 
 -- the thread lives and passes the test
 abbrev pub passes_at : (Thread → Bool) → Held → ThreadId → Bool

@@ -2,7 +2,7 @@ use Rattle.std.proofs.Common.{◌≡◌, ◌<◌, true, length, arith}
 use Rattle.std.proofs.lemmas.Grind.{common_steps}
 use Rattle.flat_code.specs.ProgramView.{program_code}
 use Rattle.call_graph.specs.Lists.{has}
-use Rattle.call_cycles.specs.Marks.{is_marked}
+use Rattle.cycle_break.specs.Trail.{is_marked}
 use Rattle.call_cycles.proofs.ClosedLemmas.{spread-first, spread-more, spread-end, closed-set, unreached-off, not-true}
 use Rattle.call_cycles.proofs.MarkLemmas.{has-last, marked-below, seen-set}
 use Rattle.call_cycles.proofs.off_cycles.is_off_cycles.Goals as goal

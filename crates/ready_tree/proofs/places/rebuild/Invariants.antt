@@ -1,5 +1,6 @@
 use Rattle.std.proofs.Common.{◌≡◌, ◌-◌, ◌<◌, ◌≤◌, ◌*◌, ◌/◌, length, take}
-use Rattle.ready_tree.specs.Trees.{AreJoinedIf, IsAboveIf, HasRoom}
+use Rattle.ready_tree.specs.Trees.{IsAboveIf, HasRoom}
+use Rattle.ready_tree.specs.NeedTrees.{AreJoinedIf}
 use Rattle.ready_tree.proofs.places.rebuild.Given as goal
 
 abbrev pub invariant-loop-end : goal.invariant-loop-end

@@ -19,7 +19,8 @@ use Rattle.source_runs.specs.Threads.{IsThread, globals_of, place_of, running_of
 use Rattle.source_runs.specs.declared.frames.Thread.{Thread}
 use Rattle.source_runs.specs.declared.halts.Halt.TheVariants as halt
 use Rattle.source_runs.specs.declared.interpreter.Move.TheVariants as move
-use Rattle.c_tree.specs.WellScoped.{IsMember, signature_of}
+use Rattle.c_tree.specs.WellScoped.{signature_of}
+use Rattle.cap_word.specs.Signatures.{IsMember}
 use Rattle.source_runs.proofs.Functions.{member-at, signed-count}
 use Rattle.source_runs.proofs.Moved.{asked-so, entered-so, halt-from, made-so, member-entered, memory-from, no-member, trap-from, value-used, went-so}
 use Rattle.source_runs.proofs.Ranges.{all-in-range}
