@@ -1,5 +1,5 @@
 -- From a source thread for which a machine thread stands to a thread of flat code between the two.
-use Rattle.std.proofs.Common.{◌≡◌, ℕ, zero, suc, ◌+◌, ◌<◌, List, [], ◌∷◌, ◌++◌, length, Option, Some, None, refl, sym, ap, ◌∙◌, subst, arith}
+use Rattle.std.proofs.Common.{◌≡◌, ℕ, zero, suc, ◌+◌, ◌<◌, List, [], ◌∷◌, ◌++◌, length, Option, Some, refl, sym, ap, ◌∙◌, subst, arith}
 use Rattle.std.specs.Prelude.{slice_index}
 use Rattle.std.proofs.lemmas.List.{get_or_append_left}
 use Rattle.c_lower.specs.ProgramCode.{function_sizes, lowered}
@@ -20,7 +20,6 @@ use Rattle.machine_meaning.proofs.Lowered.{function_is}
 use Rattle.machine_meaning.proofs.RelationKept.{sizes_length}
 use Rattle.machine_meaning.specs.StandsFor.{FrameStandsFor, FramesStandFor, IndexStands}
 use Rattle.machine_world.specs.InPlace.{Frame}
-use Rattle.machine_world.specs.Keys as keys
 use Rattle.machine_world.specs.Keys.{standing}
 use Rattle.machine_world.specs.Places.{Checked}
 use Rattle.machine_world.specs.Rests.{HoldsVariables, IsShaped, AreFlatFrames, variable_word}
@@ -51,11 +50,6 @@ index_one (InGlobal g) words e = absurd cc
 index_one (InLocalElement a i) words e = let same : (i ∷ []) ≡ words = cc in sym (ap (λ (ws : List ℕ). length ws) same)
 index_one (InGlobalElement a i) words e = let same : (i ∷ []) ≡ words = cc in sym (ap (λ (ws : List ℕ). length ws) same)
 index_one Returned words e = absurd cc
-
--- the operation's site, in the words of the machine and of flat code
-pub site_same : (op : Option Op) → keys.site_in op ≡ site_in op
-site_same None = refl
-site_same (Some op) = refl
 
 -- ---- one frame
 
@@ -105,7 +99,7 @@ module _ (program : ProgramTree) (certificate : Certificate) where
           call = h.call;
           waits = h.in_text;
           function = h.function;
-          site = at ∙ sym (site_same op) ∙ h.site;
+          site = at ∙ h.site;
           names = h.named;
           variables = variables_length waiting.frame.names h.call.scope t waiting.place n;
           scope = λ x lt seen. variable_is waiting.frame.names h.call.scope t waiting.place n x (omega (arith, long, lt)) ∙ name_row waiting.frame.names h.call.scope t waiting.place x lt seen;

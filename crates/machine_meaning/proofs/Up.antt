@@ -25,7 +25,6 @@ use Rattle.machine_world.specs.Rests.{HoldsVariables, AreFlatFrames, IsFlatStart
 use Rattle.machine_world.specs.StandsFor.{IsWaitingFrame, IsStartingFrame, AreWaitingFrames, HoldsIndex}
 use Rattle.stack_certificate.specs.declared.certificates.Certificate.{Certificate}
 use Rattle.machine_meaning.proofs.Numbering.{past_end, rows_length, argument_at}
-use Rattle.machine_meaning.proofs.Down.{site_same}
 
 -- there is no index past the last name
 beyond : (names : List (List ℕ)) (sizes : List ℕ) (x k : ℕ) → map length names ≡ sizes → length sizes ≤ x → k < width names x → ⊥
@@ -83,7 +82,7 @@ module _ (program : ProgramTree) (certificate : Certificate) (scoped : IsWellSco
       let tree = function_at program waiting.frame.function in
       record {
         function = same ∙ h.function;
-        site = site_same op ∙ sym at ∙ h.site;
+        site = sym at ∙ h.site;
         named = h.names;
         call = h.call;
         in_text = h.waits;
