@@ -15,9 +15,8 @@ use Rattle.accepted_pairs.specs.Held.{IsReadable}
 places_for : (fs : List FlatFunction) (facts : List FunctionFact) (d : FlatFunction) (e : FunctionFact) → length facts ≡ length fs →
     ((f : ℕ) → f < length fs → length (slice_index_or facts f e).places ≡ length (slice_index_or fs f d).sizes) → HasPlaces fs facts
 places_for [] [] d e same each = tt
-places_for [] (fact ∷ facts) d e same each = absurd (omega arith)
-places_for (f ∷ fs) [] d e same each = absurd (omega arith)
 places_for (f ∷ fs) (fact ∷ facts) d e same each = (each zero (omega arith), places_for fs facts d e (omega arith) (λ k lt. each (suc k) (omega arith)))
+places_for _ _ d e same each = absurd (omega arith)
 
 pub readable : (code : FlatCode) (image : Image) (certificate : Certificate) → length code.functions ≤ 2 ^ 32 → ((f i : ℕ) → V1 code image certificate f i) → IsReadable code certificate
 readable code image certificate few first =

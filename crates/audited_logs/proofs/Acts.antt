@@ -1,19 +1,16 @@
 -- What actions between segments, and steps, leave of the clock, the cost, the chunks and the number of threads.
 use Rattle.std.proofs.Common.{◌≡◌, ℕ, suc, ◌<◌, ◌≤◌, ◌&&◌, Bool, true, false, nat_eq, nat_le, not, List, [], ◌∷◌, length, Option, Some, None, refl, ◌∙◌, subst, arith, length-append}
-use Rattle.std.specs.Prelude.{if◌then◌else◌}
+use Rattle.std.specs.Prelude.{if◌then◌else◌, IfSome}
 use Rattle.std.proofs.lemmas.Bool.{cond_both}
 use Rattle.std.proofs.lemmas.Bool.Decides.{nat_tests}
 use Rattle.std.proofs.lemmas.List.{length-map}
-use Rattle.cap_word.specs.Calls.{Call, Blocking, Immediate, most_threads}
+use Rattle.cap_word.specs.Calls.{most_threads}
 use Rattle.cap_word.specs.Runs as runs
-use Rattle.cap_word.specs.declared.stops.Stop.{Stop}
-use Rattle.cap_word.specs.declared.traps.TrapKind.{TrapKind}
-use Rattle.c_mean.specs.ModelledCalls.{Delivery, is_dropped, with_delivery, blocking_row, immediate_row}
-use Rattle.chunk_pool.specs.Pool.{Taken, taken_for}
-use Rattle.machine_world.specs.Local as local
-use Rattle.machine_world.specs.Local.{LocalMove, local_step}
-use Rattle.machine_world.specs.Runs.{Action, Deliver, Advance, Pick, is_between, delivered, advanced, may_run, picked_at, picked, after_action, after_actions, and_then}
-use Rattle.machine_world.specs.Threads.{Blocked, Thread, World, Setting, thread_of, replaced, without, resumed, start_core, Move, Goes, Puts, Spawns, Blocks, Ends, Stops, Wrong, unless_trap, printed, package_call, spawned, asked, stopped, moved, step_of, step_on, step}
+use Rattle.c_mean.specs.ModelledCalls.{Delivery, is_dropped, with_delivery}
+use Rattle.machine_world.specs.Runs.{Action, Deliver, Advance, Pick, is_between, delivered, advanced, may_run, picked_at, picked, after_action, after_actions, and_then, world_of}
+use Rattle.machine_world.specs.Threads.{Blocked, Thread, World, Setting, thread_of, replaced, without, resumed, start_core, Move, step}
+use Rattle.machine_world.proofs.StepCases.{row_for, on_step, on_printed}
+use Rattle.lawful_log.proofs.Picked.{between_if}
 
 -- ---- actions
 
@@ -24,19 +21,15 @@ pub record Acted (w after : World) (clock : ℕ) : Type 0 where
   pub threads : length after.threads ≡ length w.threads
   pub clock_is : after.clock ≡ clock
 
-same_some : (a b : World) → ◌≡◌ {A = Option World} (Some a) (Some b) → a ≡ b
+pub same_some : (a b : World) → ◌≡◌ {A = Option World} (Some a) (Some b) → a ≡ b
 same_some a b e = cc
 
-none-not : (a : World) → ◌≡◌ {A = Option World} None (Some a) → ⊥
+pub none-not : (a : World) → ◌≡◌ {A = Option World} None (Some a) → ⊥
 none-not a e = absurd (cc)
 
 given : (b : Bool) (w after : World) → (if b then Some w else None) ≡ Some after → w ≡ after
 given true w after e = same_some w after e
 given false w after e = absurd (none-not after e)
-
-given_if : (b : Bool) (o : Option World) (after : World) → (if b then o else None) ≡ Some after → o ≡ Some after
-given_if true o after e = e
-given_if false o after e = absurd (none-not after e)
 
 delivered_acted : (w : World) (delivery : Delivery) (b : Bool) → Acted w (if b then w else record w { exchange = with_delivery w.exchange delivery }) w.clock
 delivered_acted w delivery true = record { areas = refl; cost = refl; threads = refl; clock_is = refl }
@@ -60,7 +53,7 @@ picks_found s w after (Some thread) e =
     subst (λ (v : World). Acted w v w.clock) (given (may_run s w thread.blocked) (picked_at s w thread thread.blocked) after e) (picked_acted s w thread thread.blocked)
 
 pub picks : (s : Setting) (w after : World) (number : ℕ) → after_action s w (Pick number) ≡ Some after → Acted w after w.clock
-picks s w after number e = picks_found s w after (thread_of w number) (given_if (is_between w) (picked s w (thread_of w number)) after e)
+picks s w after number e = picks_found s w after (thread_of w number) (between_if (is_between w) (picked s w (thread_of w number)) after e)
 
 -- two actions, one after the other
 pub record Two (s : Setting) (first second : Action) (w after : World) : Type 0 where
@@ -86,13 +79,7 @@ Few w = length w.threads ≤ most_threads
 
 -- as few as may live are left by a step
 abbrev pub KeepsFew : Move → Type 0
-KeepsFew (Goes after) = Few after
-KeepsFew (Puts value after) = Few after
-KeepsFew (Spawns number after) = Few after
-KeepsFew (Blocks after) = Few after
-KeepsFew (Ends after) = Few after
-KeepsFew (Stops stop) = Unit {0}
-KeepsFew Wrong = Unit {0}
+KeepsFew move = IfSome (world_of move) Few
 
 replaced_few : (new : Thread) (threads : List Thread) → length threads ≤ most_threads → length (replaced new threads) ≤ most_threads
 replaced_few new threads few = let same : length (replaced new threads) ≡ length threads = length-map threads _ in omega (arith, same, few)
@@ -105,61 +92,21 @@ without_fewer number (t ∷ ts) =
     (λ _. omega (arith, rest))
     (λ _. omega (arith, rest))
 
-few_trap : (trap : Option TrapKind) (move : Move) → KeepsFew move → KeepsFew (unless_trap trap move)
-few_trap (Some kind) move kept = tt
-few_trap None move kept = kept
-
-few_printed : (value : Option ℕ) (after : World) → Few after → KeepsFew (printed value after)
-few_printed None after kept = kept
-few_printed (Some value) after kept = kept
-
-module _ (s : Setting) (w : World) (thread : Thread) (few : Few w) where
-  few_call : (call : Call) → KeepsFew (package_call s w thread call)
-  few_call (Blocking block) = few_trap (blocking_row s.caps w.exchange block).trap _ (replaced_few _ w.threads few)
-  few_call (Immediate ask) =
-      let row = immediate_row s.caps w.exchange thread.number w.next ask in
-      few_trap row.trap _ (few_printed row.prints _ (replaced_few _ w.threads few))
-
-  fewer : nat_le most_threads (length w.threads) ≡ false → length w.threads < most_threads
-  fewer e = grind (arith, nat_tests, e)
-
-  few_spawned : (entry argument : ℕ) (found : Option Taken) → length w.threads < most_threads → KeepsFew (spawned w thread entry argument found)
-  few_spawned entry argument None room = tt
-  few_spawned entry argument (Some taken) room =
-      let new = resumed thread (Some w.next) in
-      let same : length (replaced new w.threads) ≡ length w.threads = length-map w.threads (λ (t : Thread). if nat_eq t.number new.number then new else t) in
-      let more = length-append (replaced new w.threads) (record { number = w.next; core = start_core taken entry argument; blocked = None } ∷ []) in
-      omega (arith, same, more, room)
-
-  few_asked : (question : local.Question) → KeepsFew (asked s w thread question)
-  few_asked (local.Calls call) = few_call call
-  few_asked (local.Starts entry argument need) =
-      cond_both (nat_le most_threads (length w.threads)) (Stops Stop.Threads) (spawned w thread entry argument (taken_for w.areas.pool need)) KeepsFew
-      (λ _. tt)
-      (λ room. few_spawned entry argument (taken_for w.areas.pool need) (fewer room))
-
-  few_stopped : (end : local.End) → KeepsFew (stopped w thread end)
-  few_stopped (local.Ended areas) = let less = without_fewer thread.number w.threads in omega (arith, less, few)
-  few_stopped (local.Trapped kind) = tt
-  few_stopped local.NoRoom = tt
-  few_stopped local.Wrong = tt
-
-  few_moved : (move : LocalMove) → KeepsFew (moved s w thread move)
-  few_moved (runs.Goes after) = replaced_few _ w.threads few
-  few_moved (runs.Asks question waiting) = few_asked question
-  few_moved (runs.Stops end) = few_stopped end
-
-few_step_of : (s : Setting) (w : World) (found : Option Thread) → Few w → KeepsFew (step_of s w found)
-few_step_of s w None few = tt
-few_step_of s w (Some thread) few =
-    cond_both (nat_eq w.cost s.fuel) (Stops Stop.Fuel) (moved s w thread (local_step s.code (record { areas = w.areas; core = thread.core }))) KeepsFew
-    (λ _. tt)
-    (λ _. few_moved s w thread few (local_step s.code (record { areas = w.areas; core = thread.core })))
-
-few_step_on : (s : Setting) (w : World) (running : Option ℕ) → Few w → KeepsFew (step_on s w running)
-few_step_on s w None few = tt
-few_step_on s w (Some number) few = few_step_of s w (thread_of w number) few
+fewer : (n : ℕ) → nat_le most_threads n ≡ false → n < most_threads
+fewer n e = grind (arith, nat_tests, e)
 
 pub few_step : (s : Setting) (w : World) → Few w → KeepsFew (step s w)
-unfolding step
-few_step s w few = few_step_on s w w.running few
+few_step s w few =
+    on_step s w KeepsFew (λ stop. tt) tt
+    (λ number thread runs there left. record {
+      goes = λ after e. replaced_few _ w.threads few;
+      answers = λ ask still e. on_printed KeepsFew (row_for s w thread ask).prints _ (replaced_few _ w.threads few) (λ word some. replaced_few _ w.threads few);
+      blocks = λ block. replaced_few _ w.threads few;
+      spawns = λ entry argument need still taken e some_left some.
+          let new = resumed thread (Some w.next) in
+          let same : length (replaced new w.threads) ≡ length w.threads = length-map w.threads (λ (t : Thread). if nat_eq t.number new.number then new else t) in
+          let more = length-append (replaced new w.threads) (record { number = w.next; core = start_core taken entry argument; blocked = None } ∷ []) in
+          let room = fewer (length w.threads) some_left in
+          omega (arith, same, more, room);
+      ends = λ areas e. let less = without_fewer thread.number w.threads in omega (arith, less, few);
+    })

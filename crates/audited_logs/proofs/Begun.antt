@@ -2,15 +2,16 @@
 use Rattle.std.proofs.Common.{◌≡◌, ℕ, zero, suc, ◌<◌, true, List, [], ◌∷◌, ◌++◌, length, length-append, Option, Some, None, refl, ap, ◌∙◌, subst, arith}
 use Rattle.std.specs.Prelude.{slice_get}
 use Rattle.cap_word.specs.Calls.{Question, spawn_of}
-use Rattle.cap_word.specs.Runs.{Goes, Asks, Stops, and_then, moves}
+use Rattle.cap_word.specs.Runs.{Goes, Asks, and_then, moves}
 use Rattle.c_tree.specs.Trees.{ProgramTree}
 use Rattle.c_mean.specs.Frames.{Running, Waiting}
 use Rattle.c_mean.specs.Steps.{SourceMove, source_step, source_machine}
 use Rattle.c_mean.specs.World as source
-use Rattle.c_mean.specs.World.{Rest, Fresh, Blocked, Ended, Segment, SegmentMove, begun_at, begun, segment_step, segment_move, segment_machine, calls}
+use Rattle.c_mean.specs.World.{Rest, Fresh, Blocked, Segment, begun_at, begun, segment_step, segment_move, segment_machine, calls}
 use Rattle.c_mean.proofs.SegmentLemmas.{silent}
 use Rattle.lawful_reading.specs.Happenings.{lives}
 use Rattle.audited_logs.proofs.Steps.{Keeps, rest_kept}
+use Rattle.audited_logs.proofs.Uses.{none-not, same_some}
 
 -- ---- the start
 
@@ -23,21 +24,14 @@ pub record Begins (world : source.World) (number : ℕ) (first : Segment) : Type
   pub there : slice_get world.threads number ≡ Some rest
   pub live : lives rest ≡ true
 
-none-not : (s : Segment) → ◌≡◌ {A = Option Segment} None (Some s) → ⊥
-none-not s e = absurd (cc)
-
-same_some : (a b : Segment) → ◌≡◌ {A = Option Segment} (Some a) (Some b) → a ≡ b
-same_some a b e = cc
-
 begins_at : (program : ProgramTree) (caps : List ℕ) (world : source.World) (number : ℕ) (first : Segment) (o : Option Rest) → slice_get world.threads number ≡ o → begun_at program caps world number o ≡ Some first → Begins world number first
-begins_at program caps world number first None there e = absurd (none-not first e)
-begins_at program caps world number first (Some Ended) there e = absurd (none-not first e)
 begins_at program caps world number first (Some (Fresh function arguments)) there e =
     let same = same_some _ first e in
     subst (Begins world number) same (record { number_is = refl; threads = refl; outputs = refl; rest = Fresh function arguments; there = there; live = refl })
 begins_at program caps world number first (Some (Blocked block waiting)) there e =
     let same = same_some _ first e in
     subst (Begins world number) same (record { number_is = refl; threads = refl; outputs = refl; rest = Blocked block waiting; there = there; live = refl })
+begins_at program caps world number first _ there e = absurd (none-not first e)
 
 pub begins : (program : ProgramTree) (caps : List ℕ) (world : source.World) (number : ℕ) (first : Segment) → begun program caps world number ≡ Some first → Begins world number first
 begins program caps world number first e = begins_at program caps world number first (slice_get world.threads number) refl e
@@ -78,8 +72,7 @@ module _ (program : ProgramTree) where
   ask_by n first question waiting (Goes next) e rest k =
       let is = rest next k in
       record { before = suc is.before; here = is.here; moved = ap (λ (v : SourceMove). and_then v (moves (source_machine program) is.before)) e ∙ is.moved; asks = is.asks }
-  ask_by n first question waiting (Asks other still) e rest k = record { before = 0; here = first; moved = refl; asks = e ∙ k }
-  ask_by n first question waiting (Stops finish) e rest k = record { before = 0; here = first; moved = refl; asks = e ∙ k }
+  ask_by n first question waiting _ e rest k = record { before = 0; here = first; moved = refl; asks = e ∙ k }
 
   pub first_ask : (n : ℕ) (first : Running) (question : Question) (waiting : Waiting) → moves (source_machine program) n first ≡ Asks question waiting → FirstAsk first question waiting
   first_ask zero first question waiting e = absurd (not_goes question waiting first e)

@@ -6,15 +6,10 @@ use Rattle.cap_word.specs.Runs.{Goes, Asks, Stops, and_then, moves}
 use Rattle.cap_word.proofs.RunLemmas.{moves_add, goes_on, stops_stay}
 use Rattle.c_tree.specs.Trees.{ProgramTree}
 use Rattle.c_mean.specs.World as source
-use Rattle.c_mean.specs.World.{Segment, SegmentMove, Rested, segment_step, segment_machine, begun, thread_moves, IsCutAt, RunsTo}
+use Rattle.c_mean.specs.World.{Segment, SegmentMove, Rested, segment_step, segment_machine, begun, thread_moves}
 use Rattle.lawful_reading.specs.Happenings.{PutsNext, RestsNext}
 use Rattle.audited_logs.proofs.Steps.{keeps_step, keeps_moves, grows, none_put}
-
-same_goes : (a b : Segment) → ◌≡◌ {A = SegmentMove} (Goes a) (Goes b) → a ≡ b
-same_goes a b e = cc
-
-same_stops : (a b : Rested) → ◌≡◌ {A = SegmentMove} (Stops a) (Stops b) → a ≡ b
-same_stops a b e = cc
+use Rattle.lawful_reading.proofs.Moves.{same_next, same_end}
 
 not_both : (a : Rested) (b : Segment) → ◌≡◌ {A = SegmentMove} (Stops a) (Goes b) → ⊥
 not_both a b e = absurd (cc)
@@ -35,7 +30,7 @@ module _ (program : ProgramTree) (caps : List ℕ) where
     pub step : segment_step program caps here ≡ Goes last
 
   last_of : (n : ℕ) (first last here : Segment) (move : SegmentMove) → moves (segment_machine program caps) n first ≡ Goes here → segment_step program caps here ≡ move → and_then move (moves (segment_machine program caps) 0) ≡ Goes last → LastStep n first last
-  last_of n first last here (Goes next) moved e k = record { here = here; moved = moved; step = e ∙ ap (λ (s : Segment). let m : SegmentMove = Goes s in m) (same_goes next last k) }
+  last_of n first last here (Goes next) moved e k = record { here = here; moved = moved; step = e ∙ ap (λ (s : Segment). let m : SegmentMove = Goes s in m) (same_next next last k) }
   last_of n first last here (Asks question waiting) moved e k = absurd question
   last_of n first last here (Stops rested) moved e k = absurd (not_both rested last k)
 
@@ -67,7 +62,7 @@ module _ (program : ProgramTree) (caps : List ℕ) where
       and_then move (moves (segment_machine program caps) n) ≡ Stops rested → FirstStop (suc n) first rested
   stop_by n first rested (Goes next) e rest k = stop_later n first next rested e (rest next k)
   stop_by n first rested (Asks question waiting) e rest k = absurd question
-  stop_by n first rested (Stops other) e rest k = record { before = 0; here = first; moved = refl; stops = e ∙ ap (λ (r : Rested). let m : SegmentMove = Stops r in m) (same_stops other rested k) }
+  stop_by n first rested (Stops other) e rest k = record { before = 0; here = first; moved = refl; stops = e ∙ ap (λ (r : Rested). let m : SegmentMove = Stops r in m) (same_end other rested k) }
 
   pub first_stop : (n : ℕ) (first : Segment) (rested : Rested) → moves (segment_machine program caps) n first ≡ Stops rested → FirstStop n first rested
   first_stop zero first rested e = absurd (not_both rested first (sym e))

@@ -64,14 +64,13 @@ small_fit [] all = tt
 small_fit (a ∷ averages) all = (let small = all.0 in average_fits a (omega (arith, small)), small_fit averages all.1)
 
 given_fits : (P : ℤ → Type 0) (caps : List ℕ) (averages : List ℤ) → AllByRecursion P averages → AllByRecursion P (given caps averages) × (length (given caps averages) ≤ length averages)
-given_fits P [] averages all = (tt, omega arith)
-given_fits P (cap ∷ caps) [] all = (tt, omega arith)
 given_fits P (cap ∷ caps) (a ∷ averages) all =
     let rest = given_fits P caps averages all.1 in
     let short = rest.1 in
     cond_both (nat_eq cap 0) (given caps averages) (a ∷ given caps averages) (λ (xs : List ℤ). AllByRecursion P xs × (length xs ≤ suc (length averages)))
     (λ _. (rest.0, omega (arith, short)))
     (λ _. ((all.0, rest.0), omega (arith, short)))
+given_fits P _ _ all = (tt, omega arith)
 
 shown_fits : (caps : List ℕ) (change : List ℤ) → length change ≡ 8 → AllByRecursion (FitsSigned w128) change → FitsAverages (shown caps change)
 shown_fits caps [] eight all = absurd (omega (arith, eight))

@@ -25,14 +25,9 @@ module _ (g : Setup) (most : ℕ) where
   -- a stop is the same whatever edges are still to come
   cause_with : (b : reading_state.State) (end : End) (segment : Segment) (stop : Stop) (cost steps : ℕ) → IsCause (given_of g most) b segment stop cost steps → IsCause (given_of g most) (record b { end = end }) segment stop cost steps
   cause_with b end segment (Stop.Trap kind) cost steps is = is
-  cause_with b end segment Stop.NoChunk cost steps is = is
-  cause_with b end segment Stop.Fuel cost steps is = is
-  cause_with b end segment Stop.Threads cost steps is = is
+  cause_with b end segment _ cost steps is = is
 
   stops_with : (b : reading_state.State) (end : End) (line : StopLine) (steps : ℕ) → StopsBy (given_of g most) b line steps → StopsBy (given_of g most) (record b { end = end }) line steps
-  stops_with b end StopLine.Done steps is = is
-  stops_with b end StopLine.Idle steps is = is
-  stops_with b end (StopLine.Trace line) steps is = is
   stops_with b end (StopLine.Cut thread stop cost free) steps is = record {
     segment = is.segment;
     under_way = is.under_way;
@@ -40,6 +35,7 @@ module _ (g : Setup) (most : ℕ) where
     possible = record { fuel = is.possible.fuel; chunks = is.possible.chunks };
     cause = cause_with b end is.segment stop cost steps is.cause;
   }
+  stops_with b end _ steps is = is
 
   may_stop : (b : reading_state.State) (end : End) (line : StopLine) (steps : ℕ) → StopsBy (given_of g most) b line steps → MayStop (given_of g most) (record b { end = end })
   may_stop b end StopLine.Done steps is = inr (inl is.0)

@@ -1,5 +1,5 @@
 -- Each line that a reading allows fits the format, and leaves its state in range.
-use Rattle.std.proofs.Common.{◌≡◌, ℕ, zero, suc, ◌+◌, ◌-◌, ◌^◌, ◌<◌, ◌≤◌, ℤ, pos, ◌-ℤ◌, unsigned_abs, Bool, true, false, ◌&&◌, nat_eq, List, [], ◌∷◌, ◌++◌, length, drop, Some, None, All, refl, sym, ap, ◌∙◌, subst, arith, rules}
+use Rattle.std.proofs.Common.{◌≡◌, ℕ, ◌+◌, ◌-◌, ◌^◌, ◌<◌, ◌≤◌, ℤ, pos, ◌-ℤ◌, unsigned_abs, Bool, true, false, ◌&&◌, nat_eq, List, [], ◌∷◌, ◌++◌, length, drop, Some, None, refl, sym, ap, ◌∙◌, subst, arith, rules}
 use Rattle.std.specs.Prelude.{FitsSigned, filter}
 use Rattle.std.specs.Int.{w32}
 use Rattle.std.specs.List.{AllByRecursion}
@@ -12,7 +12,6 @@ use Rattle.cap_word.specs.Word.{signed}
 use Rattle.cap_word.proofs.WordLemmas.{to_z-signed}
 use Rattle.c_mean.specs.World as source
 use Rattle.c_mean.proofs.WorldStandLemmas.{blocked_stands}
-use Rattle.c_tree.specs.Trees.{ProgramTree}
 use Rattle.c_tree.specs.WellScoped.{IsWellScoped}
 use Rattle.choice_rules.specs.Choice.{IsLawfulBy, is_eligible}
 use Rattle.choice_rules.specs.Deliveries.{delivery_of, item_of, received}
@@ -38,6 +37,8 @@ use Rattle.audited_logs.proofs.Keys.{all_both, key_fits}
 use Rattle.audited_logs.proofs.Ranges.{latest, FitsWaiter, FitsSegment, FitsIf, InRange, all_weaker, all_filter, find_all, later_waiter, newcomers_fit, node_within, keys_within, clock_within}
 use Rattle.audited_logs.proofs.Steps.{keeps_step, keeps_moves}
 use Rattle.audited_logs.proofs.Uses.{Small, FitUses, delivery_fits, begun_fits, moves_fit, rest_fits, put_fits}
+use Rattle.audited_logs.proofs.ReadWorlds.{after_more}
+use Rattle.choice_rules.proofs.Changes.{drop_long}
 
 -- ---- values
 
@@ -47,11 +48,6 @@ signed_fits value fits = subst (FitsSigned w32) (to_z-signed value fits) (sfits_
 item_fits : (kind : EventKind) → FitsKind kind → FitsItem (item_of kind)
 item_fits (events.Arrive value) fits = signed_fits value fits
 item_fits (events.Message channel value) fits = (let few = fits.0 in omega (arith, few), signed_fits value fits.1)
-
--- one entry more of a schedule
-after_more : (p : ProgramTree) (caps : List ℕ) (start world after : source.World) (schedule : List source.Entry) (entry : source.Entry) → source.IsAfter p caps start schedule world → source.IsAfterEntry p caps world entry after → source.IsAfter p caps start (schedule ++ entry ∷ []) after
-after_more p caps start world after [] entry is step = (after, subst (λ (x : source.World). source.IsAfterEntry p caps x entry after) is step, refl)
-after_more p caps start world after (first ∷ schedule) entry is step = (is.0, is.1, after_more p caps is.0 world after schedule entry is.2 step)
 
 -- the changes of small uses
 change_fits : (old new : ℕ) → old ≤ 2 ^ 31 → new ≤ 2 ^ 31 → unsigned_abs (pos new -ℤ pos old) ≤ 2 ^ 31
@@ -63,27 +59,22 @@ record FitChanges (values : List ℤ) (count : ℕ) : Type 0 where
 
 changes_fit : (old new : List ℕ) → Small old → Small new → length old ≡ length new → FitChanges (changes old new) (length old)
 changes_fit [] [] h k same = record { small = tt; long = refl }
-changes_fit [] (n ∷ new) h k same = absurd (omega (arith, same))
-changes_fit (o ∷ old) [] h k same = absurd (omega (arith, same))
 changes_fit (o ∷ old) (n ∷ new) h k same =
     let rest = changes_fit old new h.1 k.1 (omega (arith, same)) in
     let long = rest.long in
     record { small = (change_fits o n h.0 k.0, rest.small); long = omega (arith, long) }
+changes_fit _ _ h k same = absurd (omega (arith, same))
 
 -- the uses of all eight resources, where those of the exchange and the held chunks are small
 rest_small : (uses : List ℕ) → Small uses → Small (drop 1 uses)
 rest_small [] h = tt
 rest_small (u ∷ uses) h = h.1
 
-rest_long : (uses : List ℕ) → length uses ≡ 8 → length (drop 1 uses) ≡ 7
-rest_long [] h = absurd (omega (arith, h))
-rest_long (u ∷ uses) h = omega (arith, h)
-
 uses_small : (held : ℕ) (x : source.World) → held ≤ 131072 → FitUses x.exchange → Small (uses_in held x.exchange)
 uses_small held x few fits = (omega (arith, few), rest_small x.exchange.uses fits.small)
 
 uses_eight : (held : ℕ) (x : source.World) → FitUses x.exchange → length (uses_in held x.exchange) ≡ 8
-uses_eight held x fits = let rest = rest_long x.exchange.uses fits.eight in omega (arith, rest)
+uses_eight held x fits = let rest = drop_long x.exchange.uses fits.eight in omega (arith, rest)
 
 -- the source's run of the segment's thread, and how many threads have started by its end
 pub record Ran (g : Given) (b : State) (thread : ℕ) (world : source.World) (cost : ℕ) : Type 0 where

@@ -8,7 +8,7 @@ use Rattle.lawful_reading.specs.Ends.{edges_left, IsCause, StopsBy}
 use Rattle.lawful_reading.specs.Given.{Given}
 use Rattle.lawful_reading.specs.Reading.{IsAllowed, Leads, nowhere, by_line}
 use Rattle.lawful_reading.specs.Segments.{IsClosed}
-use Rattle.lawful_reading.specs.State.{Segment, State, End, NotYet, Edges, Stopped, IsPossible}
+use Rattle.lawful_reading.specs.State.{Segment, State, End, NotYet, IsPossible}
 use Rattle.audited_logs.proofs.Texts.{Chain, no_line, one_line}
 
 module _ (g : Given) (most : ℕ) where
@@ -30,14 +30,9 @@ module _ (g : Given) (most : ℕ) where
 
   cause_any : (b : State) (segment : Segment) (stop : Stop) (cost steps : ℕ) → IsCause g b segment stop cost steps → IsCause other b segment stop cost steps
   cause_any b segment (Stop.Trap kind) cost steps is = is
-  cause_any b segment Stop.NoChunk cost steps is = is
-  cause_any b segment Stop.Fuel cost steps is = is
-  cause_any b segment Stop.Threads cost steps is = is
+  cause_any b segment _ cost steps is = is
 
   stops_any : (b : State) (line : StopLine) (steps : ℕ) → StopsBy g b line steps → StopsBy other b line steps
-  stops_any b StopLine.Done steps is = is
-  stops_any b StopLine.Idle steps is = is
-  stops_any b (StopLine.Trace number) steps is = is
   stops_any b (StopLine.Cut thread stop cost free) steps is = record {
     segment = is.segment;
     under_way = is.under_way;
@@ -45,15 +40,13 @@ module _ (g : Given) (most : ℕ) where
     possible = possible_any b cost free is.possible;
     cause = cause_any b is.segment stop cost steps is.cause;
   }
+  stops_any b _ steps is = is
 
   edges_any : (b : State) (end : End) → edges_left g b end ≡ edges_left other b end
   edges_any b NotYet = refl
-  edges_any b (Edges left) = refl
-  edges_any b Stopped = refl
+  edges_any b _ = refl
 
   allowed_any : (b : State) (entry : Entry) (a : State) → IsAllowed g b entry a → IsAllowed other b entry a
-  allowed_any b (Entry.Event clock item) a is = record { not_over = is.not_over; event = is.event; delivery = is.delivery; after_is = is.after_is }
-  allowed_any b (Entry.Dropped clock item) a is = record { not_over = is.not_over; event = is.event; delivery = is.delivery; after_is = is.after_is }
   allowed_any b (Entry.Run clock thread node) a is = record {
     not_over = is.not_over;
     chosen = is.chosen;
@@ -98,6 +91,7 @@ module _ (g : Given) (most : ℕ) where
   }
   allowed_any b (Entry.Edge from to count cost changes) a is = record { may_stop = is.may_stop; rest = is.rest; first = sym (edges_any b b.end) ∙ is.first; after_is = is.after_is }
   allowed_any b (Entry.Stop line) a is = record { first = is.first; edges_over = sym (edges_any b b.end) ∙ is.edges_over; steps = is.steps; stops = stops_any b line is.steps is.stops; after_is = is.after_is }
+  allowed_any b _ a is = record { not_over = is.not_over; event = is.event; delivery = is.delivery; after_is = is.after_is }
 
   -- ---- steps are only added
 
@@ -108,14 +102,11 @@ module _ (g : Given) (most : ℕ) where
   more_rises b a steps e = omega (arith, e)
 
   allowed_rises : (b : State) (entry : Entry) (a : State) → IsAllowed g b entry a → b.steps ≤ a.steps
-  allowed_rises b (Entry.Event clock item) a is = same_rises b a (ap (λ (s : State). s.steps) is.after_is)
-  allowed_rises b (Entry.Dropped clock item) a is = same_rises b a (ap (λ (s : State). s.steps) is.after_is)
-  allowed_rises b (Entry.Run clock thread node) a is = same_rises b a (ap (λ (s : State). s.steps) is.after_is)
   allowed_rises b (Entry.Out thread value) a is = more_rises b a is.steps (ap (λ (s : State). s.steps) is.after_is)
   allowed_rises b (Entry.Block thread node key cost free) a is = more_rises b a is.steps (ap (λ (s : State). s.steps) is.after_is)
   allowed_rises b (Entry.End thread cost free) a is = more_rises b a is.steps (ap (λ (s : State). s.steps) is.after_is)
-  allowed_rises b (Entry.Edge from to count cost changes) a is = same_rises b a (ap (λ (s : State). s.steps) is.after_is)
   allowed_rises b (Entry.Stop line) a is = more_rises b a is.steps (ap (λ (s : State). s.steps) is.after_is)
+  allowed_rises b _ a is = same_rises b a (ap (λ (s : State). s.steps) is.after_is)
 
   chain_rises : (b last : State) (entries : List Entry) → Chain g b entries last → b.steps ≤ last.steps
   chain_rises b last entries no_line = omega arith

@@ -148,8 +148,7 @@ module _ (g : Setup) (text : DeepProgram) (same : RunsTheSame g.program text) wh
   entry_on before after (Entry.Out thread value) rest is later = out_on before after thread value rest is later
   entry_on before after (Entry.Block thread node key cost free) rest is later = block_on before after thread node key cost free rest is later
   entry_on before after (Entry.End thread cost free) rest is later = end_on before after thread cost free rest is later
-  entry_on before after (Entry.Edge from to count cost changes) rest is later = absurd is
-  entry_on before after (Entry.Stop line) rest is later = absurd is
+  entry_on before after _ rest is later = absurd is
 
   leads_on : (before after : State) (entries more : List Entry) → Leads g before entries after → GoesOn after more → GoesOn before (entries ++ more)
   leads_on before after entries more nowhere later = later
@@ -197,9 +196,7 @@ module _ (g : Setup) (text : DeepProgram) (same : RunsTheSame g.program text) wh
       point_on last schedule put IsSomeLive idle.between at (λ world alike. some_live last.source.threads world.threads alike.threads (λ none. idle.live (many idle.between ∙ none)))
   stop_on last (StopLine.Trace line) end many is schedule put at = let refused = is.0 in point_on last schedule put (λ world. Unit {0}) refused.between at (λ world alike. tt)
   stop_on last (StopLine.Cut thread (Stop.Trap kind) cost free) end many is schedule put at = trap_on last is.segment schedule put thread kind is.puts.0 is.way.under_way is.thread_is is.puts.1 at
-  stop_on last (StopLine.Cut thread Stop.NoChunk cost free) end many is schedule put at = cut_on last is.segment schedule put thread is.way.under_way is.thread_is is.puts at
-  stop_on last (StopLine.Cut thread Stop.Fuel cost free) end many is schedule put at = cut_on last is.segment schedule put thread is.way.under_way is.thread_is is.puts at
-  stop_on last (StopLine.Cut thread Stop.Threads cost free) end many is schedule put at = cut_on last is.segment schedule put thread is.way.under_way is.thread_is is.puts at
+  stop_on last (StopLine.Cut thread _ cost free) end many is schedule put at = cut_on last is.segment schedule put thread is.way.under_way is.thread_is is.puts at
 
   -- ---- the log
 

@@ -17,29 +17,22 @@ use Rattle.audited_logs.proofs.Begun.{StillLives}
 
 -- a thread of the machine is there where one of the source hasn't ended
 abbrev pub Agree : Option Thread → Option Rest → Type 0
-Agree None None = Unit {0}
-Agree None (Some Ended) = Unit {0}
 Agree None (Some (Fresh function arguments)) = ⊥
 Agree None (Some (Blocked block waiting)) = ⊥
 Agree (Some thread) None = ⊥
 Agree (Some thread) (Some Ended) = ⊥
-Agree (Some thread) (Some (Fresh function arguments)) = Unit {0}
-Agree (Some thread) (Some (Blocked block waiting)) = Unit {0}
+Agree _ _ = Unit {0}
 
 stands_agree : (c : Checked) (program : ProgramTree) (pool : Pool) (o : Option Thread) (r : Option Rest) → StandsForRest c program pool o r → Agree o r
-stands_agree c program pool None None h = tt
-stands_agree c program pool None (Some Ended) h = tt
 stands_agree c program pool None (Some (Fresh function arguments)) h = absurd h
 stands_agree c program pool None (Some (Blocked block waiting)) h = absurd h
 stands_agree c program pool (Some thread) None h = absurd h
 stands_agree c program pool (Some thread) (Some Ended) h = absurd h
-stands_agree c program pool (Some thread) (Some (Fresh function arguments)) h = tt
-stands_agree c program pool (Some thread) (Some (Blocked block waiting)) h = tt
+stands_agree c program pool _ _ h = tt
 
 live_agrees : (thread : Thread) (rest : Rest) → lives rest ≡ true → Agree (Some thread) (Some rest)
-live_agrees thread (Fresh function arguments) h = tt
-live_agrees thread (Blocked block waiting) h = tt
 live_agrees thread Ended h = absurd (let no : false ≡ true = h in cc)
+live_agrees thread _ h = tt
 
 -- ---- numbers that rise
 
@@ -119,8 +112,6 @@ count_front from r rests threads live front all rest =
 
 count_by_first : (from : ℕ) (r : Rest) (rests : List Rest) (threads : List Thread) (o : Option Thread) → first_with from threads ≡ o → Agree o (Some r) → RiseBetween from (from + suc (length rests)) threads → AllAgree from (r ∷ rests) threads →
     ((ts : List Thread) → RiseBetween (from + 1) (from + 1 + length rests) ts → AllAgree (from + 1) rests ts → Counted rests ts) → Counted (r ∷ rests) threads
-count_by_first from (Fresh function arguments) rests threads None found here rise all rest = absurd here
-count_by_first from (Blocked block waiting) rests threads None found here rise all rest = absurd here
 count_by_first from Ended rests threads None found here rise all rest =
     let count : from + suc (length rests) ≡ from + 1 + length rests = omega arith in
     let past = rise_past from (from + suc (length rests)) threads (omega arith) rise found in
@@ -128,7 +119,7 @@ count_by_first from Ended rests threads None found here rise all rest =
     (λ k. (let same : from + suc k ≡ from + 1 + k = omega arith in subst (λ (n : ℕ). Agree (first_with n threads) (slice_get rests k)) same (all (suc k)))))
 count_by_first from (Fresh function arguments) rests threads (Some t) found here rise all rest = count_front from (Fresh function arguments) rests threads refl (front_of from (from + suc (length rests)) threads t rise found) all rest
 count_by_first from (Blocked block waiting) rests threads (Some t) found here rise all rest = count_front from (Blocked block waiting) rests threads refl (front_of from (from + suc (length rests)) threads t rise found) all rest
-count_by_first from Ended rests threads (Some t) found here rise all rest = absurd here
+count_by_first from _ rests threads _ found here rise all rest = absurd here
 
 counted : (rests : List Rest) (from : ℕ) (threads : List Thread) → RiseBetween from (from + length rests) threads → AllAgree from rests threads → Counted rests threads
 counted [] from [] rise all = refl

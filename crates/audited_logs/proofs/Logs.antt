@@ -65,8 +65,7 @@ module _ (g : Setup) (scoped : IsWellScoped g.program) (valid : IsValid (lowered
       let next = ended g scoped valid most before after thread cost free is b at in
       let fit = fitting.ended given scoped caps fuel chunks b next.now thread cost free next.end next.ran range in
       next_goes g most b (Entry.End thread cost free) after rest (record { after = next.now; allowed = next.end; position = next.position }) fit.fits fit.range later
-  entry_goes before after (Entry.Edge from to count cost changes) rest is later b at range = absurd is
-  entry_goes before after (Entry.Stop line) rest is later b at range = absurd is
+  entry_goes before after _ rest is later b at range = absurd is
 
   leads_go : (before after : State) (entries more : List Entry) → Leads g before entries after → GoesOn g most after more → GoesOn g most before (entries ++ more)
   leads_go before after entries more nowhere later = later

@@ -1,24 +1,19 @@
 -- The count of chunks stays through a run, and one is held at its start.
-use Rattle.std.proofs.Common.{◌≡◌, ℕ, suc, ◌+◌, ◌-◌, ◌≤◌, nat_eq, nat_le, cond, List, [], ◌∷◌, length, true, false, Option, Some, None, refl, ap, ◌∙◌, subst, arith, length-append, ⊎_elim}
-use Rattle.std.proofs.lemmas.Bool.{cases_eq, cond_both, eq-eqb, ne_eqb}
+use Rattle.std.proofs.Common.{◌≡◌, ℕ, suc, ◌+◌, ◌-◌, ◌≤◌, nat_eq, cond, List, [], ◌∷◌, length, true, false, Option, Some, None, refl, ap, ◌∙◌, subst, arith, length-append, ⊎_elim}
+use Rattle.std.proofs.lemmas.Bool.{cases_eq, eq-eqb, ne_eqb}
 use Rattle.std.proofs.lemmas.List.FromFn.{length-range_with_len}
 use Rattle.std.specs.List.{range_with_len}
-use Rattle.cap_word.specs.Calls.{Call, Blocking, Immediate, most_threads}
-use Rattle.cap_word.specs.Runs.{Goes, Asks, Stops}
-use Rattle.cap_word.specs.declared.stops.Stop.{Stop}
-use Rattle.cap_word.specs.declared.traps.TrapKind.{TrapKind}
-use Rattle.c_mean.specs.ModelledCalls.{blocking_row, immediate_row}
 use Rattle.chunk_pool.specs.Pool.{Pool, Taken, all_free, free_count, taken_for, start_pool}
 use Rattle.chunk_pool.proofs.FreeLaws.{copies-cons}
 use Rattle.chunk_pool.proofs.NeedLaws.{taken_for-count, taken_for-leaves}
 use Rattle.chunk_pool.proofs.ShapeLaws.{count-same}
+use Rattle.std.specs.Prelude.{IfSome}
 use Rattle.machine_world.specs.Areas.{Areas}
 use Rattle.machine_world.specs.Held.{copies, KeepsShape}
-use Rattle.machine_world.specs.Local as local
-use Rattle.machine_world.specs.Local.{LocalMove, Ended, Trapped, NoRoom, Wrong, local_step}
-use Rattle.machine_world.specs.Runs.{empty_world, started_on, start_world}
-use Rattle.machine_world.specs.Threads as machine
-use Rattle.machine_world.specs.Threads.{Thread, World, Setting, Move, thread_of, with_thread, package_call, printed, spawned, unless_trap, moved, step_of, step_on, step}
+use Rattle.machine_world.specs.Local.{local_step}
+use Rattle.machine_world.specs.Runs.{empty_world, started_on, start_world, world_of}
+use Rattle.machine_world.specs.Threads.{World, Setting, Move, with_thread, step, local_in}
+use Rattle.machine_world.proofs.StepCases.{row_for, on_step, on_printed}
 use Rattle.machine_world.proofs.HeldLaws.{KeepsShape-step}
 
 -- how many chunks a world has
@@ -28,59 +23,20 @@ chunk_count w = w.areas.pool.count
 -- ---- steps
 
 abbrev pub KeepsCount : World → Move → Type 0
-KeepsCount w (machine.Goes after) = chunk_count after ≡ chunk_count w
-KeepsCount w (machine.Puts value after) = chunk_count after ≡ chunk_count w
-KeepsCount w (machine.Spawns number after) = chunk_count after ≡ chunk_count w
-KeepsCount w (machine.Blocks after) = chunk_count after ≡ chunk_count w
-KeepsCount w (machine.Ends after) = chunk_count after ≡ chunk_count w
-KeepsCount w (machine.Stops stop) = Unit {0}
-KeepsCount w machine.Wrong = Unit {0}
-
-count_trap : (w : World) (trap : Option TrapKind) (move : Move) → KeepsCount w move → KeepsCount w (unless_trap trap move)
-count_trap w (Some kind) move kept = tt
-count_trap w None move kept = kept
-
-count_printed : (w : World) (value : Option ℕ) (after : World) → chunk_count after ≡ chunk_count w → KeepsCount w (printed value after)
-count_printed w None after kept = kept
-count_printed w (Some value) after kept = kept
-
-module _ (s : Setting) (w : World) (thread : Thread) where
-  count_call : (call : Call) → KeepsCount w (package_call s w thread call)
-  count_call (Blocking block) = count_trap w (blocking_row s.caps w.exchange block).trap _ refl
-  count_call (Immediate ask) =
-      let row = immediate_row s.caps w.exchange thread.number w.next ask in
-      count_trap w row.trap _ (count_printed w row.prints _ refl)
-
-  count_spawned : (entry argument need : ℕ) (found : Option Taken) → taken_for w.areas.pool need ≡ found → KeepsCount w (spawned w thread entry argument found)
-  count_spawned entry argument need None e = tt
-  count_spawned entry argument need (Some taken) e = taken_for-count w.areas.pool need taken e
-
-  count_moved : (move : LocalMove) → KeepsShape (record { areas = w.areas; core = thread.core }) move → KeepsCount w (moved s w thread move)
-  count_moved (Goes after) keeps = count-same w.areas.pool after.areas.pool keeps
-  count_moved (Asks (local.Calls call) still) keeps = count_call call
-  count_moved (Asks (local.Starts entry argument need) still) keeps =
-      cond_both (nat_le most_threads (length w.threads)) (machine.Stops Stop.Threads) (spawned w thread entry argument (taken_for w.areas.pool need)) (KeepsCount w)
-      (λ _. tt)
-      (λ _. count_spawned entry argument need (taken_for w.areas.pool need) refl)
-  count_moved (Stops (Ended areas)) keeps = count-same w.areas.pool areas.pool keeps
-  count_moved (Stops (Trapped kind)) keeps = tt
-  count_moved (Stops NoRoom) keeps = tt
-  count_moved (Stops Wrong) keeps = tt
-
-count_step_of : (s : Setting) (w : World) (found : Option Thread) → KeepsCount w (step_of s w found)
-count_step_of s w None = tt
-count_step_of s w (Some thread) =
-    cond_both (nat_eq w.cost s.fuel) (machine.Stops Stop.Fuel) (moved s w thread (local_step s.code (record { areas = w.areas; core = thread.core }))) (KeepsCount w)
-    (λ _. tt)
-    (λ _. count_moved s w thread (local_step s.code (record { areas = w.areas; core = thread.core })) (KeepsShape-step s.code (record { areas = w.areas; core = thread.core })))
-
-count_step_on : (s : Setting) (w : World) (running : Option ℕ) → KeepsCount w (step_on s w running)
-count_step_on s w None = tt
-count_step_on s w (Some number) = count_step_of s w (thread_of w number)
+KeepsCount w move = IfSome (world_of move) (λ after. chunk_count after ≡ chunk_count w)
 
 pub count_step : (s : Setting) (w : World) → KeepsCount w (step s w)
-unfolding step
-count_step s w = count_step_on s w w.running
+count_step s w =
+    on_step s w (KeepsCount w) (λ stop. tt) tt
+    (λ number thread runs there left.
+    let keeps : KeepsShape (local_in w thread) (local_step s.code (local_in w thread)) = KeepsShape-step s.code (local_in w thread) in
+    record {
+      goes = λ after e. count-same w.areas.pool after.areas.pool (subst (KeepsShape (local_in w thread)) e keeps);
+      answers = λ ask still e. on_printed (KeepsCount w) (row_for s w thread ask).prints _ refl (λ word some. refl);
+      blocks = λ block. refl;
+      spawns = λ entry argument need still taken e few some. taken_for-count w.areas.pool need taken some;
+      ends = λ areas e. count-same w.areas.pool areas.pool (subst (KeepsShape (local_in w thread)) e keeps);
+    })
 
 -- ---- the start
 

@@ -72,8 +72,7 @@ module _ (g : Setup) (scoped : IsWellScoped g.program) (valid : IsValid (lowered
   entry_on before after (Entry.Out thread value) is at = let next = put g scoped valid most before after thread value is at.0 at.1 in (next.now, next.position)
   entry_on before after (Entry.Block thread node key cost free) is at = let next = blocked g scoped valid most before after thread node key cost free is at.0 at.1 in (next.now, next.position)
   entry_on before after (Entry.End thread cost free) is at = let next = ended g scoped valid most before after thread cost free is at.0 at.1 in (next.now, next.position)
-  entry_on before after (Entry.Edge from to count cost changes) is at = absurd is
-  entry_on before after (Entry.Stop line) is at = absurd is
+  entry_on before after _ is at = absurd is
 
   leads_on : (before after : State) (entries : List Entry) → Leads g before entries after → IsBeside before → IsBeside after
   leads_on before after entries nowhere at = at

@@ -1,5 +1,5 @@
 -- Steps of a segment of which the log has no entry, and the step of an entry.
-use Rattle.std.proofs.Common.{◌≡◌, ℕ, zero, suc, ◌+◌, List, [], ◌∷◌, ◌++◌, Option, Some, None, refl, ◌∙◌, subst, arith}
+use Rattle.std.proofs.Common.{◌≡◌, ℕ, zero, suc, ◌+◌, List, [], ◌∷◌, ◌++◌, Some, refl, ◌∙◌, subst, arith}
 use Rattle.c_lower.specs.ProgramCode.{lowered}
 use Rattle.c_mean.specs.World as source
 use Rattle.c_tree.specs.WellScoped.{IsWellScoped}
@@ -7,22 +7,16 @@ use Rattle.certificate_rules.specs.Validity.{IsValid}
 use Rattle.lawful_log.specs.Good.{checked_of}
 use Rattle.lawful_log.specs.Segments.{quiet_world, after_quiet}
 use Rattle.lawful_log.specs.Setup.{Setup, setting_of}
-use Rattle.lawful_log.proofs.Counts.{Counts, Retires, StartsOne, IsOver, counts_step}
+use Rattle.machine_world.proofs.Counts.{Counts, Retires, StartsOne, IsOver, counts_step}
 use Rattle.machine_world.specs.Runs.{and_then}
-use Rattle.machine_world.specs.Threads.{World, Setting, Move, Goes, Puts, Spawns, Blocks, Ends, Stops, Wrong, step}
+use Rattle.machine_world.specs.Threads.{World, Setting, Move, Goes, Puts, Spawns, Blocks, Ends, step}
 use Rattle.machine_world.specs.WellFormed.{KeepsWellFormed}
 use Rattle.machine_world.proofs.FormWorlds.{KeepsWellFormed-step}
 use Rattle.machine_meaning.specs.Reached.{StepReaches, IsFinishedIn}
 use Rattle.machine_meaning.proofs.WorldLaws as laws
-use Rattle.audited_logs.proofs.Acts.{KeepsFew, few_step}
+use Rattle.audited_logs.proofs.Acts.{KeepsFew, few_step, same_some, none-not}
 use Rattle.audited_logs.proofs.Beside.{Holds, Runs}
 use Rattle.audited_logs.proofs.Pools.{KeepsCount, count_step}
-
-none-not : (a : World) → ◌≡◌ {A = Option World} None (Some a) → ⊥
-none-not a e = absurd (cc)
-
-same_world : (a b : World) → ◌≡◌ {A = Option World} (Some a) (Some b) → a ≡ b
-same_world a b e = cc
 
 module _ (g : Setup) (scoped : IsWellScoped g.program) (valid : IsValid (lowered g.program) g.image g.certificate) where
   abbrev s : Setting
@@ -76,16 +70,12 @@ module _ (g : Setup) (scoped : IsWellScoped g.program) (valid : IsValid (lowered
         and_then (quiet_world move) (after_quiet s n) ≡ Some here → On (spent + 1 + n) here
     quiet_by n spent w here (Goes next) on e rest quiet = rest next (goes_on spent w next on e) quiet
     quiet_by n spent w here (Spawns started next) on e rest quiet = rest next (spawns_on spent started w next on e) quiet
-    quiet_by n spent w here (Puts value next) on e rest quiet = absurd (none-not here quiet)
-    quiet_by n spent w here (Blocks next) on e rest quiet = absurd (none-not here quiet)
-    quiet_by n spent w here (Ends next) on e rest quiet = absurd (none-not here quiet)
-    quiet_by n spent w here (Stops stop) on e rest quiet = absurd (none-not here quiet)
-    quiet_by n spent w here Wrong on e rest quiet = absurd (none-not here quiet)
+    quiet_by n spent w here _ on e rest quiet = absurd (none-not here quiet)
 
     pub quiet_on : (n spent : ℕ) (w here : World) → On spent w → after_quiet s n w ≡ Some here → On (spent + n) here
     quiet_on zero spent w here on e =
         let none : spent ≡ spent + 0 = omega arith in
-        subst (λ (k : ℕ). On k here) none (subst (λ (v : World). On spent v) (same_world w here e) on)
+        subst (λ (k : ℕ). On k here) none (subst (λ (v : World). On spent v) (same_some w here e) on)
     quiet_on (suc n) spent w here on e =
         let count : spent + 1 + n ≡ spent + suc n = omega arith in
         subst (λ (k : ℕ). On k here) count (quiet_by n spent w here (step s w) on refl (λ next there q. quiet_on n (spent + 1) next here there q) e)

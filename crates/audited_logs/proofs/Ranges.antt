@@ -9,7 +9,7 @@ use Rattle.blocking_graph.specs.Nodes.{same_key, keys_with, node_number}
 use Rattle.cap_word.specs.declared.calls.Block as blocks
 use Rattle.c_mean.specs.ModelledCalls.{wakes_at, ticks_of}
 use Rattle.c_mean.specs.World as source
-use Rattle.c_mean.specs.World.{Rest, Fresh, Blocked, Ended}
+use Rattle.c_mean.specs.World.{Rest, Blocked}
 use Rattle.choice_rules.specs.Clock.{is_due, event_times, IsClockBy, IsChoicePoint}
 use Rattle.choice_rules.specs.Policy.{Policy}
 use Rattle.choice_rules.specs.Readiness.{wakes, any_ready, waking_times}
@@ -145,18 +145,13 @@ WakesBy most None = Unit {0}
 WakesBy most (Some time) = time ≤ most
 
 block_wakes : (since : ℕ) (block : blocks.Block) → WakesBy (since + 2 ^ 31) (wakes_at since block)
-block_wakes since blocks.Block.Accept = tt
-block_wakes since (blocks.Block.Wait channel) = tt
 block_wakes since (blocks.Block.Sleep ticks) = let few = few_ticks ticks in omega (arith, few)
-block_wakes since blocks.Block.Yield = tt
-block_wakes since (blocks.Block.Take resource amount) = tt
 block_wakes since (blocks.Block.WaitFor channel ticks) = let few = few_ticks ticks in omega (arith, few)
+block_wakes since _ = tt
 
 rest_wakes : (since : ℕ) (rest : Option Rest) → WakesBy (since + 2 ^ 31) (wakes since rest)
-rest_wakes since None = tt
-rest_wakes since (Some Ended) = tt
-rest_wakes since (Some (Fresh function arguments)) = tt
 rest_wakes since (Some (Blocked block waiting)) = block_wakes since block
+rest_wakes since _ = tt
 
 wakes_more : (a b : ℕ) (o : Option ℕ) → a ≤ b → WakesBy a o → WakesBy b o
 wakes_more a b None h k = tt

@@ -161,9 +161,7 @@ module _ (g : Given) (text : DeepProgram) (same : RunsTheSame g.program text) wh
       point last schedule put IsSomeLive idle.between at (λ world alike. some_live last.source.threads world.threads alike.threads idle.live)
   stop_so last (StopLine.Trace line) steps schedule put followed is at = let refused = is.0 in point last schedule put (λ world. Unit {0}) refused.between at (λ world alike. tt)
   stop_so last (StopLine.Cut thread (Stop.Trap kind) cost free) steps schedule put followed is at = trapped last thread kind cost free steps schedule put followed is at
-  stop_so last (StopLine.Cut thread Stop.NoChunk cost free) steps schedule put followed is at = cut_off last thread is.segment schedule put followed is.under_way is.thread_is at
-  stop_so last (StopLine.Cut thread Stop.Fuel cost free) steps schedule put followed is at = cut_off last thread is.segment schedule put followed is.under_way is.thread_is at
-  stop_so last (StopLine.Cut thread Stop.Threads cost free) steps schedule put followed is at = cut_off last thread is.segment schedule put followed is.under_way is.thread_is at
+  stop_so last (StopLine.Cut thread _ cost free) steps schedule put followed is at = cut_off last thread is.segment schedule put followed is.under_way is.thread_is at
 
   -- ---- line by line
 

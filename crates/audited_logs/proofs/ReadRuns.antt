@@ -1,5 +1,5 @@
 -- The source's run of the thread whose segment is under way, as the lines of a log are read: it has come to where the last output was put.
-use Rattle.std.proofs.Common.{◌≡◌, ℕ, ◌+◌, ◌-◌, ◌<◌, ◌≤◌, List, [], ◌∷◌, length, Option, Some, None, refl, sym, ap, ◌∙◌, subst, arith, length-append, ⊎_elim}
+use Rattle.std.proofs.Common.{◌≡◌, ℕ, ◌+◌, ◌-◌, ◌<◌, ◌≤◌, List, [], ◌∷◌, length, Option, Some, refl, sym, ap, ◌∙◌, subst, arith, length-append, ⊎_elim}
 use Rattle.std.specs.Prelude.{slice_get}
 use Rattle.std.proofs.lemmas.Bool.{cases_lt}
 use Rattle.std.proofs.lemmas.Option.{none-some, same_Some}
@@ -7,7 +7,7 @@ use Rattle.cap_word.specs.Runs.{Goes, Stops, and_then, moves}
 use Rattle.cap_word.proofs.RunLemmas.{goes_on}
 use Rattle.c_tree.specs.Trees.{ProgramTree}
 use Rattle.c_mean.specs.World as source
-use Rattle.c_mean.specs.World.{Rest, Fresh, Blocked, Ended, SegmentMove, Rested, begun, begun_at, segment_step, segment_machine, IsCutAt, RunsTo}
+use Rattle.c_mean.specs.World.{Rest, SegmentMove, Rested, begun, begun_at, segment_step, segment_machine, IsCutAt, RunsTo, Fresh, Blocked}
 use Rattle.lawful_reading.specs.Happenings.{PutsNext, RestsNext}
 use Rattle.audited_logs.proofs.Cuts.{later_moves, moved_from, moves_from}
 use Rattle.audited_logs.proofs.Steps.{grows, keeps_moves, keeps_step}
@@ -18,10 +18,9 @@ record Begins (world : source.World) (number : ℕ) (here : source.Segment) : Ty
   pub outputs : here.world.outputs ≡ world.outputs
 
 begins_at : (program : ProgramTree) (caps : List ℕ) (world : source.World) (number : ℕ) (rest : Option Rest) (here : source.Segment) → begun_at program caps world number rest ≡ Some here → Begins world number here
-begins_at program caps world number None here e = absurd (none-some here e)
-begins_at program caps world number (Some Ended) here e = absurd (none-some here e)
 begins_at program caps world number (Some (Fresh function arguments)) here e = subst (Begins world number) (same_Some _ here e) (record { number_is = refl; outputs = refl })
 begins_at program caps world number (Some (Blocked block waiting)) here e = subst (Begins world number) (same_Some _ here e) (record { number_is = refl; outputs = refl })
+begins_at program caps world number _ here e = absurd (none-some here e)
 
 module _ (program : ProgramTree) (caps : List ℕ) where
   -- so many steps of the thread's run have led here, and no fewer put as many values

@@ -90,12 +90,8 @@ module _ (g : Given) where
       subst IsFollowed (sym is.after_is)
       (λ segment under. subst (λ (s : Segment). IsUnderWay g.program caps before.source s.here) (same_Some _ segment under)
       (puts_on g.program caps before.source is.segment.here is.steps is.word is.here (at is.segment is.under_way) is.puts))
-  follow_on before after (Entry.Block thread node key cost free) is at =
-      subst IsFollowed (sym is.after_is) (λ segment under. absurd (let wrong : ◌≡◌ {A = Option Segment} None (Some segment) = under in cc))
-  follow_on before after (Entry.End thread cost free) is at =
-      subst IsFollowed (sym is.after_is) (λ segment under. absurd (let wrong : ◌≡◌ {A = Option Segment} None (Some segment) = under in cc))
   follow_on before after (Entry.Edge from to count cost changes) is at = subst IsFollowed (sym is.after_is) at
-  follow_on before after (Entry.Stop stop) is at =
+  follow_on before after _ is at =
       subst IsFollowed (sym is.after_is) (λ segment under. absurd (let wrong : ◌≡◌ {A = Option Segment} None (Some segment) = under in cc))
 
   -- ---- what has been printed

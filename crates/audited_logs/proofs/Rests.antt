@@ -69,9 +69,8 @@ ended_first r d rs ds BothEnded later none thread below = ended_before rs ds lat
 
 pub all_ended : (rs : List Rest) (ds : List DeepRest) → RestAlike rs ds → AllEnded rs ds
 all_ended [] [] alike none thread below = absurd (omega (arith, below))
-all_ended [] (d ∷ ds) alike none thread below = absurd alike
-all_ended (r ∷ rs) [] alike none thread below = absurd alike
 all_ended (r ∷ rs) (d ∷ ds) alike none thread below = ended_first r d rs ds alike.0 (all_ended rs ds alike.1) none thread below
+all_ended _ _ alike none thread below = absurd alike
 
 -- where one of the program's lives, one of the text's hasn't ended
 abbrev SomeLive : List Rest → List DeepRest → Type 0
@@ -84,6 +83,5 @@ live_first r d rs ds BothEnded later some = let there = later (λ none. some (no
 
 pub some_live : (rs : List Rest) (ds : List DeepRest) → RestAlike rs ds → SomeLive rs ds
 some_live [] [] alike some = absurd (some refl)
-some_live [] (d ∷ ds) alike some = absurd alike
-some_live (r ∷ rs) [] alike some = absurd alike
 some_live (r ∷ rs) (d ∷ ds) alike some = live_first r d rs ds alike.0 (some_live rs ds alike.1) some
+some_live _ _ alike some = absurd alike

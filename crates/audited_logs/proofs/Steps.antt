@@ -136,18 +136,15 @@ module _ (program : ProgramTree) (caps : List ℕ) where
 
   abbrev KeepsMoves : Segment → SegmentMove → Type 0
   KeepsMoves s (Goes next) = Keeps s next
-  KeepsMoves s (Asks question waiting) = Unit {0}
-  KeepsMoves s (Stops rested) = Unit {0}
+  KeepsMoves s _ = Unit {0}
 
   keeps_on : (s next : Segment) (move : SegmentMove) → Keeps s next → KeepsMoves next move → KeepsMoves s move
   keeps_on s next (Goes later) h k = keeps_both s next later h k
-  keeps_on s next (Asks question waiting) h k = tt
-  keeps_on s next (Stops rested) h k = tt
+  keeps_on s next _ h k = tt
 
   keeps_then : (n : ℕ) (s : Segment) (move : SegmentMove) → KeepsStep s move → ((next : Segment) → KeepsMoves next (moves (segment_machine program caps) n next)) → KeepsMoves s (and_then move (moves (segment_machine program caps) n))
   keeps_then n s (Goes next) h rest = keeps_on s next (moves (segment_machine program caps) n next) h (rest next)
-  keeps_then n s (Asks question waiting) h rest = tt
-  keeps_then n s (Stops rested) h rest = tt
+  keeps_then n s _ h rest = tt
 
   keeps_all : (n : ℕ) (s : Segment) → KeepsMoves s (moves (segment_machine program caps) n s)
   keeps_all zero s = keeps_self s

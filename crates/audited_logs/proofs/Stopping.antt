@@ -3,7 +3,7 @@ use Rattle.std.proofs.Common.{◌≡◌, ℕ, ◌≤◌, nat_eq, nat_le, true, L
 use Rattle.std.proofs.lemmas.Bool.{cond_both, eqb-true}
 use Rattle.std.proofs.lemmas.Bool.Decides.{nat_tests}
 use Rattle.cap_word.specs.Calls.{Call, Blocking, Immediate, most_threads}
-use Rattle.cap_word.specs.Runs.{Goes, Asks, Stops}
+use Rattle.cap_word.specs.Runs.{Asks, Stops, Goes}
 use Rattle.cap_word.specs.declared.stops.Stop.{Stop}
 use Rattle.cap_word.specs.declared.traps.TrapKind.{TrapKind}
 use Rattle.c_lower.specs.ProgramCode.{lowered}
@@ -15,16 +15,15 @@ use Rattle.certificate_rules.specs.Validity.{IsValid}
 use Rattle.chunk_pool.specs.Pool.{Taken, taken_for}
 use Rattle.flat_code.specs.declared.operations.Op.{Op}
 use Rattle.machine_world.specs.Local as local
-use Rattle.machine_world.specs.Local.{LocalMove, Ended, Trapped, NoRoom, Wrong, local_step}
+use Rattle.machine_world.specs.Local.{LocalMove, local_step, Ended, Trapped, NoRoom, Wrong}
 use Rattle.machine_world.specs.Places.{Checked}
 use Rattle.machine_world.specs.Threads as machine
-use Rattle.machine_world.specs.Threads.{Thread, World, Setting, Move, package_call, printed, spawned, unless_trap, moved, step}
+use Rattle.machine_world.specs.Threads.{Thread, World, Setting, Move, package_call, printed, spawned, unless_trap, moved, step, local_in}
 use Rattle.machine_world.specs.WellFormed.{IsWellFormed}
 use Rattle.machine_meaning.specs.AsSource.{AsksCall, IsStepAsSource}
 use Rattle.stack_certificate.specs.declared.certificates.Certificate.{Certificate}
 use Rattle.stack_image.specs.declared.images.Image.{Image}
 use Rattle.machine_meaning.specs.Reached.{IsReached}
-use Rattle.machine_meaning.proofs.Forms.{local_in}
 use Rattle.machine_meaning.proofs.SegmentSteps.{along}
 use Rattle.machine_meaning.proofs.WorldSteps.{step_is}
 use Rattle.audited_logs.proofs.Begun.{ComesToStart, comes_to_start}
@@ -33,23 +32,14 @@ use Rattle.audited_logs.proofs.Begun.{ComesToStart, comes_to_start}
 
 -- a thread is about to start
 abbrev pub IsStart : LocalMove → Type 0
-IsStart (Goes after) = ⊥
-IsStart (Asks (local.Calls call) still) = ⊥
 IsStart (Asks (local.Starts entry argument need) still) = Unit {0}
-IsStart (Stops end) = ⊥
+IsStart _ = ⊥
 
 -- why a step stops, by what the thread's own step leads to
 abbrev pub HasCause : World → LocalMove → Move → Type 0
 HasCause w own (machine.Stops Stop.Fuel) = ⊥
 HasCause w own (machine.Stops Stop.Threads) = IsStart own × (most_threads ≤ length w.threads)
-HasCause w own (machine.Stops Stop.NoChunk) = Unit {0}
-HasCause w own (machine.Stops (Stop.Trap kind)) = Unit {0}
-HasCause w own (machine.Goes after) = Unit {0}
-HasCause w own (machine.Puts value after) = Unit {0}
-HasCause w own (machine.Spawns number after) = Unit {0}
-HasCause w own (machine.Blocks after) = Unit {0}
-HasCause w own (machine.Ends after) = Unit {0}
-HasCause w own machine.Wrong = Unit {0}
+HasCause w own _ = Unit {0}
 
 module _ (s : Setting) (w : World) (thread : Thread) where
   cause_trap : (own : LocalMove) (trap : Option TrapKind) (move : Move) → HasCause w own move → HasCause w own (unless_trap trap move)
@@ -131,33 +121,14 @@ module _ (program : ProgramTree) (image : Image) (certificate : Certificate) (sc
   starts_as : (op : Op) (entry argument need : ℕ) (call : Call) → AsksCall checked op (local.Starts entry argument need) call → StartsAs call
   starts_as (Op.Model site d n args) entry argument need call h = absurd (not_call call call entry argument need h.2)
   starts_as (Op.Spawn site d g x) entry argument need call h = record { function = g; argument = h.0; is = h.1 }
-  starts_as (Op.Call site d g args) entry argument need call h = absurd h
-  starts_as (Op.CallTable site d t k x) entry argument need call h = absurd h
-  starts_as (Op.Return v) entry argument need call h = absurd h
-  starts_as (Op.Const d x) entry argument need call h = absurd h
-  starts_as (Op.Copy d x) entry argument need call h = absurd h
-  starts_as (Op.Neg d x) entry argument need call h = absurd h
-  starts_as (Op.Not d x) entry argument need call h = absurd h
-  starts_as (Op.Flip d x) entry argument need call h = absurd h
-  starts_as (Op.Bin o d x y) entry argument need call h = absurd h
-  starts_as (Op.Zero x) entry argument need call h = absurd h
-  starts_as (Op.LoadGlobal d g) entry argument need call h = absurd h
-  starts_as (Op.StoreGlobal g x) entry argument need call h = absurd h
-  starts_as (Op.LoadLocal d x y) entry argument need call h = absurd h
-  starts_as (Op.LoadArray d x y) entry argument need call h = absurd h
-  starts_as (Op.StoreLocal d x y) entry argument need call h = absurd h
-  starts_as (Op.StoreArray d x y) entry argument need call h = absurd h
-  starts_as (Op.Jump to) entry argument need call h = absurd h
-  starts_as (Op.JumpZero x to) entry argument need call h = absurd h
+  starts_as _ entry argument need call h = absurd h
 
   start_by : (own : LocalMove) → IsStart own → IsStepAsSource checked program r.segment.running (local_in w r.under_way.thread) own → ComesToStart program s.caps r.segment
-  start_by (Goes after) is h = absurd is
-  start_by (Asks (local.Calls call) still) is h = absurd is
   start_by (Asks (local.Starts entry argument need) still) is h =
       let at = h.1.4 in
       let spawn = starts_as at.op entry argument need h.1.1.call at.same in
       comes_to_start program s.caps r.segment h.1.0 spawn.function spawn.argument h.1.1 h.1.2 h.1.3 spawn.is
-  start_by (Stops end) is h = absurd is
+  start_by _ is h = absurd is
 
   pub record Crowded : Type 0 where
     pub full : most_threads ≤ length w.threads

@@ -12,7 +12,7 @@ use Rattle.cap_word.specs.declared.calls.Block as blocks
 use Rattle.cap_word.specs.declared.traps.TrapKind.{TrapKind}
 use Rattle.c_tree.specs.Trees.{ProgramTree}
 use Rattle.c_mean.specs.Frames.{Waiting}
-use Rattle.c_mean.specs.ModelledCalls.{Exchange, cap_of, use_of, with_use, Delivery, Arrival, Message, with_delivery, ImmediateRow, blocking_row, immediate_row, is_past, wake_of}
+use Rattle.c_mean.specs.ModelledCalls.{Exchange, cap_of, use_of, with_use, Delivery, Arrival, Message, with_delivery, blocking_row, immediate_row}
 use Rattle.c_mean.specs.ModelledCalls as table
 use Rattle.c_mean.specs.Steps.{SourceMove, source_step}
 use Rattle.c_mean.specs.World as source
@@ -67,8 +67,6 @@ most_of a b e = grind (arith, nat_tests, e)
 row_fits : (caps : List ℕ) (x : Exchange) (clock since : ℕ) (block : blocks.Block) → AreCapsSmall caps → FitUses x → table.is_ready caps x clock since block ≡ true → FitUses (blocking_row caps x block).after
 row_fits caps x clock since blocks.Block.Accept small fits ready = record { small = fits.small; eight = fits.eight }
 row_fits caps x clock since (blocks.Block.Wait channel) small fits ready = record { small = fits.small; eight = fits.eight }
-row_fits caps x clock since (blocks.Block.Sleep ticks) small fits ready = fits
-row_fits caps x clock since blocks.Block.Yield small fits ready = fits
 row_fits caps x clock since (blocks.Block.Take resource amount) small fits ready =
     ⊎_elim
     (λ (below : resource < 8).
@@ -81,22 +79,21 @@ row_fits caps x clock since (blocks.Block.Take resource amount) small fits ready
     let now : FitUses (with_use x resource (use_of x resource + amount)) = record { small = subst Small (sym same) fits.small; eight = ap length same ∙ fits.eight } in
     now)
     (cases_lt resource 8)
-row_fits caps x clock since (blocks.Block.WaitFor channel ticks) small fits ready = fits
+row_fits caps x clock since _ small fits ready = fits
 
-none-not : (s : Segment) → ◌≡◌ {A = Option Segment} None (Some s) → ⊥
+pub none-not : (s : Segment) → ◌≡◌ {A = Option Segment} None (Some s) → ⊥
 none-not s e = absurd (cc)
 
-same_some : (a b : Segment) → ◌≡◌ {A = Option Segment} (Some a) (Some b) → a ≡ b
+pub same_some : (a b : Segment) → ◌≡◌ {A = Option Segment} (Some a) (Some b) → a ≡ b
 same_some a b e = cc
 
 begun_fits_at : (program : ProgramTree) (caps : List ℕ) (world : source.World) (number clock since : ℕ) (first : Segment) (o : Option Rest) → AreCapsSmall caps → FitUses world.exchange → is_ready_at caps world.exchange clock since o ≡ true →
     begun_at program caps world number o ≡ Some first → FitUses first.world.exchange
-begun_fits_at program caps world number clock since first None small fits ready e = absurd (none-not first e)
-begun_fits_at program caps world number clock since first (Some Ended) small fits ready e = absurd (none-not first e)
 begun_fits_at program caps world number clock since first (Some (Fresh function arguments)) small fits ready e =
     subst (λ (s : Segment). FitUses s.world.exchange) (same_some _ first e) fits
 begun_fits_at program caps world number clock since first (Some (Blocked block waiting)) small fits ready e =
     subst (λ (s : Segment). FitUses s.world.exchange) (same_some _ first e) (row_fits caps world.exchange clock since block small fits ready)
+begun_fits_at program caps world number clock since first _ small fits ready e = absurd (none-not first e)
 
 pub begun_fits : (program : ProgramTree) (caps : List ℕ) (world : source.World) (number clock since : ℕ) (first : Segment) → AreCapsSmall caps → FitUses world.exchange → is_ready_at caps world.exchange clock since (slice_get world.threads number) ≡ true →
     begun program caps world number ≡ Some first → FitUses first.world.exchange
@@ -114,10 +111,8 @@ fits_unless s globals (Some trap) other h k = h
 fits_unless s globals None other h k = k
 
 answer_fits : (caps : List ℕ) (x : Exchange) (number next : ℕ) (ask : Ask) → FitUses x → FitUses (immediate_row caps x number next ask).after
-answer_fits caps x number next (Ask.Put value) fits = fits
-answer_fits caps x number next (Ask.Spawn function argument) fits = fits
 answer_fits caps x number next (Ask.Give resource amount) fits = (let small = small_at x.uses resource fits.small in with_small x resource (use_of x resource - amount) fits (omega (arith, small)))
-answer_fits caps x number next Ask.SelfNumber fits = fits
+answer_fits caps x number next _ fits = fits
 
 module _ (program : ProgramTree) (caps : List ℕ) where
   call_fits : (s : Segment) (globals : List (List ℕ)) (waiting : Waiting) (call : Call) → FitUses s.world.exchange → FitsStep (calls caps s globals waiting call)

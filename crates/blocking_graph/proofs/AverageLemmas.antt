@@ -49,8 +49,7 @@ map_from_each f (x ∷ xs) (y ∷ ys) same each =
     let first : y ≡ f x = each 0 (omega arith) in
     let rest : ys ≡ map f xs = map_from_each f xs ys (omega arith) (λ k h. each (suc k) (omega arith)) in
     cc
-map_from_each f [] (y ∷ ys) same each = absurd (omega arith)
-map_from_each f (x ∷ xs) [] same each = absurd (omega arith)
+map_from_each f _ _ same each = absurd (omega arith)
 
 pub next_from_each : (averages samples next : List ℤ) → length next ≡ length averages → length samples ≡ length averages →
     ((k : ℕ) → k < length averages → get_or next k (pos 0) ≡ next_average (get_or averages k (pos 0)) (get_or samples k (pos 0))) →
@@ -60,6 +59,4 @@ next_from_each (a ∷ averages) (s ∷ samples) (n ∷ next) same as_long each =
     let first : n ≡ next_average a s = each 0 (omega arith) in
     let rest : next ≡ next_averages averages samples = next_from_each averages samples next (omega arith) (omega arith) (λ k h. each (suc k) (omega arith)) in
     cc
-next_from_each [] samples (n ∷ next) same as_long each = absurd (omega arith)
-next_from_each (a ∷ averages) samples [] same as_long each = absurd (omega arith)
-next_from_each (a ∷ averages) [] (n ∷ next) same as_long each = absurd (omega arith)
+next_from_each _ _ _ same as_long each = absurd (omega arith)

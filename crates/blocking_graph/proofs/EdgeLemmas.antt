@@ -50,13 +50,12 @@ pub edges_with-last : (edges : List EdgeLine) (segment : SegmentRecord) (i : ℕ
     position_or_len (λ edge. not (is_before edge segment)) edges ≡ i → length edges ≤ i →
     edges_with edges segment ≡ insert edges i (first_edge segment)
 edges_with-last [] segment zero at h = refl
-edges_with-last [] segment (suc i) at h = absurd (omega arith)
-edges_with-last (e ∷ edges) segment zero at h = absurd (omega arith)
 edges_with-last (e ∷ edges) segment (suc i) at h =
     let before : is_before e segment ≡ true = suc_place _ _ _ at in
     let rest : edges_with edges segment ≡ insert edges i (first_edge segment) =
     edges_with-last edges segment i (next_place _ _ _ at) (omega arith) in
     rw (before, rest) refl
+edges_with-last _ segment _ at h = absurd (omega arith)
 
 -- what holds of each element holds of the one at an index
 pub at_index : {X : Type 0} (P : X → Type 0) (xs : List X) (i : ℕ) (d : X) → AllByRecursion P xs → i < length xs → P (get_or xs i d)

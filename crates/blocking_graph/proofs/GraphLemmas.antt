@@ -37,10 +37,9 @@ next_average-le average sample size p q =
 next_averages-le : (averages samples : List ℤ) (size : ℕ) → AllByRecursion (λ average. unsigned_abs average ≤ 256 * size) averages →
     AllByRecursion (λ sample. unsigned_abs sample ≤ size) samples →
     AllByRecursion (λ average. unsigned_abs average ≤ 256 * size) (next_averages averages samples)
-next_averages-le [] samples size p q = tt
-next_averages-le (a ∷ averages) [] size p q = tt
 next_averages-le (a ∷ averages) (s ∷ samples) size p q =
     (next_average-le a s size p.0 q.0, next_averages-le averages samples size p.1 q.1)
+next_averages-le _ _ size p q = tt
 
 pub length-next_averages : (averages samples : List ℤ) → length averages ≡ length samples → length (next_averages averages samples) ≡ length averages
 length-next_averages [] samples h = refl

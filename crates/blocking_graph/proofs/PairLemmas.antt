@@ -37,10 +37,9 @@ average_of-more sample_of (first ∷ records) segment some =
 
 next_averages-at : (averages samples : List ℤ) (k : ℕ) → k < length averages → k < length samples →
     get_or (next_averages averages samples) k (pos 0) ≡ next_average (get_or averages k (pos 0)) (get_or samples k (pos 0))
-next_averages-at [] samples k p q = absurd (omega arith)
-next_averages-at (a ∷ averages) [] k p q = absurd (omega arith)
 next_averages-at (a ∷ averages) (s ∷ samples) zero p q = refl
 next_averages-at (a ∷ averages) (s ∷ samples) (suc k) p q = next_averages-at averages samples k (omega arith) (omega arith)
+next_averages-at _ _ k p q = absurd (omega arith)
 
 some_more : (records : List SegmentRecord) (segment : SegmentRecord) → records ++ segment ∷ [] ≢ []
 some_more [] segment = λ e. absurd cc

@@ -17,12 +17,11 @@ before-precedes : (a b : EdgeLine) (segment : SegmentRecord) → IsTrue (precede
 before-precedes a b segment p q = grind (arith, nat_tests)
 
 pub rising-parted : (edges : List EdgeLine) (segment : SegmentRecord) → IsRising edges → IsPartitionedBy (λ edge. is_before edge segment) edges
-rising-parted [] segment rising i j d le lt comes = absurd (omega arith)
 rising-parted (e ∷ edges) segment rising zero zero d le lt comes = comes
 rising-parted (e ∷ edges) segment rising zero (suc j) d le lt comes =
     before-precedes e (get_or edges j d) segment (at_index (λ other. IsTrue (precedes e other)) edges j d rising.0 (omega arith)) comes
-rising-parted (e ∷ edges) segment rising (suc i) zero d le lt comes = absurd (omega arith)
 rising-parted (e ∷ edges) segment rising (suc i) (suc j) d le lt comes = rising-parted edges segment rising.1 i j d (omega arith) (omega arith) comes
+rising-parted _ segment rising _ _ d le lt comes = absurd (omega arith)
 
 -- the first that fails a test is at the point to which all pass it
 pub point-place : {X : Type 0} (p : X → Bool) (xs : List X) (i : ℕ) → i ≤ length xs → IsPartitionPoint (λ y. p y ≡ true) (λ y. p y ≡ false) xs i → i ≡ position_or_len (λ y. not (p y)) xs

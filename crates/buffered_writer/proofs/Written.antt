@@ -1,7 +1,7 @@
 -- What goes through a writer of a log, piece by piece.
 use Rattle.std.proofs.Common.{◌≡◌, ℕ, ◌≤◌, true, false, List, [], ◌∷◌, ◌++◌, length, take, drop, refl, sym, ap, ◌∙◌, subst, arith, append_assoc, length-append, Option, None, Some, Result, Ok, Err}
 use Rattle.std.specs.Prelude.{IsSome, OnOk}
-use Rattle.std.specs.Io.KnownBytes.{Appends, Keeps, append_known}
+use Rattle.std.specs.Io.KnownBytes.{Appends, append_known}
 use Rattle.std.proofs.KnownBytes.{Appends-nil, Appends-trans, Appends-kept, Keeps-refl, Keeps-trans}
 use Rattle.std.proofs.lemmas.List.{append-nil, append_cancel_left, take-append-drop}
 use Rattle.std.proofs.Math.Seq.{take-append_seam}
@@ -136,8 +136,7 @@ writes_refused old before after faults count refusal bytes is none puts counts r
 answer_counts : (old new : LogState) (r : Result (Unit {0}) PutError) → CountsRefusal new.writer.refused old.faults new.faults → KeepsAnswer new.writer r
     → CountsPut r old.faults new.faults
 answer_counts old new (Ok u) counts kept = subst (λ (r : Option PutError). CountsRefusal r old.faults new.faults) kept counts
-answer_counts old new (Err WriteFault) counts kept = subst (λ (r : Option PutError). CountsRefusal r old.faults new.faults) kept counts
-answer_counts old new (Err Memory) counts kept = subst (λ (r : Option PutError). CountsRefusal r old.faults new.faults) kept counts
+answer_counts old new _ counts kept = subst (λ (r : Option PutError). CountsRefusal r old.faults new.faults) kept counts
 
 pub passed_counts : (old new : LogState) (text : List ℕ) (r : Result (Unit {0}) PutError) → Writes old new text → old.writer.refused ≡ None
     → KeepsAnswer new.writer r → CountsPut r old.faults new.faults

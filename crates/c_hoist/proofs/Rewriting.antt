@@ -1,34 +1,23 @@
 -- A source that is rewritten and read item by item.
-use Rattle.std.proofs.Common.{◌≡◌, refl, sym, ap, subst, ◌∙◌, Bool, List, [], ◌∷◌, ◌++◌, append_assoc, append-nil, None}
-use Rattle.c_tree.specs.RawTrees.{NameTree, RawStmtTree, RawStmtTrees, RawItemTree, RawGlobal, RawGlobalArray, RawTableItem, RawPrototypeItem, RawFunctionItem}
+use Rattle.std.proofs.Common.{◌≡◌, sym, ap, subst, ◌∙◌, Bool, List, [], ◌∷◌, ◌++◌, append_assoc, append-nil, None}
+use Rattle.c_tree.specs.RawTrees.{NameTree, RawStmtTree, RawStmtTrees, RawItemTree, RawFunctionItem}
 use Rattle.grammar_laws.specs.Nested.{is_call}
 use Rattle.grammar_laws.specs.Places.{stmts_places, item_places, items_places}
 use Rattle.grammar_laws.proofs.NoNames.{no_declared}
 use Rattle.scope_rules.specs.declared.resolver.Resolver.{Resolver}
-use Rattle.scope_rules.specs.Names.{Binding}
 use Rattle.scope_rules.specs.Faults.{least_of}
-use Rattle.scope_rules.specs.Items.{with_definition, with_definitions, definitions, at_start, items_after, items_faults}
+use Rattle.scope_rules.specs.Items.{definitions, at_start, items_after, items_faults}
 use Rattle.scope_rules.specs.ItemViews.{sofar_of}
 use Rattle.scope_rules.specs.Making.{Making, IsMaking, with_statements}
 use Rattle.scope_rules.specs.Reading.{Agrees, HasRead}
 use Rattle.scope_rules.proofs.Makings.{next_statements}
-use Rattle.hoist_parts.specs.Statements.{item_hoisted, items_hoisted}
-
-definition_kept : (ds : List Binding) (i : RawItemTree) → with_definition ds (item_hoisted i) ≡ with_definition ds i
-definition_kept ds (RawGlobal n start) = refl
-definition_kept ds (RawGlobalArray n size) = refl
-definition_kept ds (RawTableItem n size members) = refl
-definition_kept ds (RawPrototypeItem gives n params) = refl
-definition_kept ds (RawFunctionItem gives n params body) = refl
-
-definitions_kept : (ds : List Binding) (is : List RawItemTree) → with_definitions ds (items_hoisted is) ≡ with_definitions ds is
-definitions_kept ds [] = refl
-definitions_kept ds (i ∷ is) = ap (λ x. with_definitions x (items_hoisted is)) (definition_kept ds i) ∙ definitions_kept (with_definition ds i) is
+use Rattle.hoist_parts.specs.Statements.{items_hoisted}
+use Rattle.hoist_meaning.proofs.SourceItems.{definitions_same}
 
 -- the rewriting keeps what a source defines
 pub read_of_hoisted : (r : Resolver) (is read : List RawItemTree) → HasRead r is read → HasRead r (items_hoisted is) read
 read_of_hoisted r is read h =
-    let e : definitions is ≡ definitions (items_hoisted is) = sym (definitions_kept [] is) in
+    let e : definitions is ≡ definitions (items_hoisted is) = sym (definitions_same [] is) in
     record {
       defined = h.defined ∙ e;
       sofar = subst (λ ds. Agrees (sofar_of r.items) (items_after ds at_start read)) e h.sofar;

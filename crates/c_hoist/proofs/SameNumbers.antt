@@ -2,8 +2,8 @@
 use Rattle.std.proofs.Common.{ℕ, zero, suc, ◌+◌, ◌≡◌, refl, ap, List, [], ◌∷◌, map, Option, Some, None, arith}
 use Rattle.std.specs.Prelude.{option_map, slice_index_or}
 use Rattle.c_tree.specs.Trees.{CallTree, CallFunction, CallTable, CallSpawn, CallModelled, RightTree, Computed, Called}
-use Rattle.c_tree.specs.Trees.{SimpleTree, DeclareScalar, DeclareArray, DeclareWith, SetLocal, SetGlobal, SetLocalElement, SetGlobalElement, Calling}
-use Rattle.c_tree.specs.Trees.{StmtTree, StmtTrees, Do, Empty, Block, If, IfElse, While, For, Break, Continue, Return, NoStmts, Then, FunctionTree, ProgramTree}
+use Rattle.c_tree.specs.Trees.{SimpleTree, DeclareWith, SetLocal, SetGlobal, SetLocalElement, SetGlobalElement, Calling}
+use Rattle.c_tree.specs.Trees.{StmtTree, StmtTrees, Do, Block, If, IfElse, While, For, Return, NoStmts, Then, FunctionTree, ProgramTree}
 use Rattle.c_tree.specs.TextOrder.{counting}
 use Rattle.scope_rules.specs.Numbered.{number_at, call_numbered, right_numbered, simple_numbered, stmt_numbered, stmts_numbered, function_numbered, numbered}
 
@@ -27,14 +27,13 @@ module _ (ns : List ℕ) (c : counting 0 ns) where
   right_same (Called k) = ap Called (call_same k)
 
   simple_same : (s : SimpleTree) → simple_numbered ns s ≡ s
-  simple_same (DeclareScalar x) = refl
-  simple_same (DeclareArray x n) = refl
   simple_same (DeclareWith x v) = ap (DeclareWith x) (right_same v)
   simple_same (SetLocal x v) = ap (SetLocal x) (right_same v)
   simple_same (SetGlobal g v) = ap (SetGlobal g) (right_same v)
   simple_same (SetLocalElement a i v) = ap (SetLocalElement a i) (right_same v)
   simple_same (SetGlobalElement a i v) = ap (SetGlobalElement a i) (right_same v)
   simple_same (Calling k) = ap Calling (call_same k)
+  simple_same _ = refl
 
   simples_same : (ss : List SimpleTree) → map (simple_numbered ns) ss ≡ ss
   simples_same [] = refl
@@ -51,15 +50,13 @@ module _ (ns : List ℕ) (c : counting 0 ns) where
   mutual
     stmt_same : (s : StmtTree) → stmt_numbered ns s ≡ s
     stmt_same (Do s) = ap Do (simple_same s)
-    stmt_same Empty = refl
     stmt_same (Block ss) = ap Block (stmts_same ss)
     stmt_same (If e s) = ap (If e) (stmt_same s)
     stmt_same (IfElse e s r) = λ i. IfElse e (stmt_same s i) (stmt_same r i)
     stmt_same (While e s) = ap (While e) (stmt_same s)
     stmt_same (For init e step s) = λ i. For (simples_same init i) e (step_same step i) (stmt_same s i)
-    stmt_same Break = refl
-    stmt_same Continue = refl
     stmt_same (Return v) = ap Return (returned_same v)
+    stmt_same _ = refl
 
     stmts_same : (ss : StmtTrees) → stmts_numbered ns ss ≡ ss
     stmts_same NoStmts = refl

@@ -13,19 +13,15 @@ decimal_word [] value some first digits is = absurd (omega arith)
 decimal_word (b ∷ word) value some first digits is = decimal (first, digits) is
 
 hexadecimal_word : (word : List ℕ) (value : ℕ) → 2 < length word → get_or word 0 0 ≡ 48 → (get_or word 1 0 ≡ 120) ⊎ (get_or word 1 0 ≡ 88) → AllDigits 16 (drop 2 word) → value ≡ digits_value 16 (drop 2 word) → IsNumber word value
-hexadecimal_word [] value some first second digits is = absurd (omega arith)
-hexadecimal_word (a ∷ []) value some first second digits is = absurd (omega arith)
-hexadecimal_word (a ∷ b ∷ []) value some first second digits is = absurd (omega arith)
 hexadecimal_word (a ∷ b ∷ d ∷ word) value some first second digits is = hexadecimal (first, second, digits) is
+hexadecimal_word _ value some first second digits is = absurd (omega arith)
 
 -- a word that begins as a hexadecimal number is one only if its digits are hexadecimal, and of the digits' value
 hexadecimal_only : (word : List ℕ) (value : ℕ) → 2 < length word → get_or word 0 0 ≡ 48 → IsNumber word value → AllDigits 16 (drop 2 word) × (value ≡ digits_value 16 (drop 2 word))
-hexadecimal_only [] value some first number = absurd (omega arith)
-hexadecimal_only (a ∷ []) value some first number = absurd (omega arith)
-hexadecimal_only (a ∷ b ∷ []) value some first number = absurd (omega arith)
 hexadecimal_only (a ∷ b ∷ d ∷ word) value some first (null is zero) = absurd (cc)
 hexadecimal_only (a ∷ b ∷ d ∷ word) value some first (decimal is worth) = absurd (is.0 first)
 hexadecimal_only (a ∷ b ∷ d ∷ word) value some first (hexadecimal is worth) = (is.2, worth)
+hexadecimal_only _ value some first number = absurd (omega arith)
 
 -- what the value of the digits says of the word
 pub decimal_some : (word : List ℕ) (answer : Option ℕ) → 0 < length word → get_or word 0 0 ≢ 48 → IfSome answer (λ _. AllDigits 10 word) → IfSome answer (λ value. value ≡ digits_value 10 word) → IfSome answer (IsNumber word)

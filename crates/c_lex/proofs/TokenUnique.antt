@@ -41,16 +41,13 @@ no_null_decimal [] same is = is
 no_null_decimal (b ∷ word) same is = is.0 (same_heads same)
 
 no_null_hexadecimal : (word : List ℕ) → word ≡ codes "0" → IsHexadecimal word → ⊥
-no_null_hexadecimal [] same is = is
-no_null_hexadecimal (a ∷ []) same is = is
-no_null_hexadecimal (a ∷ b ∷ []) same is = is
 no_null_hexadecimal (a ∷ b ∷ d ∷ word) same is = let long = ap length same in omega arith
+no_null_hexadecimal _ same is = is
 
 no_decimal_hexadecimal : (word : List ℕ) → IsDecimal word → IsHexadecimal word → ⊥
 no_decimal_hexadecimal [] is is' = is
-no_decimal_hexadecimal (a ∷ []) is is' = is'
-no_decimal_hexadecimal (a ∷ b ∷ []) is is' = is'
 no_decimal_hexadecimal (a ∷ b ∷ d ∷ word) is is' = is.0 is'.0
+no_decimal_hexadecimal _ is is' = is'
 
 pub number_unique : (word : List ℕ) (m n : ℕ) → IsNumber word m → IsNumber word n → m ≡ n
 number_unique word m n (null is worth) (null is' worth') = worth ∙ sym worth'
@@ -69,10 +66,8 @@ decimal_first [] is = absurd is
 decimal_first (b ∷ word) is = decimal_digit b is.1.0
 
 hexadecimal_first : (word : List ℕ) → IsHexadecimal word → is_ascii_digit (get_or word 0 0) ≡ true
-hexadecimal_first [] is = absurd is
-hexadecimal_first (a ∷ []) is = absurd is
-hexadecimal_first (a ∷ b ∷ []) is = absurd is
 hexadecimal_first (a ∷ b ∷ d ∷ word) is = ap is_ascii_digit is.0
+hexadecimal_first _ is = absurd is
 
 pub number_first : (word : List ℕ) (n : ℕ) → IsNumber word n → is_ascii_digit (get_or word 0 0) ≡ true
 number_first word n (null is worth) = ap (λ l. is_ascii_digit (get_or l 0 0)) is
@@ -85,10 +80,9 @@ identifier_first (b ∷ word) is = is.0
 
 -- what a lexeme of a kind begins with
 BeginsAs : ℕ → TokenKind → Type 0
-BeginsAs b kinds.Name = is_letter b ≡ true
 BeginsAs b (kinds.Number n) = is_ascii_digit b ≡ true
-BeginsAs b (kinds.Keyword keyword) = is_letter b ≡ true
 BeginsAs b (kinds.Mark mark) = is_word_byte b ≡ false
+BeginsAs b _ = is_letter b ≡ true
 
 kind_first : (lexeme : List ℕ) (kind : TokenKind) → IsOfKind lexeme kind → BeginsAs (get_or lexeme 0 0) kind
 unfolding BeginsAs

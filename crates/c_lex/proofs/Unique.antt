@@ -86,16 +86,14 @@ none_unique : (stop : ℕ) (rest : List ℕ) (error other : LexError) → Begins
 none_unique stop rest (BadByte at) (BadByte at') none none' = ap BadByte (none.0 ∙ sym none'.0)
 none_unique stop rest (BadByte at) (OpenComment at') none none' = absurd (open_no_byte rest none'.1 none.1)
 none_unique stop rest (BadByte at) (BadNumber at') none none' = absurd (bad_byte_no_number rest none.1 none'.1)
-none_unique stop rest (BadByte at) Memory none none' = absurd none'
 none_unique stop rest (OpenComment at) (BadByte at') none none' = absurd (open_no_byte rest none.1 none'.1)
 none_unique stop rest (OpenComment at) (OpenComment at') none none' = ap OpenComment (none.0 ∙ sym none'.0)
 none_unique stop rest (OpenComment at) (BadNumber at') none none' = absurd (open_no_number rest none.1 none'.1)
-none_unique stop rest (OpenComment at) Memory none none' = absurd none'
 none_unique stop rest (BadNumber at) (BadByte at') none none' = absurd (bad_byte_no_number rest none'.1 none.1)
 none_unique stop rest (BadNumber at) (OpenComment at') none none' = absurd (open_no_number rest none'.1 none.1)
 none_unique stop rest (BadNumber at) (BadNumber at') none none' = ap BadNumber (none.0 ∙ sym none'.0)
-none_unique stop rest (BadNumber at) Memory none none' = absurd none'
 none_unique stop rest Memory other none none' = absurd none
+none_unique stop rest _ Memory none none' = absurd none'
 
 nothing_is_none : (stop : ℕ) (error : LexError) → ¬ BeginsNone stop [] error
 nothing_is_none stop (BadByte at) none = none.1

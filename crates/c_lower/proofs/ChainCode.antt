@@ -11,8 +11,7 @@ use Rattle.c_lower.specs.Chains.{infix_size, operand_code, operands_code, operan
 
 joined_size : (l : ExprTree) (o : Infix) (r : ExprTree) → expr_size (joined l o r) ≡ expr_size l + (expr_size r + infix_size o)
 joined_size l (Infix.Binary op) r = omega arith
-joined_size l Infix.LogicalAnd r = omega arith
-joined_size l Infix.LogicalOr r = omega arith
+joined_size l _ r = omega arith
 
 pub chained_size : (l : ExprTree) (ps : List (Infix × ExprTree)) → expr_size (chained l ps) ≡ expr_size l + operands_size ps
 chained_size l [] = omega arith
@@ -26,8 +25,7 @@ three a b c d = simp append_assoc
 
 joined_code : (l : ExprTree) (o : Infix) (r : ExprTree) (p k : ℕ) → expr_code (joined l o r) p k ≡ expr_code l p k ++ operand_code o r (p + expr_size l) k
 joined_code l (Infix.Binary op) r p k = two (expr_code l p k) _ _
-joined_code l Infix.LogicalAnd r p k = three (expr_code l p k) _ _ _
-joined_code l Infix.LogicalOr r p k = three (expr_code l p k) _ _ _
+joined_code l _ r p k = three (expr_code l p k) _ _ _
 
 pub chained_code : (l : ExprTree) (ps : List (Infix × ExprTree)) (p k : ℕ) → expr_code (chained l ps) p k ≡ expr_code l p k ++ operands_code ps (p + expr_size l) k
 chained_code l [] p k = sym (append-nil (expr_code l p k))
@@ -45,8 +43,7 @@ OperandsFit limit k (p ∷ ps) = (k + operand_temporaries p.0 (expr_temporaries 
 
 joined_fits : (limit k : ℕ) (l : ExprTree) (o : Infix) (r : ExprTree) → k + expr_temporaries (joined l o r) < limit → (k + expr_temporaries l < limit) × (k + operand_temporaries o (expr_temporaries r) < limit)
 joined_fits limit k l (Infix.Binary op) r h = (omega arith, omega arith)
-joined_fits limit k l Infix.LogicalAnd r h = (omega arith, omega arith)
-joined_fits limit k l Infix.LogicalOr r h = (omega arith, omega arith)
+joined_fits limit k l _ r h = (omega arith, omega arith)
 
 pub chained_fits : (limit k : ℕ) (l : ExprTree) (ps : List (Infix × ExprTree)) → k + expr_temporaries (chained l ps) < limit → (k + expr_temporaries l < limit) × OperandsFit limit k ps
 chained_fits limit k l [] h = (h, tt)

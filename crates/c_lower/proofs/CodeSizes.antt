@@ -3,7 +3,7 @@ use Rattle.std.proofs.Common.{◌≡◌, ◌+◌, ℕ, List, [], ◌∷◌, leng
 use Rattle.std.specs.Prelude.{Option, Some, None}
 use Rattle.c_tree.specs.declared.operators.Infix.{Infix}
 use Rattle.c_tree.specs.declared.operators.UnaryOperator.{UnaryOperator}
-use Rattle.c_tree.specs.Trees.{ExprTree, Number, Local, Global, LocalElement, GlobalElement, Unary, Parenthesized, Binary, LogicalAnd, LogicalOr, Conditional, CallTree, CallFunction, CallTable, CallSpawn, CallModelled, RightTree, Computed, Called, SimpleTree, DeclareScalar, DeclareArray, DeclareWith, SetLocal, SetGlobal, SetLocalElement, SetGlobalElement, Calling, StmtTree, StmtTrees, Do, Empty, Block, If, IfElse, While, For, Break, Continue, Return, NoStmts, Then}
+use Rattle.c_tree.specs.Trees.{ExprTree, LocalElement, GlobalElement, Unary, Parenthesized, Binary, LogicalAnd, LogicalOr, Conditional, CallTree, CallFunction, CallTable, CallSpawn, CallModelled, RightTree, Computed, Called, SimpleTree, DeclareWith, SetLocal, SetGlobal, SetLocalElement, SetGlobalElement, Calling, StmtTree, StmtTrees, Do, Block, If, IfElse, While, For, Return, NoStmts, Then}
 use Rattle.c_lower.specs.Operations.{unary_code, unary_size}
 use Rattle.c_lower.specs.ExprCode.{expr_size, expr_code}
 use Rattle.c_lower.specs.Chains.{infix_size, operand_code}
@@ -12,14 +12,9 @@ use Rattle.c_lower.specs.StmtCode.{simple_size, simple_code, simples_size, simpl
 
 pub unary_length : (op : UnaryOperator) (k : ℕ) → length (unary_code op k) ≡ unary_size op
 unary_length UnaryOperator.Plus k = refl
-unary_length UnaryOperator.Negate k = refl
-unary_length UnaryOperator.Complement k = refl
-unary_length UnaryOperator.Not k = refl
+unary_length _ k = refl
 
 pub expr_length : (e : ExprTree) (p k : ℕ) → length (expr_code e p k) ≡ expr_size e
-expr_length (Number v) p k = refl
-expr_length (Local x) p k = refl
-expr_length (Global g) p k = refl
 expr_length (LocalElement a i) p k = simp length-append (omega (arith, expr_length i p k))
 expr_length (GlobalElement a i) p k = simp length-append (omega (arith, expr_length i p k))
 expr_length (Unary op e) p k = simp length-append (omega (arith, expr_length e p k, unary_length op k))
@@ -28,6 +23,7 @@ expr_length (Binary op l r) p k = simp length-append (omega (arith, expr_length 
 expr_length (LogicalAnd l r) p k = simp length-append (omega (arith, expr_length l p k, expr_length r (p + expr_size l + 1) k))
 expr_length (LogicalOr l r) p k = simp length-append (omega (arith, expr_length l p k, expr_length r (p + expr_size l + 2) k))
 expr_length (Conditional c a b) p k = simp length-append (omega (arith, expr_length c p k, expr_length a (p + expr_size c + 1) k, expr_length b (p + expr_size c + 1 + expr_size a + 1) k))
+expr_length _ p k = refl
 
 pub arguments_length : (es : List ExprTree) (p k : ℕ) → length (arguments_code es p k) ≡ arguments_size es
 arguments_length [] p k = refl
@@ -48,14 +44,13 @@ held_length (Computed e) p k = expr_length e p k
 held_length (Called c) p k = call_length c p k (Some k)
 
 pub simple_length : (s : SimpleTree) (p t : ℕ) → length (simple_code s p t) ≡ simple_size s
-simple_length (DeclareScalar x) p t = refl
-simple_length (DeclareArray x n) p t = refl
 simple_length (DeclareWith x v) p t = set_length v p t x
 simple_length (SetLocal x v) p t = set_length v p t x
 simple_length (SetGlobal g v) p t = simp length-append (omega (arith, held_length v p t))
 simple_length (SetLocalElement a i v) p t = simp length-append (omega (arith, expr_length i p t, held_length v (p + expr_size i) (t + 1)))
 simple_length (SetGlobalElement a i v) p t = simp length-append (omega (arith, expr_length i p t, held_length v (p + expr_size i) (t + 1)))
 simple_length (Calling c) p t = call_length c p t None
+simple_length _ p t = refl
 
 pub simples_length : (ss : List SimpleTree) (p t : ℕ) → length (simples_code ss p t) ≡ simples_size ss
 simples_length [] p t = refl
@@ -76,7 +71,6 @@ return_length (Some v) p t = simp length-append (omega (arith, held_length v p t
 mutual
   pub stmt_length : (s : StmtTree) (p t leave skip : ℕ) → length (stmt_code s p t leave skip) ≡ stmt_size s
   stmt_length (Do s) p t leave skip = simple_length s p t
-  stmt_length Empty p t leave skip = refl
   stmt_length (Block ss) p t leave skip = stmts_length ss p t leave skip
   stmt_length (If c s) p t leave skip = simp length-append (omega (arith, expr_length c p t, stmt_length s (p + expr_size c + 1) t leave skip))
   stmt_length (IfElse c s r) p t leave skip =
@@ -89,9 +83,8 @@ mutual
       let next = body + stmt_size s in
       let end = next + step_size step + 1 in
       simp length-append (omega (arith, simples_length init p t, test_length c turn t end, stmt_length s body t end next, step_length step next t))
-  stmt_length Break p t leave skip = refl
-  stmt_length Continue p t leave skip = refl
   stmt_length (Return v) p t leave skip = return_length v p t
+  stmt_length _ p t leave skip = refl
 
   pub stmts_length : (ss : StmtTrees) (p t leave skip : ℕ) → length (stmts_code ss p t leave skip) ≡ stmts_size ss
   stmts_length NoStmts p t leave skip = refl

@@ -24,9 +24,6 @@ use Rattle.c_lower.proofs.Suits.{Suits}
 
 -- an expression has a temporary for its value
 pub expr_takes_one : (e : ExprTree) → 1 ≤ expr_temporaries e
-expr_takes_one (Number v) = omega arith
-expr_takes_one (Local x) = omega arith
-expr_takes_one (Global g) = omega arith
 expr_takes_one (LocalElement a i) = expr_takes_one i
 expr_takes_one (GlobalElement a i) = expr_takes_one i
 expr_takes_one (Unary op e) = expr_takes_one e
@@ -35,6 +32,7 @@ expr_takes_one (Binary op l r) = omega (arith, expr_takes_one l)
 expr_takes_one (LogicalAnd l r) = omega (arith, expr_takes_one l)
 expr_takes_one (LogicalOr l r) = omega (arith, expr_takes_one l)
 expr_takes_one (Conditional c a b) = omega (arith, expr_takes_one c)
+expr_takes_one _ = omega arith
 
 arguments_count : (es : List ExprTree) (k : ℕ) → length (arguments_in es k) ≡ length es
 arguments_count [] k = refl
@@ -69,9 +67,7 @@ module _ (c : tree.Context) (d : flat.Context) (t n : ℕ) (suits : Suits c d t 
 
   unary_formed : (op : UnaryOperator) (k : ℕ) → IsScalar d k → AreFormed (unary_code op k)
   unary_formed UnaryOperator.Plus k s = tt
-  unary_formed UnaryOperator.Negate k s = ((s, s), tt)
-  unary_formed UnaryOperator.Complement k s = ((s, s), tt)
-  unary_formed UnaryOperator.Not k s = ((s, s), tt)
+  unary_formed _ k s = ((s, s), tt)
 
   pub expr_formed : (scope : List ℕ) (e : ExprTree) (p k : ℕ) → IsExprScoped c scope e → t ≤ k → k + expr_temporaries e ≤ t + n → p + expr_size e < d.ops → AreFormed (expr_code e p k)
   expr_formed scope (Number v) p k h low m o = ((temporary k low m, h), tt)

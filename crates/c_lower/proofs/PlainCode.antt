@@ -3,7 +3,7 @@ use Rattle.std.proofs.Common.{◌≡◌, ◌+◌, ℕ, Bool, true, false, List, 
 use Rattle.std.specs.Prelude.{None}
 use Rattle.std.specs.List.{AllByRecursion}
 use Rattle.c_tree.specs.declared.operators.UnaryOperator.{UnaryOperator}
-use Rattle.c_tree.specs.Trees.{ExprTree, Number, Local, Global, LocalElement, GlobalElement, Unary, Parenthesized, Binary, LogicalAnd, LogicalOr, Conditional}
+use Rattle.c_tree.specs.Trees.{ExprTree, LocalElement, GlobalElement, Unary, Parenthesized, Binary, LogicalAnd, LogicalOr, Conditional}
 use Rattle.flat_code.specs.declared.operations.Op.{Op}
 use Rattle.flat_code.specs.Codes.{site_of}
 use Rattle.c_lower.specs.Operations.{unary_code}
@@ -26,14 +26,9 @@ both xs ys a b = all-append IsPlain xs ys a b
 
 unary_plain : (op : UnaryOperator) (k : ℕ) → ArePlain (unary_code op k)
 unary_plain UnaryOperator.Plus k = tt
-unary_plain UnaryOperator.Negate k = ((refl, refl), tt)
-unary_plain UnaryOperator.Complement k = ((refl, refl), tt)
-unary_plain UnaryOperator.Not k = ((refl, refl), tt)
+unary_plain _ k = ((refl, refl), tt)
 
 pub expr_plain : (e : ExprTree) (p k : ℕ) → ArePlain (expr_code e p k)
-expr_plain (Number v) p k = ((refl, refl), tt)
-expr_plain (Local x) p k = ((refl, refl), tt)
-expr_plain (Global g) p k = ((refl, refl), tt)
 expr_plain (LocalElement a i) p k = both (expr_code i p k) _ (expr_plain i p k) ((refl, refl), tt)
 expr_plain (GlobalElement a i) p k = both (expr_code i p k) _ (expr_plain i p k) ((refl, refl), tt)
 expr_plain (Unary op e) p k = both (expr_code e p k) _ (expr_plain e p k) (unary_plain op k)
@@ -58,6 +53,7 @@ expr_plain (Conditional c a b) p k =
     (both (expr_code c p k ++ (Op.JumpZero k second ∷ []) ++ expr_code a first k) _
     (both (expr_code c p k ++ (Op.JumpZero k second ∷ [])) _ (both (expr_code c p k) _ (expr_plain c p k) ((refl, refl), tt)) (expr_plain a first k)) ((refl, refl), tt))
     (expr_plain b second k)
+expr_plain _ p k = ((refl, refl), tt)
 
 pub arguments_plain : (es : List ExprTree) (p k : ℕ) → ArePlain (arguments_code es p k)
 arguments_plain [] p k = tt

@@ -10,7 +10,7 @@ use Rattle.std.proofs.lemmas.List.Sorted.{IsPermutation-refl, IsPermutation-tran
 use Rattle.std.proofs.lemmas.Map.Keys.{IsDistinct-IsPermutation}
 use Rattle.c_tree.specs.declared.facts.Site.{Site}
 use Rattle.c_tree.specs.TextOrder.{call_site, right_sites, returned_sites, simple_sites, simples_sites, step_sites, stmt_sites, stmts_sites, functions_sites, program_sites}
-use Rattle.c_tree.specs.Trees.{ExprTree, CallTree, CallFunction, CallTable, CallSpawn, CallModelled, RightTree, Computed, Called, SimpleTree, DeclareScalar, DeclareArray, DeclareWith, SetLocal, SetGlobal, SetLocalElement, SetGlobalElement, Calling, StmtTree, StmtTrees, Do, Empty, Block, If, IfElse, While, For, Break, Continue, Return, NoStmts, Then, FunctionTree, ProgramTree}
+use Rattle.c_tree.specs.Trees.{ExprTree, CallTree, CallFunction, CallTable, CallSpawn, CallModelled, RightTree, Computed, Called, SimpleTree, DeclareWith, SetLocal, SetGlobal, SetLocalElement, SetGlobalElement, Calling, StmtTree, StmtTrees, Do, Block, If, IfElse, While, For, Return, NoStmts, Then, FunctionTree, ProgramTree}
 use Rattle.flat_code.specs.declared.operations.Op.{Op}
 use Rattle.flat_code.specs.Codes.{site_of}
 use Rattle.flat_code.specs.WellFormed.{site_numbers}
@@ -66,8 +66,6 @@ held_is (Computed e) p k = expr_none e p k
 held_is (Called c) p k = call_is c p k (Some k)
 
 simple_is : (s : SimpleTree) (p t : ℕ) → sites (simple_code s p t) ≡ numbers (simple_sites s)
-simple_is (DeclareScalar x) p t = refl
-simple_is (DeclareArray x n) p t = refl
 simple_is (DeclareWith x v) p t = set_is v p t x
 simple_is (SetLocal x v) p t = set_is v p t x
 simple_is (SetGlobal g v) p t = before (held_code v p t) _ refl ∙ held_is v p t
@@ -76,6 +74,7 @@ simple_is (SetLocalElement a i v) p t =
 simple_is (SetGlobalElement a i v) p t =
     before (expr_code i p t ++ held_code v (p + expr_size i) (t + 1)) _ refl ∙ (after (expr_code i p t) _ (expr_none i p t) ∙ held_is v (p + expr_size i) (t + 1))
 simple_is (Calling c) p t = call_is c p t None
+simple_is _ p t = refl
 
 two : (xs ys : List Site) → numbers (xs ++ ys) ≡ numbers xs ++ numbers ys
 two xs ys = map-append (λ (s : Site). s.number) xs ys
@@ -120,7 +119,6 @@ step_last init step body code h =
 mutual
   stmt_permutes : (s : StmtTree) (p t leave skip : ℕ) → IsPermutation (numbers (stmt_sites s)) (sites (stmt_code s p t leave skip))
   stmt_permutes (Do s) p t leave skip = same _ _ (simple_is s p t)
-  stmt_permutes Empty p t leave skip = IsPermutation-refl []
   stmt_permutes (Block ss) p t leave skip = stmts_permute ss p t leave skip
   stmt_permutes (If c s) p t leave skip =
       let first = p + expr_size c + 1 in
@@ -163,9 +161,8 @@ mutual
       begins_as _ _ (numbers (simples_sites init ++ (step_sites step ++ stmt_sites s))) tree_is
       (ends_as (numbers (simples_sites init) ++ (numbers (step_sites step) ++ numbers (stmt_sites s))) ((numbers (simples_sites init) ++ sites inside) ++ numbers (step_sites step)) _ code_is
       (step_last (numbers (simples_sites init)) (numbers (step_sites step)) (numbers (stmt_sites s)) (sites inside) (stmt_permutes s body t end next)))
-  stmt_permutes Break p t leave skip = IsPermutation-refl []
-  stmt_permutes Continue p t leave skip = IsPermutation-refl []
   stmt_permutes (Return v) p t leave skip = same _ _ (return_is v p t)
+  stmt_permutes _ p t leave skip = IsPermutation-refl []
 
   stmts_permute : (ss : StmtTrees) (p t leave skip : ℕ) → IsPermutation (numbers (stmts_sites ss)) (sites (stmts_code ss p t leave skip))
   stmts_permute NoStmts p t leave skip = IsPermutation-refl []

@@ -3,7 +3,7 @@ use Rattle.std.proofs.Common.{◌≤◌, ℕ, Bool, true, List, [], ◌∷◌, �
 use Rattle.std.specs.Prelude.{sum, Option, Some, None}
 use Rattle.std.proofs.lemmas.List.Sums.{sum_by-cons}
 use Rattle.c_tree.specs.TextOrder.{Declared, simple_names, simples_names, step_names, stmt_names, stmts_names}
-use Rattle.c_tree.specs.Trees.{SimpleTree, DeclareScalar, DeclareArray, DeclareWith, SetLocal, SetGlobal, SetLocalElement, SetGlobalElement, Calling, StmtTree, StmtTrees, Do, Empty, Block, If, IfElse, While, For, Break, Continue, Return, NoStmts, Then}
+use Rattle.c_tree.specs.Trees.{SimpleTree, DeclareScalar, DeclareArray, DeclareWith, StmtTree, StmtTrees, Do, Block, If, IfElse, While, For, NoStmts, Then}
 use Rattle.c_tree.specs.WellScoped.{Context, IsSimpleScoped, AreSimplesScoped, with_names, scope_after, scope_after_all, IsStepScoped, IsStmtScoped, AreStmtsScoped}
 
 -- each name has a word
@@ -19,11 +19,7 @@ simple_have : (c : Context) (scope : List ℕ) (s : SimpleTree) → IsSimpleScop
 simple_have c scope (DeclareScalar x) h = (omega arith, tt)
 simple_have c scope (DeclareArray x n) h = (h.2, tt)
 simple_have c scope (DeclareWith x v) h = (omega arith, tt)
-simple_have c scope (SetLocal x v) h = tt
-simple_have c scope (SetGlobal g v) h = tt
-simple_have c scope (SetLocalElement a i v) h = tt
-simple_have c scope (SetGlobalElement a i v) h = tt
-simple_have c scope (Calling k) h = tt
+simple_have c scope _ h = tt
 
 simples_have : (c : Context) (scope : List ℕ) (ss : List SimpleTree) → AreSimplesScoped c scope ss → HaveWords (simples_names ss)
 simples_have c scope [] h = tt
@@ -36,7 +32,6 @@ step_have c scope (Some s) h = simple_have c scope s h.1
 mutual
   stmt_have : (c : Context) (loop : Bool) (scope : List ℕ) (s : StmtTree) → IsStmtScoped c loop scope s → HaveWords (stmt_names s)
   stmt_have c loop scope (Do s) h = simple_have c scope s h
-  stmt_have c loop scope Empty h = tt
   stmt_have c loop scope (Block ss) h = stmts_have c loop scope ss h
   stmt_have c loop scope (If e s) h = stmt_have c loop scope s h.1
   stmt_have c loop scope (IfElse e s r) h = all (stmt_names s) (stmt_names r) (stmt_have c loop scope s h.1) (stmt_have c loop scope r h.2)
@@ -44,9 +39,7 @@ mutual
   stmt_have c loop scope (For init e step s) h =
       all (simples_names init) (step_names step ++ stmt_names s) (simples_have c scope init h.0)
       (all (step_names step) (stmt_names s) (step_have c (scope_after_all scope init) step h.2) (stmt_have c true (scope_after_all scope init) s h.3))
-  stmt_have c loop scope Break h = tt
-  stmt_have c loop scope Continue h = tt
-  stmt_have c loop scope (Return v) h = tt
+  stmt_have c loop scope _ h = tt
 
   pub stmts_have : (c : Context) (loop : Bool) (scope : List ℕ) (ss : StmtTrees) → AreStmtsScoped c loop scope ss → HaveWords (stmts_names ss)
   stmts_have c loop scope NoStmts h = tt

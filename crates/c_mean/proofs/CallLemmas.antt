@@ -1,6 +1,6 @@
 -- Modelled calls and their arguments, and after how long a thread is ready that is blocked at one.
 use Rattle.std.proofs.Common.{◌≡◌, ℕ, suc, List, [], ◌∷◌, length, refl, sym, ap, subst, ◌∙◌, ◌⊎◌, inl, inr, nat_eq}
-use Rattle.std.specs.Prelude.{IsSome, Option, Some, None, option_and_then, slice_index_or, Result, Ok, Err}
+use Rattle.std.specs.Prelude.{IsSome, Option, Some, None, option_and_then, slice_index_or, Result, Ok}
 use Rattle.std.proofs.lemmas.Bool.{cases_eq, cond-true, cond-false, eq-eqb, ne_eqb}
 use Rattle.cap_word.proofs.CallLemmas.{numbered, number_is}
 use Rattle.cap_word.specs.Calls.{Call, call_of, call_on, call_with}
@@ -58,8 +58,7 @@ each_made P none each number arguments = by_made (call_of number arguments) refl
 
 counted_first : (first : Value) (rest : Result (List ℕ) TrapKind) (n : ℕ) (words : List ℕ) → ((ws : List ℕ) → rest ≡ Ok ws → length ws ≡ n) → with_first first rest ≡ Ok words → length words ≡ suc n
 counted_first (Ok a) (Ok ws) n words h e = let same : a ∷ ws ≡ words = cc in ap length (sym same) ∙ ap suc (h ws refl)
-counted_first (Ok a) (Err trap) n words h e = cc
-counted_first (Err trap) rest n words h e = cc
+counted_first _ _ n words h e = cc
 
 pub counted : (names globals : List (List ℕ)) (exprs : List ExprTree) (words : List ℕ) → values names globals exprs ≡ Ok words → length words ≡ length exprs
 counted names globals [] words e = let same : [] ≡ words = cc in ap length (sym same)
@@ -68,8 +67,4 @@ counted names globals (expr ∷ exprs) words e = counted_first (value names glob
 -- the time to wake doesn't turn on the caps or the exchange
 pub waits_alone : (caps : List ℕ) (x : Exchange) (since : ℕ) (block : Block) → wake_of since (blocking_row caps x block).wait ≡ wakes_at since block
 waits_alone caps x since Block.Accept = refl
-waits_alone caps x since (Block.Wait channel) = refl
-waits_alone caps x since (Block.Sleep ticks) = refl
-waits_alone caps x since Block.Yield = refl
-waits_alone caps x since (Block.Take resource amount) = refl
-waits_alone caps x since (Block.WaitFor channel ticks) = refl
+waits_alone caps x since _ = refl

@@ -12,8 +12,7 @@ use Rattle.c_mean.specs.Chains.{joined_value, chain_value, IsOpen}
 module _ (names globals : List (List ℕ)) where
   joined_is : (l : ExprTree) (o : Infix) (r : ExprTree) → value names globals (joined l o r) ≡ joined_value o (value names globals l) (value names globals r)
   joined_is l (Infix.Binary operator) r = refl
-  joined_is l Infix.LogicalAnd r = refl
-  joined_is l Infix.LogicalOr r = refl
+  joined_is l _ r = refl
 
   pub chained_is : (l : ExprTree) (ps : List (Infix × ExprTree)) → value names globals (chained l ps) ≡ chain_value names globals (value names globals l) ps
   chained_is l [] = refl
@@ -21,8 +20,7 @@ module _ (names globals : List (List ℕ)) where
 
   trap_first : (o : Infix) (trap : TrapKind) (right : Value) → joined_value o (Err trap) right ≡ Err trap
   trap_first (Infix.Binary operator) trap right = refl
-  trap_first Infix.LogicalAnd trap right = refl
-  trap_first Infix.LogicalOr trap right = refl
+  trap_first _ trap right = refl
 
   -- a trap is the value of all that follows it
   pub chain_trap : (trap : TrapKind) (ps : List (Infix × ExprTree)) → chain_value names globals (Err trap) ps ≡ Err trap
@@ -37,8 +35,7 @@ module _ (sizes widths : List ℕ) where
 
   joined_in_range : (l : ExprTree) (o : Infix) (r : ExprTree) → IsInRange sizes widths (joined l o r) → IsInRange sizes widths l × IsInRange sizes widths r
   joined_in_range l (Infix.Binary operator) r h = h
-  joined_in_range l Infix.LogicalAnd r h = h
-  joined_in_range l Infix.LogicalOr r h = h
+  joined_in_range l _ r h = h
 
   pub chained_in_range : (l : ExprTree) (ps : List (Infix × ExprTree)) → IsInRange sizes widths (chained l ps) → IsInRange sizes widths l × OperandsInRange ps
   chained_in_range l [] h = (h, tt)

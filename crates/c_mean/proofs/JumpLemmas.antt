@@ -1,6 +1,6 @@
 -- A jump passes over each statement whole, so it comes to the end of the loop in whose body it stands.
 use Rattle.std.proofs.Common.{◌≡◌, ◌∙◌, ℕ, suc, List, [], ◌∷◌, ◌++◌, map, Option, Some, None, refl}
-use Rattle.c_tree.specs.Trees.{SimpleTree, StmtTree, StmtTrees, Do, Empty, Block, If, IfElse, While, For, Break, Continue, Return, NoStmts, Then}
+use Rattle.c_tree.specs.Trees.{SimpleTree, StmtTree, StmtTrees, Block, For, NoStmts, Then}
 use Rattle.c_mean.specs.ToDo.{Item, Simply, Test, Enter, Back, Loop, WhileLoop, ForLoop, step_item, before, all_before, body_before, after_leave, after_skip, skipped}
 
 -- ---- `break`
@@ -15,20 +15,13 @@ leave_step n (Some s) rest = refl
 
 mutual
   pub leave_passes : (n : ℕ) (s : StmtTree) (rest : List Item) → after_leave n (before s rest) ≡ after_leave n rest
-  leave_passes n (Do s) rest = refl
-  leave_passes n Empty rest = refl
   leave_passes n (Block ss) rest = leave_passes_all n ss rest
-  leave_passes n (If c s) rest = refl
-  leave_passes n (IfElse c s r) rest = refl
-  leave_passes n (While c s) rest = refl
   leave_passes n (For init None step s) rest =
       let back = Back (ForLoop None step s) ∷ rest in
       let body = before s (step_item step ++ back) in
       leave_simples n init (Enter ∷ body) ∙ (leave_passes (suc n) s (step_item step ++ back) ∙ leave_step (suc n) step back)
   leave_passes n (For init (Some c) step s) rest = leave_simples n init (Test c (ForLoop (Some c) step s) ∷ rest)
-  leave_passes n Break rest = refl
-  leave_passes n Continue rest = refl
-  leave_passes n (Return v) rest = refl
+  leave_passes n _ rest = refl
 
   leave_passes_all : (n : ℕ) (ss : StmtTrees) (rest : List Item) → after_leave n (all_before ss rest) ≡ after_leave n rest
   leave_passes_all n NoStmts rest = refl
@@ -50,20 +43,13 @@ skip_step n (Some s) rest = refl
 
 mutual
   pub skip_passes : (n : ℕ) (s : StmtTree) (rest : List Item) → after_skip n (before s rest) ≡ after_skip n rest
-  skip_passes n (Do s) rest = refl
-  skip_passes n Empty rest = refl
   skip_passes n (Block ss) rest = skip_passes_all n ss rest
-  skip_passes n (If c s) rest = refl
-  skip_passes n (IfElse c s r) rest = refl
-  skip_passes n (While c s) rest = refl
   skip_passes n (For init None step s) rest =
       let back = Back (ForLoop None step s) ∷ rest in
       let body = before s (step_item step ++ back) in
       skip_simples n init (Enter ∷ body) ∙ (skip_passes (suc n) s (step_item step ++ back) ∙ skip_step (suc n) step back)
   skip_passes n (For init (Some c) step s) rest = skip_simples n init (Test c (ForLoop (Some c) step s) ∷ rest)
-  skip_passes n Break rest = refl
-  skip_passes n Continue rest = refl
-  skip_passes n (Return v) rest = refl
+  skip_passes n _ rest = refl
 
   skip_passes_all : (n : ℕ) (ss : StmtTrees) (rest : List Item) → after_skip n (all_before ss rest) ≡ after_skip n rest
   skip_passes_all n NoStmts rest = refl

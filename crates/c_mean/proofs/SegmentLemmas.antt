@@ -51,13 +51,11 @@ module _ (program : ProgramTree) (caps : List ℕ) where
 
   same_after : (move : SegmentMove) → and_then move (moves (segment_machine program caps) 0) ≡ move
   same_after (Goes segment) = refl
-  same_after (Asks question waiting) = refl
-  same_after (Stops rested) = refl
+  same_after _ = refl
 
   step_comes : (segment : Segment) (n : ℕ) (move : SourceMove) → source_step program segment.running ≡ move → ((next : Running) → Comes (at segment next) n (moves (source_machine program) n next)) → Comes segment (suc n) (and_then move (moves (source_machine program) n))
   step_comes segment n (Goes next) e rest = later segment n next (moves (source_machine program) n next) (ap (segment_move caps segment) e) (rest next)
-  step_comes segment n (Asks question waiting) e rest = (1, omega arith, same_after (segment_step program caps segment) ∙ ap (segment_move caps segment) e)
-  step_comes segment n (Stops finish) e rest = (1, omega arith, same_after (segment_step program caps segment) ∙ ap (segment_move caps segment) e)
+  step_comes segment n _ e rest = (1, omega arith, same_after (segment_step program caps segment) ∙ ap (segment_move caps segment) e)
 
   pub segment_comes : (n : ℕ) (segment : Segment) → Comes segment n (moves (source_machine program) n segment.running)
   segment_comes zero segment = refl

@@ -9,7 +9,7 @@ use Rattle.cap_word.specs.declared.traps.TrapKind.{TrapKind}
 use Rattle.cap_word.specs.ModelledCalls.{number_of}
 use Rattle.c_tree.specs.Sizes.{below}
 use Rattle.c_tree.specs.TextOrder.{call_site}
-use Rattle.c_tree.specs.Trees.{CallTree, CallFunction, CallTable, CallSpawn, CallModelled, RightTree, Computed, Called, SimpleTree, DeclareScalar, DeclareArray, DeclareWith, SetLocal, SetGlobal, SetLocalElement, SetGlobalElement, Calling, ProgramTree}
+use Rattle.c_tree.specs.Trees.{CallTree, CallFunction, CallTable, CallSpawn, CallModelled, RightTree, Computed, Called, SimpleTree, DeclareWith, SetLocal, SetGlobal, SetLocalElement, SetGlobalElement, Calling, ProgramTree}
 use Rattle.c_mean.specs.ToDo.{Item, Simply, Choose, Test, Enter, Back, Leave, Skip, GiveBack, GiveBackWord, Fail, all_before}
 use Rattle.c_mean.specs.Frames.{Place, Nowhere, InLocal, InGlobal, InLocalElement, InGlobalElement, Returned, WaitingFrame, Running, Waiting, function_at}
 use Rattle.c_mean.specs.Steps.{SourceMove, to_do, valued, all_valued, on_value, stored_where, stored, assigned, delivered_or, delivered, waits_at, entered, entered_where, asks_if, called, assigns, does, branched, returned, gives_back, performs, performs_first, source_step, source_resume, source_machine, started}
@@ -67,11 +67,10 @@ module _ (program : ProgramTree) where
 
   stored_stands : (thread : Running) (place : Place) (word : ℕ) → Stands thread → StoredStands (stored thread place word)
   stored_stands thread Nowhere word h = h
-  stored_stands thread (InLocal x) word h = record { running = h.running; below = h.below }
-  stored_stands thread (InGlobal g) word h = record { running = h.running; below = h.below }
   stored_stands thread (InLocalElement a i) word h = where_stands _ _ (record { running = h.running; below = h.below })
   stored_stands thread (InGlobalElement a i) word h = where_stands _ _ (record { running = h.running; below = h.below })
   stored_stands thread Returned word h = record { running = (tt, tt); below = h.below }
+  stored_stands thread _ word h = record { running = h.running; below = h.below }
 
   assigned_by : (thread : Running) (result : Result Running TrapKind) → StoredStands result → MoveStands (on_value thread result Goes)
   assigned_by thread (Ok after) h = h
@@ -124,14 +123,13 @@ module _ (program : ProgramTree) where
   assigns_stands thread place (Called call) scope k h = called_stands thread place call (scope, k.0) h
 
   does_stands : (thread : Running) (s : SimpleTree) (scope : List ℕ) → AllIn (text_of thread.frame.function) (simple_calls s scope thread.frame.to_do) → Stands thread → MoveStands (does program thread s)
-  does_stands thread (DeclareScalar x) scope k h = record { running = h.running; below = h.below }
-  does_stands thread (DeclareArray x n) scope k h = record { running = h.running; below = h.below }
   does_stands thread (DeclareWith x v) scope k h = assigns_stands thread (InLocal x) v scope k h
   does_stands thread (SetLocal x v) scope k h = assigns_stands thread (InLocal x) v scope k h
   does_stands thread (SetGlobal g v) scope k h = assigns_stands thread (InGlobal g) v scope k h
   does_stands thread (SetLocalElement a i v) scope k h = value_stands thread (valued thread i) _ (λ index. assigns_stands thread (InLocalElement a index) v scope k h)
   does_stands thread (SetGlobalElement a i v) scope k h = value_stands thread (valued thread i) _ (λ index. assigns_stands thread (InGlobalElement a index) v scope k h)
   does_stands thread (Calling call) scope k h = called_stands thread Nowhere call (scope, k.0) h
+  does_stands thread _ scope k h = record { running = h.running; below = h.below }
 
   -- ---- a step
 

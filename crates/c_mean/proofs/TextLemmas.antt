@@ -1,7 +1,7 @@
 -- What a frame has still to do is always a rest of its function's text, so every frame that waits does so at a call of it.
 use Rattle.std.proofs.Common.{ℕ, zero, suc, List, [], ◌∷◌, ◌++◌, map, Option, Some, None}
 use Rattle.std.specs.List.{Contains}
-use Rattle.c_tree.specs.Trees.{ExprTree, RightTree, Computed, Called, SimpleTree, DeclareScalar, DeclareArray, DeclareWith, SetLocal, SetGlobal, SetLocalElement, SetGlobalElement, Calling, StmtTree, StmtTrees, Do, Empty, Block, If, IfElse, While, For, Break, Continue, Return, NoStmts, Then}
+use Rattle.c_tree.specs.Trees.{ExprTree, RightTree, Computed, Called, SimpleTree, DeclareWith, SetLocal, SetGlobal, SetLocalElement, SetGlobalElement, Calling, StmtTree, StmtTrees, Do, Empty, Block, If, IfElse, While, For, Break, Continue, Return, NoStmts, Then}
 use Rattle.c_tree.specs.TextOrder.{simple_names}
 use Rattle.c_tree.specs.WellScoped.{with_names, scope_after, scope_after_all}
 use Rattle.c_mean.specs.ToDo.{Item, Simply, Choose, Test, Enter, Back, Leave, Skip, GiveBack, GiveBackWord, Fail, Loop, WhileLoop, ForLoop, step_item, begun, before, all_before, body_before, turn_before, after_leave, after_skip, skipped}
@@ -23,13 +23,9 @@ module _ (text : List CallInText) where
   ItemIn (Simply s) rest = (scope : List ℕ) × AllIn text (simple_calls s scope rest)
   ItemIn (Choose c s r) rest = (scope : List ℕ) × AllIn text (stmt_calls s scope rest) × AllIn text (stmt_calls r scope rest)
   ItemIn (Test c loop) rest = (scope : List ℕ) × AllIn text (loop_calls loop scope rest)
-  ItemIn Enter rest = Unit {0}
   ItemIn (Back loop) rest = (scope : List ℕ) × AllIn text (loop_calls loop scope rest)
-  ItemIn Leave rest = Unit {0}
-  ItemIn Skip rest = Unit {0}
   ItemIn (GiveBack v) rest = (scope : List ℕ) × AllIn text (returned_calls v scope rest)
-  ItemIn (GiveBackWord word) rest = Unit {0}
-  ItemIn (Fail trap) rest = Unit {0}
+  ItemIn _ rest = Unit {0}
 
   -- and those of all items
   abbrev pub IsRest : List Item → Type 0
@@ -56,12 +52,10 @@ module _ (text : List CallInText) where
 
   mutual
     pub before_rest : (s : StmtTree) (scope : List ℕ) (rest : List Item) → AllIn text (stmt_calls s scope rest) → IsRest rest → IsRest (before s rest)
-    before_rest (Do s) scope rest h k = ((scope, h), k)
     before_rest Empty scope rest h k = k
     before_rest (Block ss) scope rest h k = all_before_rest ss scope rest h k
     before_rest (If c s) scope rest h k = ((scope, h, tt), k)
     before_rest (IfElse c s r) scope rest h k = let both = all_in_parts (stmt_calls s scope rest) (stmt_calls r scope rest) h in ((scope, both.0, both.1), k)
-    before_rest (While c s) scope rest h k = ((scope, h), k)
     before_rest (For init c step s) scope rest h k =
         let loop = ForLoop c step s in
         let inner = scope_after_all scope init in
@@ -72,7 +66,7 @@ module _ (text : List CallInText) where
         simples_rest init scope (turn_before loop rest) first.0 (begun_rest c loop inner (before s (step_item step ++ Back loop ∷ rest)) rest first.1 body k)
     before_rest Break scope rest h k = (tt, k)
     before_rest Continue scope rest h k = (tt, k)
-    before_rest (Return v) scope rest h k = ((scope, h), k)
+    before_rest _ scope rest h k = ((scope, h), k)
 
     pub all_before_rest : (ss : StmtTrees) (scope : List ℕ) (rest : List Item) → AllIn text (stmts_calls ss scope rest) → IsRest rest → IsRest (all_before ss rest)
     all_before_rest NoStmts scope rest h k = k
@@ -95,14 +89,13 @@ module _ (text : List CallInText) where
   right_rests (Called call) target scope rest k = (k, tt)
 
   simple_rests : (s : SimpleTree) (scope : List ℕ) (rest : List Item) → IsRest rest → RestsIn (simple_calls s scope rest)
-  simple_rests (DeclareScalar x) scope rest k = tt
-  simple_rests (DeclareArray x n) scope rest k = tt
   simple_rests (DeclareWith x v) scope rest k = right_rests v (ToLocal x) scope rest k
   simple_rests (SetLocal x v) scope rest k = right_rests v (ToLocal x) scope rest k
   simple_rests (SetGlobal g v) scope rest k = right_rests v (ToGlobal g) scope rest k
   simple_rests (SetLocalElement a i v) scope rest k = right_rests v (ToLocalElement a) scope rest k
   simple_rests (SetGlobalElement a i v) scope rest k = right_rests v (ToGlobalElement a) scope rest k
   simple_rests (Calling call) scope rest k = (k, tt)
+  simple_rests _ scope rest k = tt
 
   simples_rests : (ss : List SimpleTree) (scope : List ℕ) (rest : List Item) → AllIn text (simples_calls ss scope rest) → IsRest rest → RestsIn (simples_calls ss scope rest)
   simples_rests [] scope rest h k = tt
@@ -122,7 +115,6 @@ module _ (text : List CallInText) where
   mutual
     stmt_rests : (s : StmtTree) (scope : List ℕ) (rest : List Item) → AllIn text (stmt_calls s scope rest) → IsRest rest → RestsIn (stmt_calls s scope rest)
     stmt_rests (Do s) scope rest h k = simple_rests s scope rest k
-    stmt_rests Empty scope rest h k = tt
     stmt_rests (Block ss) scope rest h k = stmts_rests ss scope rest h k
     stmt_rests (If c s) scope rest h k = stmt_rests s scope rest h k
     stmt_rests (IfElse c s r) scope rest h k =
@@ -141,9 +133,8 @@ module _ (text : List CallInText) where
         rests_both (simples_calls init scope (turn_before loop rest)) (step_calls step inner (Back loop ∷ rest) ++ stmt_calls s inner (step_item step ++ Back loop ∷ rest))
         (simples_rests init scope (turn_before loop rest) first.0 turn)
         (rests_both (step_calls step inner (Back loop ∷ rest)) (stmt_calls s inner (step_item step ++ Back loop ∷ rest)) (step_rests step inner (Back loop ∷ rest) back) (stmt_rests s inner (step_item step ++ Back loop ∷ rest) second.1 after))
-    stmt_rests Break scope rest h k = tt
-    stmt_rests Continue scope rest h k = tt
     stmt_rests (Return v) scope rest h k = returned_rests v scope rest k
+    stmt_rests _ scope rest h k = tt
 
     pub stmts_rests : (ss : StmtTrees) (scope : List ℕ) (rest : List Item) → AllIn text (stmts_calls ss scope rest) → IsRest rest → RestsIn (stmts_calls ss scope rest)
     stmts_rests NoStmts scope rest h k = tt

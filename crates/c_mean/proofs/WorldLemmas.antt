@@ -19,11 +19,9 @@ use Rattle.c_mean.specs.Kept.{LeavesAlone}
 
 -- a list with one element set has the others where they stood
 slice_get-set_other : {A : Type 0} (xs : List A) (i u : ℕ) (a : A) → u ≢ i → slice_get (slice_set xs i a) u ≡ slice_get xs u
-slice_get-set_other [] i u a ne = refl
 slice_get-set_other (x ∷ xs) zero zero a ne = absurd (ne refl)
-slice_get-set_other (x ∷ xs) zero (suc u) a ne = refl
-slice_get-set_other (x ∷ xs) (suc i) zero a ne = refl
 slice_get-set_other (x ∷ xs) (suc i) (suc u) a ne = slice_get-set_other xs i u a (λ e. ne (ap suc e))
+slice_get-set_other _ _ _ a ne = refl
 
 -- and one that has grown at its end has its front where it stood
 slice_get-append_front : {A : Type 0} (xs ys : List A) (u : ℕ) → u < length xs → slice_get (xs ++ ys) u ≡ slice_get xs u
@@ -117,9 +115,7 @@ module _ (program : ProgramTree) (caps : List ℕ) (world : World) (t : ℕ) whe
 
   same_channels : (x : Exchange) (number next : ℕ) (ask : Ask) → length (immediate_row caps x number next ask).after.channels ≡ length x.channels
   same_channels x number next (Ask.Put value) = refl
-  same_channels x number next (Ask.Spawn function argument) = refl
-  same_channels x number next (Ask.Give resource amount) = refl
-  same_channels x number next Ask.SelfNumber = refl
+  same_channels x number next _ = refl
 
   kept_call : (segment : Segment) (globals : List (List ℕ)) (waiting : Waiting) (call : Call) → Keeps segment → Kept (calls caps segment globals waiting call)
   kept_call segment globals waiting (Blocking block) h =
@@ -144,12 +140,8 @@ module _ (program : ProgramTree) (caps : List ℕ) (world : World) (t : ℕ) whe
       kept_then (segment_step program caps segment) (moves (segment_machine program caps) n) (kept_move segment (source_step program segment.running) h) (λ s k. kept_moves n s k)
 
   same_rows : (x : Exchange) (block : Block) → length (blocking_row caps x block).after.channels ≡ length x.channels
-  same_rows x Block.Accept = refl
   same_rows x (Block.Wait channel) = length-set x.channels channel _
-  same_rows x (Block.Sleep ticks) = refl
-  same_rows x Block.Yield = refl
-  same_rows x (Block.Take resource amount) = refl
-  same_rows x (Block.WaitFor channel ticks) = refl
+  same_rows x _ = refl
 
   kept_from : (start : Segment) (n : ℕ) (move : SegmentMove) → Keeps start → Some (moves (segment_machine program caps) n start) ≡ Some move → Kept move
   kept_from start n move k h = let e : moves (segment_machine program caps) n start ≡ move = cc in subst Kept e (kept_moves n start k)
@@ -159,11 +151,10 @@ module _ (program : ProgramTree) (caps : List ℕ) (world : World) (t : ℕ) whe
 
   -- a thread that begins leaves the world as it is, but for what it takes from a queue or of a resource
   kept_begun : (rest : Option Rest) (n : ℕ) (move : SegmentMove) → option_map (moves (segment_machine program caps) n) (begun_at program caps world t rest) ≡ Some move → Kept move
-  kept_begun None n move h = cc
-  kept_begun (Some Ended) n move h = cc
   kept_begun (Some (Fresh function arguments)) n move h = kept_from _ n move (record { own = refl; alone = untouched world.exchange refl }) h
   kept_begun (Some (Blocked block waiting)) n move h =
       kept_from _ n move (record { own = refl; alone = untouched (blocking_row caps world.exchange block).after (same_rows world.exchange block) }) h
+  kept_begun _ n move h = cc
 
   pub alone_after : (rested : Rested) → RunsTo program caps world t rested → LeavesAlone world t rested.world
   alone_after rested h = kept_begun (slice_get world.threads t) h.0 (Stops rested) h.1

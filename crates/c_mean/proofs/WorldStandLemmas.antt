@@ -30,9 +30,8 @@ all_at P (x ∷ xs) (suc i) a h e = all_at P xs i a h.1 e
 
 module _ (program : ProgramTree) (caps : List ℕ) where
   abbrev pub RestStands : Rest → Type 0
-  RestStands (Fresh function arguments) = Unit {0}
   RestStands (Blocked block waiting) = AllByRecursion (WaitsInText program) (waiting.front ∷ waiting.below)
-  RestStands Ended = Unit {0}
+  RestStands _ = Unit {0}
 
   pub record SegmentStands (segment : Segment) : Type 0 where
     pub thread : Stands program segment.running
@@ -80,12 +79,11 @@ module _ (program : ProgramTree) (caps : List ℕ) where
   from_stands start n move h e = let same : moves (segment_machine program caps) n start ≡ move = cc in subst SegmentMoveStands same (moves_stand n start h)
 
   begun_stands : (world : World) (number : ℕ) (rest : Option Rest) (n : ℕ) (move : SegmentMove) → slice_get world.threads number ≡ rest → AllByRecursion RestStands world.threads → option_map (moves (segment_machine program caps) n) (begun_at program caps world number rest) ≡ Some move → SegmentMoveStands move
-  begun_stands world number None n move at h e = cc
-  begun_stands world number (Some Ended) n move at h e = cc
   begun_stands world number (Some (Fresh function arguments)) n move at h e =
       from_stands _ n move (record { thread = started_stands program function arguments world.globals; others = h }) e
   begun_stands world number (Some (Blocked block waiting)) n move at h e =
       from_stands _ n move (record { thread = resume_stands program waiting _ (all_at RestStands world.threads number (Blocked block waiting) h at); others = h }) e
+  begun_stands world number _ n move at h e = cc
 
   entry_stands : (world : World) (entry : Entry) (after : World) → IsAfterEntry program caps world entry after → AllByRecursion RestStands world.threads → AllByRecursion RestStands after.threads
   entry_stands world (Deliver delivery) after e h = subst (λ (w : World). AllByRecursion RestStands w.threads) (sym e) h

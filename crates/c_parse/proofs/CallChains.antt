@@ -11,8 +11,7 @@ chain_call found (p ∷ ps) = chain_call (earlier found (first_call p.1)) ps
 
 pub joined_call : (l : RawExprTree) (o : Infix) (r : RawExprTree) → first_call (raw_joined l o r) ≡ earlier (first_call l) (first_call r)
 joined_call l (Infix.Binary op) r = refl
-joined_call l Infix.LogicalAnd r = refl
-joined_call l Infix.LogicalOr r = refl
+joined_call l _ r = refl
 
 pub chained_call : (l : RawExprTree) (ps : List (Infix × RawExprTree)) → first_call (raw_chained l ps) ≡ chain_call (first_call l) ps
 chained_call l [] = refl
@@ -20,8 +19,7 @@ chained_call l (p ∷ ps) = chained_call (raw_joined l p.0 p.1) ps ∙ ap (λ f.
 
 joined_value : (l : RawExprTree) (o : Infix) (r : RawExprTree) → nested_in_value (raw_joined l o r) ≡ first_call (raw_joined l o r)
 joined_value l (Infix.Binary op) r = refl
-joined_value l Infix.LogicalAnd r = refl
-joined_value l Infix.LogicalOr r = refl
+joined_value l _ r = refl
 
 chain_value : (l : RawExprTree) (ps : List (Infix × RawExprTree)) → nested_in_value l ≡ first_call l → nested_in_value (raw_chained l ps) ≡ first_call (raw_chained l ps)
 chain_value l [] e = e

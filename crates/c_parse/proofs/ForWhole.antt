@@ -1,6 +1,6 @@
 -- No call in the parentheses of a `for` that isn't whole is there exactly where every one is whole.
-use Rattle.std.proofs.Common.{ℕ, ◌≡◌, refl, List, [], ◌∷◌, Option, Some, None}
-use Rattle.c_tree.specs.RawTrees.{RawStmtTree, RawStmtTrees, RawDo, RawEmpty, RawBlock, RawIf, RawIfElse, RawWhile, RawFor, RawBreak, RawContinue, RawReturn, NoRawStmts, RawThen, RawItemTree, RawGlobal, RawGlobalArray, RawTableItem, RawPrototypeItem, RawFunctionItem}
+use Rattle.std.proofs.Common.{ℕ, ◌≡◌, refl, List, [], ◌∷◌, None}
+use Rattle.c_tree.specs.RawTrees.{RawStmtTree, RawStmtTrees, RawBlock, RawIf, RawIfElse, RawWhile, RawFor, NoRawStmts, RawThen, RawItemTree, RawFunctionItem}
 use Rattle.c_parse.specs.NestedCalls.{earlier, nested_in_simples, nested_in_condition, nested_in_step}
 use Rattle.c_tree.specs.WholeForParts.{IsForWhole, AreForsWhole, IsItemForWhole, AreForPartsWhole}
 use Rattle.c_parse.specs.ForParts.{nested_in_for, nested_in_all_for, nested_in_item_for, nested_in_fors}
@@ -8,8 +8,6 @@ use Rattle.c_parse.proofs.NestedWhole.{neither_left, neither_right, neither, sim
 
 mutual
   for_whole : (s : RawStmtTree) → nested_in_for s ≡ None → IsForWhole s
-  for_whole (RawDo s) h = tt
-  for_whole RawEmpty h = tt
   for_whole (RawBlock ss) h = fors_whole ss h
   for_whole (RawIf c s) h = for_whole s h
   for_whole (RawIfElse c s r) h = (for_whole s (neither_left (nested_in_for s) (nested_in_for r) h), for_whole r (neither_right (nested_in_for s) (nested_in_for r) h))
@@ -22,9 +20,7 @@ mutual
         step_whole step (neither_left (nested_in_step step) (nested_in_for s) after_condition),
         for_whole s (neither_right (nested_in_step step) (nested_in_for s) after_condition),
       )
-  for_whole (RawBreak at) h = tt
-  for_whole (RawContinue at) h = tt
-  for_whole (RawReturn at v) h = tt
+  for_whole _ h = tt
 
   fors_whole : (ss : RawStmtTrees) → nested_in_all_for ss ≡ None → AreForsWhole ss
   fors_whole NoRawStmts h = tt
@@ -32,34 +28,24 @@ mutual
 
 mutual
   for_none : (s : RawStmtTree) → IsForWhole s → nested_in_for s ≡ None
-  for_none (RawDo s) h = refl
-  for_none RawEmpty h = refl
   for_none (RawBlock ss) h = fors_none ss h
   for_none (RawIf c s) h = for_none s h
   for_none (RawIfElse c s r) h = neither (for_none s h.0) (for_none r h.1)
   for_none (RawWhile c s) h = for_none s h
   for_none (RawFor init c step s) h = neither (simples_none init h.0) (neither (condition_none c h.1) (neither (step_none step h.2) (for_none s h.3)))
-  for_none (RawBreak at) h = refl
-  for_none (RawContinue at) h = refl
-  for_none (RawReturn at v) h = refl
+  for_none _ h = refl
 
   fors_none : (ss : RawStmtTrees) → AreForsWhole ss → nested_in_all_for ss ≡ None
   fors_none NoRawStmts h = refl
   fors_none (RawThen s ss) h = neither (for_none s h.0) (fors_none ss h.1)
 
 item_for_whole : (i : RawItemTree) → nested_in_item_for i ≡ None → IsItemForWhole i
-item_for_whole (RawGlobal n start) h = tt
-item_for_whole (RawGlobalArray n size) h = tt
-item_for_whole (RawTableItem n size members) h = tt
-item_for_whole (RawPrototypeItem gives n params) h = tt
 item_for_whole (RawFunctionItem gives n params body) h = fors_whole body h
+item_for_whole _ h = tt
 
 item_for_none : (i : RawItemTree) → IsItemForWhole i → nested_in_item_for i ≡ None
-item_for_none (RawGlobal n start) h = refl
-item_for_none (RawGlobalArray n size) h = refl
-item_for_none (RawTableItem n size members) h = refl
-item_for_none (RawPrototypeItem gives n params) h = refl
 item_for_none (RawFunctionItem gives n params body) h = fors_none body h
+item_for_none _ h = refl
 
 pub for_parts_whole : (is : List RawItemTree) → nested_in_fors is ≡ None → AreForPartsWhole is
 for_parts_whole [] h = tt

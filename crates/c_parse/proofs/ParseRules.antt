@@ -29,8 +29,7 @@ module _ (Whole : List RawItemTree → Type 0) (first_nested : List RawItemTree 
   error_of : (source : List ℕ) (end : ℕ) (tokens : List Token) (error : ParseError) → end ≡ length source → Verdict end tokens (Some error) → IsRefusedWhere first_nested source tokens error
   error_of source end tokens (Unexpected at) e v = let P : ℕ → Type 0 = λ n. IsUnexpected n tokens at in subst P e v
   error_of source end tokens (TooDeep at) e v = v
-  error_of source end tokens (NestedCall at) e v = absurd v
-  error_of source end tokens Memory e v = absurd v
+  error_of source end tokens _ e v = absurd v
 
   pub parsed_refused : (source : List ℕ) (end : ℕ) (tokens : List Token) (error : ParseError) → end ≡ length source → (error ≢ Memory → run end (tasks.Items ∷ []) tokens ≡ Some error) → error ≢ Memory → IsRefusedWhere first_nested source tokens error
   parsed_refused source end tokens error e r other = error_of source end tokens error e (verdict_at end tokens (Some error) (r other))
@@ -64,22 +63,18 @@ module _ (Whole : List RawItemTree → Type 0) (first_nested : List RawItemTree 
   one_error source tokens (Unexpected at) (Unexpected b) h k = one_verdict_error source tokens (Unexpected at) (Unexpected b) h k
   one_error source tokens (Unexpected at) (TooDeep b) h k = one_verdict_error source tokens (Unexpected at) (TooDeep b) h k
   one_error source tokens (Unexpected at) (NestedCall b) h k = absurd (no_verdict source tokens (Unexpected at) h k.within)
-  one_error source tokens (Unexpected at) Memory h k = absurd k
   one_error source tokens (TooDeep at) (Unexpected b) h k = one_verdict_error source tokens (TooDeep at) (Unexpected b) h k
   one_error source tokens (TooDeep at) (TooDeep b) h k = one_verdict_error source tokens (TooDeep at) (TooDeep b) h k
   one_error source tokens (TooDeep at) (NestedCall b) h k = absurd (no_verdict source tokens (TooDeep at) h k.within)
-  one_error source tokens (TooDeep at) Memory h k = absurd k
   one_error source tokens (NestedCall at) (Unexpected b) h k = absurd (no_verdict source tokens (Unexpected b) k h.within)
   one_error source tokens (NestedCall at) (TooDeep b) h k = absurd (no_verdict source tokens (TooDeep b) k h.within)
   one_error source tokens (NestedCall at) (NestedCall b) h k = one_nested source tokens at b h k
-  one_error source tokens (NestedCall at) Memory h k = absurd k
   one_error source tokens Memory other h k = absurd h
+  one_error source tokens _ Memory h k = absurd k
 
   memory_or : (error : ParseError) → (error ≡ Memory) ⊎ (error ≢ Memory)
-  memory_or (Unexpected at) = inr (λ e. cc)
-  memory_or (TooDeep at) = inr (λ e. cc)
-  memory_or (NestedCall at) = inr (λ e. cc)
   memory_or Memory = inl refl
+  memory_or _ = inr (λ e. cc)
 
   only_memory : (source : List ℕ) (tokens : List Token) (items : List RawItemTree) (error : ParseError) → IsParsedWhere Whole source tokens items → (error ≢ Memory → IsRefusedWhere first_nested source tokens error) → (error ≡ Memory) ⊎ (error ≢ Memory) → error ≡ Memory
   only_memory source tokens items error p h (inl e) = e

@@ -88,19 +88,8 @@ module _ (Whole : List RawItemTree → Type 0) (first_nested : List RawItemTree 
       one_resolved s.tree p q t s.resolved
 
   memory_or : (e : SourceError) → (e ≡ refusals.Memory) ⊎ (e ≢ refusals.Memory)
-  memory_or (refusals.BadByte at) = inr (λ e. cc)
-  memory_or (refusals.OpenComment at) = inr (λ e. cc)
-  memory_or (refusals.BadNumber at) = inr (λ e. cc)
-  memory_or (refusals.Unexpected at) = inr (λ e. cc)
-  memory_or (refusals.TooDeep at) = inr (λ e. cc)
-  memory_or (refusals.NestedCall at) = inr (λ e. cc)
-  memory_or (refusals.Unknown at) = inr (λ e. cc)
-  memory_or (refusals.Twice at) = inr (λ e. cc)
-  memory_or (refusals.Arity at) = inr (λ e. cc)
-  memory_or (refusals.Kind at) = inr (λ e. cc)
-  memory_or refusals.NoMain = inr (λ e. cc)
-  memory_or (refusals.Limit which) = inr (λ e. cc)
   memory_or refusals.Memory = inl refl
+  memory_or _ = inr (λ e. cc)
 
   only_memory : (source : List ℕ) (p : ProgramTree) (e : SourceError) → ReadsWhere Whole Resolved source p → (e ≢ refusals.Memory → IsSourceErrorWhere Whole first_nested Refused source e) → (e ≡ refusals.Memory) ⊎ (e ≢ refusals.Memory) → e ≡ refusals.Memory
   only_memory source p e r h (inl m) = m

@@ -11,8 +11,7 @@ chain_count n (p ∷ ps) = chain_count (max n (operand_temporaries p.0 (expr_tem
 
 pub joined_count : (l : ExprTree) (o : Infix) (r : ExprTree) → expr_temporaries (joined l o r) ≡ max (expr_temporaries l) (operand_temporaries o (expr_temporaries r))
 joined_count l (Infix.Binary op) r = refl
-joined_count l Infix.LogicalAnd r = refl
-joined_count l Infix.LogicalOr r = refl
+joined_count l _ r = refl
 
 pub chained_count : (l : ExprTree) (ps : List (Infix × ExprTree)) → expr_temporaries (chained l ps) ≡ chain_count (expr_temporaries l) ps
 chained_count l [] = refl

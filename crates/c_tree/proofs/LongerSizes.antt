@@ -2,7 +2,7 @@
 use Rattle.std.proofs.Common.{◌≡◌, ◌<◌, ℕ, Bool, true, List, [], ◌∷◌, ◌++◌, length, length-append, ◌∙◌, Option, Some, None, arith}
 use Rattle.std.specs.Prelude.{slice_index}
 use Rattle.std.proofs.Math.ListN.{get_or-append}
-use Rattle.c_tree.specs.Trees.{ExprTree, Number, Local, Global, LocalElement, GlobalElement, Unary, Parenthesized, Binary, LogicalAnd, LogicalOr, Conditional, CallTree, CallFunction, CallTable, CallSpawn, CallModelled, RightTree, Computed, Called, SimpleTree, DeclareScalar, DeclareArray, DeclareWith, SetLocal, SetGlobal, SetLocalElement, SetGlobalElement, Calling, StmtTree, StmtTrees, Do, Empty, Block, If, IfElse, While, For, Break, Continue, Return, NoStmts, Then}
+use Rattle.c_tree.specs.Trees.{ExprTree, Local, LocalElement, GlobalElement, Unary, Parenthesized, Binary, LogicalAnd, LogicalOr, Conditional, CallTree, CallFunction, CallTable, CallSpawn, CallModelled, RightTree, Computed, Called, SimpleTree, DeclareScalar, DeclareArray, DeclareWith, SetLocal, SetGlobal, SetLocalElement, SetGlobalElement, Calling, StmtTree, StmtTrees, Do, Empty, Block, If, IfElse, While, For, Return, NoStmts, Then}
 use Rattle.c_tree.specs.TextOrder.{simple_names}
 use Rattle.c_tree.specs.WellScoped.{Context, IsExprScoped, AreExprsScoped, IsCallScoped, IsRightScoped, IsSimpleScoped, with_names, scope_after, scope_after_all, AreSimplesScoped, IsConditionScoped, IsStepScoped, IsReturnScoped, IsStmtScoped, AreStmtsScoped}
 
@@ -16,9 +16,7 @@ same_size : (sizes more : List ℕ) (x n : ℕ) → x < length sizes → slice_i
 same_size sizes more x n h e = get_or-append sizes more 0 x h ∙ e
 
 pub expr_longer : (c : Context) (more scope : List ℕ) (e : ExprTree) → IsExprScoped c scope e → IsExprScoped (with_sizes c more) scope e
-expr_longer c more scope (Number v) h = h
 expr_longer c more scope (Local x) h = (still_there c.sizes more x h.0, same_size c.sizes more x 1 h.0 h.1, h.2)
-expr_longer c more scope (Global g) h = h
 expr_longer c more scope (LocalElement a i) h = (still_there c.sizes more a h.0, h.1, expr_longer c more scope i h.2)
 expr_longer c more scope (GlobalElement a i) h = (h.0, expr_longer c more scope i h.1)
 expr_longer c more scope (Unary op e) h = expr_longer c more scope e h
@@ -27,6 +25,7 @@ expr_longer c more scope (Binary op l r) h = (expr_longer c more scope l h.0, ex
 expr_longer c more scope (LogicalAnd l r) h = (expr_longer c more scope l h.0, expr_longer c more scope r h.1)
 expr_longer c more scope (LogicalOr l r) h = (expr_longer c more scope l h.0, expr_longer c more scope r h.1)
 expr_longer c more scope (Conditional e a b) h = (expr_longer c more scope e h.0, expr_longer c more scope a h.1, expr_longer c more scope b h.2)
+expr_longer c more scope _ h = h
 
 pub exprs_longer : (c : Context) (more scope : List ℕ) (es : List ExprTree) → AreExprsScoped c scope es → AreExprsScoped (with_sizes c more) scope es
 exprs_longer c more scope [] h = tt
@@ -80,9 +79,8 @@ mutual
   stmt_longer c more loop scope (IfElse e s r) h = (expr_longer c more scope e h.0, stmt_longer c more loop scope s h.1, stmt_longer c more loop scope r h.2)
   stmt_longer c more loop scope (While e s) h = (expr_longer c more scope e h.0, stmt_longer c more true scope s h.1)
   stmt_longer c more loop scope (For init e step s) h = (simples_longer c more scope init h.0, condition_longer c more (scope_after_all scope init) e h.1, step_longer c more (scope_after_all scope init) step h.2, stmt_longer c more true (scope_after_all scope init) s h.3)
-  stmt_longer c more loop scope Break h = h
-  stmt_longer c more loop scope Continue h = h
   stmt_longer c more loop scope (Return v) h = return_longer c more scope v h
+  stmt_longer c more loop scope _ h = h
 
   pub stmts_longer : (c : Context) (more : List ℕ) (loop : Bool) (scope : List ℕ) (ss : StmtTrees) → AreStmtsScoped c loop scope ss → AreStmtsScoped (with_sizes c more) loop scope ss
   stmts_longer c more loop scope NoStmts h = tt

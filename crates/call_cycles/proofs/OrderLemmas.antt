@@ -151,24 +151,7 @@ is-site code f op a s caller called e =
 site-tells : (code : FlatCode) (f : ℕ) (op : Op) (s : GraphSite) → call_site f op ≡ Some s → IsSiteOf code f op s
 site-tells code f (Op.Call site d h args) s e = is-site code f (Op.Call site d h args) (record { number = site; caller = f; target = Function h }) s refl refl e
 site-tells code f (Op.CallTable site d t i x) s e = is-site code f (Op.CallTable site d t i x) (record { number = site; caller = f; target = Table t }) s refl refl e
-site-tells code f (Op.Spawn site d h x) s e = absurd (none-some s e)
-site-tells code f (Op.Model site d n args) s e = absurd (none-some s e)
-site-tells code f (Op.Const d value) s e = absurd (none-some s e)
-site-tells code f (Op.Copy d x) s e = absurd (none-some s e)
-site-tells code f (Op.Neg d x) s e = absurd (none-some s e)
-site-tells code f (Op.Not d x) s e = absurd (none-some s e)
-site-tells code f (Op.Flip d x) s e = absurd (none-some s e)
-site-tells code f (Op.Bin op d a b) s e = absurd (none-some s e)
-site-tells code f (Op.Zero a) s e = absurd (none-some s e)
-site-tells code f (Op.LoadGlobal d x) s e = absurd (none-some s e)
-site-tells code f (Op.StoreGlobal x y) s e = absurd (none-some s e)
-site-tells code f (Op.LoadLocal d a i) s e = absurd (none-some s e)
-site-tells code f (Op.LoadArray d a i) s e = absurd (none-some s e)
-site-tells code f (Op.StoreLocal a i x) s e = absurd (none-some s e)
-site-tells code f (Op.StoreArray a i x) s e = absurd (none-some s e)
-site-tells code f (Op.Jump to) s e = absurd (none-some s e)
-site-tells code f (Op.JumpZero x to) s e = absurd (none-some s e)
-site-tells code f (Op.Return x) s e = absurd (none-some s e)
+site-tells code f _ s e = absurd (none-some s e)
 
 -- ---- calls and ways, in the code and in the graph
 

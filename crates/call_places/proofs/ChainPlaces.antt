@@ -13,8 +13,7 @@ operands_places (p ∷ ps) = expr_places is_call p.1 ++ operands_places ps
 
 joined_places : (l : RawExprTree) (o : Infix) (r : RawExprTree) → expr_places is_call (raw_joined l o r) ≡ expr_places is_call l ++ expr_places is_call r
 joined_places l (Infix.Binary op) r = refl
-joined_places l Infix.LogicalAnd r = refl
-joined_places l Infix.LogicalOr r = refl
+joined_places l _ r = refl
 
 pub chained_places : (l : RawExprTree) (ps : List (Infix × RawExprTree)) → expr_places is_call (raw_chained l ps) ≡ expr_places is_call l ++ operands_places ps
 chained_places l [] = sym (append-nil (expr_places is_call l))

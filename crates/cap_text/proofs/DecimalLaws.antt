@@ -197,13 +197,12 @@ digits_are_number_bytes (c ∷ cs) h = (inr (digit_from_value c h.0), digits_are
 
 one_split : (xs ys rest more : List ℕ) → AllNumberBytes xs → AllNumberBytes ys → FieldEnds rest → FieldEnds more → xs ++ rest ≡ ys ++ more → (xs ≡ ys) × (rest ≡ more)
 one_split [] [] rest more hx hy hr hm e = (refl, e)
-one_split [] (y ∷ ys) [] more hx hy hr hm e = absurd (cc)
 one_split [] (y ∷ ys) (r ∷ rest) more hx hy hr hm e = let same : r ≡ y = cc in absurd (hr (rw same hy.0))
-one_split (x ∷ xs) [] rest [] hx hy hr hm e = absurd (cc)
 one_split (x ∷ xs) [] rest (m ∷ more) hx hy hr hm e = let same : m ≡ x = cc in absurd (hm (rw same hx.0))
 one_split (x ∷ xs) (y ∷ ys) rest more hx hy hr hm e =
     let same : x ≡ y = cc in
     let next = one_split xs ys rest more hx.1 hy.1 hr hm (cc) in (λ i. same i ∷ next.0 i, next.1)
+one_split _ _ _ _ hx hy hr hm e = absurd (cc)
 
 no_minus : (n : ℕ) (cs : List ℕ) → AllDigits 10 (canonical_decimal n) → canonical_decimal n ≡ 45 ∷ cs → ⊥
 no_minus n cs h e = let r = digit_from_value 45 ((subst (AllDigits 10) e h).0) in omega arith

@@ -43,6 +43,5 @@ some_pieces separator text = omega (arith, length-slice_split (λ byte. byte == 
 
 pub over_is : (separator : ℕ) (rest : Option (Bor (List ℕ))) (b : Bool) → not b ≡ is_some rest → b ≡ (length (pieces_left separator rest) == 0)
 over_is separator None true e = refl
-over_is separator None false e = absurd (cc)
-over_is separator (Some rest) true e = absurd (cc)
 over_is separator (Some rest) false e = sym (ne_eqb (length (pieces separator rest.now)) 0 (λ none. let some = some_pieces separator rest.now in omega arith))
+over_is separator _ _ e = absurd (cc)

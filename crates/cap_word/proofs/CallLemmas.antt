@@ -8,14 +8,7 @@ use Rattle.cap_word.specs.Calls.{call_with, is_blocking}
 
 pub numbered : (call : ModelledCall) → call_numbered (number_of call) ≡ Some call
 numbered ModelledCall.Accept = refl
-numbered ModelledCall.Wait = refl
-numbered ModelledCall.Sleep = refl
-numbered ModelledCall.Yield = refl
-numbered ModelledCall.Take = refl
-numbered ModelledCall.WaitFor = refl
-numbered ModelledCall.Put = refl
-numbered ModelledCall.Give = refl
-numbered ModelledCall.SelfNumber = refl
+numbered _ = refl
 
 number_among : (calls : List ModelledCall) (number : ℕ) (call : ModelledCall) → find (λ c. nat_eq number (number_of c)) calls ≡ Some call → number ≡ number_of call
 number_among [] number call e = absurd (cc)
@@ -32,11 +25,4 @@ number_is number call e = number_among all_calls number call e
 
 pub blocking : (call : ModelledCall) (a b : ℕ) → is_blocking (call_with call a b) ≡ blocks call
 blocking ModelledCall.Accept a b = refl
-blocking ModelledCall.Wait a b = refl
-blocking ModelledCall.Sleep a b = refl
-blocking ModelledCall.Yield a b = refl
-blocking ModelledCall.Take a b = refl
-blocking ModelledCall.WaitFor a b = refl
-blocking ModelledCall.Put a b = refl
-blocking ModelledCall.Give a b = refl
-blocking ModelledCall.SelfNumber a b = refl
+blocking _ a b = refl

@@ -89,8 +89,7 @@ module _ {S T W X Q A E : Type 0} (R : S → T → Type 0) (V : W → X → Type
 
   comes_step : (n : ℕ) (move : Move S W Q E) (other : T) → IsAnswered R V second move other → ((next : S) (after : T) → R next after → Comes n (moves first n next) after) → Comes (suc n) (and_then move (moves first n)) other
   comes_step n (Goes next) other h rest = comes_later n h.0 (moves first n next) other h.1 h.2 (rest next h.1 h.3)
-  comes_step n (Asks question waiting) other h rest = h
-  comes_step n (Stops end) other h rest = h
+  comes_step n _ other h rest = h
 
   -- whatever the first machine's moves come to, the second one's come to it
   pub comes : (n : ℕ) (state : S) (other : T) → R state other → Comes n (moves first n state) other

@@ -8,7 +8,7 @@ use Rattle.cap_word.specs.declared.stops.Stop.TheVariants.{Trap, NoChunk, Fuel, 
 use Rattle.schedule_log.specs.declared.entries.StopLine.{StopLine}
 use Rattle.schedule_log.specs.declared.entries.StopLine.TheVariants.{Done, Idle, Trace, Cut}
 use Rattle.schedule_log.specs.declared.entries.Entry.{Entry}
-use Rattle.schedule_log.specs.declared.entries.Entry.TheVariants.{Event, Dropped, Run, Out, Block, End, Edge, Stop}
+use Rattle.schedule_log.specs.declared.entries.Entry.TheVariants.{Out, Block, End, Stop, Event, Dropped, Run, Edge}
 use Rattle.schedule_log.specs.EntryText.{entry_word, entry_fields, entry_text, stop_fields, log_text}
 use Rattle.schedule_log.proofs.EntryPieces.{entry_pieces}
 use Rattle.schedule_log.proofs.LogLines.{log_lines}
@@ -29,9 +29,7 @@ head (word ∷ _) = word
 -- a cut has more fields than the other stops
 cut-fields : (s : Cause) (t c f n : ℕ) → length (stop_fields (Cut t s c f)) ≡ n → n < 4 → ⊥
 cut-fields (Trap k) t c f n e few = omega arith
-cut-fields NoChunk t c f n e few = omega arith
-cut-fields Fuel t c f n e few = omega arith
-cut-fields Threads t c f n e few = omega arith
+cut-fields _ t c f n e few = omega arith
 
 cut-cost : (s t : Cause) (x y c d f g : ℕ) → stop_fields (Cut x s c f) ≡ stop_fields (Cut y t d g) → c ≡ d
 cut-cost (Trap k) (Trap l) x y c d f g e = decimal_unique c d (cc)
@@ -44,15 +42,6 @@ not-cut : {P : Type 0} (s : Cause) (t c f n : ℕ) (fields : List (List ℕ)) �
 not-cut s t c f n fields is few e = absurd (cut-fields s t c f n (sym (ap length e) ∙ is) few)
 
 stop-counted : (x y : StopLine) (t : Tally) → stop_fields x ≡ stop_fields y → counted (Stop x) t ≡ counted (Stop y) t
-stop-counted Done Done t e = refl
-stop-counted Done Idle t e = refl
-stop-counted Done (Trace n) t e = refl
-stop-counted Idle Done t e = refl
-stop-counted Idle Idle t e = refl
-stop-counted Idle (Trace n) t e = refl
-stop-counted (Trace m) Done t e = refl
-stop-counted (Trace m) Idle t e = refl
-stop-counted (Trace m) (Trace n) t e = refl
 stop-counted (Cut x s c f) (Cut y u d g) t e = ap (λ n. with_cost n t) (cut-cost s u x y c d f g e)
 stop-counted Done (Cut y u d g) t e = not-cut u y d g 1 (stop_fields Done) refl (omega arith) e
 stop-counted Idle (Cut y u d g) t e = not-cut u y d g 1 (stop_fields Idle) refl (omega arith) e
@@ -60,6 +49,7 @@ stop-counted (Trace m) (Cut y u d g) t e = not-cut u y d g 2 (stop_fields (Trace
 stop-counted (Cut y u d g) Done t e = not-cut u y d g 1 (stop_fields Done) refl (omega arith) (sym e)
 stop-counted (Cut y u d g) Idle t e = not-cut u y d g 1 (stop_fields Idle) refl (omega arith) (sym e)
 stop-counted (Cut y u d g) (Trace m) t e = not-cut u y d g 2 (stop_fields (Trace m)) refl (omega arith) (sym e)
+stop-counted _ _ t e = refl
 
 entry-counted : (x y : Entry) (t : Tally) → entry_word x ≡ entry_word y → entry_fields x ≡ entry_fields y → counted x t ≡ counted y t
 entry-counted (Event c i) (Event d j) t w e = refl

@@ -9,8 +9,8 @@ use Rattle.lawful_log.specs.Setup.{Setup}
 use Rattle.schedule_log.specs.EntryRanges.{FitsEntry, IsLogLine}
 use Rattle.schedule_log.specs.EntryText.{entry_text, log_text}
 use Rattle.schedule_log.specs.declared.entries.Entry.{Entry}
-use Rattle.schedule_log.specs.declared.entries.Entry.TheVariants.{Event, Dropped, Run, Out, Block, End, Edge, Stop}
-use Rattle.schedule_log.specs.declared.entries.StopLine.TheVariants.{Done, Idle, Trace, Cut}
+use Rattle.schedule_log.specs.declared.entries.Entry.TheVariants.{Run, Out, Block, End, Stop}
+use Rattle.schedule_log.specs.declared.entries.StopLine.TheVariants.{Done, Idle, Cut}
 use Rattle.schedule_log.proofs.LogLines.{log_lines}
 use Rattle.runner.specs.Answers.{CameTo, IsRunEnd}
 use Rattle.run_course.specs.Output.{IsFitText}
@@ -43,9 +43,7 @@ module _ (g : Setup) (held : Held) (left taken taken' : Option (List ℕ)) (read
   closed-fits (end.NoChunk thread) h is = came-fits (end.NoChunk thread) _ h.0 is
   closed-fits (end.Fuel thread) h is = came-fits (end.Fuel thread) _ h.0 is
   closed-fits (end.Threads thread) h is = came-fits (end.Threads thread) _ h.0 is
-  closed-fits end.ReadFault h is = no-log _ is
-  closed-fits end.WriteFault h is = no-log _ is
-  closed-fits end.Memory h is = no-log _ is
+  closed-fits _ h is = no-log _ is
 
 -- the log in a sink that was empty
 pub clean-fits : (log : List ℕ) → TakesFit (Some []) (Some log) → IsFitText log
@@ -121,17 +119,12 @@ room-of-output left value t fits h = let a = h.choices in let b = h.outputs in l
     record { choices = omega (arith, a); outputs = omega (arith, b); sum = omega (arith, c, e); cost = omega (arith, d) }
 
 room-after : (left : ℕ) (entry : Entry) (t : Tally) → FitsEntry entry → HasRoom (suc left) t → HasRoom left (counted entry t)
-room-after left (Event clock item) t fits h = room-kept left t h
-room-after left (Dropped clock item) t fits h = room-kept left t h
 room-after left (Run clock thread node) t fits h = room-of-choice left t h
 room-after left (Out thread value) t fits h = room-of-output left value t fits.1 h
 room-after left (Block thread node key cost free) t fits h = room-of-cost left cost t fits.3 h
 room-after left (End thread cost free) t fits h = room-of-cost left cost t fits.1 h
-room-after left (Edge from to count cost changes) t fits h = room-kept left t h
-room-after left (Stop Done) t fits h = room-kept left t h
-room-after left (Stop Idle) t fits h = room-kept left t h
-room-after left (Stop (Trace line)) t fits h = room-kept left t h
 room-after left (Stop (Cut thread stop cost free)) t fits h = room-of-cost left cost t fits.1 h
+room-after left _ t fits h = room-kept left t h
 
 -- ---- one line more
 

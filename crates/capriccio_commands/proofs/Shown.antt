@@ -45,10 +45,8 @@ four-pieces r start a b c d one two three four h k l last =
 
 -- a step that can't refuse
 pub no-more : {A : Type 0} (a : A) (due : Outcome → Type 0) (stop : Stop) → IsStop (NoMore a) stop → IsStop due stop
-no-more a due (Refused cause) h = absurd h
-no-more a due (Failed Read) h = absurd h
-no-more a due (Failed Write) h = absurd h
 no-more a due (Failed Memory) h = tt
+no-more a due _ h = absurd h
 
 -- ---- the run
 
@@ -183,9 +181,8 @@ shown-due number low high accepted trace shown is traced h =
 pub unaccepted-workload : (number : ℕ) → 1 ≤ number → number ≤ 1000 → (program : ProgramTree) (stop : Stop) → IsSourceText (program_text number) program → IsStop (ServesProgram (Some (trace_text number)) demo_sizes demo_policy program) stop → IsStop (Demos number) stop
 unaccepted-workload number low high program (Refused cause) source h =
     ⊎_elim (λ x. always-built number low high program (refusal cause) source.reads x) (λ x. no-refusal (Some (trace_text number)) (setup_of program x.2 x.3 demo_policy) (refusal cause) x.5 refl) h
-unaccepted-workload number low high program (Failed Read) source h = absurd h
-unaccepted-workload number low high program (Failed Write) source h = absurd h
 unaccepted-workload number low high program (Failed Memory) source h = tt
+unaccepted-workload number low high program (Failed _) source h = absurd h
 
 -- ---- its end
 
@@ -202,8 +199,6 @@ shown-told due before after shown status is files left loads stores reads h =
 
 pub shown-cut : (due : Outcome → Type 0) (before after : Outside) (shown : Shown) (stop : Stop) → IsShown due shown → KeepsFiles before.files after.files → Keeps before.left after.left → after.loads ≡ before.loads → after.stores ≡ before.stores → after.reads ≡ before.reads →
     IsPrinted shown.status shown.text.items before.taken after.taken before.writes after.writes (Err stop) → EndsAs IsEnd due before after (Err stop)
-shown-cut due before after shown (Refused cause) is files left loads stores reads h = absurd h
-shown-cut due before after shown (Failed Read) is files left loads stores reads h = absurd h
 shown-cut due before after shown (Failed Write) is files left loads stores reads h =
     let kept = subst (λ (s : List (List ℕ × List ℕ)). WhereTold (AreStored s) before.files after.files) (sym is.stores) (kept-are-stored before.files after.files files) in
     let trace = subst (λ (reads : Bool). IsTraceLeft reads before.left after.left) (sym is.unread) left in
@@ -216,10 +211,10 @@ shown-cut due before after shown (Failed Memory) is files left loads stores read
     let taken = h.0 in
     let out = subst (λ (text : List ℕ). TakesPrefix before.taken after.taken text) (sym is.text) taken in
     inl (inr (is.outcome, is.is_due, inr (record { files = kept; trace = trace; out = out })), record { loads = loads; stores = stores; reads = reads; writes = h.1 })
+shown-cut due before after shown _ is files left loads stores reads h = absurd h
 
 -- nothing was shown
 pub shown-stopped : (due : Outcome → Type 0) (o : Outside) (stop : Stop) → IsStop due stop → EndsAs IsEnd due o o (Err stop)
 shown-stopped due o (Refused cause) h = refused-at-once IsEnd due o cause h
-shown-stopped due o (Failed Read) h = absurd h
-shown-stopped due o (Failed Write) h = absurd h
 shown-stopped due o (Failed Memory) h = memory-at-once IsEnd due o
+shown-stopped due o (Failed _) h = absurd h

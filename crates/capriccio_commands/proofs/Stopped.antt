@@ -2,7 +2,6 @@
 use Rattle.std.proofs.Common.{◌≡◌, ℕ, List, Option, Some, None, Result, Ok, Err, refl, sym, ap, subst, inl, inr}
 use Rattle.std.specs.Prelude.{IfSome}
 use Rattle.cap_io.specs.Files.{KeepsFiles}
-use Rattle.cap_word.specs.declared.stops.Stop.TheVariants as cut
 use Rattle.lawful_log.specs.Good.{checked_of}
 use Rattle.lawful_log.specs.Setup.{Setup}
 use Rattle.machine_world.specs.Stretches.{IsSound}
@@ -24,6 +23,7 @@ use Rattle.command_outcomes.specs.Steps.{EndsAs}
 use Rattle.capriccio_commands.specs.Closings.{IsClosed}
 use Rattle.command_outcomes.proofs.Ending.{kept-are-stored}
 use Rattle.capriccio_commands.specs.Ends.{IsEnd, IsReachable, IsWorldOf}
+use Rattle.cap_word.specs.declared.stops.Stop.TheVariants as cut
 
 -- the status that goes with the end of a run
 abbrev end-status : RunEnd → ℕ

@@ -18,7 +18,7 @@ use Rattle.workload.proofs.Reading.{program_read}
 use Rattle.workload.specs.Sizes.{HasFittingSizes}
 use Rattle.workload.proofs.Built.{workload_fits}
 use Rattle.workload.specs.Programs.{line_feed, first_line, link_line, chain_text, worker_line, main_line, program_text}
-use Rattle.command_outcomes.specs.declared.faults.Fault.TheVariants.{Read, Write, Memory}
+use Rattle.command_outcomes.specs.declared.faults.Fault.TheVariants.{Memory}
 use Rattle.command_outcomes.specs.declared.stops.Stop.{Stop}
 use Rattle.command_outcomes.specs.declared.stops.Stop.TheVariants.{Refused, Failed}
 use Rattle.command_outcomes.specs.Outcome.{Outcome, NoMore}
@@ -78,9 +78,8 @@ program-short n few = omega (arith, three-long (chain_text n) (worker_line n) (m
 
 pub no-source-error : {A : Type 0} (a : A) (bytes : List ℕ) (program : ProgramTree) (stop : Stop) → ReadsNested bytes program → IsStop (AfterSource bytes NoMore) stop → IsStop (NoMore a) stop
 no-source-error a bytes program (Refused cause) reads h = ⊎_elim (λ x. absurd x.2) (λ x. absurd (never bytes program x.0 reads x.1)) h
-no-source-error a bytes program (Failed Read) reads h = absurd h
-no-source-error a bytes program (Failed Write) reads h = absurd h
 no-source-error a bytes program (Failed Memory) reads h = tt
+no-source-error a bytes program (Failed _) reads h = absurd h
 
 -- ---- it is built
 

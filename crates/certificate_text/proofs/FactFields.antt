@@ -1,5 +1,5 @@
 -- The fields of a line of a function or of a site.
-use Rattle.std.proofs.Common.{◌≡◌, ℕ, ◌^◌, ◌<◌, ◌≤◌, false, true, List, ◌∷◌, ◌++◌, map, ap, sym, subst, ◌∙◌, arith, codes, Option, Some, None, Result, Ok, Err, IfOk, IfSome, IfNone, is_ok}
+use Rattle.std.proofs.Common.{◌≡◌, ℕ, ◌^◌, ◌<◌, ◌≤◌, false, true, List, ◌∷◌, ◌++◌, map, ap, sym, subst, ◌∙◌, arith, codes, Option, Some, None, Result, Ok, IfOk, IfSome, IfNone, is_ok}
 use Rattle.std.proofs.lemmas.List.{append_cancel_left}
 use Rattle.cap_text.specs.Decimals.{canonical_decimal}
 use Rattle.cap_text.specs.Pieces.{pieces, after_each}
@@ -53,9 +53,8 @@ no_head fields none fact few words is =
 pub function_found : {E : Type 0} (line word : List ℕ) (fields : List (List ℕ)) (r : Result (Option FunctionFact) E) → pieces 32 line ≡ word ∷ fields → word ≡ codes "function"
     → IfOk r (λ read. IfSome read (λ fact. HasFewPlaces fact × HoldsFunctionWords fact × (fields ≡ map canonical_decimal (function_numbers fact))))
     → IfOk r (λ read. IfSome read (λ fact. HasFewPlaces fact × HoldsFunctionWords fact × (line ≡ function_line fact)))
-function_found line word fields (Err error) e w h = tt
-function_found line word fields (Ok None) e w h = tt
 function_found line word fields (Ok (Some fact)) e w h = (h.0, h.1, text_of_pieces 32 line word fields e ∙ (λ i. w i ++ after_each 32 (h.2 i)))
+function_found line word fields _ e w h = tt
 
 function_fields : (line word : List ℕ) (fields : List (List ℕ)) (fact : FunctionFact) → pieces 32 line ≡ word ∷ fields → line ≡ function_line fact → fields ≡ map canonical_decimal (function_numbers fact)
 function_fields line word fields fact e is =
@@ -65,9 +64,8 @@ function_fields line word fields fact e is =
 pub no_function : {E : Type 0} (line word : List ℕ) (fields : List (List ℕ)) (r : Result (Option FunctionFact) E) → pieces 32 line ≡ word ∷ fields
     → IfOk r (λ read. IfNone read ((fact : FunctionFact) → HasFewPlaces fact → HoldsFunctionWords fact → fields ≡ map canonical_decimal (function_numbers fact) → ⊥))
     → IfOk r (λ read. IfNone read ((fact : FunctionFact) → HasFewPlaces fact → HoldsFunctionWords fact → line ≡ function_line fact → ⊥))
-no_function line word fields (Err error) e h = tt
 no_function line word fields (Ok None) e h = λ fact few words is. h fact few words (function_fields line word fields fact e is)
-no_function line word fields (Ok (Some fact)) e h = tt
+no_function line word fields _ e h = tt
 
 -- a line of a site
 

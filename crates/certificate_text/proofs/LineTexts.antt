@@ -81,9 +81,8 @@ sites_number m n e = decimal_unique m n (cc)
 
 decimals_unique : (xs ys : List ℕ) → map canonical_decimal xs ≡ map canonical_decimal ys → xs ≡ ys
 decimals_unique [] [] e = refl
-decimals_unique [] (y ∷ ys) e = absurd (cc)
-decimals_unique (x ∷ xs) [] e = absurd (cc)
 decimals_unique (x ∷ xs) (y ∷ ys) e = let first = decimal_unique x y (cc) in let rest = decimals_unique xs ys (cc) in (λ i. first i ∷ rest i)
+decimals_unique _ _ e = absurd (cc)
 
 same_function : (f g : FunctionFact) → function_numbers f ≡ function_numbers g → f ≡ g
 same_function f g e =

@@ -43,19 +43,17 @@ lines_lack c = (
 
 functions_unique : (fs gs : List FunctionFact) (ms ns : List (List ℕ)) → length fs ≡ length gs → map function_line fs ++ ms ≡ map function_line gs ++ ns → (fs ≡ gs) × (ms ≡ ns)
 functions_unique [] [] ms ns l e = (refl, e)
-functions_unique [] (g ∷ gs) ms ns l e = absurd (omega arith)
-functions_unique (f ∷ fs) [] ms ns l e = absurd (omega arith)
 functions_unique (f ∷ fs) (g ∷ gs) ms ns l e =
     let first : function_line f ≡ function_line g = cc in
     let heads = function_unique f g first in
     let rest = functions_unique fs gs ms ns (omega arith) (cc) in
     ((λ i. heads i ∷ rest.0 i), rest.1)
+functions_unique _ _ ms ns l e = absurd (omega arith)
 
 sites_unique : (xs ys : List SiteFact) → map site_line xs ≡ map site_line ys → xs ≡ ys
 sites_unique [] [] e = refl
-sites_unique [] (y ∷ ys) e = absurd (cc)
-sites_unique (x ∷ xs) [] e = absurd (cc)
 sites_unique (x ∷ xs) (y ∷ ys) e = let first = site_unique x y (cc) in let rest = sites_unique xs ys (cc) in (λ i. first i ∷ rest i)
+sites_unique _ _ e = absurd (cc)
 
 pub spelling_unique : (c d : Certificate) → spelling c ≡ spelling d → c ≡ d
 unfolding spelling

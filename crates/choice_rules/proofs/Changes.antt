@@ -40,12 +40,11 @@ changes_by (suc n) (x ∷ before) (y ∷ after) (z ∷ change) b a c same =
     let tail : change ≡ changes before after = changes_by n before after change (omega (arith, b)) (omega (arith, a)) (omega (arith, c))
     (λ r below. same (suc r) (omega (arith, below))) in
     ap (λ (v : ℤ). v ∷ change) head ∙ ap (λ (l : List ℤ). (pos y -ℤ pos x) ∷ l) tail
-changes_by zero (x ∷ before) after change b a c same = absurd (omega (arith, b))
 changes_by zero [] (y ∷ after) change b a c same = absurd (omega (arith, a))
 changes_by zero [] [] (z ∷ change) b a c same = absurd (omega (arith, c))
-changes_by (suc n) [] after change b a c same = absurd (omega (arith, b))
 changes_by (suc n) (x ∷ before) [] change b a c same = absurd (omega (arith, a))
 changes_by (suc n) (x ∷ before) (y ∷ after) [] b a c same = absurd (omega (arith, c))
+changes_by _ _ after change b a c same = absurd (omega (arith, b))
 
 pub changes_are : (before after : List ℕ) (change : List ℤ) → length before ≡ 8 → length after ≡ 8 → length change ≡ 8 → Changed 8 before after change →
     change ≡ changes before after

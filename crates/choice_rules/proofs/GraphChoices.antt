@@ -70,9 +70,8 @@ weaker (x ∷ xs) test other implies e = either (test x) (list_any test xs) e _
 -- ---- eligible
 
 eligible_elsewhere : (ready accept gate elsewhere : Bool) → (ready && not accept) ≡ true → (ready && (not accept || (gate || not elsewhere))) ≡ true
-eligible_elsewhere true true gate elsewhere e = absurd (cc)
 eligible_elsewhere true false gate elsewhere e = refl
-eligible_elsewhere false accept gate elsewhere e = absurd (cc)
+eligible_elsewhere _ _ gate elsewhere e = absurd (cc)
 
 eligible_alone : (ready accept gate elsewhere : Bool) → elsewhere ≡ false → ready ≡ true → (ready && (not accept || (gate || not elsewhere))) ≡ true
 eligible_alone true true true elsewhere none e = refl

@@ -52,7 +52,7 @@ not_refused trace (Some e) number p (inr r) =
     let same : e.time ≡ r.0 = ap (λ (v : Event). v.time) (r.2.line.only e p.line.spells) in
     omega (arith, same, r.2.falls, r.2.earlier_is, p.rises)
 
-refused_number : (trace : Trace) (number : ℕ) → IsRefused trace number → number ≡ trace.lines + 1
+pub refused_number : (trace : Trace) (number : ℕ) → IsRefused trace number → number ≡ trace.lines + 1
 refused_number trace number (inl r) = r.number_is
 refused_number trace number (inr r) = r.2.number_is
 

@@ -21,17 +21,15 @@ at_node-append (x ∷ a) b node = on (nat_eq x.node node) x _ _ _ (at_node-appen
 
 pub queue_append : (places : List (Option ℕ)) (ts us : List ThreadId) (xs ys : List Waiter) → IsQueue places ts xs → IsQueue places us ys → IsQueue places (ts ++ us) (xs ++ ys)
 queue_append places [] us [] ys p q = q
-queue_append places [] us (x ∷ xs) ys p q = absurd p
-queue_append places (t ∷ ts) us [] ys p q = absurd p
 queue_append places (t ∷ ts) us (x ∷ xs) ys p q = (p.0, (p.1.0, queue_append places ts us xs ys p.1.1 q))
+queue_append places _ us _ ys p q = absurd p
 
 -- where the places of its threads stay
 pub queue_kept : (old new : List (Option ℕ)) (ts : List ThreadId) (xs : List Waiter) (live : Waiter → Type 0) → ((t : ThreadId) (x : Waiter) → t.number ≡ x.thread → live x → IsPlaced old t → IsPlaced new t) →
     AllByRecursion live xs → IsQueue old ts xs → IsQueue new ts xs
 queue_kept old new [] [] live keeps all p = tt
-queue_kept old new [] (x ∷ xs) live keeps all p = absurd p
-queue_kept old new (t ∷ ts) [] live keeps all p = absurd p
 queue_kept old new (t ∷ ts) (x ∷ xs) live keeps all p = (p.0, (keeps t x p.0 all.0 p.1.0, queue_kept old new ts xs live keeps all.1 p.1.1))
+queue_kept old new _ _ live keeps all p = absurd p
 
 all_on : (P : Waiter → Type 0) (t : Bool) (x : Waiter) (xs : List Waiter) → P x → AllByRecursion P xs → AllByRecursion P (cond t (x ∷ xs) xs)
 all_on P true x xs p all = (p, all)
@@ -60,11 +58,10 @@ find_on places u ts x xs eligible other t true true ab number placed ea ob e res
       same = ap (λ (v : ThreadId). v.number) (sym is) ∙ number;
       placed = subst (λ (v : ThreadId). IsPlaced places v) is placed;
     }
-find_on places u ts x xs eligible other t true false ab number placed ea ob e rest = absurd (cc)
-find_on places u ts x xs eligible other t false true ab number placed ea ob e rest = absurd (cc)
 find_on places u ts x xs eligible other t false false ab number placed ea ob e rest =
     let found = rest (sym (cond-false (eligible u) (Some u) (find eligible ts) ea) ∙ e) in
     record { waiter = found.waiter; found = cond-false (other x) (Some x) (find other xs) ob ∙ found.found; same = found.same; placed = found.placed }
+find_on places u ts x xs eligible other t _ _ ab number placed ea ob e rest = absurd (cc)
 
 pub find_same : (places : List (Option ℕ)) (ts : List ThreadId) (xs : List Waiter) (P : Waiter → Type 0) (eligible : ThreadId → Bool) (other : Waiter → Bool) →
     ((t : ThreadId) (x : Waiter) → t.number ≡ x.thread → IsPlaced places t → P x → eligible t ≡ other x) → AllByRecursion P xs → IsQueue places ts xs → (t : ThreadId) → find eligible ts ≡ Some t →
@@ -84,10 +81,9 @@ some_on false false u x ts xs ab e rest = rest e
 pub some_eligible : (places : List (Option ℕ)) (ts : List ThreadId) (xs : List Waiter) (P : Waiter → Type 0) (eligible : ThreadId → Bool) (other : Waiter → Bool) →
     ((t : ThreadId) (x : Waiter) → t.number ≡ x.thread → IsPlaced places t → P x → eligible t ≡ other x) → AllByRecursion P xs → IsQueue places ts xs → IsSome (find other xs) → IsSome (find eligible ts)
 some_eligible places [] [] P eligible other same all p e = e
-some_eligible places [] (x ∷ xs) P eligible other same all p e = absurd p
-some_eligible places (u ∷ ts) [] P eligible other same all p e = absurd p
 some_eligible places (u ∷ ts) (x ∷ xs) P eligible other same all p e =
     some_on (eligible u) (other x) u x (find eligible ts) (find other xs) (same u x p.0 p.1.0 all.0) e (λ e'. some_eligible places ts xs P eligible other same all.1 p.1.1 e')
+some_eligible places _ _ P eligible other same all p e = absurd p
 
 -- ---- without the first that is eligible
 

@@ -74,24 +74,7 @@ covered code certificate heights f (Op.Call site d g args) e =
 covered code certificate heights f (Op.CallTable site d t i s) e =
     all_within heights (members_of code t) (chunks_added (kind_of certificate (Op.CallTable site d t i s))) (height_of heights f)
     (kept (highest heights (members_of code t) + chunks_added (kind_of certificate (Op.CallTable site d t i s))) (height_of heights f) site e)
-covered code certificate heights f (Op.Spawn site d g s) e = tt
-covered code certificate heights f (Op.Model site d n args) e = tt
-covered code certificate heights f (Op.Const d value) e = tt
-covered code certificate heights f (Op.Copy d x) e = tt
-covered code certificate heights f (Op.Neg d x) e = tt
-covered code certificate heights f (Op.Not d x) e = tt
-covered code certificate heights f (Op.Flip d x) e = tt
-covered code certificate heights f (Op.Bin op d a b) e = tt
-covered code certificate heights f (Op.Zero a) e = tt
-covered code certificate heights f (Op.LoadGlobal d g) e = tt
-covered code certificate heights f (Op.StoreGlobal g x) e = tt
-covered code certificate heights f (Op.LoadLocal d a i) e = tt
-covered code certificate heights f (Op.LoadArray d a i) e = tt
-covered code certificate heights f (Op.StoreLocal a i x) e = tt
-covered code certificate heights f (Op.StoreArray a i x) e = tt
-covered code certificate heights f (Op.Jump to) e = tt
-covered code certificate heights f (Op.JumpZero x to) e = tt
-covered code certificate heights f (Op.Return x) e = tt
+covered code certificate heights f _ e = tt
 
 -- what it says of a site at which a call isn't covered
 record IsLowHere (code : FlatCode) (certificate : Certificate) (heights : List ℕ) (f : ℕ) (op : Op) (site : ℕ) : Type 0 where
@@ -110,24 +93,7 @@ low_here code certificate heights f (Op.CallTable site d t i s) n member e =
           let le = highest_within heights (members_of code t) (chunks_added (kind_of certificate (Op.CallTable site d t i s))) (height_of heights f) (member site d t i s refl) c in
           omega arith);
     }
-low_here code certificate heights f (Op.Spawn site d g s) n member e = absurd (none-some n e)
-low_here code certificate heights f (Op.Model site d m args) n member e = absurd (none-some n e)
-low_here code certificate heights f (Op.Const d value) n member e = absurd (none-some n e)
-low_here code certificate heights f (Op.Copy d x) n member e = absurd (none-some n e)
-low_here code certificate heights f (Op.Neg d x) n member e = absurd (none-some n e)
-low_here code certificate heights f (Op.Not d x) n member e = absurd (none-some n e)
-low_here code certificate heights f (Op.Flip d x) n member e = absurd (none-some n e)
-low_here code certificate heights f (Op.Bin op d a b) n member e = absurd (none-some n e)
-low_here code certificate heights f (Op.Zero a) n member e = absurd (none-some n e)
-low_here code certificate heights f (Op.LoadGlobal d g) n member e = absurd (none-some n e)
-low_here code certificate heights f (Op.StoreGlobal g x) n member e = absurd (none-some n e)
-low_here code certificate heights f (Op.LoadLocal d a i) n member e = absurd (none-some n e)
-low_here code certificate heights f (Op.LoadArray d a i) n member e = absurd (none-some n e)
-low_here code certificate heights f (Op.StoreLocal a i x) n member e = absurd (none-some n e)
-low_here code certificate heights f (Op.StoreArray a i x) n member e = absurd (none-some n e)
-low_here code certificate heights f (Op.Jump to) n member e = absurd (none-some n e)
-low_here code certificate heights f (Op.JumpZero x to) n member e = absurd (none-some n e)
-low_here code certificate heights f (Op.Return x) n member e = absurd (none-some n e)
+low_here code certificate heights f _ n member e = absurd (none-some n e)
 
 -- ---- the whole program
 

@@ -61,25 +61,7 @@ module _ (code : FlatCode) (heights : List ℕ) where
 
   spawned-least : (most f k : ℕ) (op : Op) → ((g : ℕ) → IsRoot code g → height_of heights g ≤ most) → operation_at code f k ≡ Some op → height_spawned heights op ≤ most
   spawned-least most f k (Op.Spawn site d g s) all there = all g (inr (record { f = f; k = k; site = site; result = d; argument = s; there = there }))
-  spawned-least most f k (Op.Call site d g args) all there = omega arith
-  spawned-least most f k (Op.CallTable site d t i s) all there = omega arith
-  spawned-least most f k (Op.Model site d n args) all there = omega arith
-  spawned-least most f k (Op.Const d value) all there = omega arith
-  spawned-least most f k (Op.Copy d x) all there = omega arith
-  spawned-least most f k (Op.Neg d x) all there = omega arith
-  spawned-least most f k (Op.Not d x) all there = omega arith
-  spawned-least most f k (Op.Flip d x) all there = omega arith
-  spawned-least most f k (Op.Bin op d a b) all there = omega arith
-  spawned-least most f k (Op.Zero a) all there = omega arith
-  spawned-least most f k (Op.LoadGlobal d g) all there = omega arith
-  spawned-least most f k (Op.StoreGlobal g x) all there = omega arith
-  spawned-least most f k (Op.LoadLocal d a i) all there = omega arith
-  spawned-least most f k (Op.LoadArray d a i) all there = omega arith
-  spawned-least most f k (Op.StoreLocal a i x) all there = omega arith
-  spawned-least most f k (Op.StoreArray a i x) all there = omega arith
-  spawned-least most f k (Op.Jump to) all there = omega arith
-  spawned-least most f k (Op.JumpZero x to) all there = omega arith
-  spawned-least most f k (Op.Return x) all there = omega arith
+  spawned-least most f k _ all there = omega arith
 
   highest-within : (most : ℕ) → ((g : ℕ) → IsRoot code g → height_of heights g ≤ most) → highest_of ≤ most
   highest-within most all =

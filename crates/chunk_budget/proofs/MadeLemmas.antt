@@ -57,48 +57,14 @@ asked-within code certificate heights others f (Op.Call site d g args) member le
 asked-within code certificate heights others f (Op.CallTable site d t i s) member le covered =
     let within = highest_within others (members_of code t) (chunks_added (kind_of certificate (Op.CallTable site d t i s))) (height_of others f) (member site d t i s refl) covered in
     omega (arith, within, highest-least heights others (members_of code t) le)
-asked-within code certificate heights others f (Op.Spawn site d g s) member le covered = omega arith
-asked-within code certificate heights others f (Op.Model site d n args) member le covered = omega arith
-asked-within code certificate heights others f (Op.Const d value) member le covered = omega arith
-asked-within code certificate heights others f (Op.Copy d x) member le covered = omega arith
-asked-within code certificate heights others f (Op.Neg d x) member le covered = omega arith
-asked-within code certificate heights others f (Op.Not d x) member le covered = omega arith
-asked-within code certificate heights others f (Op.Flip d x) member le covered = omega arith
-asked-within code certificate heights others f (Op.Bin op d a b) member le covered = omega arith
-asked-within code certificate heights others f (Op.Zero a) member le covered = omega arith
-asked-within code certificate heights others f (Op.LoadGlobal d g) member le covered = omega arith
-asked-within code certificate heights others f (Op.StoreGlobal g x) member le covered = omega arith
-asked-within code certificate heights others f (Op.LoadLocal d a i) member le covered = omega arith
-asked-within code certificate heights others f (Op.LoadArray d a i) member le covered = omega arith
-asked-within code certificate heights others f (Op.StoreLocal a i x) member le covered = omega arith
-asked-within code certificate heights others f (Op.StoreArray a i x) member le covered = omega arith
-asked-within code certificate heights others f (Op.Jump to) member le covered = omega arith
-asked-within code certificate heights others f (Op.JumpZero x to) member le covered = omega arith
-asked-within code certificate heights others f (Op.Return x) member le covered = omega arith
+asked-within code certificate heights others f _ member le covered = omega arith
 
 -- each function that an operation calls is within what it asks
 asked-all : (code : FlatCode) (certificate : Certificate) (heights : List ℕ) (most : ℕ) (op : Op) → height_asked code certificate heights op ≤ most → AllByRecursion (λ g. height_of heights g + chunks_added (kind_of certificate op) ≤ most) (functions_called code op)
 asked-all code certificate heights most (Op.Call site d g args) le = (le, tt)
 asked-all code certificate heights most (Op.CallTable site d t i s) le =
     all_within heights (members_of code t) (chunks_added (kind_of certificate (Op.CallTable site d t i s))) most le
-asked-all code certificate heights most (Op.Spawn site d g s) le = tt
-asked-all code certificate heights most (Op.Model site d n args) le = tt
-asked-all code certificate heights most (Op.Const d value) le = tt
-asked-all code certificate heights most (Op.Copy d x) le = tt
-asked-all code certificate heights most (Op.Neg d x) le = tt
-asked-all code certificate heights most (Op.Not d x) le = tt
-asked-all code certificate heights most (Op.Flip d x) le = tt
-asked-all code certificate heights most (Op.Bin op d a b) le = tt
-asked-all code certificate heights most (Op.Zero a) le = tt
-asked-all code certificate heights most (Op.LoadGlobal d g) le = tt
-asked-all code certificate heights most (Op.StoreGlobal g x) le = tt
-asked-all code certificate heights most (Op.LoadLocal d a i) le = tt
-asked-all code certificate heights most (Op.LoadArray d a i) le = tt
-asked-all code certificate heights most (Op.StoreLocal a i x) le = tt
-asked-all code certificate heights most (Op.StoreArray a i x) le = tt
-asked-all code certificate heights most (Op.Jump to) le = tt
-asked-all code certificate heights most (Op.JumpZero x to) le = tt
-asked-all code certificate heights most (Op.Return x) le = tt
+asked-all code certificate heights most _ le = tt
 
 -- a function that is as high as an operation asks covers it
 asked-covers : (code : FlatCode) (certificate : Certificate) (heights : List ℕ) (f : ℕ) (op : Op) → height_asked code certificate heights op ≤ height_of heights f → IsCovered code certificate heights f op

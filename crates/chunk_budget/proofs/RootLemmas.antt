@@ -31,25 +31,7 @@ high_here chunks heights f (Op.Spawn site d g s) n e =
       op_is = ap (λ (m : ℕ). Op.Spawn site d m s) r.1;
       high = subst (λ (m : ℕ). chunks ≤ height_of heights m) r.1 r.0;
     }
-high_here chunks heights f (Op.Call site d g args) n e = absurd (none-some n e)
-high_here chunks heights f (Op.CallTable site d t i s) n e = absurd (none-some n e)
-high_here chunks heights f (Op.Model site d m args) n e = absurd (none-some n e)
-high_here chunks heights f (Op.Const d value) n e = absurd (none-some n e)
-high_here chunks heights f (Op.Copy d x) n e = absurd (none-some n e)
-high_here chunks heights f (Op.Neg d x) n e = absurd (none-some n e)
-high_here chunks heights f (Op.Not d x) n e = absurd (none-some n e)
-high_here chunks heights f (Op.Flip d x) n e = absurd (none-some n e)
-high_here chunks heights f (Op.Bin op d a b) n e = absurd (none-some n e)
-high_here chunks heights f (Op.Zero a) n e = absurd (none-some n e)
-high_here chunks heights f (Op.LoadGlobal d g) n e = absurd (none-some n e)
-high_here chunks heights f (Op.StoreGlobal g x) n e = absurd (none-some n e)
-high_here chunks heights f (Op.LoadLocal d a i) n e = absurd (none-some n e)
-high_here chunks heights f (Op.LoadArray d a i) n e = absurd (none-some n e)
-high_here chunks heights f (Op.StoreLocal a i x) n e = absurd (none-some n e)
-high_here chunks heights f (Op.StoreArray a i x) n e = absurd (none-some n e)
-high_here chunks heights f (Op.Jump to) n e = absurd (none-some n e)
-high_here chunks heights f (Op.JumpZero x to) n e = absurd (none-some n e)
-high_here chunks heights f (Op.Return x) n e = absurd (none-some n e)
+high_here chunks heights f _ n e = absurd (none-some n e)
 
 module _ (code : FlatCode) (budget : Budget) (some : 1 ≤ budget.per_thread) where
   -- main or an operation has the number n

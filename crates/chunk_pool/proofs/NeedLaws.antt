@@ -18,16 +18,14 @@ use Rattle.chunk_pool.proofs.FreeLaws.{free_first, free_extra, free_below_count,
 choice-first : (a b c : Bool) → choice a b c ≡ Some First → (a ≡ true) × (b ≡ true → c ≡ true)
 choice-first true false c e = (refl, λ no. absurd (false≢true no))
 choice-first true true true e = (refl, λ same. refl)
-choice-first true true false e = absurd (let both : Some Extra ≡ Some First = e in cc)
-choice-first false true c e = absurd (let both : Some Extra ≡ Some First = e in cc)
 choice-first false false c e = absurd (let both : None ≡ Some First = e in cc)
+choice-first _ true _ e = absurd (let both : Some Extra ≡ Some First = e in cc)
 
 choice-extra : (a b c : Bool) → choice a b c ≡ Some Extra → (b ≡ true) × (a ≡ true → c ≡ false)
-choice-extra true false c e = absurd (let both : Some First ≡ Some Extra = e in cc)
-choice-extra true true true e = absurd (let both : Some First ≡ Some Extra = e in cc)
 choice-extra true true false e = (refl, λ same. refl)
 choice-extra false true c e = (refl, λ no. absurd (false≢true no))
 choice-extra false false c e = absurd (let both : None ≡ Some Extra = e in cc)
+choice-extra true _ _ e = absurd (let both : Some First ≡ Some Extra = e in cc)
 
 choice-none : (a b c : Bool) → choice a b c ≡ None → (a ≡ false) × (b ≡ false)
 choice-none true false c e = absurd (let both : Some First ≡ None = e in cc)

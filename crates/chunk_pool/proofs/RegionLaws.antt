@@ -2,7 +2,7 @@
 use Rattle.std.proofs.Common.{◌≡◌, ◌≢◌, ℕ, zero, suc, ◌+◌, ◌-◌, ◌<◌, ◌≤◌, List, [], ◌∷◌, length, map, take, drop, get_or, set, replicate, refl, sym, ◌∙◌, ap, subst, inl, inr, arith, All}
 use Rattle.std.specs.List.{range_with_len}
 use Rattle.std.proofs.lemmas.Bool.{cases_eq, cases_lt}
-use Rattle.std.proofs.lemmas.List.{length-take, length-drop, length-set, length-replicate, get_or-take, get_or-drop, get_or-set_same, get_or-set_other, take-set-le, take-replicate, drop-replicate, drop-set-lt, drop-set-add, drop-take, same_lists}
+use Rattle.std.proofs.lemmas.List.{length-set, length-replicate, get_or-take, get_or-drop, get_or-set_same, get_or-set_other, take-set-le, take-replicate, drop-replicate, drop-set-lt, drop-set-add, drop-take, same_lists}
 use Rattle.std.proofs.lemmas.List.Elements.{All-head, All-tail}
 use Rattle.std.proofs.lemmas.List.FromFn.{length-map-range_with_len, get_or-map-range_with_len}
 use Rattle.chunk_pool.specs.declared.shape.Shape.{Shape}
@@ -18,9 +18,8 @@ get_or-chunk_in s id word d region below = get_or-take (words_in s id) (drop (st
 
 take-set_within : (n : ℕ) (xs : List ℕ) (i x : ℕ) → i < n → take n (set xs i x) ≡ set (take n xs) i x
 take-set_within zero xs i x below = absurd (omega arith)
-take-set_within (suc n) [] i x below = refl
-take-set_within (suc n) (y ∷ xs) zero x below = refl
 take-set_within (suc n) (y ∷ xs) (suc i) x below = ap (λ (l : List ℕ). y ∷ l) (take-set_within n xs i x (omega arith))
+take-set_within (suc n) _ _ x below = refl
 
 pub chunk_in-set_same : (s : Shape) (id word value : ℕ) (region : List ℕ) → word < words_in s id → chunk_in s (set region (start_in s id + word) value) id ≡ set (chunk_in s region id) word value
 chunk_in-set_same s id word value region below =
@@ -111,11 +110,10 @@ followed-set s region at value first (suc more) apart =
 
 -- where each chunk's first word but the last's is the number after its own, the list is in their order
 pub followed-range : (s : Shape) (region : List ℕ) (first free end : ℕ) → first + free ≡ end → ((id : ℕ) → first ≤ id → id + 1 < end → get_or region (start_in s id) 0 ≡ id + 1) → followed s region first free ≡ range_with_len first free
-followed-range s region first zero end ends next = refl
-followed-range s region first (suc zero) end ends next = refl
 followed-range s region first (suc (suc more)) end ends next =
     ap (λ (n : ℕ). first ∷ followed s region n (suc more)) (next first (omega arith) (omega arith))
     ∙ ap (λ (l : List ℕ). first ∷ l) (followed-range s region (first + 1) (suc more) end (omega arith) (λ id from. next id (omega arith)))
+followed-range s region first _ end ends next = refl
 
 -- ---- the start
 

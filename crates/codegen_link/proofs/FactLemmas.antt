@@ -24,10 +24,9 @@ length-places place (n ∷ sizes) = ap suc (length-places (place + 4 * n) sizes)
 has-places : (fs : List FlatFunction) (facts : List FunctionFact) (d : FlatFunction) (e : FunctionFact) → length facts ≡ length fs →
     ((i : ℕ) → i < length fs → length (get_or facts i e).places ≡ length (get_or fs i d).sizes) → HasPlaces fs facts
 has-places [] [] d e same each = tt
-has-places [] (fact ∷ facts) d e same each = absurd (omega arith)
-has-places (f ∷ fs) [] d e same each = absurd (omega arith)
 has-places (f ∷ fs) (fact ∷ facts) d e same each =
     (each 0 (omega arith), has-places fs facts d e (omega arith) (λ i lt. each (suc i) (omega arith)))
+has-places _ _ d e same each = absurd (omega arith)
 
 -- it has a place for each variable of each function
 pub is-for : (code : FlatCode) (plan : Plan) (certificate : Certificate) → HasFacts code plan certificate → IsFor code certificate

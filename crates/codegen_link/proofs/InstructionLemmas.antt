@@ -59,22 +59,11 @@ call-fits n le = (addi-fits a7 zero_ n (omega arith) (omega arith) le, (ecall-fi
 
 pub middle-fits : (op : BinOp) → Fit (middle op)
 unfolding IsInRange
-middle-fits BinOp.Add = ((omega arith, omega arith, omega arith), tt)
-middle-fits BinOp.Subtract = ((omega arith, omega arith, omega arith), tt)
-middle-fits BinOp.Multiply = ((omega arith, omega arith, omega arith), tt)
-middle-fits BinOp.Divide = ((omega arith, omega arith, omega arith), tt)
-middle-fits BinOp.Remainder = ((omega arith, omega arith, omega arith), tt)
-middle-fits BinOp.BitAnd = ((omega arith, omega arith, omega arith), tt)
-middle-fits BinOp.BitOr = ((omega arith, omega arith, omega arith), tt)
-middle-fits BinOp.BitXor = ((omega arith, omega arith, omega arith), tt)
-middle-fits BinOp.ShiftLeft = ((omega arith, omega arith, omega arith), tt)
-middle-fits BinOp.ShiftRight = ((omega arith, omega arith, omega arith), tt)
-middle-fits BinOp.Less = ((omega arith, omega arith, omega arith), tt)
-middle-fits BinOp.Greater = ((omega arith, omega arith, omega arith), tt)
 middle-fits BinOp.LessOrEqual = ((omega arith, omega arith, omega arith), ((omega arith, omega arith, immediate 1 (omega arith)), tt))
 middle-fits BinOp.GreaterOrEqual = ((omega arith, omega arith, omega arith), ((omega arith, omega arith, immediate 1 (omega arith)), tt))
 middle-fits BinOp.Equal = ((omega arith, omega arith, omega arith), ((omega arith, omega arith, immediate 1 (omega arith)), tt))
 middle-fits BinOp.NotEqual = ((omega arith, omega arith, omega arith), ((omega arith, omega arith, omega arith), tt))
+middle-fits _ = ((omega arith, omega arith, omega arith), tt)
 
 -- ---- distances between addresses, as quarters
 
@@ -108,8 +97,6 @@ unfolding IsInRange
 skip-fits = (omega arith, (omega (arith, ints), omega (arith, ints), refl))
 
 pub transfer-fits : (kind : LinkKind) (callee : Option ℕ) (here b : ℕ) → IsNearEntry callee → here ≡ 4 * b → b ≤ 230000 → Fit (transfer kind callee here)
-transfer-fits LinkKind.Plain callee here b near eb lb = (instruction-fits callee here b near eb (omega arith), tt)
-transfer-fits (LinkKind.Spawned need) callee here b near eb lb = (instruction-fits callee here b near eb (omega arith), tt)
 transfer-fits (LinkKind.Linked need) callee here b near eb lb =
     let first : here + 16 ≡ 4 * (b + 4) = omega arith in
     let second : here + 32 ≡ 4 * (b + 8) = omega arith in (
@@ -140,6 +127,7 @@ transfer-fits (LinkKind.Linked need) callee here b near eb lb =
         ),
       ),
     )
+transfer-fits _ callee here b near eb lb = (instruction-fits callee here b near eb (omega arith), tt)
 
 -- ---- parts that name places
 

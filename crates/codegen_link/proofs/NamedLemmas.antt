@@ -70,8 +70,6 @@ module _ (code : FlatCode) (plan : Plan) (site : ℕ) where
 
   named-op : (op : Op) (facts : List SiteFact) → list_any is-fact-of (cons_option (site_fact code plan op) facts) ≡ (is-at op || list_any is-fact-of facts)
   named-op (Op.Call number d f args) facts = refl
-  named-op (Op.CallTable number d t i x) facts = refl
-  named-op (Op.Spawn number d f x) facts = refl
   named-op _ facts = refl
 
   named-ops : (ops : List Op) → list_any is-fact-of (filter_map (site_fact code plan) ops) ≡ list_any is-at ops

@@ -13,7 +13,7 @@ use Rattle.command_outcomes.specs.declared.documents.Document.TheVariants as doc
 use Rattle.command_outcomes.specs.declared.stops.Cause.TheVariants as cause
 use Rattle.command_outcomes.specs.declared.stops.Stop.{Stop}
 use Rattle.command_outcomes.specs.declared.stops.Stop.TheVariants.{Refused, Failed}
-use Rattle.command_outcomes.specs.declared.faults.Fault.TheVariants.{Read, Write, Memory}
+use Rattle.command_outcomes.specs.declared.faults.Fault.TheVariants.{Write, Memory}
 use Rattle.command_outcomes.specs.Outcome.{Outcome, NoMore}
 use Rattle.command_outcomes.specs.CauseLines.{most_bytes, refusal}
 use Rattle.command_files.specs.Loads.{OfFile, AfterLoad, AfterThree, AfterSource, AfterImage, AfterCertificate}
@@ -35,20 +35,17 @@ load-follows document files name P Q o step h = (h.0, h.1, file-follows document
 pub stop-follows : (P Q : Outcome → Type 0) (stop : Stop) → ((o : Outcome) → P o → Q o) → IsStop P stop → IsStop Q stop
 stop-follows P Q (Refused cause) step h = step (refusal cause) h
 stop-follows P Q (Failed Memory) step h = tt
-stop-follows P Q (Failed Read) step h = absurd h
-stop-follows P Q (Failed Write) step h = absurd h
+stop-follows P Q (Failed _) step h = absurd h
 
 pub shelf-stop-follows : (P Q : Outcome → Type 0) (old new : ℕ) (stop : Stop) → ((o : Outcome) → P o → Q o) → IsShelfStop P old new stop → IsShelfStop Q old new stop
 shelf-stop-follows P Q old new (Refused cause) step h = (step (refusal cause) h.0, h.1)
-shelf-stop-follows P Q old new (Failed Memory) step h = h
-shelf-stop-follows P Q old new (Failed Read) step h = h
 shelf-stop-follows P Q old new (Failed Write) step h = absurd h
+shelf-stop-follows P Q old new (Failed _) step h = h
 
 pub stop-on-shelf : (P Q : Outcome → Type 0) (old new : ℕ) (stop : Stop) → ((o : Outcome) → P o → Q o) → new ≡ old → IsStop P stop → IsShelfStop Q old new stop
 stop-on-shelf P Q old new (Refused cause) step same h = (step (refusal cause) h, same)
 stop-on-shelf P Q old new (Failed Memory) step same h = same
-stop-on-shelf P Q old new (Failed Read) step same h = absurd h
-stop-on-shelf P Q old new (Failed Write) step same h = absurd h
+stop-on-shelf P Q old new (Failed _) step same h = absurd h
 
 -- Loads.
 

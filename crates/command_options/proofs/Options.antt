@@ -32,16 +32,13 @@ cap-most below ((resource, most) ∷ rest) sought h =
     (λ f. rw f (cap-most resource rest sought h.4))
 
 caps-most : (pairs : List (ℕ × ℕ)) → AreCapsAbove 0 pairs → (resources : List ℕ) (r : ℕ) → slice_index (map (cap_of pairs) resources) r ≤ 1000000
-caps-most pairs h [] zero = omega arith
-caps-most pairs h [] (suc r) = omega arith
 caps-most pairs h (x ∷ resources) zero = cap-most 0 pairs x h
 caps-most pairs h (x ∷ resources) (suc r) = caps-most pairs h resources r
+caps-most pairs h [] _ = omega arith
 
 pub none-most : (n r : ℕ) → slice_index (replicate n 0) r ≤ 1000000
-none-most zero zero = omega arith
-none-most zero (suc r) = omega arith
-none-most (suc n) zero = omega arith
 none-most (suc n) (suc r) = none-most n r
+none-most _ _ = omega arith
 
 caps-in-range : (given : Option (List ℕ)) (caps : List ℕ) → AreCaps given caps → (r : ℕ) → slice_index caps r ≤ 1000000
 caps-in-range None caps h r = subst (λ (xs : List ℕ). slice_index xs r ≤ 1000000) (sym h) (none-most 8 r)

@@ -61,10 +61,9 @@ cut-after files (Some a) (Some b) (Some c) h k = cut-from files a b c h k
 -- the same, however the stores end
 pub stores-after : (files : List (List ℕ × List ℕ)) (a b c : Option Files) (l m n : ℕ) (r : Result (Unit {0}) Stop) → KeepsFiles a b → m ≡ l → AreStores files b c m n r → AreStores files a c l n r
 stores-after files a b c l m n (Ok u) keeps same h = (stored-after files a b c keeps h.0, h.1 ∙ same)
-stores-after files a b c l m n (Err (Refused cause)) keeps same h = h
-stores-after files a b c l m n (Err (Failed Read)) keeps same h = h
 stores-after files a b c l m n (Err (Failed Write)) keeps same h = (cut-after files a b c keeps h.0, subst (λ k. IsRisen k n) same h.1)
 stores-after files a b c l m n (Err (Failed Memory)) keeps same h = (cut-after files a b c keeps h.0, h.1 ∙ same)
+stores-after files a b c l m n (Err _) keeps same h = h
 
 -- a step that stops before anything is stored or printed
 pub stopped : {T : Type 0} (hands_on : Outcome → T → Type 0) (due : Outcome → Type 0) (before after : Outside) (stop : Stop) → KeepsFiles before.files after.files → after.stores ≡ before.stores → Keeps before.left after.left → after.reads ≡ before.reads → Keeps before.taken after.taken → after.writes ≡ before.writes →
@@ -91,22 +90,20 @@ pub printed-ends : (due : Outcome → Type 0) (before after : Outside) (o : Outc
     IsPrinted o.status o.out before.taken after.taken before.writes after.writes r → EndsAs IsStatus due before after r
 printed-ends due before after o (Ok given) is line none trace files loads stores reads h =
     (o, (is, record { files = files; trace = trace; out = h.1 }, record { loads = loads; stores = stores; reads = reads; writes = h.2 }), (sym h.0, line, none))
-printed-ends due before after o (Err (Refused cause)) is line none trace files loads stores reads h = absurd h
-printed-ends due before after o (Err (Failed Read)) is line none trace files loads stores reads h = absurd h
 printed-ends due before after o (Err (Failed Write)) is line none trace files loads stores reads h =
     (o, is, inr (record { files = files; trace = trace; out = h.0 }, record { loads = loads; stores = stores; reads = reads; writes = h.1 }))
 printed-ends due before after o (Err (Failed Memory)) is line none trace files loads stores reads h =
     inl (inr (o, is, inr (record { files = files; trace = trace; out = h.0 })), record { loads = loads; stores = stores; reads = reads; writes = h.1 })
+printed-ends due before after o (Err _) is line none trace files loads stores reads h = absurd h
 
 -- a store of an outcome was cut short
 pub stores-cut : (due : Outcome → Type 0) (before after : Outside) (o : Outcome) (stop : Stop) → due o → o.stores ≢ [] → Keeps before.left after.left → Keeps before.taken after.taken → after.loads ≡ before.loads → after.reads ≡ before.reads → after.writes ≡ before.writes →
     AreStores o.stores before.files after.files before.stores after.stores (Err stop) → EndsAs IsStatus due before after (Err stop)
-stores-cut due before after o (Refused cause) is some left taken loads reads writes h = absurd h
-stores-cut due before after o (Failed Read) is some left taken loads reads writes h = absurd h
 stores-cut due before after o (Failed Write) is some left taken loads reads writes h =
     (o, is, inl (record { some = some; files = h.0; trace = left; out = taken }, record { loads = loads; stores = h.1; reads = reads; writes = writes }))
 stores-cut due before after o (Failed Memory) is some left taken loads reads writes h =
     inl (inr (o, is, inl (record { some = some; files = h.0; trace = left; out = taken })), record { loads = loads; stores = h.1; reads = reads; writes = writes })
+stores-cut due before after o _ is some left taken loads reads writes h = absurd h
 
 pub printed-now : (due : Outcome → Type 0) (before after : Outside) (status : ℕ) (text : List ℕ) (r : Result ℕ Stop) → due (printed status text) → KeepsFiles before.files after.files → Keeps before.left after.left → after.loads ≡ before.loads → after.stores ≡ before.stores → after.reads ≡ before.reads →
     IsPrinted status text before.taken after.taken before.writes after.writes r → EndsAs IsStatus due before after r

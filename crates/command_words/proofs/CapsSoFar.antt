@@ -63,7 +63,6 @@ eight g a b c d e f h i pa pb pc pd pe pf ph pi = λ j. pa j ∷ pb j ∷ pc j �
 -- the array with one cap more
 pub one_set : (caps : Caps) (below resource most : ℕ) → below < resource → resource ≤ 7 → AreUpTo below caps
     → slice_set (caps_of caps) resource most ≡ caps_of (caps ++ (resource, most) ∷ [])
-one_set caps below zero most new small all = absurd (omega arith)
 one_set caps below (suc zero) most new small all = eight (cap_of (caps ++ (1, most) ∷ [])) (cap_of caps 0) most (cap_of caps 2) (cap_of caps 3)
     (cap_of caps 4) (cap_of caps 5) (cap_of caps 6) (cap_of caps 7)
     (other_cap caps 1 most 0 refl) (here_cap caps below 1 most new all) (other_cap caps 1 most 2 refl) (other_cap caps 1 most 3 refl)
@@ -92,7 +91,7 @@ one_set caps below (suc (suc (suc (suc (suc (suc (suc zero))))))) most new small
     (cap_of caps 2) (cap_of caps 3) (cap_of caps 4) (cap_of caps 5) (cap_of caps 6) most
     (other_cap caps 7 most 0 refl) (other_cap caps 7 most 1 refl) (other_cap caps 7 most 2 refl) (other_cap caps 7 most 3 refl) (other_cap caps 7 most 4 refl)
     (other_cap caps 7 most 5 refl) (other_cap caps 7 most 6 refl) (here_cap caps below 7 most new all)
-one_set caps below (suc (suc (suc (suc (suc (suc (suc (suc n)))))))) most new small all = absurd (omega arith)
+one_set caps below _ most new small all = absurd (omega arith)
 
 -- one cap more
 pub one_more : (text field : List ℕ) (left rest : List (List ℕ)) (below resource most : ℕ) (caps now : List ℕ) → AreSoFar text left below caps

@@ -29,13 +29,12 @@ one_chosen (Some text) default m n is same = decimal_unique m n (sym is ∙ same
 
 one_list : (below : ℕ) (caps others : Caps) → map cap_text caps ≡ map cap_text others → AreCapsAbove below caps → AreCapsAbove below others → caps ≡ others
 one_list below [] [] same are also = refl
-one_list below [] (other ∷ others) same are also = absurd (cc)
-one_list below (cap ∷ caps) [] same are also = absurd (cc)
 one_list below ((resource, most) ∷ caps) ((other, more) ∷ others) same are also =
     let first : cap_text (resource, most) ≡ cap_text (other, more) = cc in
     let rest : map cap_text caps ≡ map cap_text others = cc in
     let one = one_cap resource most other more are.1 also.1 first in
     λ i. (one.0 i, one.1 i) ∷ one_list resource caps others rest are.4 (subst (λ r. AreCapsAbove r others) (sym one.0) also.4) i
+one_list below _ _ same are also = absurd (cc)
 
 pub one_caps : (given : Option (List ℕ)) (caps others : List ℕ) → AreCaps given caps → AreCaps given others → caps ≡ others
 one_caps None caps others is same = is ∙ sym same
@@ -55,13 +54,12 @@ one_ticket thread count other more same = ticket_parts thread count other more s
 
 one_ticket_list : (least : ℕ) (tickets others : Caps) → map ticket_text tickets ≡ map ticket_text others → tickets ≡ others
 one_ticket_list least [] [] same = refl
-one_ticket_list least [] (other ∷ others) same = absurd (cc)
-one_ticket_list least (ticket ∷ tickets) [] same = absurd (cc)
 one_ticket_list least ((thread, count) ∷ tickets) ((other, more) ∷ others) same =
     let first : ticket_text (thread, count) ≡ ticket_text (other, more) = cc in
     let rest : map ticket_text tickets ≡ map ticket_text others = cc in
     let one = one_ticket thread count other more first in
     λ i. (one.0 i, one.1 i) ∷ one_ticket_list least tickets others rest i
+one_ticket_list least _ _ same = absurd (cc)
 
 one_tickets : (given : Option (List ℕ)) (tickets others : Tickets) → AreTickets given tickets → AreTickets given others → tickets ≡ others
 one_tickets None tickets others is same = is ∙ sym same

@@ -1,19 +1,12 @@
 -- The decimals of small numbers, and a cap's text.
-use Rattle.std.proofs.Common.{◌≡◌, ◌∙◌, ℕ, zero, suc, ◌+◌, ◌≤◌, refl, ap, sym, arith, List, [], ◌∷◌, ◌++◌}
+use Rattle.std.proofs.Common.{◌≡◌, ◌∙◌, ℕ, suc, ◌+◌, ◌≤◌, refl, ap, sym, arith, List, [], ◌∷◌, ◌++◌}
 use Rattle.cap_text.specs.Decimals.{canonical_decimal}
 use Rattle.command_words.specs.Values.{cap_text}
 
 pub one_digit : (n : ℕ) → n ≤ 7 → canonical_decimal n ≡ (48 + n) ∷ []
 unfolding canonical_decimal
-one_digit zero small = refl
-one_digit (suc zero) small = refl
-one_digit (suc (suc zero)) small = refl
-one_digit (suc (suc (suc zero))) small = refl
-one_digit (suc (suc (suc (suc zero)))) small = refl
-one_digit (suc (suc (suc (suc (suc zero))))) small = refl
-one_digit (suc (suc (suc (suc (suc (suc zero)))))) small = refl
-one_digit (suc (suc (suc (suc (suc (suc (suc zero))))))) small = refl
 one_digit (suc (suc (suc (suc (suc (suc (suc (suc n)))))))) small = absurd (omega arith)
+one_digit _ small = refl
 
 pub cap_text_is : (resource most : ℕ) → resource ≤ 7 → cap_text (resource, most) ≡ (48 + resource) ∷ 61 ∷ canonical_decimal most
 cap_text_is resource most small = ap (λ digits. digits ++ 61 ∷ canonical_decimal most) (one_digit resource small)

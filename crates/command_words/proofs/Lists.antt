@@ -113,13 +113,7 @@ name_of (Budget source image certificate) = codes "budget"
 
 abbrev pub said_in : (words : List Text) (request : Request) → IsWordList words request → List Said
 said_in words (Serve source placement policy) is = is.0
-said_in words (Run source image certificate policy) is = is.0
-said_in words (Build source image certificate placement) is = is.0
-said_in words (Check source image certificate) is = is.0
-said_in words (Graph source placement) is = is.0
-said_in words (Demo number) is = is.0
-said_in words (Audit source log options) is = is.0
-said_in words (Budget source image certificate) is = is.0
+said_in words _ is = is.0
 
 -- a word list is readable, and says what its command says
 pub whole_list : (words : List Text) (request : Request) (is : IsWordList words request) → IsWhole words (name_of request) (said_in words request is)
@@ -250,30 +244,25 @@ begins words given (Given option value ∷ rest) readable is tells =
 begins words given (Positional name ∷ rest) readable is tells = record { name = name; rest = rest; said = is; tells = tells }
 
 one_place : (ps : List Text) (word : Text) → slice_get ps 0 ≡ Some word → slice_get ps 1 ≡ None → ps ≡ word ∷ []
-one_place [] word first second = absurd (cc)
 one_place (p ∷ []) word first second = let is : p ≡ word = cc in ap (λ (w : Text). w ∷ []) is
-one_place (p ∷ q ∷ ps) word first second = absurd (cc)
+one_place _ word first second = absurd (cc)
 
 two_places : (ps : List Text) (a b : Text) → slice_get ps 0 ≡ Some a → slice_get ps 1 ≡ Some b → slice_get ps 2 ≡ None → ps ≡ a ∷ b ∷ []
-two_places [] a b first second third = absurd (cc)
-two_places (p ∷ []) a b first second third = absurd (cc)
 two_places (p ∷ q ∷ []) a b first second third =
     let is_a : p ≡ a = cc in
     let is_b : q ≡ b = cc in
     λ i. is_a i ∷ is_b i ∷ []
-two_places (p ∷ q ∷ r ∷ ps) a b first second third = absurd (cc)
+two_places _ a b first second third = absurd (cc)
 
 three_places : (ps : List Text) (a b c : Text) → slice_get ps 0 ≡ Some a → slice_get ps 1 ≡ Some b → slice_get ps 2 ≡ Some c → length ps ≤ 3
     → ps ≡ a ∷ b ∷ c ∷ []
-three_places [] a b c first second third few = absurd (cc)
-three_places (p ∷ []) a b c first second third few = absurd (cc)
-three_places (p ∷ q ∷ []) a b c first second third few = absurd (cc)
 three_places (p ∷ q ∷ r ∷ []) a b c first second third few =
     let is_a : p ≡ a = cc in
     let is_b : q ≡ b = cc in
     let is_c : r ≡ c = cc in
     λ i. is_a i ∷ is_b i ∷ is_c i ∷ []
 three_places (p ∷ q ∷ r ∷ s ∷ ps) a b c first second third few = absurd (omega arith)
+three_places _ a b c first second third few = absurd (cc)
 
 says_of : (words : List Text) (given : Texts) (b : BeginsWith words given) (name : Text) (positionals options : List Text) → given (codes "command") ≡ Some name
     → positionals_of b.rest ≡ positionals → AllByRecursion (IsOneOf options) (options_of b.rest) → Says words name positionals options b.rest

@@ -24,10 +24,9 @@ rows_at h = settled_rows rules h.pending h.rows
 
 -- one row for each thing said; the positional words have these names
 abbrev pub rows_of : List Text → List Said → List Row
-rows_of names [] = []
 rows_of names (Given option value ∷ rest) = row option value ∷ rows_of names rest
-rows_of [] (Positional word ∷ rest) = []
 rows_of (name ∷ names) (Positional word ∷ rest) = row name word ∷ rows_of names rest
+rows_of _ _ = []
 
 -- each name is new where it comes
 abbrev pub AreNew : List Row → List Text → List Said → Type 0

@@ -204,12 +204,11 @@ module _ (graph : CallGraphState) (kept : IsCallGraph graph) where
 
   -- the numbers rise
   numbers-rise : (ss : List GraphSite) → IsRising ss → IsStrictlyIncreasing (map (λ (x : GraphSite). x.number) ss)
-  numbers-rise [] up k h = absurd (omega arith)
-  numbers-rise (s ∷ []) up k h = absurd (omega arith)
   numbers-rise (s ∷ t ∷ ss) up zero h = up.0.0
   numbers-rise (s ∷ t ∷ ss) up (suc k) h =
       let one : suc k + 1 ≡ suc (k + 1) = omega arith in
       rw one (numbers-rise (t ∷ ss) up.1 k (let z : suc (k + 1) < suc (length (map (λ (x : GraphSite). x.number) (t ∷ ss))) = rw one at h in omega (arith, z)))
+  numbers-rise _ up k h = absurd (omega arith)
 
   pub back_edges-rise : IsStrictlyIncreasing (back_edges graph)
   back_edges-rise = numbers-rise (filter (λ x. has x.number (whole_walk graph []).back) graph.sites) (rising-filter (λ x. has x.number (whole_walk graph []).back) graph.sites kept.rising)

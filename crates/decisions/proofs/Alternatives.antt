@@ -1,27 +1,24 @@
 -- What a symbol is replaced by means what the symbol does: one lemma for each alternative of the grammar.
-use Rattle.std.proofs.Common.{ℕ, zero, suc, ◌≡◌, ◌≢◌, ◌∙◌, ◌+◌, ◌*◌, ◌-◌, ◌%◌, ◌^◌, ◌≤◌, ◌<◌, ◌⊎◌, inl, inr, refl, sym, ap, subst, arith, Bool, true, false, List, [], ◌∷◌, ◌++◌, Option, Some, None}
-use Rattle.std.specs.Prelude.{max, min}
+use Rattle.std.proofs.Common.{ℕ, suc, ◌≡◌, ◌≢◌, ◌∙◌, ◌+◌, ◌*◌, ◌-◌, ◌%◌, ◌^◌, ◌≤◌, ◌⊎◌, inl, inr, refl, sym, subst, arith, true, false, List, [], ◌∷◌, ◌++◌, Some, None}
 use Rattle.c_lex.specs.declared.tokens.Token.{Token}
 use Rattle.c_tree.specs.declared.operators.Infix.{Infix}
-use Rattle.c_tree.specs.declared.operators.UnaryOperator.{UnaryOperator}
-use Rattle.c_tree.specs.RawTrees.{NameTree, RawExprTree, RawExprTrees, RawNumber, RawName, RawElement, RawUnary, RawParenthesized, RawConditional, RawCall, RawTableCall, NoExprs, And, RawSimpleTree, RawDeclareScalar, RawDeclareArray, RawDeclareWith, RawSet, RawSetElement, RawCalling, RawTableCalling, RawStmtTree, RawStmtTrees, RawDo, RawEmpty, RawBlock, RawIf, RawIfElse, RawWhile, RawFor, RawBreak, RawContinue, RawReturn, NoRawStmts, RawThen, RawItemTree, RawGlobal, RawGlobalArray, RawTableItem, RawPrototypeItem, RawFunctionItem}
+use Rattle.c_tree.specs.RawTrees.{RawExprTree, RawNumber, RawName, RawElement, RawUnary, RawParenthesized, RawConditional, RawCall, RawTableCall, NoExprs, And, RawSimpleTree, RawDeclareScalar, RawDeclareArray, RawDeclareWith, RawSet, RawSetElement, RawCalling, RawTableCalling, RawStmtTrees, RawDo, RawEmpty, RawBlock, RawIf, RawIfElse, RawWhile, RawFor, RawBreak, RawContinue, RawReturn, NoRawStmts, RawThen, RawItemTree, RawGlobal, RawGlobalArray, RawTableItem, RawPrototypeItem, RawFunctionItem}
 use Rattle.c_tree.specs.RawViews.{raw_joined}
-use Rattle.c_tree.specs.RawTemporaries.{raw_temporaries, raw_arguments_temporaries, raw_simple_temporaries, raw_simples_temporaries, raw_stmt_temporaries, raw_stmts_temporaries, AreWithinTemporaries}
+use Rattle.c_tree.specs.RawTemporaries.{raw_temporaries, raw_simples_temporaries, raw_stmts_temporaries, AreWithinTemporaries}
 use Rattle.c_grammar.specs.declared.signs.Sign.TheVariants as signs
 use Rattle.c_grammar.specs.Signs.{Level, Tightest, Looser, Loosest}
 use Rattle.c_grammar.specs.Rests as symbols
 use Rattle.c_grammar.specs.Rests.{Symbol, Alternative, open_in}
-use Rattle.c_grammar.specs.Tokens.{next_sign, next_at, next_name, Passes, PassesName, PassesNumber}
-use Rattle.c_grammar.specs.Grammar.{PassesPrefix, PassesInfix, IsExpr, IsBinary, IsRepeated, IsUnary, IsPrimary, IsIndex, IsParenthesized, AreArguments, AreMoreArguments, IsSize, IsSimple, IsLocal, AreMoreLocals, AreLocals, IsUpToSemicolon, IsForInit, IsForStep, declared_before, IsBody, IsBlock, AreStmts, IsStart, IsGlobal, AreMoreGlobals, AreMoreMembers, IsNameOption, AreMoreParameters, AreMoreNamed, AreParameters, AreNamed, IsResult, AreItem, AreItems}
+use Rattle.c_grammar.specs.Tokens.{next_sign, next_at, next_name, PassesNumber}
+use Rattle.c_grammar.specs.Grammar.{PassesInfix, IsExpr, IsBinary, IsRepeated, IsUnary, IsPrimary, IsIndex, IsParenthesized, AreArguments, AreMoreArguments, IsSimple, IsLocal, AreMoreLocals, AreLocals, IsUpToSemicolon, IsForInit, IsForStep, declared_before, IsBody, IsBlock, AreStmts, IsStart, IsGlobal, AreMoreGlobals, AreMoreMembers, IsNameOption, AreMoreParameters, AreMoreNamed, AreParameters, AreNamed, IsResult, AreItem, AreItems}
 use Rattle.decisions.proofs.Signs.{depth_of, number_passed, name_passed}
-use Rattle.decisions.proofs.Means.{AnExpr, ABinary, ARepeated, AUnary, APrimary, AnIndex, AParenthesized, SomeArguments, SomeMoreArguments, AListOfArguments, AConditional, ACall, ATableCall, ASimple, ALocal, SomeMoreLocals, SomeLocals, AValue, AnUpToSemicolon, AForInit, AForStep, SomeForParts, ABody, AnElse, SomeStmts, ABlock, SomeItem, SomeItems, AGlobal, SomeMoreGlobals, AStart, ATableName, ATableParameter, SomeMembers, Means, Reads, By}
+use Rattle.decisions.proofs.Means.{ABinary, ARepeated, AnIndex, AConditional, Reads, By}
 
 -- ---- temporaries
 
 joined_small : (l : RawExprTree) (operator : Infix) (r : RawExprTree) (m : ℕ) → raw_temporaries l ≤ m → 1 + raw_temporaries r ≤ m → raw_temporaries (raw_joined l operator r) ≤ m
 joined_small l (Infix.Binary operator) r m p q = omega arith
-joined_small l Infix.LogicalAnd r m p q = omega arith
-joined_small l Infix.LogicalOr r m p q = omega arith
+joined_small l _ r m p q = omega arith
 
 declared_small : (ds : List RawSimpleTree) (ss : RawStmtTrees) → raw_simples_temporaries ds ≤ 1040 → raw_stmts_temporaries ss ≤ 1040 → raw_stmts_temporaries (declared_before ds ss) ≤ 1040
 declared_small [] ss p q = q

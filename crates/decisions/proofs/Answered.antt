@@ -12,6 +12,7 @@ use Rattle.command_outcomes.specs.Outcome.{Outcome}
 use Rattle.capriccio_call.specs.Due.{Does, IsDue}
 use Rattle.decisions.specs.Given.{HasAnswered}
 use Rattle.decisions.specs.Written.{UnlessMemory}
+use Rattle.capriccio_call.proofs.Faults.{answer-of}
 
 -- an outcome that is due for a request was done as a whole, and has the status
 pub record HasDone (request : Request) (before after : Outside) (status : ℕ) : Type 0 where
@@ -31,15 +32,12 @@ not_risen old new risen stayed = let less = risen.rose stayed.1 in let same = st
 not_rose : {P : Type 0} (old new : ℕ) → Rose old new → Stayed old new → P
 not_rose old new rose stayed = let less = rose stayed.1 in let same = stayed.0 in absurd (omega (arith, less, same))
 
-told_status : (status : ℕ) (line : List ℕ) (old new : Option (List ℕ)) (faults faults' answer : ℕ) → IsTold status line old new faults faults' answer → (answer ≡ status) ⊎ (answer ≡ fault_status Memory)
-told_status status line old new faults faults' answer h = ⊎_elim (λ x. inl x.0) (λ x. ⊎_elim (λ y. inl y.0) (λ y. inr y.0) x.2) h
-
 by_result : (words : List (List ℕ)) (before after : Outside) (request : Request) (given : Result Outcome Fault) (old new : Option (List ℕ)) (faults faults' status : ℕ) →
     IsWordList words request → NoFault before after → IsDone (IsDue words before) before after given → IsTold (status_of given) (line_of given) old new faults faults' status →
     UnlessMemory status (HasDone request before after status)
 by_result words before after request (Ok o) old new faults faults' status asked none done told =
     ⊎_elim (λ same. inl (record { outcome = o; does = does_it words before o request asked done.0; whole = done.1; status_is = same })) (λ want. inr want)
-    (told_status o.status o.line old new faults faults' status told)
+    (answer-of o.status o.line old new faults faults' status told)
 by_result words before after request (Err Read) old new faults faults' status asked none done told =
     ⊎_elim
     (λ x. ⊎_elim (λ y. let counted = y.1 in not_risen before.loads after.loads counted.loads none.loads) (λ y. let counted = y.1 in not_rose before.reads after.reads counted.reads none.reads) x)
@@ -47,7 +45,7 @@ by_result words before after request (Err Read) old new faults faults' status as
 by_result words before after request (Err Write) old new faults faults' status asked none done told =
     ⊎_elim (λ x. let counted = x.1 in not_risen before.stores after.stores counted.stores none.stores) (λ x. let counted = x.1 in not_risen before.writes after.writes counted.writes none.writes) done.2
 by_result words before after request (Err Memory) old new faults faults' status asked none done told =
-    ⊎_elim (λ same. inr same) (λ want. inr want) (told_status (fault_status Memory) (line_of (Err Memory)) old new faults faults' status told)
+    ⊎_elim (λ same. inr same) (λ want. inr want) (answer-of (fault_status Memory) (line_of (Err Memory)) old new faults faults' status told)
 
 pub has_done : (words : List (List ℕ)) (files : Files) (trace : List ℕ) (before after : Outside) (status : ℕ) (request : Request) →
     HasAnswered words files trace before after status → IsWordList words request → UnlessMemory status (HasDone request before after status)

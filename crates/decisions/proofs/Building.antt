@@ -43,10 +43,9 @@ use Rattle.decisions.proofs.Loading.{Some_due, load_due, source_due}
 
 -- a refusal, if there is one, is of a frame
 abbrev IsOfFrame : Option BuildError → Type 0
-IsOfFrame None = Unit {0}
-IsOfFrame (Some (FrameTooLarge function bytes)) = Unit {0}
 IsOfFrame (Some (CodeTooLarge words)) = ⊥
 IsOfFrame (Some Memory) = ⊥
+IsOfFrame _ = Unit {0}
 
 one_frame : (large : Bool) (function bytes : ℕ) (rest : Option PlaceError) → IsOfFrame (option_map of_place rest) → IsOfFrame (option_map of_place (if large then Some (place.FrameTooLarge function bytes) else rest))
 one_frame true function bytes rest is = tt
@@ -61,8 +60,7 @@ module _ (program : ProgramTree) (scoped : IsWellScoped program) where
   frames_by path None e is = inr e
   frames_by path (Some (FrameTooLarge function bytes)) e is =
       inl (refused 5 (frame_words (name_at (names_of program) function) bytes ++ 10 ∷ []), record { function = function; bytes = bytes; first = e; is = refl })
-  frames_by path (Some (CodeTooLarge words)) e is = absurd is
-  frames_by path (Some Memory) e is = absurd is
+  frames_by path (Some _) e is = absurd is
 
   frames_fit : (path : ℕ) → Some_due (IsFrameRefused program path) ⊎ HasFittingFrames program path
   frames_fit path = frames_by path (frame_refusal (lowered program) path) refl (of_frames path 0 (weights_of (lowered program)))

@@ -159,22 +159,12 @@ with_line (Sites (suc left) last) text line more next e (fact, above, words, is,
 -- ---- where nothing more is due
 
 over_written : (due : Due) (text : List ℕ) → IsOver due → text ≡ [] → Written due text
-over_written Title text over e = absurd over
-over_written Chunk text over e = absurd over
-over_written MaxPath text over e = absurd over
-over_written FunctionCount text over e = absurd over
-over_written (Functions left) text over e = absurd over
-over_written (Sites (suc left) last) text over e = absurd over
 over_written (Sites zero last) text over e = record { facts = []; count = refl; rises = tt; words = tt; is = e }
+over_written _ text over e = absurd over
 
 over_decided : (due : Due) → Decided (IsOver due)
-over_decided Title = inr (λ over. over)
-over_decided Chunk = inr (λ over. over)
-over_decided MaxPath = inr (λ over. over)
-over_decided FunctionCount = inr (λ over. over)
-over_decided (Functions left) = inr (λ over. over)
-over_decided (Sites (suc left) last) = inr (λ over. over)
 over_decided (Sites zero last) = inl tt
+over_decided _ = inr (λ over. over)
 
 -- ---- from line to line
 

@@ -1,5 +1,5 @@
 -- Each command, or that the words don't ask for it.
-use Rattle.std.proofs.Common.{◌≡◌, ◌∙◌, ℕ, suc, ◌+◌, ◌*◌, ◌<◌, ◌≤◌, inl, inr, List, [], ◌∷◌, ◌++◌, Option, refl, subst, arith, codes}
+use Rattle.std.proofs.Common.{◌≡◌, ℕ, ◌+◌, ◌*◌, ◌≤◌, inl, inr, List, [], ◌∷◌, ◌++◌, Option, refl, subst, arith, codes}
 use Rattle.lawful_reading.proofs.Deciding.{decided_by, both_decided, Below, below_decided, list_same, text_same, le_decided}
 use Rattle.cap_text.specs.Decimals.{canonical_decimal}
 use Rattle.command_words.specs.declared.options.Audit.{Audit as AuditOptions}
@@ -18,28 +18,22 @@ use Rattle.decisions.proofs.Values.{audit_options_decided, placement_decided, po
 -- ---- the words behind a command's name
 
 one_word : (words : List Text) → Decided ((word : Text) × (words ≡ word ∷ []))
-one_word [] = inr (λ h. let e = h.1 in absurd cc)
 one_word (word ∷ []) = inl (word, refl)
-one_word (word ∷ next ∷ more) = inr (λ h. let e = h.1 in absurd cc)
+one_word _ = inr (λ h. let e = h.1 in absurd cc)
 
 abbrev Two : List Text → Type 0
 Two words = (first : Text) × ((second : Text) × (words ≡ first ∷ second ∷ []))
 
 two_words : (words : List Text) → Decided (Two words)
-two_words [] = inr (λ h. let e = h.1.1 in absurd cc)
-two_words (a ∷ []) = inr (λ h. let e = h.1.1 in absurd cc)
 two_words (a ∷ b ∷ []) = inl (a, (b, refl))
-two_words (a ∷ b ∷ next ∷ more) = inr (λ h. let e = h.1.1 in absurd cc)
+two_words _ = inr (λ h. let e = h.1.1 in absurd cc)
 
 abbrev Three : List Text → Type 0
 Three words = (first : Text) × ((second : Text) × ((third : Text) × (words ≡ first ∷ second ∷ third ∷ [])))
 
 three_words : (words : List Text) → Decided (Three words)
-three_words [] = inr (λ h. let e = h.1.1.1 in absurd cc)
-three_words (a ∷ []) = inr (λ h. let e = h.1.1.1 in absurd cc)
-three_words (a ∷ b ∷ []) = inr (λ h. let e = h.1.1.1 in absurd cc)
 three_words (a ∷ b ∷ c ∷ []) = inl (a, (b, (c, refl)))
-three_words (a ∷ b ∷ c ∷ next ∷ more) = inr (λ h. let e = h.1.1.1 in absurd cc)
+three_words _ = inr (λ h. let e = h.1.1.1 in absurd cc)
 
 -- ---- a command by its name and options
 

@@ -1,5 +1,5 @@
 -- Each rule is decided at each function and index, and has bounds.
-use Rattle.std.proofs.Common.{ℕ, zero, suc, ◌≡◌, ◌∙◌, ◌+◌, ◌*◌, ◌%◌, ◌<◌, ◌≤◌, ◌⊎◌, inl, inr, refl, sym, ap, arith, List, [], ◌∷◌, ◌++◌, length, Option, Some, None}
+use Rattle.std.proofs.Common.{ℕ, zero, suc, ◌≡◌, ◌∙◌, ◌+◌, ◌*◌, ◌%◌, ◌<◌, ◌≤◌, inl, inr, refl, sym, ap, arith, List, [], ◌∷◌, length, Option, Some, None}
 use Rattle.lawful_reading.proofs.Deciding.{decided_by, both_decided, denied, number_same, option_same, le_decided, all_below}
 use Rattle.std.specs.Prelude.{slice_get, slice_index}
 use Rattle.std.proofs.lemmas.Option.{slice_get_past}
@@ -55,8 +55,7 @@ need_decided (LinkKind.Spawned need) bytes = number_same need bytes
 
 plain_decided : (kind : LinkKind) → Decided (kind ≡ LinkKind.Plain)
 plain_decided LinkKind.Plain = inl refl
-plain_decided (LinkKind.Linked need) = inr (λ e. cc)
-plain_decided (LinkKind.Spawned need) = inr (λ e. cc)
+plain_decided _ = inr (λ e. cc)
 
 -- a number above each certified site of some operations
 abbrev site_above : Option ℕ → ℕ

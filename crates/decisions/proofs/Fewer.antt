@@ -1,12 +1,12 @@
 -- A function has few variables for its operations: each declared name and each temporary has an operation.
-use Rattle.std.proofs.Common.{◌≡◌, ℕ, zero, suc, ◌+◌, ◌*◌, ◌≤◌, max, Bool, true, false, List, [], ◌∷◌, ◌++◌, length, length-append, map, ap, ◌∙◌, refl, arith}
+use Rattle.std.proofs.Common.{◌≡◌, ℕ, ◌+◌, ◌*◌, ◌≤◌, max, Bool, true, false, List, [], ◌∷◌, ◌++◌, length, length-append, map, ap, ◌∙◌, arith}
 use Rattle.std.specs.Prelude.{Option, Some, None, if◌then◌else◌}
 use Rattle.std.specs.List.{AllByRecursion}
 use Rattle.std.proofs.lemmas.List.{length-map}
 use Rattle.c_tree.specs.Sizes.{scalars, declared_words}
 use Rattle.c_tree.specs.Temporaries.{expr_temporaries, arguments_temporaries, call_temporaries, right_temporaries, held_temporaries, simple_temporaries, simples_temporaries, condition_temporaries, step_temporaries, returned_temporaries, stmt_temporaries, stmts_temporaries, function_temporaries}
 use Rattle.c_tree.specs.TextOrder.{Declared, simple_names, simples_names, step_names, stmt_names, stmts_names}
-use Rattle.c_tree.specs.Trees.{ExprTree, Number, Local, Global, LocalElement, GlobalElement, Unary, Parenthesized, Binary, LogicalAnd, LogicalOr, Conditional, CallTree, CallFunction, CallTable, CallSpawn, CallModelled, RightTree, Computed, Called, SimpleTree, DeclareScalar, DeclareArray, DeclareWith, SetLocal, SetGlobal, SetLocalElement, SetGlobalElement, Calling, StmtTree, StmtTrees, Do, Empty, Block, If, IfElse, While, For, Break, Continue, Return, NoStmts, Then, FunctionTree, ProgramTree}
+use Rattle.c_tree.specs.Trees.{ExprTree, LocalElement, GlobalElement, Unary, Parenthesized, Binary, LogicalAnd, LogicalOr, Conditional, CallTree, CallFunction, CallTable, CallSpawn, CallModelled, RightTree, Computed, Called, SimpleTree, DeclareWith, SetLocal, SetGlobal, SetLocalElement, SetGlobalElement, Calling, StmtTree, StmtTrees, Do, Block, If, IfElse, While, For, Return, NoStmts, Then, FunctionTree, ProgramTree}
 use Rattle.c_tree.specs.WellScoped.{IsFunctionScoped, AreFunctionsScoped}
 use Rattle.flat_code.specs.declared.functions.FlatFunction.{FlatFunction}
 use Rattle.c_lower.specs.ExprCode.{expr_size}
@@ -14,13 +14,11 @@ use Rattle.c_lower.specs.CallCode.{arguments_size, call_size, set_size, held_siz
 use Rattle.c_lower.specs.StmtCode.{simple_size, simples_size, step_size, test_size, return_size, stmt_size, stmts_size, stmts_code}
 use Rattle.c_lower.specs.ProgramCode.{closing_code, first_temporary, function_ops, function_sizes, lowered_function}
 use Rattle.c_lower.proofs.CodeSizes.{stmts_length}
+use Rattle.machine_meaning.proofs.Lowered.{scalars_length}
 
 -- ---- temporaries
 
 expr_few : (e : ExprTree) → expr_temporaries e ≤ expr_size e
-expr_few (Number v) = omega arith
-expr_few (Local x) = omega arith
-expr_few (Global g) = omega arith
 expr_few (LocalElement a i) = omega (arith, expr_few i)
 expr_few (GlobalElement a i) = omega (arith, expr_few i)
 expr_few (Unary op e) = omega (arith, expr_few e)
@@ -29,19 +27,12 @@ expr_few (Binary op l r) = omega (arith, expr_few l, expr_few r)
 expr_few (LogicalAnd l r) = omega (arith, expr_few l, expr_few r)
 expr_few (LogicalOr l r) = omega (arith, expr_few l, expr_few r)
 expr_few (Conditional c a b) = omega (arith, expr_few c, expr_few a, expr_few b)
+expr_few _ = omega arith
 
 expr_some : (e : ExprTree) → 1 ≤ expr_size e
-expr_some (Number v) = omega arith
-expr_some (Local x) = omega arith
-expr_some (Global g) = omega arith
-expr_some (LocalElement a i) = omega arith
-expr_some (GlobalElement a i) = omega arith
 expr_some (Unary op e) = omega (arith, expr_some e)
 expr_some (Parenthesized e) = expr_some e
-expr_some (Binary op l r) = omega arith
-expr_some (LogicalAnd l r) = omega arith
-expr_some (LogicalOr l r) = omega arith
-expr_some (Conditional c a b) = omega arith
+expr_some _ = omega arith
 
 arguments_few : (k : ℕ) (es : List ExprTree) → arguments_temporaries k es ≤ k + arguments_size es
 arguments_few k [] = omega arith
@@ -55,9 +46,7 @@ call_few (CallModelled s m es) = omega (arith, arguments_few 0 es)
 
 call_some : (c : CallTree) → 1 ≤ call_size c
 call_some (CallFunction s f es) = omega arith
-call_some (CallTable s t i e) = omega arith
-call_some (CallSpawn s f e) = omega arith
-call_some (CallModelled s m es) = omega arith
+call_some _ = omega arith
 
 set_few : (v : RightTree) → right_temporaries v ≤ set_size v
 set_few (Computed e) = omega (arith, expr_few e)
@@ -68,14 +57,13 @@ held_few (Computed e) = expr_few e
 held_few (Called c) = omega (arith, call_few c, call_some c)
 
 simple_few : (s : SimpleTree) → simple_temporaries s ≤ simple_size s
-simple_few (DeclareScalar x) = omega arith
-simple_few (DeclareArray x n) = omega arith
 simple_few (DeclareWith x v) = set_few v
 simple_few (SetLocal x v) = set_few v
 simple_few (SetGlobal g v) = omega (arith, held_few v)
 simple_few (SetLocalElement a i v) = omega (arith, expr_few i, held_few v)
 simple_few (SetGlobalElement a i v) = omega (arith, expr_few i, held_few v)
 simple_few (Calling c) = call_few c
+simple_few _ = omega arith
 
 simples_few : (ss : List SimpleTree) → simples_temporaries ss ≤ simples_size ss
 simples_few [] = omega arith
@@ -96,15 +84,13 @@ returned_few (Some v) = omega (arith, held_few v)
 mutual
   stmt_few : (s : StmtTree) → stmt_temporaries s ≤ stmt_size s
   stmt_few (Do s) = simple_few s
-  stmt_few Empty = omega arith
   stmt_few (Block ss) = stmts_few ss
   stmt_few (If c s) = omega (arith, expr_few c, stmt_few s)
   stmt_few (IfElse c s r) = omega (arith, expr_few c, stmt_few s, stmt_few r)
   stmt_few (While c s) = omega (arith, expr_few c, stmt_few s)
   stmt_few (For init c step s) = omega (arith, simples_few init, condition_few c, step_few step, stmt_few s)
-  stmt_few Break = omega arith
-  stmt_few Continue = omega arith
   stmt_few (Return v) = returned_few v
+  stmt_few _ = omega arith
 
   stmts_few : (ss : StmtTrees) → stmts_temporaries ss ≤ stmts_size ss
   stmts_few NoStmts = omega arith
@@ -117,14 +103,8 @@ set_some (Computed e) = omega arith
 set_some (Called c) = call_some c
 
 simple_named : (s : SimpleTree) → length (simple_names s) ≤ simple_size s
-simple_named (DeclareScalar x) = omega arith
-simple_named (DeclareArray x n) = omega arith
 simple_named (DeclareWith x v) = set_some v
-simple_named (SetLocal x v) = omega arith
-simple_named (SetGlobal g v) = omega arith
-simple_named (SetLocalElement a i v) = omega arith
-simple_named (SetGlobalElement a i v) = omega arith
-simple_named (Calling c) = omega arith
+simple_named _ = omega arith
 
 simples_named : (ss : List SimpleTree) → length (simples_names ss) ≤ simples_size ss
 simples_named [] = omega arith
@@ -137,26 +117,19 @@ step_named (Some s) = simple_named s
 mutual
   stmt_named : (s : StmtTree) → length (stmt_names s) ≤ stmt_size s
   stmt_named (Do s) = simple_named s
-  stmt_named Empty = omega arith
   stmt_named (Block ss) = stmts_named ss
   stmt_named (If c s) = omega (arith, stmt_named s)
   stmt_named (IfElse c s r) = omega (arith, length-append (stmt_names s) (stmt_names r), stmt_named s, stmt_named r)
   stmt_named (While c s) = omega (arith, stmt_named s)
   stmt_named (For init c step s) =
       omega (arith, length-append (simples_names init) (step_names step ++ stmt_names s), length-append (step_names step) (stmt_names s), simples_named init, step_named step, stmt_named s)
-  stmt_named Break = omega arith
-  stmt_named Continue = omega arith
-  stmt_named (Return v) = omega arith
+  stmt_named _ = omega arith
 
   stmts_named : (ss : StmtTrees) → length (stmts_names ss) ≤ stmts_size ss
   stmts_named NoStmts = omega arith
   stmts_named (Then s ss) = omega (arith, length-append (stmt_names s) (stmts_names ss), stmt_named s, stmts_named ss)
 
 -- ---- variables
-
-scalars_count : (n : ℕ) → length (scalars n) ≡ n
-scalars_count zero = refl
-scalars_count (suc n) = omega (arith, scalars_count n)
 
 gives_few : (gives : Bool) (t body : ℕ) → body ≤ t → max (if gives then 1 else 0) body ≤ t + 1
 gives_few true t body few = omega (arith, few)
@@ -171,9 +144,9 @@ variables_few p f h =
     let body = stmts_size f.body in
     let names : length (declared_words f) ≡ length (stmts_names f.body) = length-map (stmts_names f.body) (λ (d : Declared). d.words) in
     let own : length f.sizes ≡ f.params + length (declared_words f) =
-    ap length h.sizes ∙ (length-append (scalars f.params) (declared_words f) ∙ ap (λ (n : ℕ). n + length (declared_words f)) (scalars_count f.params)) in
+    ap length h.sizes ∙ (length-append (scalars f.params) (declared_words f) ∙ ap (λ (n : ℕ). n + length (declared_words f)) (scalars_length f.params)) in
     let all : length (function_sizes f) ≡ length f.sizes + function_temporaries f =
-    length-append f.sizes (scalars (function_temporaries f)) ∙ ap (λ (n : ℕ). length f.sizes + n) (scalars_count (function_temporaries f)) in
+    length-append f.sizes (scalars (function_temporaries f)) ∙ ap (λ (n : ℕ). length f.sizes + n) (scalars_length (function_temporaries f)) in
     let ops : length (function_ops f) ≡ length (stmts_code f.body 0 (first_temporary f) 0 0) + length (closing_code f.gives (first_temporary f)) =
     length-append (stmts_code f.body 0 (first_temporary f) 0 0) (closing_code f.gives (first_temporary f)) in
     let few : function_temporaries f ≤ body + 1 = gives_few f.gives body (stmts_temporaries f.body) (stmts_few f.body) in

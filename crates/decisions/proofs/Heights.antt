@@ -25,10 +25,8 @@ use Rattle.chunk_budget.proofs.MadeLemmas.{AreCoveredBefore, AreLeast, asked_of,
 use Rattle.decisions.proofs.Reaching.{least_or_none}
 
 no_height : (n f : ℕ) → height_of (replicate n 0) f ≡ 0
-no_height zero zero = refl
-no_height zero (suc f) = refl
-no_height (suc n) zero = refl
 no_height (suc n) (suc f) = no_height n f
+no_height _ _ = refl
 
 module _ (code : FlatCode) (certificate : Certificate) (formed : IsWellFormed code) where
   -- the functions before a place in an order are raised to what their operations ask

@@ -1,5 +1,5 @@
 -- Of an instruction it is decided whether it stands at an address.
-use Rattle.std.proofs.Common.{ℕ, ◌≡◌, ◌<◌, ◌≤◌, ◌⊎◌, inl, inr, refl, Some}
+use Rattle.std.proofs.Common.{ℕ, ◌≡◌, ◌<◌, ◌≤◌, inl, inr, Some}
 use Rattle.lawful_reading.proofs.Deciding.{decided_by, both_decided, number_same, option_same}
 use Rattle.std.specs.Prelude.{ℤ, pos, negsuc, ◌≤ℤ◌}
 use Rattle.std.specs.Int.Signed.{◌<ℤ◌, clash_ℤ}
@@ -9,7 +9,7 @@ use Rattle.rv_code.specs.Range.{IsRegister, IsImmediate, IsUpperImmediate, IsShi
 use Rattle.rv_code.specs.Operands.{IsInRange}
 use Rattle.rv_code.specs.Table.{encoding}
 use Rattle.rv_code.specs.declared.instructions.Instr.{Instr}
-use Rattle.rv_code.specs.declared.instructions.Instr.TheVariants.{Lui, Auipc, Jal, Jalr, Beq, Bne, Blt, Bge, Bltu, Bgeu, Lb, Lh, Lw, Lbu, Lhu, Sb, Sh, Sw, Addi, Slti, Sltiu, Xori, Ori, Andi, Slli, Srli, Srai, Add, Sub, Sll, Slt, Sltu, Xor, Srl, Sra, Or, And, Fence, Ecall, Ebreak, Mul, Mulh, Mulhsu, Mulhu, Div, Divu, Rem, Remu}
+use Rattle.rv_code.specs.declared.instructions.Instr.TheVariants.{Lui, Auipc, Jal, Jalr, Beq, Bne, Blt, Bge, Bltu, Bgeu, Lb, Lh, Lw, Lbu, Lhu, Sb, Sh, Sw, Addi, Slti, Sltiu, Xori, Ori, Andi, Slli, Srli, Srai, Add, Sub, Sll, Slt, Sltu, Xor, Srl, Sra, Or, And, Fence, Mul, Mulh, Mulhsu, Mulhu, Div, Divu, Rem, Remu}
 use Rattle.stack_image.specs.declared.images.Image.{Image}
 use Rattle.certificate_rules.specs.Ranges.{word_at, Stands}
 use Rattle.decisions.specs.Decided.{Decided}
@@ -79,8 +79,6 @@ range_decided (Sra rd rs1 rs2) = three_decided (register_decided rd) (register_d
 range_decided (Or rd rs1 rs2) = three_decided (register_decided rd) (register_decided rs1) (register_decided rs2)
 range_decided (And rd rs1 rs2) = three_decided (register_decided rd) (register_decided rs1) (register_decided rs2)
 range_decided (Fence rd rs1 imm) = three_decided (register_decided rd) (register_decided rs1) (immediate_decided imm)
-range_decided Ecall = inl tt
-range_decided Ebreak = inl tt
 range_decided (Mul rd rs1 rs2) = three_decided (register_decided rd) (register_decided rs1) (register_decided rs2)
 range_decided (Mulh rd rs1 rs2) = three_decided (register_decided rd) (register_decided rs1) (register_decided rs2)
 range_decided (Mulhsu rd rs1 rs2) = three_decided (register_decided rd) (register_decided rs1) (register_decided rs2)
@@ -89,6 +87,7 @@ range_decided (Div rd rs1 rs2) = three_decided (register_decided rd) (register_d
 range_decided (Divu rd rs1 rs2) = three_decided (register_decided rd) (register_decided rs1) (register_decided rs2)
 range_decided (Rem rd rs1 rs2) = three_decided (register_decided rd) (register_decided rs1) (register_decided rs2)
 range_decided (Remu rd rs1 rs2) = three_decided (register_decided rd) (register_decided rs1) (register_decided rs2)
+range_decided _ = inl tt
 
 pub stands_decided : (image : Image) (address : ℕ) (instr : Instr) → Decided (Stands image address instr)
 stands_decided image address instr =

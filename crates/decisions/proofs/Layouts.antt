@@ -1,5 +1,5 @@
 -- A planned program is laid out as some image and certificate.
-use Rattle.std.proofs.Common.{◌≡◌, ℕ, false, List, [], ◌∷◌, ◌++◌, length, map, replicate, eqb, refl, ap}
+use Rattle.std.proofs.Common.{◌≡◌, ℕ, List, [], ◌∷◌, ◌++◌, length, map, replicate, eqb, refl, ap}
 use Rattle.std.specs.List.{IsDistinct, filter_map, cons_option, flat_map, range_with_len}
 use Rattle.rv_code.specs.Table.{encoding}
 use Rattle.flat_code.specs.declared.operations.Op.{Op}
@@ -13,9 +13,9 @@ use Rattle.stack_certificate.specs.declared.sites.SiteFact.{SiteFact}
 use Rattle.stack_certificate.specs.Certificates.{fact_at}
 use Rattle.codegen_link.specs.declared.options.Options.{Options}
 use Rattle.codegen_link.specs.Links.{site_fact, site_facts}
-use Rattle.codegen_link.specs.Layout.{fact_of, HasFacts, IsCertificateOf, functions_before, IsImageOf}
+use Rattle.codegen_link.specs.Layout.{fact_of, IsCertificateOf, functions_before}
 use Rattle.stack_build.specs.Builds.{IsPlanned, IsLaidOut}
-use Rattle.decisions.proofs.Sorting.{InOrder, in_order, strictly}
+use Rattle.decisions.proofs.Sorting.{in_order, strictly}
 use Rattle.decisions.proofs.Parts.{IsPart, none, keep, skip, part_distinct, part_append}
 
 abbrev numbers : List SiteFact → List ℕ

@@ -87,12 +87,11 @@ sites_long (fact ∷ facts) words = omega (arith, site_long fact words.0, sites_
 places_few : (code : FlatCode) (plan : Plan) (fs : List FlatFunction) (facts : List FunctionFact) → HasPlaces fs facts → AllByRecursion (λ (f : FlatFunction). length f.sizes ≤ 2 * function_words code plan f) fs →
     places_of facts ≤ 2 * sum_by (function_words code plan) fs
 places_few code plan [] [] has few = omega arith
-places_few code plan [] (fact ∷ facts) has few = absurd has
-places_few code plan (f ∷ fs) [] has few = absurd has
 places_few code plan (f ∷ fs) (fact ∷ facts) has few =
     let same = has.0 in
     let one = few.0 in
     omega (arith, same, one, sum_by-cons (function_words code plan) f fs, places_few code plan fs facts has.1 few.1)
+places_few code plan _ _ has few = absurd has
 
 -- ---- the text
 

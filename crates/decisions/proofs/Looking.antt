@@ -1,7 +1,6 @@
 -- Of a good trace a run looks at good lines alone, and then it doesn't stop at a line of the trace.
 use Rattle.std.proofs.Common.{◌≡◌, ℕ, ◌<◌, List, [], length, Option, Some, None, refl, sym, ap, subst, arith, inl, inr}
-use Rattle.cap_word.specs.declared.stops.Stop.TheVariants as cut
-use Rattle.choice_rules.specs.Trace.{Trace, IsNext, IsRefused, behind}
+use Rattle.choice_rules.specs.Trace.{Trace, IsNext, behind}
 use Rattle.event_trace.specs.declared.events.Event.{Event}
 use Rattle.lawful_log.specs.Lawful.{IsAllowed, Leads, nowhere, by_entry, IsLawfulLog}
 use Rattle.lawful_log.specs.Setup.{Setup}
@@ -13,6 +12,8 @@ use Rattle.schedule_log.specs.declared.entries.StopLine.TheVariants as stop
 use Rattle.pair_commands.specs.Runs.{IsRun, stop_status}
 use Rattle.decisions.specs.Looked.{LooksAt, LooksAtGoodLines, IsGood, is_over, by_line, IsGoodTrace}
 use Rattle.decisions.specs.Written.{IsRunStatus, EndsRun}
+use Rattle.choice_rules.proofs.Points.{not_refused}
+use Rattle.cap_word.specs.declared.stops.Stop.TheVariants as cut
 
 -- ---- good lines
 
@@ -22,18 +23,6 @@ some_not_none bytes some none = let long : length bytes ≡ 0 = ap length none i
 -- a line is that of one event
 one_event : (left : Trace) (event other : Event) → IsNext left (Some event) → IsNext left (Some other) → other ≡ event
 one_event left event other a b = a.line.only other b.line.spells
-
--- a good line isn't refused
-not_refused : (left : Trace) (next : Option Event) (number : ℕ) → IsNext left next → IsRefused left number → ⊥
-not_refused left None number over (inl r) = some_not_none left.bytes r.some over
-not_refused left None number over (inr r) = let order = r.2 in some_not_none left.bytes order.some over
-not_refused left (Some event) number good (inl r) = r.spells_none good.counted event good.line.spells
-not_refused left (Some event) number good (inr r) =
-    let order = r.2 in
-    let same : record { time = r.0; kind = order.kind } ≡ event = good.line.only (record { time = r.0; kind = order.kind }) order.line.spells in
-    let time : r.0 ≡ event.time = ap (λ (e : Event). e.time) same in
-    let falls = order.falls in let last = order.earlier_is in let rises = good.rises in
-    omega (arith, time, falls, last, rises)
 
 -- ---- a good trace
 
@@ -48,16 +37,14 @@ good_behind left event (by_line {event = other} first rest) line = subst (λ (e 
 module _ (g : Setup) where
   -- what is left of the trace stays good
   kept : (before : State) (entry : Entry) (after : State) → IsAllowed g before entry after → IsGood before.trace → IsGood after.trace
-  kept before (Entry.Event clock item) after h good =
-      subst (λ (s : State). IsGood s.trace) (sym h.after_is) (good_behind before.trace h.event good h.delivery.point.next_is)
-  kept before (Entry.Dropped clock item) after h good =
-      subst (λ (s : State). IsGood s.trace) (sym h.after_is) (good_behind before.trace h.event good h.delivery.point.next_is)
   kept before (Entry.Run clock thread node) after h good = subst (λ (s : State). IsGood s.trace) (sym h.after_is) good
   kept before (Entry.Out thread value) after h good = subst (λ (s : State). IsGood s.trace) (sym h.after_is) good
   kept before (Entry.Block thread node key cost free) after h good = subst (λ (s : State). IsGood s.trace) (sym h.after_is) good
   kept before (Entry.End thread cost free) after h good = subst (λ (s : State). IsGood s.trace) (sym h.after_is) good
   kept before (Entry.Edge from to count cost changes) after h good = absurd h
   kept before (Entry.Stop line) after h good = absurd h
+  kept before _ after h good =
+      subst (λ (s : State). IsGood s.trace) (sym h.after_is) (good_behind before.trace h.event good h.delivery.point.next_is)
 
   kept_all : (before : State) (entries : List Entry) (after : State) → Leads g before entries after → IsGood before.trace → IsGood after.trace
   kept_all before entries after nowhere good = good

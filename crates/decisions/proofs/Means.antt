@@ -7,10 +7,9 @@ use Rattle.c_tree.specs.declared.operators.UnaryOperator.{UnaryOperator}
 use Rattle.c_tree.specs.RawTrees.{NameTree, RawExprTree, RawExprTrees, RawSimpleTree, RawStmtTree, RawStmtTrees, RawItemTree}
 use Rattle.c_tree.specs.RawTemporaries.{raw_temporaries, raw_arguments_temporaries, raw_simple_temporaries, raw_simples_temporaries, raw_optional_temporaries, raw_step_temporaries, raw_stmt_temporaries, raw_stmts_temporaries, AreWithinTemporaries}
 use Rattle.c_grammar.specs.declared.signs.Sign.TheVariants as signs
-use Rattle.c_grammar.specs.Signs.{Level}
 use Rattle.c_grammar.specs.Rests as symbols
 use Rattle.c_grammar.specs.Rests.{Symbol, open_in}
-use Rattle.c_grammar.specs.Tokens.{next_sign, Passes, PassesName, PassesNumber}
+use Rattle.c_grammar.specs.Tokens.{next_sign, Passes, PassesName}
 use Rattle.c_grammar.specs.Grammar.{PassesPrefix, PassesInfix, IsExpr, IsBinary, IsRepeated, IsUnary, IsPrimary, IsIndex, IsParenthesized, AreArguments, AreMoreArguments, IsSize, IsSimple, IsLocal, AreMoreLocals, AreLocals, IsUpToSemicolon, IsForInit, IsForStep, IsBody, IsBlock, AreStmts, IsStart, IsGlobal, AreMoreGlobals, AreMoreMembers, IsNameOption, AreMoreParameters, AreMoreNamed, AreParameters, AreNamed, IsResult, AreItem, AreItems}
 use Rattle.decisions.proofs.Signs.{depth_of}
 
@@ -235,25 +234,20 @@ module _ (S : List ℕ) where
   Means d symbols.APrefix before after = (operator : UnaryOperator) × PassesPrefix before operator after
   Means d symbols.End before after = before ≡ after
   Means d symbols.Program before after = after ≡ [] → SomeItems before
-  Means d symbols.Item before after = SomeItem before after
-  Means d symbols.Globals before after = SomeItem before after
   Means d symbols.MoreGlobals before after = (end : List Token) → Passes signs.Semicolon after end → SomeMoreGlobals before end
   Means d symbols.Global before after = AGlobal before after
   Means d symbols.Start before after = (before ≡ after) ⊎ AStart before after
   Means d symbols.MinusOption before after = (before ≡ after) ⊎ Passes signs.Minus before after
   Means d symbols.Size before after = (words : ℕ) × IsSize before words after
-  Means d symbols.Table before after = SomeItem before after
   Means d symbols.TableName before after = ATableName before after
   Means d symbols.TableParameter before after = ATableParameter before after
   Means d symbols.Members before after = SomeMembers before after
   Means d symbols.MoreMembers before after = (end : List Token) → Passes signs.RightBrace after end → (names : List NameTree) × AreMoreMembers S before names end
-  Means d symbols.Prototype before after = SomeItem before after
   Means d symbols.Result before after = (gives : Bool) × IsResult before gives after
   Means d symbols.PrototypeParameters before after = (ps : List (Option NameTree)) × AreParameters S before ps after
   Means d symbols.PrototypeList before after = (start end : List Token) → Passes signs.LeftParenthesis start before → Passes signs.RightParenthesis after end → (ps : List (Option NameTree)) × AreParameters S start ps end
   Means d symbols.MorePrototype before after = (end : List Token) → Passes signs.RightParenthesis after end → (ps : List (Option NameTree)) × AreMoreParameters S before ps end
   Means d symbols.NameOption before after = (p : Option NameTree) × IsNameOption S before p after
-  Means d symbols.Function before after = SomeItem before after
   Means d symbols.FunctionParameters before after = (ps : List NameTree) × AreNamed S before ps after
   Means d symbols.FunctionList before after = (start end : List Token) → Passes signs.LeftParenthesis start before → Passes signs.RightParenthesis after end → (ps : List NameTree) × AreNamed S start ps end
   Means d symbols.MoreFunction before after = (end : List Token) → Passes signs.RightParenthesis after end → (ps : List NameTree) × AreMoreNamed S before ps end
@@ -282,6 +276,7 @@ module _ (S : List ℕ) where
   Means d (symbols.Repeated level) before after = depth_of level ≤ 9 → (first : RawExprTree) → ARepeated (9 - depth_of level) d first before after
   Means d symbols.Unary before after = AUnary d before after
   Means d symbols.Primary before after = APrimary d before after
+  Means d _ before after = SomeItem before after
 
   -- all tokens are, one after another, what the symbols of the rest mean
   abbrev pub Reads : List Symbol → List Token → Type 0

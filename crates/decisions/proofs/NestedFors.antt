@@ -3,7 +3,7 @@
 use Rattle.std.proofs.Common.{ℕ, ◌≡◌, refl, sym, ◌∙◌, List, [], ◌∷◌, ◌++◌, Some}
 use Rattle.c_lex.specs.Places.{StandInOrder}
 use Rattle.c_lex.specs.declared.tokens.Token.{Token}
-use Rattle.c_tree.specs.RawTrees.{RawStmtTree, RawStmtTrees, RawDo, RawEmpty, RawBlock, RawIf, RawIfElse, RawWhile, RawFor, RawBreak, RawContinue, RawReturn, NoRawStmts, RawThen, RawItemTree, RawGlobal, RawGlobalArray, RawTableItem, RawPrototypeItem, RawFunctionItem}
+use Rattle.c_tree.specs.RawTrees.{RawStmtTree, RawStmtTrees, RawDo, RawBlock, RawIf, RawIfElse, RawWhile, RawFor, RawReturn, NoRawStmts, RawThen, RawItemTree, RawTableItem, RawPrototypeItem, RawFunctionItem}
 use Rattle.c_grammar.specs.Grammar.{IsProgram}
 use Rattle.c_parse.specs.ForParts.{nested_in_for, nested_in_all_for, nested_in_item_for, nested_in_fors}
 use Rattle.grammar_laws.specs.Nested.{is_call, simples_nested, step_nested, IsFirstPlace}
@@ -16,8 +16,6 @@ use Rattle.grammar_laws.proofs.Trees.{program_rises}
 
 mutual
   for_first : (s : RawStmtTree) → nested_in_for s ≡ first_of (for_nested s)
-  for_first (RawDo s) = refl
-  for_first RawEmpty = refl
   for_first (RawBlock ss) = fors_first ss
   for_first (RawIf c s) = for_first s
   for_first (RawIfElse c s r) = both _ _ (for_nested s) (for_nested r) (for_first s) (for_first r)
@@ -25,20 +23,15 @@ mutual
   for_first (RawFor init c step s) =
       both _ _ (simples_nested init) (optional_places is_call c ++ (step_nested step ++ for_nested s)) (simples_first init)
       (both _ _ (optional_places is_call c) (step_nested step ++ for_nested s) (condition_first c) (both _ _ (step_nested step) (for_nested s) (step_first step) (for_first s)))
-  for_first (RawBreak at) = refl
-  for_first (RawContinue at) = refl
-  for_first (RawReturn at v) = refl
+  for_first _ = refl
 
   fors_first : (ss : RawStmtTrees) → nested_in_all_for ss ≡ first_of (fors_nested ss)
   fors_first NoRawStmts = refl
   fors_first (RawThen s ss) = both _ _ (for_nested s) (fors_nested ss) (for_first s) (fors_first ss)
 
 item_for_first : (i : RawItemTree) → nested_in_item_for i ≡ first_of (item_for_nested i)
-item_for_first (RawGlobal n start) = refl
-item_for_first (RawGlobalArray n size) = refl
-item_for_first (RawTableItem n size members) = refl
-item_for_first (RawPrototypeItem gives n params) = refl
 item_for_first (RawFunctionItem gives n params body) = fors_first body
+item_for_first _ = refl
 
 items_for_first : (is : List RawItemTree) → nested_in_fors is ≡ first_of (items_for_nested is)
 items_for_first [] = refl
@@ -49,26 +42,23 @@ items_for_first (i ∷ is) = both _ _ (item_for_nested i) (items_for_nested is) 
 mutual
   for_part : (s : RawStmtTree) → IsPart (for_nested s) (stmt_places is_call s)
   for_part (RawDo s) = none_of _
-  for_part RawEmpty = all_of []
   for_part (RawBlock ss) = fors_part ss
   for_part (RawIf c s) = behind (expr_places is_call c) (for_part s)
   for_part (RawIfElse c s r) = behind (expr_places is_call c) (part_append (for_part s) (for_part r))
   for_part (RawWhile c s) = behind (expr_places is_call c) (for_part s)
   for_part (RawFor init c step s) = part_append (simples_part init) (part_append (all_of (optional_places is_call c)) (part_append (step_part step) (for_part s)))
-  for_part (RawBreak at) = all_of []
-  for_part (RawContinue at) = all_of []
   for_part (RawReturn at v) = none_of _
+  for_part _ = all_of []
 
   fors_part : (ss : RawStmtTrees) → IsPart (fors_nested ss) (stmts_places is_call ss)
   fors_part NoRawStmts = all_of []
   fors_part (RawThen s ss) = part_append (for_part s) (fors_part ss)
 
 item_for_part : (i : RawItemTree) → IsPart (item_for_nested i) (item_places is_call i)
-item_for_part (RawGlobal n start) = all_of []
-item_for_part (RawGlobalArray n size) = all_of []
 item_for_part (RawTableItem n size members) = none_of _
 item_for_part (RawPrototypeItem gives n params) = none_of _
 item_for_part (RawFunctionItem gives n params body) = behind (names_places is_call Declared params) (fors_part body)
+item_for_part _ = all_of []
 
 items_for_part : (is : List RawItemTree) → IsPart (items_for_nested is) (items_places is_call is)
 items_for_part [] = all_of []

@@ -2,7 +2,7 @@
 use Rattle.std.proofs.Common.{ℕ, ◌≡◌, refl, sym, ◌∙◌, ap, List, [], ◌∷◌, ◌++◌, Option, Some, None}
 use Rattle.c_lex.specs.Places.{StandInOrder}
 use Rattle.c_lex.specs.declared.tokens.Token.{Token}
-use Rattle.c_tree.specs.RawTrees.{RawExprTree, RawExprTrees, RawNumber, RawName, RawElement, RawUnary, RawParenthesized, RawBinary, RawLogicalAnd, RawLogicalOr, RawConditional, RawCall, RawTableCall, NoExprs, And, RawSimpleTree, RawDeclareScalar, RawDeclareArray, RawDeclareWith, RawSet, RawSetElement, RawCalling, RawTableCalling, RawStmtTree, RawStmtTrees, RawDo, RawEmpty, RawBlock, RawIf, RawIfElse, RawWhile, RawFor, RawBreak, RawContinue, RawReturn, NoRawStmts, RawThen, RawItemTree, RawGlobal, RawGlobalArray, RawTableItem, RawPrototypeItem, RawFunctionItem}
+use Rattle.c_tree.specs.RawTrees.{RawExprTree, RawExprTrees, RawElement, RawUnary, RawParenthesized, RawBinary, RawLogicalAnd, RawLogicalOr, RawConditional, RawCall, RawTableCall, NoExprs, And, RawSimpleTree, RawDeclareWith, RawSet, RawSetElement, RawCalling, RawTableCalling, RawStmtTree, RawStmtTrees, RawDo, RawBlock, RawIf, RawIfElse, RawWhile, RawFor, RawReturn, NoRawStmts, RawThen, RawItemTree, RawTableItem, RawPrototypeItem, RawFunctionItem}
 use Rattle.c_grammar.specs.Grammar.{IsProgram}
 use Rattle.c_parse.specs.NestedCalls.{earlier, first_call, first_call_of, nested_in_value, nested_in_simple, nested_in_simples, nested_in_condition, nested_in_step, nested_in_return, nested_in_stmt, nested_in_stmts, nested_in_item, nested_in_items}
 use Rattle.grammar_laws.specs.Nested.{is_call, value_nested, simple_nested, simples_nested, step_nested, return_nested, stmt_nested, stmts_nested, item_nested, items_nested, IsFirstPlace}
@@ -22,8 +22,6 @@ both x y a b e f = ap (λ (o : Option ℕ). earlier o y) e ∙ ap (λ (o : Optio
 
 mutual
   expr_first : (e : RawExprTree) → first_call e ≡ first_of (expr_places is_call e)
-  expr_first (RawNumber v) = refl
-  expr_first (RawName n) = refl
   expr_first (RawElement n i) = expr_first i
   expr_first (RawUnary op e) = expr_first e
   expr_first (RawParenthesized e) = expr_first e
@@ -32,16 +30,13 @@ mutual
   expr_first (RawLogicalOr l r) = both _ _ (expr_places is_call l) (expr_places is_call r) (expr_first l) (expr_first r)
   expr_first (RawConditional c a b) =
       both _ _ (expr_places is_call c) (expr_places is_call a ++ expr_places is_call b) (expr_first c) (both _ _ (expr_places is_call a) (expr_places is_call b) (expr_first a) (expr_first b))
-  expr_first (RawCall n es) = refl
-  expr_first (RawTableCall n i e) = refl
+  expr_first _ = refl
 
   exprs_first : (es : RawExprTrees) → first_call_of es ≡ first_of (exprs_places is_call es)
   exprs_first NoExprs = refl
   exprs_first (And e es) = both _ _ (expr_places is_call e) (exprs_places is_call es) (expr_first e) (exprs_first es)
 
 value_first : (v : RawExprTree) → nested_in_value v ≡ first_of (value_nested v)
-value_first (RawNumber v) = refl
-value_first (RawName n) = refl
 value_first (RawElement n i) = expr_first i
 value_first (RawUnary op e) = expr_first e
 value_first (RawParenthesized e) = expr_first e
@@ -51,15 +46,15 @@ value_first (RawLogicalOr l r) = expr_first (RawLogicalOr l r)
 value_first (RawConditional c a b) = expr_first (RawConditional c a b)
 value_first (RawCall n es) = exprs_first es
 value_first (RawTableCall n i e) = both _ _ (expr_places is_call i) (expr_places is_call e) (expr_first i) (expr_first e)
+value_first _ = refl
 
 simple_first : (s : RawSimpleTree) → nested_in_simple s ≡ first_of (simple_nested s)
-simple_first (RawDeclareScalar n) = refl
-simple_first (RawDeclareArray n size) = refl
 simple_first (RawDeclareWith n v) = value_first v
 simple_first (RawSet n v) = value_first v
 simple_first (RawSetElement n i v) = both _ _ (expr_places is_call i) (value_nested v) (expr_first i) (value_first v)
 simple_first (RawCalling n es) = exprs_first es
 simple_first (RawTableCalling n i e) = both _ _ (expr_places is_call i) (expr_places is_call e) (expr_first i) (expr_first e)
+simple_first _ = refl
 
 pub simples_first : (ss : List RawSimpleTree) → nested_in_simples ss ≡ first_of (simples_nested ss)
 simples_first [] = refl
@@ -80,7 +75,6 @@ return_first (Some v) = value_first v
 mutual
   stmt_first : (s : RawStmtTree) → nested_in_stmt s ≡ first_of (stmt_nested s)
   stmt_first (RawDo s) = simple_first s
-  stmt_first RawEmpty = refl
   stmt_first (RawBlock ss) = stmts_first ss
   stmt_first (RawIf c s) = both _ _ (expr_places is_call c) (stmt_nested s) (expr_first c) (stmt_first s)
   stmt_first (RawIfElse c s r) =
@@ -89,20 +83,16 @@ mutual
   stmt_first (RawFor init c step s) =
       both _ _ (simples_nested init) (optional_places is_call c ++ (step_nested step ++ stmt_nested s)) (simples_first init)
       (both _ _ (optional_places is_call c) (step_nested step ++ stmt_nested s) (condition_first c) (both _ _ (step_nested step) (stmt_nested s) (step_first step) (stmt_first s)))
-  stmt_first (RawBreak at) = refl
-  stmt_first (RawContinue at) = refl
   stmt_first (RawReturn at v) = return_first v
+  stmt_first _ = refl
 
   stmts_first : (ss : RawStmtTrees) → nested_in_stmts ss ≡ first_of (stmts_nested ss)
   stmts_first NoRawStmts = refl
   stmts_first (RawThen s ss) = both _ _ (stmt_nested s) (stmts_nested ss) (stmt_first s) (stmts_first ss)
 
 item_first : (i : RawItemTree) → nested_in_item i ≡ first_of (item_nested i)
-item_first (RawGlobal n start) = refl
-item_first (RawGlobalArray n size) = refl
-item_first (RawTableItem n size members) = refl
-item_first (RawPrototypeItem gives n params) = refl
 item_first (RawFunctionItem gives n params body) = stmts_first body
+item_first _ = refl
 
 items_first : (is : List RawItemTree) → nested_in_items is ≡ first_of (items_nested is)
 items_first [] = refl
@@ -111,8 +101,6 @@ items_first (i ∷ is) = both _ _ (item_nested i) (items_nested is) (item_first 
 -- ---- these calls are some of all calls
 
 value_part : (v : RawExprTree) → IsPart (value_nested v) (expr_places is_call v)
-value_part (RawNumber v) = all_of _
-value_part (RawName n) = all_of _
 value_part (RawElement n i) = all_of (expr_places is_call i)
 value_part (RawUnary op e) = all_of (expr_places is_call e)
 value_part (RawParenthesized e) = all_of (expr_places is_call e)
@@ -122,15 +110,15 @@ value_part (RawLogicalOr l r) = all_of (expr_places is_call (RawLogicalOr l r))
 value_part (RawConditional c a b) = all_of (expr_places is_call (RawConditional c a b))
 value_part (RawCall n es) = behind (n.at ∷ []) (all_of (exprs_places is_call es))
 value_part (RawTableCall n i e) = behind (n.at ∷ []) (all_of (expr_places is_call i ++ expr_places is_call e))
+value_part _ = all_of _
 
 simple_part : (s : RawSimpleTree) → IsPart (simple_nested s) (simple_places is_call s)
-simple_part (RawDeclareScalar n) = all_of []
-simple_part (RawDeclareArray n size) = all_of []
 simple_part (RawDeclareWith n v) = value_part v
 simple_part (RawSet n v) = value_part v
 simple_part (RawSetElement n i v) = part_append (all_of (expr_places is_call i)) (value_part v)
 simple_part (RawCalling n es) = behind (n.at ∷ []) (all_of (exprs_places is_call es))
 simple_part (RawTableCalling n i e) = behind (n.at ∷ []) (all_of (expr_places is_call i ++ expr_places is_call e))
+simple_part _ = all_of []
 
 pub simples_part : (ss : List RawSimpleTree) → IsPart (simples_nested ss) (simples_places is_call ss)
 simples_part [] = all_of []
@@ -147,26 +135,23 @@ return_part (Some v) = value_part v
 mutual
   stmt_part : (s : RawStmtTree) → IsPart (stmt_nested s) (stmt_places is_call s)
   stmt_part (RawDo s) = simple_part s
-  stmt_part RawEmpty = all_of []
   stmt_part (RawBlock ss) = stmts_part ss
   stmt_part (RawIf c s) = part_append (all_of (expr_places is_call c)) (stmt_part s)
   stmt_part (RawIfElse c s r) = part_append (all_of (expr_places is_call c)) (part_append (stmt_part s) (stmt_part r))
   stmt_part (RawWhile c s) = part_append (all_of (expr_places is_call c)) (stmt_part s)
   stmt_part (RawFor init c step s) = part_append (simples_part init) (part_append (all_of (optional_places is_call c)) (part_append (step_part step) (stmt_part s)))
-  stmt_part (RawBreak at) = all_of []
-  stmt_part (RawContinue at) = all_of []
   stmt_part (RawReturn at v) = return_part v
+  stmt_part _ = all_of []
 
   stmts_part : (ss : RawStmtTrees) → IsPart (stmts_nested ss) (stmts_places is_call ss)
   stmts_part NoRawStmts = all_of []
   stmts_part (RawThen s ss) = part_append (stmt_part s) (stmts_part ss)
 
 item_part : (i : RawItemTree) → IsPart (item_nested i) (item_places is_call i)
-item_part (RawGlobal n start) = all_of []
-item_part (RawGlobalArray n size) = all_of []
 item_part (RawTableItem n size members) = none_of _
 item_part (RawPrototypeItem gives n params) = none_of _
 item_part (RawFunctionItem gives n params body) = behind (names_places is_call Declared params) (stmts_part body)
+item_part _ = all_of []
 
 items_part : (is : List RawItemTree) → IsPart (items_nested is) (items_places is_call is)
 items_part [] = all_of []

@@ -5,9 +5,8 @@ use Rattle.c_tree.specs.RawTrees.{RawItemTree}
 use Rattle.c_tree.specs.RawTemporaries.{AreWithinTemporaries}
 use Rattle.c_tree.specs.WholeCalls.{AreCallsWhole}
 use Rattle.c_grammar.specs.declared.errors.ParseError.{ParseError}
-use Rattle.c_grammar.specs.declared.errors.ParseError.TheVariants.{Unexpected, TooDeep, NestedCall, Memory}
+use Rattle.c_grammar.specs.declared.errors.ParseError.TheVariants.{Unexpected, TooDeep, NestedCall}
 use Rattle.c_grammar.specs.Refusals.{Verdict, IsWithin}
-use Rattle.c_grammar.specs.Grammar.{IsProgram}
 use Rattle.grammar_laws.proofs.Outcome.{some_verdict}
 use Rattle.c_parse.specs.NestedCalls.{nested_in_items}
 use Rattle.c_tree.specs.WholeForParts.{AreForPartsWhole}
@@ -35,8 +34,7 @@ module _ (Whole : List RawItemTree → Type 0) (first_nested : List RawItemTree 
   by_verdict None v = let t = tree_of S tokens v in with_tree v t (first_nested t.items) refl
   by_verdict (Some (Unexpected at)) v = inr (Unexpected at, v)
   by_verdict (Some (TooDeep at)) v = inr (TooDeep at, v)
-  by_verdict (Some (NestedCall at)) v = absurd v
-  by_verdict (Some Memory) v = absurd v
+  by_verdict (Some _) v = absurd v
 
   pub parse_decided : ParsesOrNot
   parse_decided = let v = some_verdict (length S) tokens in by_verdict v.0 v.1

@@ -1,18 +1,13 @@
 -- Files that are there and read lead on to what follows them.
-use Rattle.std.proofs.Common.{◌≡◌, ℕ, List, Option, Some, None, sym, ap, subst, ◌∙◌, arith, ⊎_elim}
+use Rattle.std.proofs.Common.{◌≡◌, ℕ, List, Option, Some, None, sym, subst, ◌∙◌, arith, ⊎_elim}
 use Rattle.cap_io.specs.Files.{Files}
 use Rattle.c_tree.specs.Trees.{ProgramTree}
 use Rattle.c_hoist.proofs.EveryNested.{one_program, never}
 use Rattle.codegen_link.specs.declared.options.Options.{Options}
 use Rattle.stack_build.specs.declared.refusals.BuildError.TheVariants.{FrameTooLarge}
 use Rattle.stack_image.specs.declared.images.Image.{Image}
-use Rattle.stack_image.specs.declared.refusals.ImageError.{ImageError}
-use Rattle.stack_image.specs.Refusal.{refusal_of}
-use Rattle.stack_image.specs.Reading.{image_of}
-use Rattle.stack_image.proofs.ReadAgain.{spelling_not_refused, image_of-spelling}
 use Rattle.stack_certificate.specs.declared.certificates.Certificate.{Certificate}
-use Rattle.certificate_text.specs.FirstRefused.{IsFirstRefused}
-use Rattle.certificate_text.proofs.Spellings.{spelling_unique, spelling_unrefused}
+use Rattle.certificate_text.proofs.Spellings.{spelling_unique}
 use Rattle.command_outcomes.specs.declared.documents.Document.{Document}
 use Rattle.command_outcomes.specs.declared.documents.Document.TheVariants as document
 use Rattle.command_outcomes.specs.Outcome.{Outcome}
@@ -21,6 +16,7 @@ use Rattle.command_files.specs.Loaded.{IsLoaded}
 use Rattle.pair_commands.specs.BuildsFiles.{HasFittingCode, IsUnbuilt}
 use Rattle.pair_commands.specs.Graphs.{HasFittingFrames, IsFrameRefused}
 use Rattle.decisions.specs.Given.{HasSource, HasValidPair}
+use Rattle.capriccio_call.proofs.OneCase.{image-is, image-never, certificate-never}
 
 -- ---- loads
 
@@ -39,27 +35,18 @@ after_source bytes program next o is h =
     (λ x. absurd (never bytes program x.0 is.reads x.1))
     h
 
-image_is : (bytes : List ℕ) (i : Image) → IsImageText bytes i → image_of bytes ≡ i
-image_is bytes i h = ap image_of h.spelled ∙ image_of-spelling i h.limits h.words
-
-image_never : (bytes : List ℕ) (i : Image) (e : ImageError) → IsImageText bytes i → refusal_of bytes ≡ Some e → ⊥
-image_never bytes i e h refused = let none = spelling_not_refused i h.limits in let same = ap refusal_of h.spelled in let clash : Some e ≡ None = sym refused ∙ (same ∙ none) in cc
-
 pub after_image : (bytes : List ℕ) (i : Image) (next : Image → Outcome → Type 0) (o : Outcome) → IsImageText bytes i → AfterImage bytes next o → next i o
 after_image bytes i next o is h =
     ⊎_elim
-    (λ x. subst (λ (j : Image). next j o) (sym (image_is bytes x.0 x.1) ∙ image_is bytes i is) x.2)
-    (λ x. absurd (image_never bytes i x.0 is x.1))
+    (λ x. subst (λ (j : Image). next j o) (sym (image-is bytes x.0 x.1) ∙ image-is bytes i is) x.2)
+    (λ x. absurd (image-never bytes i x.0 is x.1))
     h
-
-certificate_never : (bytes : List ℕ) (c : Certificate) (n : ℕ) → IsCertificateText bytes c → IsFirstRefused bytes n → ⊥
-certificate_never bytes c n h refused = spelling_unrefused c n h.limits h.words (subst (λ (t : List ℕ). IsFirstRefused t n) h.spelled refused)
 
 pub after_certificate : (bytes : List ℕ) (c : Certificate) (next : Certificate → Outcome → Type 0) (o : Outcome) → IsCertificateText bytes c → AfterCertificate bytes next o → next c o
 after_certificate bytes c next o is h =
     ⊎_elim
     (λ x. let other = x.1 in subst (λ (d : Certificate). next d o) (spelling_unique x.0 c (sym other.spelled ∙ is.spelled)) x.2)
-    (λ x. absurd (certificate_never bytes c x.0 is x.1))
+    (λ x. absurd (certificate-never bytes c x.0 is x.1))
     h
 
 -- ---- a source, and a pair

@@ -1,9 +1,8 @@
 -- What is laid out for a program of which no frame and not the code is too large meets every rule.
 use Rattle.std.proofs.Common.{◌≡◌, ◌∙◌, ℕ, suc, ◌+◌, ◌-◌, ◌*◌, ◌^◌, ◌<◌, ◌≤◌, min, false, List, [], ◌∷◌, length, map, get_or, Some, None, refl, sym, ap, subst, arith, ⊎_elim}
-use Rattle.std.specs.Prelude.{Option, option_map, slice_get, sum_by}
+use Rattle.std.specs.Prelude.{Option, option_map}
 use Rattle.std.specs.List.{AllByRecursion}
 use Rattle.std.proofs.lemmas.Bool.{cases_lt}
-use Rattle.std.proofs.lemmas.List.Sums.{sum_by-cons}
 use Rattle.c_lower.specs.ProgramCode.{lowered_function, lowered}
 use Rattle.c_lower.proofs.FormedPrograms.{program_formed}
 use Rattle.c_tree.specs.Trees.{ProgramTree}
@@ -20,16 +19,14 @@ use Rattle.codegen_link.specs.Plans.{AreInRange, IsPlanFor}
 use Rattle.codegen_link.proofs.AddressLemmas.{words-within}
 use Rattle.codegen_link.proofs.ValidLemmas as laid
 use Rattle.flat_code.specs.declared.functions.FlatFunction.{FlatFunction}
-use Rattle.flat_code.specs.declared.operations.Op.{Op}
 use Rattle.flat_code.specs.Codes.{FlatCode, function_at}
 use Rattle.flat_code.specs.WellFormed.{IsWellFormed}
 use Rattle.machine_meaning.proofs.Zeroes.{program_zeroes}
 use Rattle.stack_build.specs.Builds.{IsPlanned, IsLaidOut}
 use Rattle.stack_build.specs.Refusals.{of_place}
 use Rattle.stack_build.proofs.Plans.{plan-for}
-use Rattle.stack_certificate.specs.Templates.{size, transfer_size}
+use Rattle.stack_certificate.specs.Templates.{size}
 use Rattle.stack_certificate.specs.declared.certificates.Certificate.{Certificate}
-use Rattle.stack_certificate.specs.declared.sites.LinkKind.{LinkKind}
 use Rattle.stack_image.specs.declared.images.Image.{Image}
 use Rattle.stack_plan.proofs.Enough.{enough}
 use Rattle.stack_plan.specs.Plans.{weights_of}
@@ -37,43 +34,10 @@ use Rattle.pair_commands.specs.BuildsFiles.{HasFittingCode}
 use Rattle.pair_commands.specs.Graphs.{HasFittingFrames}
 use Rattle.one_plan.proofs.LoweredGraph.{lowered-graph}
 use Rattle.decisions.proofs.Fewer.{all_few}
+use Rattle.segment_laws.proofs.Past.{size_some}
+use Rattle.decisions.proofs.Valid.{words_many}
 
 -- ---- an operation has a word
-
-transfer_some : (kind : LinkKind) → 0 < transfer_size kind
-transfer_some LinkKind.Plain = omega arith
-transfer_some (LinkKind.Linked need) = omega arith
-transfer_some (LinkKind.Spawned need) = omega arith
-
-size_some : (sizes : List ℕ) (kind : LinkKind) (op : Op) → ((a : ℕ) → op ≡ Op.Zero a → 0 < get_or sizes a 0) → 0 < size sizes kind op
-size_some sizes kind (Op.Zero a) zeroes = zeroes a refl
-size_some sizes kind (Op.Call site d f args) zeroes = omega (arith, transfer_some kind)
-size_some sizes kind (Op.CallTable site d t i s) zeroes = omega arith
-size_some sizes kind (Op.Spawn site d f s) zeroes = omega arith
-size_some sizes kind (Op.Model site d n args) zeroes = omega arith
-size_some sizes kind (Op.Return None) zeroes = omega arith
-size_some sizes kind (Op.Return (Some s)) zeroes = omega arith
-size_some sizes kind (Op.Bin op d a b) zeroes = omega arith
-size_some sizes kind (Op.Const d value) zeroes = omega arith
-size_some sizes kind (Op.Copy d s) zeroes = omega arith
-size_some sizes kind (Op.Neg d s) zeroes = omega arith
-size_some sizes kind (Op.Not d s) zeroes = omega arith
-size_some sizes kind (Op.Flip d s) zeroes = omega arith
-size_some sizes kind (Op.LoadGlobal d g) zeroes = omega arith
-size_some sizes kind (Op.StoreGlobal g s) zeroes = omega arith
-size_some sizes kind (Op.LoadLocal d a i) zeroes = omega arith
-size_some sizes kind (Op.LoadArray d a i) zeroes = omega arith
-size_some sizes kind (Op.StoreLocal a i s) zeroes = omega arith
-size_some sizes kind (Op.StoreArray a i s) zeroes = omega arith
-size_some sizes kind (Op.Jump to) zeroes = omega arith
-size_some sizes kind (Op.JumpZero s to) zeroes = omega arith
-
-words_many : (weight : Op → ℕ) (ops : List Op) → ((i : ℕ) (op : Op) → slice_get ops i ≡ Some op → 0 < weight op) → length ops ≤ sum_by weight ops
-words_many weight [] some = omega arith
-words_many weight (op ∷ ops) some =
-    let first = some 0 op refl in
-    let rest = words_many weight ops (λ i o e. some (suc i) o e) in
-    omega (arith, first, rest, sum_by-cons weight op ops)
 
 -- what holds at each place of a list holds of all
 pub all_places : {X : Type 0} (P : X → Type 0) (d : X) (xs : List X) → ((k : ℕ) → k < length xs → P (get_or xs k d)) → AllByRecursion P xs

@@ -1,11 +1,9 @@
 -- A tree is a program, or has a refusal.
-use Rattle.std.proofs.Common.{ℕ, ◌≡◌, ◌∙◌, ◌⊎◌, inl, inr, refl, sym, ap, Bool, true, false, List, [], length, Option, Some, None}
+use Rattle.std.proofs.Common.{ℕ, ◌≡◌, ◌⊎◌, inl, inr, refl, Bool, true, false, List, [], length, Option, Some, None}
 use Rattle.cap_word.specs.declared.limits.Which.{Which}
 use Rattle.c_tree.specs.RawTrees.{RawItemTree}
 use Rattle.c_tree.specs.RawTemporaries.{AreWithinTemporaries}
-use Rattle.c_tree.specs.Trees.{ProgramTree}
 use Rattle.c_tree.specs.TextOrder.{program_sites}
-use Rattle.c_tree.specs.WholeCalls.{AreCallsWhole}
 use Rattle.c_tree.specs.WellScoped.{IsWellScoped, AreSiteNumbers}
 use Rattle.scope_rules.specs.declared.faults.Fault.{Fault}
 use Rattle.scope_rules.specs.declared.faults.Rule.{Rule}
@@ -21,9 +19,7 @@ use Rattle.scope_rules.proofs.Made.{numbered_scoped}
 
 by_rule : (rule : Rule) (at : ℕ) → IsNoMemory (refusal_by rule at)
 by_rule Rule.Unknown at = tt
-by_rule Rule.Twice at = tt
-by_rule Rule.Arity at = tt
-by_rule Rule.Kind at = tt
+by_rule _ at = tt
 
 -- the tree breaks no rule, defines `main` and exceeds no limit
 pub record IsFree (is : List RawItemTree) : Type 0 where

@@ -1,10 +1,8 @@
 -- What the sign of a token says of its kind.
-use Rattle.std.proofs.Common.{ℕ, zero, suc, ◌≡◌, ◌∙◌, ◌-◌, refl, sym, ap, Bool, true, false, List, [], ◌∷◌, Option, Some, None}
+use Rattle.std.proofs.Common.{ℕ, suc, ◌≡◌, ◌∙◌, ◌-◌, refl, sym, ap, Bool, true, false, List, [], ◌∷◌, Option, Some, None}
 use Rattle.c_lex.specs.declared.tokens.Token.{Token}
 use Rattle.c_lex.specs.declared.tokens.TokenKind.{TokenKind}
 use Rattle.c_lex.specs.declared.tokens.TokenKind.TheVariants as kinds
-use Rattle.c_lex.specs.declared.keywords.Keyword.TheVariants as keywords
-use Rattle.c_lex.specs.declared.marks.Mark.TheVariants as marks
 use Rattle.c_tree.specs.declared.operators.Infix.{Infix}
 use Rattle.c_tree.specs.declared.operators.UnaryOperator.{UnaryOperator}
 use Rattle.c_grammar.specs.declared.signs.Sign.{Sign}
@@ -14,6 +12,8 @@ use Rattle.c_grammar.specs.Operators.{unary_operator_of, infix_operator_of, leve
 use Rattle.c_grammar.specs.Tokens.{next_name, Passes, PassesName, PassesNumber}
 use Rattle.c_grammar.specs.Grammar.{PassesPrefix, PassesInfix}
 use Rattle.c_grammar.specs.Reading.{sign_at}
+use Rattle.c_lex.specs.declared.keywords.Keyword.TheVariants as keywords
+use Rattle.c_lex.specs.declared.marks.Mark.TheVariants as marks
 
 -- ---- operators between two operands
 
@@ -51,17 +51,7 @@ kind_level (kinds.Mark _) = refl
 
 sign_level : (level : Level) (sign : Sign) → IsOperator level sign → level_of_sign sign ≡ Some (9 - depth_of level)
 sign_level _ _ IsOperator.star = refl
-sign_level _ _ IsOperator.multiplicative = refl
-sign_level _ _ IsOperator.plus = refl
-sign_level _ _ IsOperator.minus = refl
-sign_level _ _ IsOperator.shift = refl
-sign_level _ _ IsOperator.relational = refl
-sign_level _ _ IsOperator.equality = refl
-sign_level _ _ IsOperator.bit_and = refl
-sign_level _ _ IsOperator.bit_xor = refl
-sign_level _ _ IsOperator.bit_or = refl
-sign_level _ _ IsOperator.logical_and = refl
-sign_level _ _ IsOperator.logical_or = refl
+sign_level _ _ _ = refl
 
 operator_in : (found : Option Infix) (n : ℕ) → level_in found ≡ Some n → (operator : Infix) × ((found ≡ Some operator) × (level_of_infix operator ≡ n))
 operator_in None n e = absurd cc
@@ -94,8 +84,7 @@ kind_prefix (kinds.Mark _) = refl
 
 sign_prefix : (sign : Sign) → IsPrefix sign → prefix_of_sign sign ≡ true
 sign_prefix _ IsPrefix.plus = refl
-sign_prefix _ IsPrefix.minus = refl
-sign_prefix _ IsPrefix.prefix_sign = refl
+sign_prefix _ _ = refl
 
 prefix_in : (found : Option UnaryOperator) → is_there found ≡ true → (operator : UnaryOperator) × (found ≡ Some operator)
 prefix_in None e = absurd cc
@@ -125,10 +114,8 @@ kind_number (kinds.Mark marks.Star) = refl
 kind_number (kinds.Mark _) = refl
 
 number_in : (kind : TokenKind) → holds_number kind ≡ true → (value : ℕ) × (kind ≡ kinds.Number value)
-number_in kinds.Name e = absurd cc
 number_in (kinds.Number value) e = (value, refl)
-number_in (kinds.Keyword keyword) e = absurd cc
-number_in (kinds.Mark mark) e = absurd cc
+number_in _ e = absurd cc
 
 pub number_passed : (before after : List Token) → Passes signs.Number before after → (value : ℕ) × PassesNumber before value after
 number_passed [] after p = let e = p.is_next in absurd cc

@@ -1,7 +1,6 @@
 -- A list whose keys differ has an order in which they rise.
-use Rattle.std.proofs.Common.{◌≡◌, ◌≢◌, ℕ, zero, suc, ◌+◌, ◌<◌, ◌≤◌, ◌⊎◌, inl, inr, false, List, [], ◌∷◌, ◌++◌, map, length, eqb, refl, arith}
-use Rattle.std.specs.Prelude.{slice_index}
-use Rattle.std.specs.List.{AllByRecursion, All, IsDistinct}
+use Rattle.std.proofs.Common.{◌≡◌, ◌≢◌, ℕ, zero, suc, ◌+◌, ◌<◌, ◌≤◌, ◌⊎◌, inl, inr, false, List, [], ◌∷◌, map, eqb, arith}
+use Rattle.std.specs.List.{AllByRecursion, IsDistinct}
 use Rattle.std.specs.List.Sorted.{IsPermutation, IsStrictlyIncreasing}
 use Rattle.std.proofs.lemmas.Bool.{cases_lt, eqb-false}
 use Rattle.std.proofs.lemmas.List.Elements.{All-from_recursion, recursion_from_All}
@@ -59,7 +58,6 @@ module _ {A : Type 0} (key : A → ℕ) where
 
   -- the keys rise strictly
   pub strictly : (xs : List A) → Rises xs → IsStrictlyIncreasing (map key xs)
-  strictly [] rises k within = absurd (omega (arith, within))
-  strictly (x ∷ []) rises k within = absurd (omega (arith, within))
   strictly (x ∷ y ∷ xs) rises zero within = rises.0.0
   strictly (x ∷ y ∷ xs) rises (suc k) within = let next : suc k + 1 ≡ suc (k + 1) = omega arith in rw next (strictly (y ∷ xs) rises.1 k (omega (arith, within)))
+  strictly _ rises k within = absurd (omega (arith, within))

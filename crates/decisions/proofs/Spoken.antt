@@ -1,5 +1,5 @@
 -- What words say, or that they say nothing.
-use Rattle.std.proofs.Common.{◌≡◌, ◌∙◌, ℕ, zero, suc, ◌≤◌, ◌⊎◌, inl, inr, List, [], ◌∷◌, ◌++◌, length, refl, sym, ap, subst, arith}
+use Rattle.std.proofs.Common.{◌≡◌, ◌∙◌, ℕ, zero, suc, ◌≤◌, inl, inr, List, [], ◌∷◌, length, refl, sym, ap, subst, arith}
 use Rattle.lawful_reading.proofs.Deciding.{decided_by, both_decided, either_decided, denied, number_same, all_decided, text_same}
 use Rattle.std.specs.List.{flat_map, AllByRecursion}
 use Rattle.command_words.specs.Said.{Said, Given, Positional, words_of, IsPlain, IsPlainSaid, positionals_of, options_of, IsOneOf, AreOnce}

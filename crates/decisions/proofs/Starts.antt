@@ -7,7 +7,7 @@ use Rattle.c_lex.specs.declared.tokens.TokenKind.TheVariants as kinds
 use Rattle.c_lex.specs.Lexemes.{IsOfKind}
 use Rattle.c_lex.specs.Tokens.{LeadsTo, AreTokensOf}
 use Rattle.c_tree.specs.declared.facts.GlobalFact.{GlobalFact}
-use Rattle.c_tree.specs.RawTrees.{NameTree, RawExprTree, RawExprTrees, RawSimpleTree, RawStmtTree, RawStmtTrees, RawItemTree, RawGlobal, RawGlobalArray, RawTableItem, RawPrototypeItem, RawFunctionItem}
+use Rattle.c_tree.specs.RawTrees.{NameTree, RawExprTree, RawExprTrees, RawSimpleTree, RawStmtTree, RawStmtTrees, RawItemTree, RawGlobal, RawGlobalArray}
 use Rattle.c_tree.specs.Trees.{ProgramTree}
 use Rattle.c_grammar.specs.declared.signs.Sign.{Sign}
 use Rattle.c_grammar.specs.Tokens.{rest_of, Passes, PassesNumber}
@@ -21,10 +21,8 @@ use Rattle.c_hoist.specs.NestedText.{ReadsNested}
 
 -- a number is below 2 ^ 32
 abbrev IsWordKind : TokenKind → Type 0
-IsWordKind kinds.Name = Unit {0}
 IsWordKind (kinds.Number value) = value < 2 ^ 32
-IsWordKind (kinds.Keyword keyword) = Unit {0}
-IsWordKind (kinds.Mark mark) = Unit {0}
+IsWordKind _ = Unit {0}
 
 -- and so is each among the tokens
 abbrev HaveWords : List Token → Type 0
@@ -32,10 +30,8 @@ HaveWords [] = Unit {0}
 HaveWords (token ∷ tokens) = IsWordKind token.kind × HaveWords tokens
 
 kind_word : (lexeme : List ℕ) (kind : TokenKind) → IsOfKind lexeme kind → IsWordKind kind
-kind_word lexeme kinds.Name is = tt
 kind_word lexeme (kinds.Number value) is = is.1
-kind_word lexeme (kinds.Keyword keyword) is = tt
-kind_word lexeme (kinds.Mark mark) is = tt
+kind_word lexeme _ is = tt
 
 tokens_words : (at : ℕ) (text : List ℕ) (tokens : List Token) (stop : ℕ) (rest : List ℕ) → LeadsTo at text tokens stop rest → HaveWords tokens
 tokens_words at text [] stop rest leads = tt
@@ -219,10 +215,7 @@ module _ (source : List ℕ) where
 -- a global of one word starts with a word
 abbrev StartsWithWord : RawItemTree → Type 0
 StartsWithWord (RawGlobal n start) = start < 2 ^ 32
-StartsWithWord (RawGlobalArray n size) = Unit {0}
-StartsWithWord (RawTableItem n size members) = Unit {0}
-StartsWithWord (RawPrototypeItem gives n params) = Unit {0}
-StartsWithWord (RawFunctionItem gives n params body) = Unit {0}
+StartsWithWord _ = Unit {0}
 
 abbrev StartWithWords : List RawItemTree → Type 0
 StartWithWords is = AllByRecursion StartsWithWord is
@@ -251,9 +244,7 @@ module _ (source : List ℕ) where
   module _ (nearest : Bool) where
     item_starts : {before after : List Token} {is : List RawItemTree} → AreItem nearest source before is after → HaveWords before → StartWithWords is
     item_starts (AreItem.globals i g gs) h = (global_starts g (past i h), more_globals_start gs (global_past source g (past i h)))
-    item_starts (AreItem.table i o s n z r l k p a b m ms c) h = (tt, tt)
-    item_starts (AreItem.prototype r n ps c) h = (tt, tt)
-    item_starts (AreItem.function r n ps b) h = (tt, tt)
+    item_starts _ h = (tt, tt)
 
     items_start : {before : List Token} {items : List RawItemTree} → AreItems nearest source before items → HaveWords before → StartWithWords items
     items_start AreItems.no_more_items h = tt
@@ -263,10 +254,7 @@ module _ (source : List ℕ) where
 
 item_moved : (i : RawItemTree) → StartsWithWord i → StartsWithWord (item_hoisted i)
 item_moved (RawGlobal n start) h = h
-item_moved (RawGlobalArray n size) h = tt
-item_moved (RawTableItem n size members) h = tt
-item_moved (RawPrototypeItem gives n params) h = tt
-item_moved (RawFunctionItem gives n params body) h = tt
+item_moved _ h = tt
 
 items_moved : (is : List RawItemTree) → StartWithWords is → StartWithWords (items_hoisted is)
 items_moved [] h = tt
@@ -284,9 +272,7 @@ one_more (x ∷ gs) g h is = (h.0, one_more gs g h.1 is)
 item_made : (defs : List Binding) (w : Sofar) (i : RawItemTree) → AllByRecursion HasWord w.globals → StartsWithWord i → AllByRecursion HasWord (item_after defs w i).globals
 item_made defs w (RawGlobal n start) h is = one_more w.globals (record { words = 1; start = start }) h is
 item_made defs w (RawGlobalArray n size) h is = one_more w.globals (record { words = size; start = 0 }) h (omega arith)
-item_made defs w (RawTableItem n size members) h is = h
-item_made defs w (RawPrototypeItem gives n params) h is = h
-item_made defs w (RawFunctionItem gives n params body) h is = h
+item_made defs w _ h is = h
 
 items_made : (defs : List Binding) (w : Sofar) (is : List RawItemTree) → AllByRecursion HasWord w.globals → StartWithWords is → AllByRecursion HasWord (items_after defs w is).globals
 items_made defs w [] h are = h

@@ -1,6 +1,6 @@
 -- What is laid out for a program is valid, and its globals start with words where the program's do.
 use Rattle.std.proofs.Common.{◌≡◌, ◌∙◌, ℕ, zero, suc, ◌+◌, ◌-◌, ◌^◌, ◌<◌, ◌≤◌, inl, inr, false, List, [], ◌∷◌, length, map, Option, Some, None, refl, sym, ap, subst, arith}
-use Rattle.std.specs.Prelude.{min, option_map, replicate, slice_get, slice_index_or, sum_by}
+use Rattle.std.specs.Prelude.{min, option_map, replicate, slice_get, sum_by}
 use Rattle.std.specs.List.{AllByRecursion, flat_map}
 use Rattle.std.proofs.lemmas.Bool.{cases_lt}
 use Rattle.std.proofs.lemmas.List.Elements.{All-from_recursion}
@@ -11,7 +11,6 @@ use Rattle.c_tree.specs.WellScoped.{IsWellScoped}
 use Rattle.c_lower.specs.ProgramCode.{lowered, lowered_function, lowered_global}
 use Rattle.c_lower.proofs.FormedPrograms.{program_formed}
 use Rattle.c_lower.proofs.Lists.{all-append}
-use Rattle.flat_code.specs.declared.functions.FlatFunction.{FlatFunction}
 use Rattle.flat_code.specs.declared.operations.Op.{Op}
 use Rattle.flat_code.specs.declared.programs.FlatGlobal.{FlatGlobal}
 use Rattle.flat_code.specs.Codes.{function_at}
@@ -40,19 +39,15 @@ use Rattle.machine_meaning.proofs.Zeroes.{program_zeroes}
 use Rattle.pair_commands.specs.Graphs.{HasFittingFrames}
 use Rattle.pair_commands.specs.BuildsFiles.{HasFittingCode}
 use Rattle.one_plan.proofs.LoweredGraph.{lowered-graph}
+use Rattle.machine_meaning.proofs.Formed.{all_from}
 
 -- where each operation has a word, there are no more operations than words
-words_many : (weight : Op → ℕ) (ops : List Op) → ((i : ℕ) (op : Op) → slice_get ops i ≡ Some op → 0 < weight op) → length ops ≤ sum_by weight ops
+pub words_many : (weight : Op → ℕ) (ops : List Op) → ((i : ℕ) (op : Op) → slice_get ops i ≡ Some op → 0 < weight op) → length ops ≤ sum_by weight ops
 words_many weight [] some = omega arith
 words_many weight (op ∷ ops) some =
     let first = some 0 op refl in
     let rest = words_many weight ops (λ i o e. some (suc i) o e) in
     omega (arith, first, rest, sum_by-cons weight op ops)
-
--- what holds at each place holds of all
-all_from : (P : FlatFunction → Type 0) (d : FlatFunction) (fs : List FlatFunction) → ((f : ℕ) → f < length fs → P (slice_index_or fs f d)) → AllByRecursion P fs
-all_from P d [] each = tt
-all_from P d (g ∷ fs) each = (each 0 (omega arith), all_from P d fs (λ f lt. each (suc f) (omega arith)))
 
 none_mapped : (found : Option PlaceError) → option_map of_place found ≡ None → found ≡ None
 none_mapped None e = refl

@@ -1,5 +1,5 @@
 -- The word at the front of a text: it is a token, or no number.
-use Rattle.std.proofs.Common.{ℕ, zero, suc, ◌≡◌, ◌≢◌, ◌<◌, ◌≤◌, ◌^◌, ◌⊎◌, inl, inr, Bool, true, false, IsTrue, List, [], ◌∷◌, length, get_or, take, drop, refl, sym, subst, ◌∙◌, arith, codes}
+use Rattle.std.proofs.Common.{ℕ, ◌≡◌, ◌<◌, ◌^◌, ◌⊎◌, inl, inr, Bool, true, false, IsTrue, List, [], ◌∷◌, length, get_or, take, drop, refl, sym, subst, arith, codes}
 use Rattle.lawful_reading.proofs.Deciding.{decided_by, both_decided, either_decided, denied, number_same, bool_same, Below, below_decided, text_same}
 use Rattle.std.specs.Char.{digit_value, is_ascii_digit}
 use Rattle.std.specs.Str.Parse.{AllDigits, digits_value}
@@ -40,12 +40,10 @@ abbrev HexadecimalParts : ℕ → ℕ → List ℕ → Type 0
 HexadecimalParts a x digits = (a ≡ 48) × (((x ≡ 120) ⊎ (x ≡ 88)) × AllDigits 16 digits)
 
 hexadecimal_decided : (word : List ℕ) → Decided (IsHexadecimal word)
-hexadecimal_decided [] = inr (λ is. is)
-hexadecimal_decided (a ∷ []) = inr (λ is. is)
-hexadecimal_decided (a ∷ x ∷ []) = inr (λ is. is)
 hexadecimal_decided (a ∷ x ∷ digit ∷ digits) =
     decided_by (λ (h : HexadecimalParts a x (digit ∷ digits)). (h.0, h.1.0, h.1.1)) (λ h. (h.0, (h.1, h.2)))
     (both_decided (number_same a 48) (both_decided (either_decided (number_same x 120) (number_same x 88)) (digits_decided 16 (digit ∷ digits))))
+hexadecimal_decided _ = inr (λ is. is)
 
 abbrev NumberWays : List ℕ → ℕ → Type 0
 NumberWays word value = ((word ≡ codes "0") × (value ≡ 0)) ⊎ ((IsDecimal word × (value ≡ digits_value 10 word)) ⊎ (IsHexadecimal word × (value ≡ digits_value 16 (drop 2 word))))

@@ -41,6 +41,7 @@ use Rattle.stack_certificate.specs.declared.sites.SiteFact.{SiteFact}
 use Rattle.stack_certificate.specs.Certificates.{fact_at}
 use Rattle.stack_certificate.specs.Templates.{end_stub, prologue, template}
 use Rattle.decisions.proofs.Rules.{all_places}
+use Rattle.c_lower.proofs.Lists.{all-append}
 
 -- ---- lists
 
@@ -50,10 +51,6 @@ Word n = n < 2 ^ 32
 all_read : {X : Type 0} (P : X → Type 0) (xs : List X) → ((k : ℕ) (x : X) → slice_get xs k ≡ Some x → P x) → AllByRecursion P xs
 all_read P [] each = tt
 all_read P (x ∷ xs) each = (each 0 x refl, all_read P xs (λ k y e. each (suc k) y e))
-
-all_append : {X : Type 0} (P : X → Type 0) (xs ys : List X) → AllByRecursion P xs → AllByRecursion P ys → AllByRecursion P (xs ++ ys)
-all_append P [] ys first second = second
-all_append P (x ∷ xs) ys first second = (first.0, all_append P xs ys first.1 second)
 
 all_map : {X : Type 0} (P : ℕ → Type 0) (value : X → ℕ) (xs : List X) → AllByRecursion (λ x. P (value x)) xs → AllByRecursion P (map value xs)
 all_map P value [] all = tt
@@ -65,7 +62,7 @@ all_values P value each (x ∷ xs) = (each x, all_values P value each xs)
 
 all_rows : {X : Type 0} (P : ℕ → Type 0) (value : X → ℕ) → ((x : X) → P (value x)) → (xss : List (List X)) → AllByRecursion P (flat_map (map value) xss)
 all_rows P value each [] = tt
-all_rows P value each (xs ∷ xss) = all_append P (map value xs) (flat_map (map value) xss) (all_values P value each xs) (all_rows P value each xss)
+all_rows P value each (xs ∷ xss) = all-append P (map value xs) (flat_map (map value) xss) (all_values P value each xs) (all_rows P value each xss)
 
 abbrev no_fact : FunctionFact
 no_fact = record { entry = 0; words = 0; frame = 0; ra = 0; bound = 0; places = [] }
@@ -74,18 +71,18 @@ no_fact = record { entry = 0; words = 0; frame = 0; ra = 0; bound = 0; places = 
 
 module _ (code : FlatCode) (i : Image) (c : Certificate) (valid : IsValid code i c) where
   function_in_range : (f : ℕ) → f < length code.functions → AllByRecursion IsInRange (function_code code c f)
-  function_in_range f lt = all_append IsInRange (prologue (fact_at c f) (function_at code f).params) (operations_before code c f (length (function_at code f).ops))
+  function_in_range f lt = all-append IsInRange (prologue (fact_at c f) (function_at code f).params) (operations_before code c f (length (function_at code f).ops))
       (all_read IsInRange (prologue (fact_at c f) (function_at code f).params) (λ k instr e. (((valid.holds 5 f k).v5 refl).word lt instr e).1.fits))
       (operations (length (function_at code f).ops))
     where
       operations : (k : ℕ) → AllByRecursion IsInRange (operations_before code c f k)
       operations zero = tt
-      operations (suc k) = all_append IsInRange (operations_before code c f k) (template code c f k) (operations k)
+      operations (suc k) = all-append IsInRange (operations_before code c f k) (template code c f k) (operations k)
           (all_read IsInRange (template code c f k) (λ w instr e. (((valid.holds 6 f k).v6 refl).words lt w instr e).fits))
 
   functions_in_range : (f : ℕ) → f ≤ length code.functions → AllByRecursion IsInRange (functions_before code c f)
   functions_in_range zero le = all_read IsInRange end_stub (λ k instr e. (((valid.holds 7 0 k).v7 refl).word instr e).fits)
-  functions_in_range (suc f) le = all_append IsInRange (functions_before code c f) (function_code code c f) (functions_in_range f (omega (arith, le))) (function_in_range f (omega (arith, le)))
+  functions_in_range (suc f) le = all-append IsInRange (functions_before code c f) (function_code code c f) (functions_in_range f (omega (arith, le))) (function_in_range f (omega (arith, le)))
 
   encodings : (instrs : List Instr) → AllByRecursion IsInRange instrs → AllByRecursion Word (map encoding instrs)
   encodings [] all = tt
@@ -193,7 +190,7 @@ module _ (code : FlatCode) (plan : Plan) (max_path : ℕ) (short : max_path ≤ 
   sites_of_all [] all = tt
   sites_of_all (f ∷ fs) all =
       let both = first_of (filter_map site_of f.ops) (flat_map (λ (g : FlatFunction). filter_map site_of g.ops) fs) all in
-      all_append HoldsSiteWords (filter_map (site_fact code plan) f.ops) (flat_map (λ (function : FlatFunction). filter_map (site_fact code plan) function.ops) fs) (sites_of_ops f.ops both.0) (sites_of_all fs both.1)
+      all-append HoldsSiteWords (filter_map (site_fact code plan) f.ops) (flat_map (λ (function : FlatFunction). filter_map (site_fact code plan) function.ops) fs) (sites_of_ops f.ops both.0) (sites_of_all fs both.1)
 
   -- ---- the certificate
 

@@ -54,8 +54,6 @@ pub record AreGrouped (old : List Ready) (from : ℕ) (new : List Ready) : Type 
   pub groups : (at : ℕ) (op next : Ready) → from ≤ at + 1 → slice_get new at ≡ Some op → slice_get new (at + 1) ≡ Some next → IsBefore op.kind next.kind
 
 got : {X : Type 0} (xs : List X) (i k : ℕ) (x y : X) → slice_get (slice_set xs i x) k ≡ Some y → ((k ≡ i) × (x ≡ y)) ⊎ ((k ≢ i) × (slice_get xs k ≡ Some y))
-got [] zero k x y e = absurd (cc)
-got [] (suc i) k x y e = absurd (cc)
 got (z ∷ xs) zero zero x y e = inl (refl, cc)
 got (z ∷ xs) zero (suc k) x y e = inr (λ (same : suc k ≡ 0). omega (arith, same), e)
 got (z ∷ xs) (suc i) zero x y e = inr (λ (same : 0 ≡ suc i). omega (arith, same), e)
@@ -63,12 +61,11 @@ got (z ∷ xs) (suc i) (suc k) x y e = elim (got xs i k x y e) [
   | inl h ↦ inl (omega (arith, h.0), h.1)
   | inr h ↦ inr (λ (same : suc k ≡ suc i). h.0 (omega (arith, same)), h.1)
 ]
+got [] _ k x y e = absurd (cc)
 
 pub length_set : {X : Type 0} (xs : List X) (i : ℕ) (x : X) → length (slice_set xs i x) ≡ length xs
-length_set [] zero x = refl
-length_set [] (suc i) x = refl
-length_set (z ∷ xs) zero x = refl
 length_set (z ∷ xs) (suc i) x = let rest = length_set xs i x in omega (arith, rest)
+length_set _ _ x = refl
 
 same_found : (found : Option Ready) (a b : Ready) → found ≡ Some a → found ≡ Some b → a ≡ b
 same_found None a b is also = absurd (cc)

@@ -6,7 +6,7 @@ use Rattle.c_grammar.specs.Signs.{Level, Tightest, Looser, Loosest, IsOperator, 
 use Rattle.c_grammar.specs.Rests as symbols
 use Rattle.c_grammar.specs.Rests.{Symbol, Nearest, Takes, CanBeNothing, Alternative}
 use Rattle.c_grammar.specs.Machine as tasks
-use Rattle.c_grammar.specs.Machine.{Task, step, after_move, token_move}
+use Rattle.c_grammar.specs.Machine.{Task, step}
 use Rattle.grammar_laws.proofs.Covers.{Above, Covers, Continues, Refuses, RefusesBrackets, Proper}
 use Rattle.grammar_laws.proofs.Forward.{OperandStart}
 
@@ -145,105 +145,27 @@ expr_back s more left c = let h = operand_back s (tasks.Tail ∷ more) left c in
 
 refuses_parenthesis : (more : List Task) → Refuses (tasks.Token signs.RightParenthesis ∷ more)
 refuses_parenthesis more sign Continues.atLeftParenthesis = refl
-refuses_parenthesis more sign Continues.atLeftBracket = refl
-refuses_parenthesis more sign Continues.atQuestion = refl
-refuses_parenthesis more sign Continues.atPlus = refl
-refuses_parenthesis more sign Continues.atMinus = refl
-refuses_parenthesis more sign Continues.atStar = refl
-refuses_parenthesis more sign Continues.atMultiplicative = refl
-refuses_parenthesis more sign Continues.atShift = refl
-refuses_parenthesis more sign Continues.atRelational = refl
-refuses_parenthesis more sign Continues.atEquality = refl
-refuses_parenthesis more sign Continues.atBitAnd = refl
-refuses_parenthesis more sign Continues.atBitXor = refl
-refuses_parenthesis more sign Continues.atBitOr = refl
-refuses_parenthesis more sign Continues.atLogicalAnd = refl
-refuses_parenthesis more sign Continues.atLogicalOr = refl
+refuses_parenthesis more sign _ = refl
 
 refuses_bracket : (more : List Task) → Refuses (tasks.Token signs.RightBracket ∷ more)
 refuses_bracket more sign Continues.atLeftParenthesis = refl
-refuses_bracket more sign Continues.atLeftBracket = refl
-refuses_bracket more sign Continues.atQuestion = refl
-refuses_bracket more sign Continues.atPlus = refl
-refuses_bracket more sign Continues.atMinus = refl
-refuses_bracket more sign Continues.atStar = refl
-refuses_bracket more sign Continues.atMultiplicative = refl
-refuses_bracket more sign Continues.atShift = refl
-refuses_bracket more sign Continues.atRelational = refl
-refuses_bracket more sign Continues.atEquality = refl
-refuses_bracket more sign Continues.atBitAnd = refl
-refuses_bracket more sign Continues.atBitXor = refl
-refuses_bracket more sign Continues.atBitOr = refl
-refuses_bracket more sign Continues.atLogicalAnd = refl
-refuses_bracket more sign Continues.atLogicalOr = refl
+refuses_bracket more sign _ = refl
 
 refuses_colon : (more : List Task) → Refuses (tasks.Token signs.Colon ∷ more)
 refuses_colon more sign Continues.atLeftParenthesis = refl
-refuses_colon more sign Continues.atLeftBracket = refl
-refuses_colon more sign Continues.atQuestion = refl
-refuses_colon more sign Continues.atPlus = refl
-refuses_colon more sign Continues.atMinus = refl
-refuses_colon more sign Continues.atStar = refl
-refuses_colon more sign Continues.atMultiplicative = refl
-refuses_colon more sign Continues.atShift = refl
-refuses_colon more sign Continues.atRelational = refl
-refuses_colon more sign Continues.atEquality = refl
-refuses_colon more sign Continues.atBitAnd = refl
-refuses_colon more sign Continues.atBitXor = refl
-refuses_colon more sign Continues.atBitOr = refl
-refuses_colon more sign Continues.atLogicalAnd = refl
-refuses_colon more sign Continues.atLogicalOr = refl
+refuses_colon more sign _ = refl
 
 refuses_semicolon : (more : List Task) → Refuses (tasks.Token signs.Semicolon ∷ more)
 refuses_semicolon more sign Continues.atLeftParenthesis = refl
-refuses_semicolon more sign Continues.atLeftBracket = refl
-refuses_semicolon more sign Continues.atQuestion = refl
-refuses_semicolon more sign Continues.atPlus = refl
-refuses_semicolon more sign Continues.atMinus = refl
-refuses_semicolon more sign Continues.atStar = refl
-refuses_semicolon more sign Continues.atMultiplicative = refl
-refuses_semicolon more sign Continues.atShift = refl
-refuses_semicolon more sign Continues.atRelational = refl
-refuses_semicolon more sign Continues.atEquality = refl
-refuses_semicolon more sign Continues.atBitAnd = refl
-refuses_semicolon more sign Continues.atBitXor = refl
-refuses_semicolon more sign Continues.atBitOr = refl
-refuses_semicolon more sign Continues.atLogicalAnd = refl
-refuses_semicolon more sign Continues.atLogicalOr = refl
+refuses_semicolon more sign _ = refl
 
 refuses_locals : (more : List Task) → Refuses (tasks.MoreLocals ∷ more)
 refuses_locals more sign Continues.atLeftParenthesis = refl
-refuses_locals more sign Continues.atLeftBracket = refl
-refuses_locals more sign Continues.atQuestion = refl
-refuses_locals more sign Continues.atPlus = refl
-refuses_locals more sign Continues.atMinus = refl
-refuses_locals more sign Continues.atStar = refl
-refuses_locals more sign Continues.atMultiplicative = refl
-refuses_locals more sign Continues.atShift = refl
-refuses_locals more sign Continues.atRelational = refl
-refuses_locals more sign Continues.atEquality = refl
-refuses_locals more sign Continues.atBitAnd = refl
-refuses_locals more sign Continues.atBitXor = refl
-refuses_locals more sign Continues.atBitOr = refl
-refuses_locals more sign Continues.atLogicalAnd = refl
-refuses_locals more sign Continues.atLogicalOr = refl
+refuses_locals more sign _ = refl
 
 refuses_arguments : (more : List Task) → Refuses (tasks.MoreArguments ∷ more)
 refuses_arguments more sign Continues.atLeftParenthesis = refl
-refuses_arguments more sign Continues.atLeftBracket = refl
-refuses_arguments more sign Continues.atQuestion = refl
-refuses_arguments more sign Continues.atPlus = refl
-refuses_arguments more sign Continues.atMinus = refl
-refuses_arguments more sign Continues.atStar = refl
-refuses_arguments more sign Continues.atMultiplicative = refl
-refuses_arguments more sign Continues.atShift = refl
-refuses_arguments more sign Continues.atRelational = refl
-refuses_arguments more sign Continues.atEquality = refl
-refuses_arguments more sign Continues.atBitAnd = refl
-refuses_arguments more sign Continues.atBitXor = refl
-refuses_arguments more sign Continues.atBitOr = refl
-refuses_arguments more sign Continues.atLogicalAnd = refl
-refuses_arguments more sign Continues.atLogicalOr = refl
+refuses_arguments more sign _ = refl
 
 refuses_done : (more : List Task) → Refuses more → Refuses (tasks.Done ∷ more)
 refuses_done more r sign c = r sign c
@@ -258,9 +180,7 @@ proper_start : {sign : Sign} {begun : List Task} → OperandStart sign begun →
 proper_start OperandStart.number more r p = p
 proper_start OperandStart.name more r p = (r, p)
 proper_start OperandStart.parenthesis more r p = (refuses_parenthesis more, (refl, p))
-proper_start OperandStart.plus more r p = (brackets_done more r, p)
-proper_start OperandStart.minus more r p = (brackets_done more r, p)
-proper_start OperandStart.prefix_sign more r p = (brackets_done more r, p)
+proper_start _ more r p = (brackets_done more r, p)
 
 b_AfterInt_Name : {more : List Task} {after : List Symbol} → Covers Nearest (tasks.AfterIntName ∷ more) after → Takeable (tasks.AfterInt ∷ more) signs.Name after
 b_AfterInt_Name (Covers.after_int_name_start c) = give (Covers.after_int_globals c) (Takes.by Alternative.scalar Takes.token)

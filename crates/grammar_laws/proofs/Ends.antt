@@ -4,7 +4,7 @@ use Rattle.c_grammar.specs.declared.signs.Sign.{Sign}
 use Rattle.c_grammar.specs.declared.signs.Sign.TheVariants as signs
 use Rattle.c_grammar.specs.Signs.{Level, Tightest, Looser, Loosest}
 use Rattle.c_grammar.specs.Rests as symbols
-use Rattle.c_grammar.specs.Rests.{Symbol, Way, Any, Nearest, CanBeNothing, Alternative, closes, open_in}
+use Rattle.c_grammar.specs.Rests.{Symbol, Any, Nearest, CanBeNothing, Alternative, closes, open_in}
 use Rattle.c_grammar.specs.Machine as tasks
 use Rattle.c_grammar.specs.Machine.{Task, token_move, closes_task, open_tasks}
 use Rattle.c_grammar.specs.Reading.{finishes}
@@ -30,11 +30,9 @@ above_open (Above.one a) = let h = above_open a in omega arith
 
 -- as many constructs are open in the tasks as in the rest
 pub same_open : {before : List Task} {rest : List Symbol} → Covers Nearest before rest → open_tasks before ≡ open_in rest
-same_open Covers.nothing = refl
 same_open (Covers.token {sign = s} used c) = let h = same_open c in let e = closes_same s used in omega arith
 same_open (Covers.tail a c) = let h = same_open c in let e = above_open a in omega arith
 same_open (Covers.operands a c) = let h = same_open c in let e = above_open a in omega arith
-same_open Covers.items = refl
 same_open (Covers.done c) = let h = same_open c in omega arith
 same_open (Covers.after_int_globals c) = let h = same_open c in omega arith
 same_open (Covers.after_int_table c) = let h = same_open c in omega arith
@@ -97,6 +95,7 @@ same_open (Covers.name_call c) = let h = same_open c in omega arith
 same_open (Covers.name_table c) = let h = same_open c in omega arith
 same_open (Covers.index_alone c) = let h = same_open c in omega arith
 same_open (Covers.index_call c) = let h = same_open c in omega arith
+same_open _ = refl
 
 no_simple_nothing : {rest : List Symbol} → CanBeNothing (symbols.Simple ∷ rest) → ⊥
 no_simple_nothing (CanBeNothing.by Alternative.set n) = no_token_nothing n
@@ -137,11 +136,9 @@ no_body_nothing (CanBeNothing.by Alternative.return_body n) = no_token_nothing n
 
 -- where the rest can be nothing, the tasks may be left undone
 pub nothing_finishes : {before : List Task} {rest : List Symbol} → Covers Any before rest → CanBeNothing rest → finishes before ≡ true
-nothing_finishes Covers.nothing n = refl
 nothing_finishes (Covers.token used c) n = absurd (no_token_nothing n)
 nothing_finishes (Covers.tail a c) n = nothing_finishes c (tail_nothing a n)
 nothing_finishes (Covers.operands {level = l} a c) n = absurd (no_binary_nothing l n)
-nothing_finishes Covers.items n = refl
 nothing_finishes (Covers.done c) (CanBeNothing.by Alternative.end n) = nothing_finishes c n
 nothing_finishes (Covers.skipped_done c) n = nothing_finishes c n
 nothing_finishes (Covers.else_part c) (CanBeNothing.by Alternative.else_part n) = absurd (no_token_nothing n)
@@ -240,6 +237,7 @@ nothing_finishes (Covers.name_call c) (CanBeNothing.by Alternative.arguments n) 
 nothing_finishes (Covers.name_table c) (CanBeNothing.by Alternative.index n) = absurd (no_token_nothing n)
 nothing_finishes (Covers.index_call c) (CanBeNothing.by Alternative.parenthesized n) = absurd (no_token_nothing n)
 nothing_finishes (Covers.body c) n = absurd (no_body_nothing n)
+nothing_finishes _ n = refl
 
 pub record Covered (before : List Task) : Type 0 where
   pub rest : List Symbol

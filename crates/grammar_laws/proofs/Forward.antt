@@ -69,35 +69,19 @@ expr_then (Takes.by Alternative.expr t) c k = binary_then Loosest t Above.looses
 
 start_operand : (more : List Task) {begun : List Task} {s : Sign} → OperandStart s begun → step (tasks.Operand ∷ more) s ≡ Some (begun ++ (more))
 start_operand more OperandStart.number = refl
-start_operand more OperandStart.name = refl
-start_operand more OperandStart.parenthesis = refl
-start_operand more OperandStart.plus = refl
-start_operand more OperandStart.minus = refl
-start_operand more OperandStart.prefix_sign = refl
+start_operand more _ = refl
 
 start_expr : (more : List Task) {begun : List Task} {s : Sign} → OperandStart s begun → step (tasks.Expr ∷ more) s ≡ Some (begun ++ (tasks.Tail ∷ more))
 start_expr more OperandStart.number = refl
-start_expr more OperandStart.name = refl
-start_expr more OperandStart.parenthesis = refl
-start_expr more OperandStart.plus = refl
-start_expr more OperandStart.minus = refl
-start_expr more OperandStart.prefix_sign = refl
+start_expr more _ = refl
 
 start_up_to : (more : List Task) {begun : List Task} {s : Sign} → OperandStart s begun → step (tasks.UpToSemicolon ∷ more) s ≡ Some (begun ++ (tasks.Tail ∷ tasks.Token signs.Semicolon ∷ more))
 start_up_to more OperandStart.number = refl
-start_up_to more OperandStart.name = refl
-start_up_to more OperandStart.parenthesis = refl
-start_up_to more OperandStart.plus = refl
-start_up_to more OperandStart.minus = refl
-start_up_to more OperandStart.prefix_sign = refl
+start_up_to more _ = refl
 
 start_arguments : (more : List Task) {begun : List Task} {s : Sign} → OperandStart s begun → step (tasks.ArgumentList ∷ more) s ≡ Some (begun ++ (tasks.Tail ∷ tasks.MoreArguments ∷ more))
 start_arguments more OperandStart.number = refl
-start_arguments more OperandStart.name = refl
-start_arguments more OperandStart.parenthesis = refl
-start_arguments more OperandStart.plus = refl
-start_arguments more OperandStart.minus = refl
-start_arguments more OperandStart.prefix_sign = refl
+start_arguments more _ = refl
 
 f_after_int_globals : {way : Way} {more : List Task} {sign : Sign} {rest after : List Symbol} → Covers way more rest → Takes way (symbols.Global ∷ symbols.MoreGlobals ∷ symbols.The signs.Semicolon ∷ rest) sign after → Taken way (tasks.AfterInt ∷ more) sign after
 f_after_int_globals c (Takes.by Alternative.scalar t) = token_then t (took refl (Covers.after_int_name_start c))
@@ -225,9 +209,8 @@ f_body c (Takes.by Alternative.block_body (Takes.by Alternative.block t)) = toke
 f_body c (Takes.by Alternative.if_body t) = token_then t (took refl (Covers.parenthesized (Covers.body (Covers.else_part c))))
 f_body c (Takes.by Alternative.while_body t) = token_then t (took refl (Covers.parenthesized (Covers.body (Covers.done c))))
 f_body c (Takes.by Alternative.for_body t) = token_then t (took refl (Covers.for_parts (Covers.body (Covers.done c))))
-f_body c (Takes.by Alternative.break_body t) = token_then t (took refl (Covers.token refl c))
-f_body c (Takes.by Alternative.continue_body t) = token_then t (took refl (Covers.token refl c))
 f_body c (Takes.by Alternative.return_body t) = token_then t (took refl (Covers.up_to_semicolon c))
+f_body c (Takes.by _ t) = token_then t (took refl (Covers.token refl c))
 
 f_parenthesized : {way : Way} {more : List Task} {sign : Sign} {rest after : List Symbol} → Covers way more rest → Takes way (symbols.Parenthesized ∷ rest) sign after → Taken way (tasks.Parenthesized ∷ more) sign after
 f_parenthesized c (Takes.by Alternative.parenthesized t) = token_then t (took refl (Covers.expr (Covers.token refl c)))
@@ -450,17 +433,7 @@ tail_passes _ more left r h = h
 
 operator_tail : {level : Level} {sign : Sign} (more : List Task) → IsOperator level sign → step (tasks.Tail ∷ more) sign ≡ Some (tasks.Operand ∷ tasks.Tail ∷ more)
 operator_tail more IsOperator.star = refl
-operator_tail more IsOperator.multiplicative = refl
-operator_tail more IsOperator.plus = refl
-operator_tail more IsOperator.minus = refl
-operator_tail more IsOperator.shift = refl
-operator_tail more IsOperator.relational = refl
-operator_tail more IsOperator.equality = refl
-operator_tail more IsOperator.bit_and = refl
-operator_tail more IsOperator.bit_xor = refl
-operator_tail more IsOperator.bit_or = refl
-operator_tail more IsOperator.logical_and = refl
-operator_tail more IsOperator.logical_or = refl
+operator_tail more _ = refl
 
 operator_then : {way : Way} {before : List Task} {level : Level} {t : Sign} {rest after : List Symbol} → Takes way (symbols.AnOperator level ∷ rest) t after
     → ((s : Sign) → IsOperator level s → Taken way before s rest) → Taken way before t after
@@ -481,11 +454,7 @@ f_tail a r c next (Takes.by Alternative.no_more_tightest t) = above_then a r c n
 
 start_operands : (more : List Task) {begun : List Task} {s : Sign} → OperandStart s begun → step (tasks.Operand ∷ tasks.Tail ∷ more) s ≡ Some (begun ++ (tasks.Tail ∷ more))
 start_operands more OperandStart.number = refl
-start_operands more OperandStart.name = refl
-start_operands more OperandStart.parenthesis = refl
-start_operands more OperandStart.plus = refl
-start_operands more OperandStart.minus = refl
-start_operands more OperandStart.prefix_sign = refl
+start_operands more _ = refl
 
 f_operands : {way : Way} {level : Level} {more : List Task} {sign : Sign} {rest parts after : List Symbol} → Above level (symbols.ConditionalOption ∷ rest) parts → Covers way more rest
     → Takes way (symbols.Binary level ∷ parts) sign after → Taken way (tasks.Operand ∷ tasks.Tail ∷ more) sign after

@@ -4,7 +4,7 @@ use Rattle.std.proofs.lemmas.Bool.{cases_lt, cases_Bool}
 use Rattle.std.proofs.lemmas.List.{append-nil}
 use Rattle.c_lex.specs.declared.tokens.Token.{Token}
 use Rattle.c_grammar.specs.declared.errors.ParseError.{ParseError}
-use Rattle.c_grammar.specs.declared.errors.ParseError.TheVariants.{Unexpected, TooDeep, NestedCall, Memory}
+use Rattle.c_grammar.specs.declared.errors.ParseError.TheVariants.{Unexpected, TooDeep}
 use Rattle.c_grammar.specs.declared.signs.Sign.{Sign}
 use Rattle.c_grammar.specs.Rests.{Symbol, Any, Nearest, CanBeNothing}
 use Rattle.c_grammar.specs.Machine.{Task, step, open_tasks}
@@ -177,8 +177,7 @@ only_verdict end tokens None v = within_run end tokens v
 only_verdict end tokens (Some (Unexpected at)) (inl u) = token_run end tokens at u
 only_verdict end tokens (Some (Unexpected at)) (inr u) = end_run end tokens at u
 only_verdict end tokens (Some (TooDeep at)) v = deep_run end tokens at v
-only_verdict end tokens (Some (NestedCall at)) v = absurd v
-only_verdict end tokens (Some Memory) v = absurd v
+only_verdict end tokens (Some _) v = absurd v
 
 -- an else may always be given to the nearest if that can take it
 pub nearest_taken : (tokens : List Token) → CanBeTaken tokens → IsLeft Nearest tokens

@@ -64,7 +64,6 @@ level_symbol (suc (suc (suc (suc (suc zero))))) = Looser (Looser (Looser (Looser
 level_symbol (suc (suc (suc (suc (suc (suc zero)))))) = Looser (Looser (Looser Tightest))
 level_symbol (suc (suc (suc (suc (suc (suc (suc zero))))))) = Looser (Looser Tightest)
 level_symbol (suc (suc (suc (suc (suc (suc (suc (suc zero)))))))) = Looser Tightest
-level_symbol (suc (suc (suc (suc (suc (suc (suc (suc (suc zero))))))))) = Tightest
 level_symbol _ = Tightest
 
 abbrev binary_symbol : ℕ → Symbol
@@ -187,17 +186,8 @@ an_operator : (level : Level) (s : Sign) {before after : List Token} {rest : Lis
 an_operator level s o some p h = accepts_sign s (symbols.AnOperator level) (Takes.operator o) some p h
 
 not_low : (level : ℕ) {rest : List Symbol} {ss : List Sign} → 10 ≤ level → Accepts (symbols.Unary ∷ rest) ss → Accepts (binary_symbol level ∷ rest) ss
-not_low zero h a = absurd (omega arith)
-not_low (suc zero) h a = absurd (omega arith)
-not_low (suc (suc zero)) h a = absurd (omega arith)
-not_low (suc (suc (suc zero))) h a = absurd (omega arith)
-not_low (suc (suc (suc (suc zero)))) h a = absurd (omega arith)
-not_low (suc (suc (suc (suc (suc zero))))) h a = absurd (omega arith)
-not_low (suc (suc (suc (suc (suc (suc zero)))))) h a = absurd (omega arith)
-not_low (suc (suc (suc (suc (suc (suc (suc zero))))))) h a = absurd (omega arith)
-not_low (suc (suc (suc (suc (suc (suc (suc (suc zero)))))))) h a = absurd (omega arith)
-not_low (suc (suc (suc (suc (suc (suc (suc (suc (suc zero))))))))) h a = absurd (omega arith)
 not_low (suc (suc (suc (suc (suc (suc (suc (suc (suc (suc n)))))))))) h a = a
+not_low _ h a = absurd (omega arith)
 
 mutual
   a_expr : {source : List ℕ} {before after : List Token} {e : RawExprTree} {rest : List Symbol} → IsExpr source before e after → Accepts rest (signs_of after) → Accepts (symbols.Expr ∷ rest) (signs_of before)

@@ -140,33 +140,15 @@ data Plain : Sign → Type 0 where
 
 no_operator : {level : Level} {s : Sign} → IsOperator level s → Plain s → ⊥
 no_operator IsOperator.star p = elim p [ ]
-no_operator IsOperator.multiplicative p = elim p [ ]
-no_operator IsOperator.plus p = elim p [ ]
-no_operator IsOperator.minus p = elim p [ ]
-no_operator IsOperator.shift p = elim p [ ]
-no_operator IsOperator.relational p = elim p [ ]
-no_operator IsOperator.equality p = elim p [ ]
-no_operator IsOperator.bit_and p = elim p [ ]
-no_operator IsOperator.bit_xor p = elim p [ ]
-no_operator IsOperator.bit_or p = elim p [ ]
-no_operator IsOperator.logical_and p = elim p [ ]
-no_operator IsOperator.logical_or p = elim p [ ]
+no_operator _ p = elim p [ ]
 
 plain_parenthesis : {s : Sign} → Plain s → s ≡ signs.LeftParenthesis → ⊥
 plain_parenthesis Plain.atRightParenthesis e = cc
-plain_parenthesis Plain.atRightBracket e = cc
-plain_parenthesis Plain.atSemicolon e = cc
-plain_parenthesis Plain.atComma e = cc
-plain_parenthesis Plain.atColon e = cc
-plain_parenthesis Plain.atQuestion e = cc
+plain_parenthesis _ e = cc
 
 plain_bracket : {s : Sign} → Plain s → s ≡ signs.LeftBracket → ⊥
 plain_bracket Plain.atRightParenthesis e = cc
-plain_bracket Plain.atRightBracket e = cc
-plain_bracket Plain.atSemicolon e = cc
-plain_bracket Plain.atComma e = cc
-plain_bracket Plain.atColon e = cc
-plain_bracket Plain.atQuestion e = cc
+plain_bracket _ e = cc
 
 stops_at : (level : ℕ) {s : Sign} {after b : List Token} → Plain s → Passes s after b → Stops level after
 stops_at level {s = s} {after = a} k p =
@@ -187,31 +169,11 @@ level_same l m p q e = sym p ∙ (ap level_of_infix e ∙ q)
 
 operator_parenthesis : {level : Level} {s : Sign} → IsOperator level s → s ≡ signs.LeftParenthesis → ⊥
 operator_parenthesis IsOperator.star e = cc
-operator_parenthesis IsOperator.multiplicative e = cc
-operator_parenthesis IsOperator.plus e = cc
-operator_parenthesis IsOperator.minus e = cc
-operator_parenthesis IsOperator.shift e = cc
-operator_parenthesis IsOperator.relational e = cc
-operator_parenthesis IsOperator.equality e = cc
-operator_parenthesis IsOperator.bit_and e = cc
-operator_parenthesis IsOperator.bit_xor e = cc
-operator_parenthesis IsOperator.bit_or e = cc
-operator_parenthesis IsOperator.logical_and e = cc
-operator_parenthesis IsOperator.logical_or e = cc
+operator_parenthesis _ e = cc
 
 operator_bracket : {level : Level} {s : Sign} → IsOperator level s → s ≡ signs.LeftBracket → ⊥
 operator_bracket IsOperator.star e = cc
-operator_bracket IsOperator.multiplicative e = cc
-operator_bracket IsOperator.plus e = cc
-operator_bracket IsOperator.minus e = cc
-operator_bracket IsOperator.shift e = cc
-operator_bracket IsOperator.relational e = cc
-operator_bracket IsOperator.equality e = cc
-operator_bracket IsOperator.bit_and e = cc
-operator_bracket IsOperator.bit_xor e = cc
-operator_bracket IsOperator.bit_or e = cc
-operator_bracket IsOperator.logical_and e = cc
-operator_bracket IsOperator.logical_or e = cc
+operator_bracket _ e = cc
 
 -- behind an operator's left operand stands the operator
 at_operator : (level : ℕ) {after b : List Token} {v : Infix} → PassesInfix level after v b → Stops (level + 1) after
@@ -527,25 +489,11 @@ body_begins (IsBody.return_value w u) = record { sign = signs.Return; kind = Sta
 
 no_brace_body : {s : Sign} → StartsBody s → s ≡ signs.RightBrace → ⊥
 no_brace_body StartsBody.atName e = cc
-no_brace_body StartsBody.atSemicolon e = cc
-no_brace_body StartsBody.atLeftBrace e = cc
-no_brace_body StartsBody.atIf e = cc
-no_brace_body StartsBody.atWhile e = cc
-no_brace_body StartsBody.atFor e = cc
-no_brace_body StartsBody.atBreak e = cc
-no_brace_body StartsBody.atContinue e = cc
-no_brace_body StartsBody.atReturn e = cc
+no_brace_body _ e = cc
 
 no_int_body : {s : Sign} → StartsBody s → s ≡ signs.Int → ⊥
 no_int_body StartsBody.atName e = cc
-no_int_body StartsBody.atSemicolon e = cc
-no_int_body StartsBody.atLeftBrace e = cc
-no_int_body StartsBody.atIf e = cc
-no_int_body StartsBody.atWhile e = cc
-no_int_body StartsBody.atFor e = cc
-no_int_body StartsBody.atBreak e = cc
-no_int_body StartsBody.atContinue e = cc
-no_int_body StartsBody.atReturn e = cc
+no_int_body _ e = cc
 
 no_body_brace : {source : List ℕ} {a b c d : List Token} {x : RawStmtTree} {C : Type 0} → Passes signs.RightBrace a c → IsBody true source b x d → a ≡ b → C
 no_body_brace p x e = let b = body_begins x in absurd (no_brace_body b.kind (sym b.is_next ∙ (ap next_sign (sym e) ∙ p.is_next)))

@@ -14,8 +14,7 @@ use Rattle.grammar_laws.proofs.Walks.{up_to, Walks, nothing, along, behind_one, 
 module _ (end : ℕ) (meant : Standing → Bool) (source : List ℕ) where
   joined_places : (l : RawExprTree) (operator : Infix) (r : RawExprTree) → expr_places meant (raw_joined l operator r) ≡ expr_places meant l ++ expr_places meant r
   joined_places l (Infix.Binary op) r = refl
-  joined_places l Infix.LogicalAnd r = refl
-  joined_places l Infix.LogicalOr r = refl
+  joined_places l _ r = refl
 
   mutual
     expr_walk : {before after : List Token} {e : RawExprTree} → IsExpr source before e after → Walks end before (expr_places meant e) after

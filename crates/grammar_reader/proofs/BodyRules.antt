@@ -118,18 +118,15 @@ pub data Construct : Sign → List Task → Type 0 where
 
 construct_take : {s : Sign} {left : List Task} → Construct s left → tasks.body_move s ≡ tasks.Take left
 construct_take Construct.if_construct = refl
-construct_take Construct.while_construct = refl
-construct_take Construct.for_construct = refl
+construct_take _ = refl
 
 construct_some : {s : Sign} {left : List Task} → Construct s left → s ≢ signs.Finish
 construct_some Construct.if_construct e = cc
-construct_some Construct.while_construct e = cc
-construct_some Construct.for_construct e = cc
+construct_some _ e = cc
 
 construct_open : {s : Sign} {left : List Task} → Construct s left → open_tasks left ≡ 1
 construct_open Construct.if_construct = omega arith
-construct_open Construct.while_construct = omega arith
-construct_open Construct.for_construct = omega arith
+construct_open _ = omega arith
 
 open_nil : (left : List Task) → open_tasks (left ++ []) ≡ open_tasks left + 0
 open_nil [] = refl

@@ -136,7 +136,6 @@ arguments_opened end depth inside todo a b k e opening low rest o =
 -- no `)` comes, so that an expression is wanted
 list_move : (s : Sign) (rest : List Task) → s ≢ signs.RightParenthesis → step (tasks.ArgumentList ∷ rest) s ≡ step (tasks.Expr ∷ tasks.MoreArguments ∷ rest) s
 list_move signs.RightParenthesis rest other = absurd (other refl)
-list_move signs.Number rest other = refl
 list_move _ rest other = refl
 
 list_run : (end : ℕ) (rest : List Task) (b : List Token) → next_sign b ≢ signs.RightParenthesis → run end (tasks.ArgumentList ∷ rest) b ≡ run end (tasks.Expr ∷ tasks.MoreArguments ∷ rest) b

@@ -227,8 +227,7 @@ operator_shorter level (t ∷ tokens) b operator is behind = let e = ap length b
 
 joined_small : (operator : Infix) (l r : RawExprTree) (bound : ℕ) → raw_temporaries l ≤ bound → 1 + raw_temporaries r ≤ bound → raw_temporaries (raw_joined l operator r) ≤ bound
 joined_small Infix.LogicalOr l r bound h k = omega arith
-joined_small Infix.LogicalAnd l r bound h k = omega arith
-joined_small (Infix.Binary op) l r bound h k = omega arith
+joined_small _ l r bound h k = omega arith
 
 pub repeated_more : (source : List ℕ) (end depth level : ℕ) (a now b c : List Token) (rest : List (Infix × RawExprTree)) (operator : Infix) (operand : RawExprTree) → depth ≤ 64 → ReadingRepeated source end depth level a rest now → IsNextOperator level now operator
     → b ≡ rest_of now → ReadsBinary source end depth (level + 1) b operand c → ReadingRepeated source end depth level a (rest ++ ((operator, operand) ∷ [])) c

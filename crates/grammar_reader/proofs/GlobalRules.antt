@@ -8,7 +8,7 @@ use Rattle.c_grammar.specs.declared.errors.ParseError.TheVariants.{Unexpected, M
 use Rattle.c_grammar.specs.declared.signs.Sign.{Sign}
 use Rattle.c_grammar.specs.declared.signs.Sign.TheVariants as signs
 use Rattle.c_grammar.specs.Machine as tasks
-use Rattle.c_grammar.specs.Machine.{Task, step, after_move, open_tasks}
+use Rattle.c_grammar.specs.Machine.{step, after_move}
 use Rattle.c_grammar.specs.Tokens.{next_sign, next_place, rest_of, Passes, PassesName, PassesNumber}
 use Rattle.c_grammar.specs.Grammar.{IsStart, IsGlobal, AreMoreGlobals, AreItem}
 use Rattle.grammar_reader.specs.Steps.{Refused}
@@ -86,8 +86,6 @@ global_value_refused end a b error e behind h = path_refused (assign_path end a 
 global_same : (s : Sign) → s ≢ signs.LeftBracket → s ≢ signs.Assign → tasks.after_global_name_move s ≡ tasks.more_globals_move s
 global_same signs.LeftBracket a b = absurd (a refl)
 global_same signs.Assign a b = absurd (b refl)
-global_same signs.Comma a b = refl
-global_same signs.Semicolon a b = refl
 global_same _ a b = refl
 
 pub global_alone : (source : List ℕ) (end : ℕ) (n : NameTree) (a : List Token) → next_sign a ≢ signs.LeftBracket → next_sign a ≢ signs.Assign → ReadsGlobal source end n a (RawGlobal n 0) a
@@ -100,10 +98,6 @@ global_alone source end n a n1 n2 =
 -- globals one after another
 first_same : (s : Sign) → s ≢ signs.LeftParenthesis → tasks.after_int_name_move s ≡ tasks.after_global_name_move s
 first_same signs.LeftParenthesis a = absurd (a refl)
-first_same signs.Assign a = refl
-first_same signs.LeftBracket a = refl
-first_same signs.Comma a = refl
-first_same signs.Semicolon a = refl
 first_same _ a = refl
 
 first_path : (end : ℕ) (a : List Token) → next_sign a ≢ signs.LeftParenthesis → Path end 0 (tasks.AfterIntName ∷ []) a (tasks.AfterGlobalName ∷ []) a

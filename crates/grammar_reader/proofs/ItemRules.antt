@@ -14,7 +14,7 @@ use Rattle.c_grammar.specs.declared.signs.Sign.{Sign}
 use Rattle.c_grammar.specs.declared.signs.Sign.TheVariants as signs
 use Rattle.c_grammar.specs.Signs.{sign_of_token, sign_of_keyword, sign_of_mark}
 use Rattle.c_grammar.specs.Machine as tasks
-use Rattle.c_grammar.specs.Machine.{Task, step, after_move, open_tasks}
+use Rattle.c_grammar.specs.Machine.{step, after_move}
 use Rattle.c_grammar.specs.Reading.{sign_at}
 use Rattle.c_grammar.specs.Tokens.{next_sign, next_place, rest_of, Passes, PassesName}
 use Rattle.c_grammar.specs.Grammar.{IsResult, AreItems}
@@ -179,8 +179,7 @@ mark_some _ e = cc
 some_sign : (kind : TokenKind) → sign_of_token kind ≢ signs.Finish
 some_sign (kinds.Mark mark) e = mark_some mark e
 some_sign (kinds.Keyword keyword) e = keyword_some keyword e
-some_sign kinds.Name e = cc
-some_sign (kinds.Number value) e = cc
+some_sign _ e = cc
 
 pub items_done : (source : List ℕ) (end : ℕ) (a now : List Token) (is : List RawItemTree) → ReadingItems source end a is now → next_sign now ≡ signs.Finish → ReadsItems source end a is
 items_done source end a [] is h e =

@@ -121,8 +121,6 @@ local_with source end depth a b c d n v low p e behind h =
 after_local_same : (s : Sign) → s ≢ signs.LeftBracket → s ≢ signs.Assign → tasks.after_local_name_move s ≡ tasks.more_locals_move s
 after_local_same signs.LeftBracket a b = absurd (a refl)
 after_local_same signs.Assign a b = absurd (b refl)
-after_local_same signs.Comma a b = refl
-after_local_same signs.Semicolon a b = refl
 after_local_same _ a b = refl
 
 after_local_run : (end : ℕ) (rest : List Task) (b : List Token) → next_sign b ≢ signs.LeftBracket → next_sign b ≢ signs.Assign → run end (tasks.AfterLocalName ∷ rest) b ≡ run end (tasks.MoreLocals ∷ rest) b

@@ -146,8 +146,7 @@ mark_free _ = (λ e. cc, λ e. cc, λ e. cc)
 prefix_free : (kind : TokenKind) → PrefixFree kind (unary_operator_of (Some kind))
 prefix_free (kinds.Mark mark) = mark_free mark
 prefix_free (kinds.Keyword keyword) = keyword_free keyword
-prefix_free kinds.Name = (λ e. cc, λ e. cc, λ e. cc)
-prefix_free (kinds.Number value) = (λ e. cc, λ e. cc, λ e. cc)
+prefix_free _ = (λ e. cc, λ e. cc, λ e. cc)
 
 pub primary_other : (end depth : ℕ) (a : List Token) (error : ParseError) → NoPrefix a → next_sign a ≢ signs.Number → next_sign a ≢ signs.Name → next_sign a ≢ signs.LeftParenthesis → error ≡ Unexpected (next_place end a) → Refused end depth (tasks.Operand ∷ []) a error
 primary_other end depth [] error free n1 n2 n3 place other rest o = run_none end (tasks.Operand ∷ rest) [] refl refl ∙ ap Some (sym place)

@@ -27,7 +27,6 @@ up_none source end depth a b low e behind =
 
 up_move : (s : Sign) (rest : List Task) → s ≢ signs.Semicolon → step (tasks.UpToSemicolon ∷ rest) s ≡ step (tasks.Expr ∷ tasks.Token signs.Semicolon ∷ rest) s
 up_move signs.Semicolon rest other = absurd (other refl)
-up_move signs.Number rest other = refl
 up_move _ rest other = refl
 
 up_path : (end depth : ℕ) (a : List Token) → next_sign a ≢ signs.Semicolon → Path end depth (tasks.UpToSemicolon ∷ []) a (tasks.Expr ∷ tasks.Token signs.Semicolon ∷ []) a

@@ -19,7 +19,7 @@ use Rattle.c_mean.proofs.CallLemmas.{counted}
 use Rattle.deep_mean.specs.DeepTrees.{Function, Modelled, Spawned, DeepProgram}
 use Rattle.deep_mean.specs.Evaluation.{Around, Ready, ReadyCall, ReadyTableCall}
 use Rattle.deep_mean.specs.DeepToDo as deep_items
-use Rattle.deep_mean.specs.DeepToDo.{Use, Stores, IndexesLocal, IndexesGlobal, Branches, Tests, Returns}
+use Rattle.deep_mean.specs.DeepToDo.{Use, Stores}
 use Rattle.deep_mean.specs.DeepFrames as frames
 use Rattle.deep_mean.specs.DeepFrames.{DeepWaitingFrame, DeepRunning}
 use Rattle.deep_mean.specs.DeepSteps as deep_steps
@@ -62,21 +62,15 @@ module _ (text : DeepProgram) (program : ProgramTree) (Alike : ℕ → Agreement
   where_text_below false thread after unders e h = absurd cc
 
   stored_text_below : (thread : DeepRunning) (place : Place) (word : ℕ) (after : DeepRunning) → deep_steps.stored thread place word ≡ Ok after → after.below ≡ thread.below
-  stored_text_below thread Nowhere word after h = where_text_below true thread after thread.below refl h
   stored_text_below thread (InLocal x) word after h = where_text_below true (deep_steps.with_names thread (with_word thread.frame.names x 0 word)) after thread.below refl h
   stored_text_below thread (InGlobal g) word after h = where_text_below true (deep_steps.with_globals thread (with_word thread.globals g 0 word)) after thread.below refl h
   stored_text_below thread (InLocalElement a i) word after h = where_text_below (nat_lt i (width thread.frame.names a)) (deep_steps.with_names thread (with_word thread.frame.names a i word)) after thread.below refl h
   stored_text_below thread (InGlobalElement a i) word after h = where_text_below (nat_lt i (width thread.globals a)) (deep_steps.with_globals thread (with_word thread.globals a i word)) after thread.below refl h
-  stored_text_below thread Returned word after h = where_text_below true thread after thread.below refl h
+  stored_text_below thread _ word after h = where_text_below true thread after thread.below refl h
 
   delivered_to_below : (thread : DeepRunning) (around : List Around) (word : ℕ) (use_ : Use) → (deep_steps.delivered_to thread around word use_).below ≡ thread.below
   delivered_to_below thread [] word (Stores place) = text_or_below thread (deep_steps.stored thread place word) thread.below refl (λ after e. stored_text_below thread place word after e)
-  delivered_to_below thread [] word (IndexesLocal a v) = refl
-  delivered_to_below thread [] word (IndexesGlobal a v) = refl
-  delivered_to_below thread [] word (Branches s r) = refl
-  delivered_to_below thread [] word (Tests loop) = refl
-  delivered_to_below thread [] word Returns = refl
-  delivered_to_below thread (a ∷ outer) word use_ = refl
+  delivered_to_below thread _ word _ = refl
 
   pub text_below : (w : DeepWaitingFrame) (unders : List DeepWaitingFrame) (globals : Rows) (word : ℕ) → (deep_steps.delivered w unders globals word).below ≡ unders
   text_below w unders globals word = delivered_to_below (record { frame = w.frame; below = unders; globals = globals }) w.around word w.use_
@@ -176,15 +170,4 @@ module _ (text : DeepProgram) (program : ProgramTree) (Alike : ℕ → Agreement
           subst (λ members. Answers (deep_steps.entered_by members text d s around use_ i word) state) (sym same)
           (table_answers s k i word there (nat_lt i (length there)) refl r.0 (λ within. fits i within)
           (e ∙ ap (λ o. on_value t o (λ index. on_value t (value names globals y) (λ argument. tree_steps.entered_by there program t k place index argument))) r.2 ∙ ap (λ o. on_value t o (λ argument. tree_steps.entered_by there program t k place i argument)) r.3))
-      called_answers (ReadyCall s (Function g) words) (CallTable k u x y) r fits e = absurd r
-      called_answers (ReadyCall s (Function g) words) (CallSpawn k h x) r fits e = absurd r
-      called_answers (ReadyCall s (Function g) words) (CallModelled k o es) r fits e = absurd r
-      called_answers (ReadyCall s (Modelled m) words) (CallFunction k h es) r fits e = absurd r
-      called_answers (ReadyCall s (Modelled m) words) (CallTable k u x y) r fits e = absurd r
-      called_answers (ReadyCall s (Modelled m) words) (CallSpawn k h x) r fits e = absurd r
-      called_answers (ReadyCall s (Spawned g) words) (CallFunction k h es) r fits e = absurd r
-      called_answers (ReadyCall s (Spawned g) words) (CallTable k u x y) r fits e = absurd r
-      called_answers (ReadyCall s (Spawned g) words) (CallModelled k o es) r fits e = absurd r
-      called_answers (ReadyTableCall s u i word) (CallFunction k h es) r fits e = absurd r
-      called_answers (ReadyTableCall s u i word) (CallSpawn k h x) r fits e = absurd r
-      called_answers (ReadyTableCall s u i word) (CallModelled k o es) r fits e = absurd r
+      called_answers _ _ r fits e = absurd r

@@ -1,6 +1,6 @@
 -- The names in scope at a place of the text, and at the place of the rewritten tree that stands for it: the same, but for the new names,
 -- and each variable under the number that it has there. The latest comes first.
-use Rattle.std.proofs.Common.{ℕ, ◌≡◌, ◌≢◌, zero, suc, ◌<◌, ◌⊎◌, inl, inr, ⊎_elim, refl, sym, ap, subst, ◌∙◌, Bool, true, false, List, [], ◌∷◌, length, Option, Some, None, set, replicate, arith, if◌then◌else◌}
+use Rattle.std.proofs.Common.{ℕ, ◌≡◌, ◌≢◌, suc, ◌<◌, ◌⊎◌, inl, inr, ⊎_elim, refl, sym, ap, subst, ◌∙◌, Bool, true, false, List, [], ◌∷◌, length, Option, Some, None, set, replicate, arith, if◌then◌else◌}
 use Rattle.std.specs.Str.{bytes_eq}
 use Rattle.std.proofs.lemmas.Bool.{cases_eq}
 use Rattle.std.proofs.lemmas.List.{get_or-set_other}
@@ -36,11 +36,7 @@ in_tree (New k y a) = variable (new_name k).text y false ∷ in_tree a
 -- no variable
 abbrev pub IsOutside : Meaning → Type 0
 IsOutside (Meaning.Local x array) = ⊥
-IsOutside (Meaning.Global g array) = Unit {0}
-IsOutside (Meaning.Table t) = Unit {0}
-IsOutside (Meaning.Function f gives params defined) = Unit {0}
-IsOutside (Meaning.Modelled m) = Unit {0}
-IsOutside Meaning.Spawn = Unit {0}
+IsOutside _ = Unit {0}
 
 abbrev pub AreOutside : List Binding → Type 0
 AreOutside [] = Unit {0}
@@ -71,11 +67,7 @@ NamesStand a text tree = (x y : ℕ) → Paired a x y → row text x ≡ row tre
 
 abbrev pub LocalAlike : Agreement → ℕ → Bool → Meaning → Type 0
 LocalAlike a x array (Meaning.Local y other) = Paired a x y × (array ≡ other)
-LocalAlike a x array (Meaning.Global g other) = ⊥
-LocalAlike a x array (Meaning.Table t) = ⊥
-LocalAlike a x array (Meaning.Function f gives params defined) = ⊥
-LocalAlike a x array (Meaning.Modelled m) = ⊥
-LocalAlike a x array Meaning.Spawn = ⊥
+LocalAlike a x array _ = ⊥
 
 -- a variable has its number in each; anything else is the same
 abbrev pub MeaningAlike : Agreement → Meaning → Meaning → Type 0
@@ -88,9 +80,8 @@ MeaningAlike a Meaning.Spawn n = n ≡ Meaning.Spawn
 
 abbrev pub FoundAlike : Agreement → Option Found → Option Found → Type 0
 FoundAlike a None None = Unit {0}
-FoundAlike a None (Some g) = ⊥
-FoundAlike a (Some f) None = ⊥
 FoundAlike a (Some f) (Some g) = MeaningAlike a f.meaning g.meaning
+FoundAlike a _ _ = ⊥
 
 if_alike : (b : Bool) (a : Agreement) (f g : Found) (o p : Option Found) → MeaningAlike a f.meaning g.meaning → FoundAlike a o p → FoundAlike a (if b then Some f else o) (if b then Some g else p)
 if_alike true a f g o p h k = h
@@ -98,11 +89,7 @@ if_alike false a f g o p h k = k
 
 same_meaning : (a : Agreement) (m : Meaning) → IsOutside m → MeaningAlike a m m
 same_meaning a (Meaning.Local x array) h = absurd h
-same_meaning a (Meaning.Global g array) h = refl
-same_meaning a (Meaning.Table t) h = refl
-same_meaning a (Meaning.Function f gives params defined) h = refl
-same_meaning a (Meaning.Modelled m) h = refl
-same_meaning a Meaning.Spawn h = refl
+same_meaning a _ h = refl
 
 outside_alike : (a : Agreement) (bs : List Binding) (t : List ℕ) → AreOutside bs → FoundAlike a (find t bs) (find t bs)
 outside_alike a [] t h = tt
@@ -113,25 +100,16 @@ outside_alike a (b ∷ bs) t h =
 -- what agrees by one agreement agrees by another one that pairs as many
 weaker_local : (a b : Agreement) (x : ℕ) (array : Bool) (n : Meaning) → ((u v : ℕ) → Paired a u v → Paired b u v) → LocalAlike a x array n → LocalAlike b x array n
 weaker_local a b x array (Meaning.Local y other) w h = (w x y h.0, h.1)
-weaker_local a b x array (Meaning.Global g other) w h = h
-weaker_local a b x array (Meaning.Table t) w h = h
-weaker_local a b x array (Meaning.Function f gives params defined) w h = h
-weaker_local a b x array (Meaning.Modelled m) w h = h
-weaker_local a b x array Meaning.Spawn w h = h
+weaker_local a b x array _ w h = h
 
 weaker_meaning : (a b : Agreement) (m n : Meaning) → ((u v : ℕ) → Paired a u v → Paired b u v) → MeaningAlike a m n → MeaningAlike b m n
 weaker_meaning a b (Meaning.Local x array) n w h = weaker_local a b x array n w h
-weaker_meaning a b (Meaning.Global g array) n w h = h
-weaker_meaning a b (Meaning.Table t) n w h = h
-weaker_meaning a b (Meaning.Function f gives params defined) n w h = h
-weaker_meaning a b (Meaning.Modelled m) n w h = h
-weaker_meaning a b Meaning.Spawn n w h = h
+weaker_meaning a b _ n w h = h
 
 weaker_found : (a b : Agreement) (o p : Option Found) → ((u v : ℕ) → Paired a u v → Paired b u v) → FoundAlike a o p → FoundAlike b o p
 weaker_found a b None None w h = tt
-weaker_found a b None (Some g) w h = absurd h
-weaker_found a b (Some f) None w h = absurd h
 weaker_found a b (Some f) (Some g) w h = weaker_meaning a b f.meaning g.meaning w h
+weaker_found a b _ _ w h = absurd h
 
 -- a new name is none of the source's
 no_source : (t : List ℕ) → BeginsWithDigit t → IsSourceName t → ⊥
@@ -154,50 +132,32 @@ found_alike (New k y a) t h s = rw (new_apart k t s) (weaker_found a (New k y a)
 
 table_local : (a : Agreement) (x : ℕ) (array : Bool) (n : Meaning) → LocalAlike a x array n → 0 ≡ table_in n
 table_local a x array (Meaning.Local y other) h = refl
-table_local a x array (Meaning.Global g other) h = absurd h
-table_local a x array (Meaning.Table t) h = absurd h
-table_local a x array (Meaning.Function f gives params defined) h = absurd h
-table_local a x array (Meaning.Modelled m) h = absurd h
-table_local a x array Meaning.Spawn h = absurd h
+table_local a x array _ h = absurd h
 
 table_meaning : (a : Agreement) (m n : Meaning) → MeaningAlike a m n → table_in m ≡ table_in n
 table_meaning a (Meaning.Local x array) n h = table_local a x array n h
-table_meaning a (Meaning.Global g array) n h = sym (ap table_in h)
-table_meaning a (Meaning.Table t) n h = sym (ap table_in h)
-table_meaning a (Meaning.Function f gives params defined) n h = sym (ap table_in h)
-table_meaning a (Meaning.Modelled m) n h = sym (ap table_in h)
-table_meaning a Meaning.Spawn n h = sym (ap table_in h)
+table_meaning a _ n h = sym (ap table_in h)
 
 table_found : (a : Agreement) (o p : Option Found) → FoundAlike a o p → table_of o ≡ table_of p
 table_found a None None h = refl
-table_found a None (Some g) h = absurd h
-table_found a (Some f) None h = absurd h
 table_found a (Some f) (Some g) h = table_meaning a f.meaning g.meaning h
+table_found a _ _ h = absurd h
 
 pub table_alike : (a : Agreement) (t : List ℕ) → IsAgreement a → IsSourceName t → table_of (find t (in_text a)) ≡ table_of (find t (in_tree a))
 table_alike a t h s = table_found a (find t (in_text a)) (find t (in_tree a)) (found_alike a t h s)
 
 callee_local : (a : Agreement) (x : ℕ) (array : Bool) (n : Meaning) → LocalAlike a x array n → callee_in (Meaning.Local x array) ≡ callee_in n
 callee_local a x array (Meaning.Local y other) h = refl
-callee_local a x array (Meaning.Global g other) h = absurd h
-callee_local a x array (Meaning.Table t) h = absurd h
-callee_local a x array (Meaning.Function f gives params defined) h = absurd h
-callee_local a x array (Meaning.Modelled m) h = absurd h
-callee_local a x array Meaning.Spawn h = absurd h
+callee_local a x array _ h = absurd h
 
 callee_meaning : (a : Agreement) (m n : Meaning) → MeaningAlike a m n → callee_in m ≡ callee_in n
 callee_meaning a (Meaning.Local x array) n h = callee_local a x array n h
-callee_meaning a (Meaning.Global g array) n h = sym (ap callee_in h)
-callee_meaning a (Meaning.Table t) n h = sym (ap callee_in h)
-callee_meaning a (Meaning.Function f gives params defined) n h = sym (ap callee_in h)
-callee_meaning a (Meaning.Modelled m) n h = sym (ap callee_in h)
-callee_meaning a Meaning.Spawn n h = sym (ap callee_in h)
+callee_meaning a _ n h = sym (ap callee_in h)
 
 callee_found : (a : Agreement) (o p : Option Found) → FoundAlike a o p → callee_of o ≡ callee_of p
 callee_found a None None h = refl
-callee_found a None (Some g) h = absurd h
-callee_found a (Some f) None h = absurd h
 callee_found a (Some f) (Some g) h = callee_meaning a f.meaning g.meaning h
+callee_found a _ _ h = absurd h
 
 pub callee_alike : (a : Agreement) (t : List ℕ) → IsAgreement a → IsSourceName t → callee_of (find t (in_text a)) ≡ callee_of (find t (in_tree a))
 callee_alike a t h s = callee_found a (find t (in_text a)) (find t (in_tree a)) (found_alike a t h s)
@@ -267,14 +227,12 @@ one_back (New k r a) n m x y u v b p q e = one_back a n r x y u v b.1 p q e
 -- ---- what a write keeps
 
 pub row_written : (rows : List (List ℕ)) (x i word : ℕ) → row (with_word rows x i word) x ≡ set (row rows x) i word
-row_written [] x i word = refl
-row_written (r ∷ rows) zero i word = refl
 row_written (r ∷ rows) (suc x) i word = row_written rows x i word
+row_written _ _ i word = refl
 
 pub row_zeroed : (rows : List (List ℕ)) (x : ℕ) → row (with_zeros rows x) x ≡ replicate (width rows x) 0
-row_zeroed [] x = refl
-row_zeroed (r ∷ rows) zero = refl
 row_zeroed (r ∷ rows) (suc x) = row_zeroed rows x
+row_zeroed _ _ = refl
 
 -- rows that differ at most at a pair, where they are alike, stand as those before
 rows_stand : (a : Agreement) (n m x y : ℕ) (text tree text' tree' : List (List ℕ)) → AreBelow n m a → Paired a x y → NamesStand a text tree →

@@ -2,7 +2,7 @@
 -- `no_greater` of a place, is the same of both. A first argument of `spawn` in which a call stands would lose it; no source that breaks
 -- no rule has one.
 use Rattle.std.proofs.Common.{ℕ, ◌+◌, ◌≡◌, refl, sym, ap, ◌∙◌, Bool, true, false, ◌||◌, List, [], ◌∷◌, ◌++◌, append_assoc, append-nil, arith, if◌then◌else◌}
-use Rattle.c_tree.specs.RawTrees.{NameTree, RawExprTree, RawExprTrees, RawNumber, RawName, RawElement, RawUnary, RawParenthesized, RawBinary, RawLogicalAnd, RawLogicalOr, RawConditional, RawCall, RawTableCall, NoExprs, And, RawStmtTree, RawIfElse}
+use Rattle.c_tree.specs.RawTrees.{NameTree, RawExprTree, RawExprTrees, RawElement, RawUnary, RawParenthesized, RawBinary, RawLogicalAnd, RawLogicalOr, RawConditional, RawCall, RawTableCall, NoExprs, And, RawStmtTree, RawIfElse}
 use Rattle.c_tree.specs.RawViews.{raw_in_order, as_body}
 use Rattle.c_tree.specs.WholeCalls.{HasNoCall, HaveNoCall}
 use Rattle.grammar_laws.specs.Nested.{is_call}
@@ -17,8 +17,6 @@ use Rattle.hoist_parts.proofs.Whole.{not_held, left_whole, arguments_whole}
 -- ---- places
 
 pub no_places : (e : RawExprTree) → HasNoCall e → expr_places is_call e ≡ []
-no_places (RawNumber v) h = refl
-no_places (RawName n) h = refl
 no_places (RawElement n i) h = no_places i h
 no_places (RawUnary op e) h = no_places e h
 no_places (RawParenthesized e) h = no_places e h
@@ -28,6 +26,7 @@ no_places (RawLogicalOr l r) h = rw (no_places l h.0, no_places r h.1) refl
 no_places (RawConditional c a b) h = rw (no_places c h.0, no_places a h.1, no_places b h.2) refl
 no_places (RawCall n es) h = absurd h
 no_places (RawTableCall n i e) h = absurd h
+no_places _ h = refl
 
 pub none_of_them : (es : RawExprTrees) → HaveNoCall es → exprs_places is_call es ≡ []
 none_of_them NoExprs h = refl
@@ -113,8 +112,6 @@ module _ (c : List ℕ → ℕ) (none : c [] ≡ 0) (both : (xs ys : List ℕ) �
   mutual
     -- what goes before an expression has its calls
     pub before_count : (k : ℕ) (e : RawExprTree) → IsPlain e → stmts_count c (before k e) ≡ expr_count c e
-    before_count k (RawNumber v) h = refl
-    before_count k (RawName n) h = refl
     before_count k (RawElement n i) h = before_count k i h
     before_count k (RawUnary op e) h = before_count k e h
     before_count k (RawParenthesized e) h = before_count k e h
@@ -166,6 +163,7 @@ module _ (c : List ℕ → ℕ) (none : c [] ≡ 0) (both : (xs ys : List ℕ) �
         let there = both (n.at ∷ []) (expr_places is_call i ++ expr_places is_call e) in
         let rest = both (expr_places is_call i) (expr_places is_call e) in
         omega (arith, all, parts, first, second, last, there, rest)
+    before_count k _ h = refl
 
     pub arguments_count : (k : ℕ) (stays : Bool) (es : RawExprTrees) → ArePlain stays es → stmts_count c (arguments_before stays k es) ≡ c (exprs_places is_call es)
     arguments_count k stays NoExprs h = refl
@@ -183,6 +181,5 @@ module _ (c : List ℕ → ℕ) (none : c [] ≡ 0) (both : (xs ys : List ℕ) �
 
   -- statements as a body
   pub body_count : (ss : List RawStmtTree) → c (stmt_places is_call (as_body ss)) ≡ stmts_count c ss
-  body_count [] = refl
   body_count (s ∷ []) = ap c (sym (append-nil (stmt_places is_call s)))
-  body_count (s ∷ t ∷ ss) = refl
+  body_count _ = refl

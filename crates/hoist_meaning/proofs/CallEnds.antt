@@ -2,7 +2,7 @@
 use Rattle.std.proofs.Common.{ℕ, suc, ◌≡◌, ◌+◌, ◌≤◌, refl, sym, ap, subst, ◌∙◌, Bool, true, false, List, [], ◌∷◌, ◌++◌, length, Option, Some, None, arith, if◌then◌else◌}
 use Rattle.std.specs.Prelude.{nat_eq, Ok, Err}
 use Rattle.cap_word.specs.Rows.{width, with_word}
-use Rattle.c_tree.specs.RawTrees.{NameTree, RawExprTree, RawExprTrees, RawNumber, RawName, RawElement, RawUnary, RawParenthesized, RawBinary, RawLogicalAnd, RawLogicalOr, RawConditional, RawCall, RawTableCall, NoExprs, And}
+use Rattle.c_tree.specs.RawTrees.{NameTree, RawExprTree, RawExprTrees, RawNumber, RawName, RawElement, RawUnary, RawParenthesized, RawBinary, RawLogicalAnd, RawLogicalOr, RawConditional, RawCall, NoExprs, And}
 use Rattle.c_tree.specs.Trees.{CallTree, Called, DeclareWith, ProgramTree}
 use Rattle.c_mean.specs.Values.{Value, values}
 use Rattle.c_mean.specs.ToDo.{Item, Simply}
@@ -21,7 +21,7 @@ use Rattle.scope_rules.specs.Numbered.{number_at, call_numbered}
 use Rattle.scope_rules.proofs.NoFaults.{both_none, not_broken, not_false, same_number}
 use Rattle.deep_mean.specs.Evaluation.{Ready, ReadyCall, Evaluation, Calls, of_value, evaluate, evaluate_arguments}
 use Rattle.deep_mean.specs.Naming as deep
-use Rattle.deep_mean.specs.Naming.{calls_in, callee_by, first_function, is_spawn_by}
+use Rattle.deep_mean.specs.Naming.{callee_by, is_spawn_by}
 use Rattle.hoist_parts.specs.NewNames.{new_name, used, declared_as}
 use Rattle.hoist_parts.specs.Calls.{holds_call, is_spawn}
 use Rattle.hoist_parts.specs.Expressions.{arguments_names, spawned_left, arguments_left, call_left, arguments_before}
@@ -41,32 +41,22 @@ use Rattle.hoist_meaning.proofs.ArgumentEnds.{ArgumentsEnd}
 
 function_local : (b : Agreement) (x : ℕ) (array : Bool) (n : Meaning) → LocalAlike b x array n → 0 ≡ function_in n
 function_local b x array (Meaning.Local y other) h = refl
-function_local b x array (Meaning.Global g other) h = absurd h
-function_local b x array (Meaning.Table t) h = absurd h
-function_local b x array (Meaning.Function f gives params defined) h = absurd h
-function_local b x array (Meaning.Modelled m) h = absurd h
-function_local b x array Meaning.Spawn h = absurd h
+function_local b x array _ h = absurd h
 
 function_meaning : (b : Agreement) (m n : Meaning) → MeaningAlike b m n → function_in m ≡ function_in n
 function_meaning b (Meaning.Local x array) n h = function_local b x array n h
-function_meaning b (Meaning.Global g array) n h = sym (ap function_in h)
-function_meaning b (Meaning.Table t) n h = sym (ap function_in h)
-function_meaning b (Meaning.Function f gives params defined) n h = sym (ap function_in h)
-function_meaning b (Meaning.Modelled m) n h = sym (ap function_in h)
-function_meaning b Meaning.Spawn n h = sym (ap function_in h)
+function_meaning b _ n h = sym (ap function_in h)
 
 function_found : (b : Agreement) (o p : Option Found) → FoundAlike b o p → function_of o ≡ function_of p
 function_found b None None h = refl
-function_found b None (Some g) h = absurd h
-function_found b (Some f) None h = absurd h
 function_found b (Some f) (Some g) h = function_meaning b f.meaning g.meaning h
+function_found b _ _ h = absurd h
 
 none_spawned : (c : Bool) (names : List Binding) (e : RawExprTree) → spawned_function names e ≡ 0 → spawned_function names (if c then RawNumber 0 else e) ≡ 0
 none_spawned true names e h = refl
 none_spawned false names e h = h
 
 spawned_alike : (b : Agreement) (e : RawExprTree) → IsAgreement b → AreSourceNames e → spawned_function (in_tree b) (spawned_left e) ≡ spawned_function (in_text b) e
-spawned_alike b (RawNumber v) agrees source = refl
 spawned_alike b (RawName g) agrees source = sym (function_found b (find g.text (in_text b)) (find g.text (in_tree b)) (found_alike b g.text agrees source))
 spawned_alike b (RawElement n i) agrees source = none_spawned (holds_call (RawElement n i)) (in_tree b) (RawElement n i) refl
 spawned_alike b (RawUnary op e) agrees source = none_spawned (holds_call (RawUnary op e)) (in_tree b) (RawUnary op e) refl
@@ -75,8 +65,7 @@ spawned_alike b (RawBinary op l r) agrees source = none_spawned (holds_call (Raw
 spawned_alike b (RawLogicalAnd l r) agrees source = none_spawned (holds_call (RawLogicalAnd l r)) (in_tree b) (RawLogicalAnd l r) refl
 spawned_alike b (RawLogicalOr l r) agrees source = none_spawned (holds_call (RawLogicalOr l r)) (in_tree b) (RawLogicalOr l r) refl
 spawned_alike b (RawConditional c x y) agrees source = none_spawned (holds_call (RawConditional c x y)) (in_tree b) (RawConditional c x y) refl
-spawned_alike b (RawCall n es) agrees source = refl
-spawned_alike b (RawTableCall n i e) agrees source = refl
+spawned_alike b _ agrees source = refl
 
 -- ---- `spawn` has two arguments
 
@@ -84,12 +73,10 @@ no_spawn : (q : called.Callee) → is_spawn_by q ≡ false → q ≡ called.Call
 no_spawn q not_one e = let wrong : false ≡ true = sym not_one ∙ ap is_spawn_by e in cc
 
 spawn_takes : (m : Meaning) → callee_in m ≡ called.Callee.Spawn → takes m ≡ Some 2
-spawn_takes (Meaning.Local x array) e = absurd (no_spawn (called.Callee.Function 0) refl e)
-spawn_takes (Meaning.Global g array) e = absurd (no_spawn (called.Callee.Function 0) refl e)
-spawn_takes (Meaning.Table t) e = absurd (no_spawn (called.Callee.Function 0) refl e)
 spawn_takes (Meaning.Function f gives params defined) e = absurd (no_spawn (called.Callee.Function f) refl e)
 spawn_takes (Meaning.Modelled m) e = absurd (no_spawn (called.Callee.Modelled m) refl e)
 spawn_takes Meaning.Spawn e = refl
+spawn_takes _ e = absurd (no_spawn (called.Callee.Function 0) refl e)
 
 pub spawn_arity : (used_ : Bool) (o : Option Found) (at count : ℕ) → callee_of o ≡ called.Callee.Spawn → call_name_faults used_ o at count ≡ [] → 2 ≡ count
 spawn_arity used_ None at count e f = absurd (no_spawn (called.Callee.Function 0) refl e)
@@ -98,9 +85,8 @@ spawn_arity used_ (Some g) at count e f =
     same_number 2 count (not_false (nat_eq 2 count) (ap (λ t. is_wrong_count t count) (sym (spawn_takes g.meaning e)) ∙ not_broken (is_wrong_count (takes g.meaning) count) at Rule.Arity both.0))
 
 one_value : (bs : List Binding) (ys : List RawExprTree) → 2 ≡ suc (length ys) → first_value (exprs_of bs ys) ∷ [] ≡ exprs_of bs ys
-one_value bs [] h = absurd (omega (arith, h))
 one_value bs (y ∷ []) h = refl
-one_value bs (y ∷ z ∷ ys) h = absurd (omega (arith, h))
+one_value bs _ h = absurd (omega (arith, h))
 
 -- ---- the call that is left, by what is called
 
@@ -113,34 +99,31 @@ module _ (ns : List ℕ) (bs : List Binding) (k j : ℕ) (es : RawExprTrees) whe
   made_by q stays = call_numbered ns (call_by q bs j (listed (arguments_left stays k es)))
 
   pub parts_by : (q : called.Callee) (stays : Bool) → is_spawn_by q ≡ stays → (q ≡ called.Callee.Spawn → 2 ≡ length (listed (arguments_left stays k es))) → call_parts (made_by q stays) ≡ exprs_of bs (evaluated stays k es)
-  parts_by (called.Callee.Function g) false e arity = refl
-  parts_by (called.Callee.Modelled m) false e arity = refl
   parts_by called.Callee.Spawn true e arity = spawn_parts ns bs k j es (arity refl)
   parts_by (called.Callee.Function g) true e arity = absurd (let wrong : false ≡ true = e in cc)
   parts_by (called.Callee.Modelled m) true e arity = absurd (let wrong : false ≡ true = e in cc)
   parts_by called.Callee.Spawn false e arity = absurd (let wrong : true ≡ false = e in cc)
+  parts_by _ false e arity = refl
 
 pub arguments_fine : (q : called.Callee) (bs : List Binding) (at k : ℕ) (stays : Bool) (es : RawExprTrees) → is_spawn_by q ≡ stays → arguments_faults q bs at (listed (arguments_left stays k es)) ≡ [] → exprs_faults bs (evaluated stays k es) ≡ []
-arguments_fine (called.Callee.Function g) bs at k false es e f = f
-arguments_fine (called.Callee.Modelled m) bs at k false es e f = f
 arguments_fine called.Callee.Spawn bs at k true NoExprs e f = refl
 arguments_fine called.Callee.Spawn bs at k true (And x es) e f = (both_none (spawned_faults bs at (spawned_left x)) (exprs_faults bs (listed (arguments_left false k es))) f).1
 arguments_fine (called.Callee.Function g) bs at k true es e f = absurd (let wrong : false ≡ true = e in cc)
 arguments_fine (called.Callee.Modelled m) bs at k true es e f = absurd (let wrong : false ≡ true = e in cc)
 arguments_fine called.Callee.Spawn bs at k false es e f = absurd (let wrong : true ≡ false = e in cc)
+arguments_fine _ bs at k false es e f = f
 
 -- the call of the text whose parts have these values is the call that is left
 pub ready_by : (ns : List ℕ) (b : Agreement) (k j site : ℕ) (es : RawExprTrees) (q : called.Callee) (stays : Bool) (names globals : Rows) (words : List ℕ) → IsAgreement b → AllSourceNames es → is_spawn_by q ≡ stays →
     (q ≡ called.Callee.Spawn → 2 ≡ length (listed (arguments_left stays k es))) → number_at ns j ≡ site → values names globals (exprs_of (in_tree b) (evaluated stays k es)) ≡ Ok words →
     ReadyAlike names globals (ReadyCall site (callee_by q (in_text b) es) words) (call_numbered ns (call_by q (in_tree b) j (listed (arguments_left stays k es))))
-ready_by ns b k j site es (called.Callee.Function g) false names globals words agrees source e arity number is = (number, refl, is)
-ready_by ns b k j site es (called.Callee.Modelled m) false names globals words agrees source e arity number is = (number, refl, is)
 ready_by ns b k j site NoExprs called.Callee.Spawn true names globals words agrees source e arity number is = let two = arity refl in absurd (omega (arith, two))
 ready_by ns b k j site (And x es) called.Callee.Spawn true names globals words agrees source e arity number is =
     (number, spawned_alike b x agrees source.0, ap (values names globals) (one_value (in_tree b) (listed (arguments_left false k es)) (arity refl)) ∙ is)
 ready_by ns b k j site es (called.Callee.Function g) true names globals words agrees source e arity number is = absurd (let wrong : false ≡ true = e in cc)
 ready_by ns b k j site es (called.Callee.Modelled m) true names globals words agrees source e arity number is = absurd (let wrong : false ≡ true = e in cc)
 ready_by ns b k j site es called.Callee.Spawn false names globals words agrees source e arity number is = absurd (let wrong : true ≡ false = e in cc)
+ready_by ns b k j site es _ false names globals words agrees source e arity number is = (number, refl, is)
 
 pub trap_by : (v : ℕ) (b : Agreement) (ls : List RawExprTree) (made : CallTree) (start globals names : Rows) (outcome : Value) → call_parts made ≡ exprs_of (in_tree b) ls → ArePartsLeft v b ls start globals names outcome → IsSideLeft v (Called made) start globals names outcome
 trap_by v b ls made start globals names (Ok word) e h = absurd h.is

@@ -1,7 +1,7 @@
 -- A declaration of the text keeps the agreement of both: the name is in scope in both after it, under the next number of each, or, where
 -- it can't be declared, in neither.
 use Rattle.std.proofs.Common.{ℕ, ◌+◌, ◌≤◌, ◌≡◌, refl, sym, ap, subst, ◌∙◌, Bool, true, false, List, [], ◌∷◌, ◌++◌, length, length-append, Option, Some, None, arith}
-use Rattle.c_tree.specs.RawTrees.{NameTree, RawSimpleTree, RawDeclareScalar, RawDeclareArray, RawDeclareWith, RawSet, RawSetElement, RawCalling, RawTableCalling}
+use Rattle.c_tree.specs.RawTrees.{NameTree, RawSimpleTree, RawDeclareScalar, RawDeclareArray, RawDeclareWith}
 use Rattle.scope_rules.specs.declared.meanings.Meaning.{Meaning}
 use Rattle.scope_rules.specs.declared.meanings.Found.{Found}
 use Rattle.scope_rules.specs.Names.{find, is_fixed, bound}
@@ -17,26 +17,18 @@ use Rattle.hoist_meaning.proofs.Spots.{StandsAt, below_limit}
 -- ---- a name can be declared in both or in neither
 
 fixed_local : (a : Agreement) (x : ℕ) (array : Bool) (n : Meaning) → LocalAlike a x array n → false ≡ is_modelled n
-fixed_local a x array (Meaning.Local y other) h = refl
-fixed_local a x array (Meaning.Global g other) h = refl
-fixed_local a x array (Meaning.Table t) h = refl
-fixed_local a x array (Meaning.Function f gives params defined) h = refl
 fixed_local a x array (Meaning.Modelled m) h = absurd h
 fixed_local a x array Meaning.Spawn h = absurd h
+fixed_local a x array _ h = refl
 
 fixed_meaning : (a : Agreement) (m n : Meaning) → MeaningAlike a m n → is_modelled m ≡ is_modelled n
 fixed_meaning a (Meaning.Local x array) n h = fixed_local a x array n h
-fixed_meaning a (Meaning.Global g array) n h = sym (ap is_modelled h)
-fixed_meaning a (Meaning.Table t) n h = sym (ap is_modelled h)
-fixed_meaning a (Meaning.Function f gives params defined) n h = sym (ap is_modelled h)
-fixed_meaning a (Meaning.Modelled m) n h = sym (ap is_modelled h)
-fixed_meaning a Meaning.Spawn n h = sym (ap is_modelled h)
+fixed_meaning a _ n h = sym (ap is_modelled h)
 
 fixed_found : (a : Agreement) (o p : Option Found) → FoundAlike a o p → is_fixed o ≡ is_fixed p
 fixed_found a None None h = refl
-fixed_found a None (Some g) h = absurd h
-fixed_found a (Some f) None h = absurd h
 fixed_found a (Some f) (Some g) h = fixed_meaning a f.meaning g.meaning h
+fixed_found a _ _ h = absurd h
 
 pub fixed_alike : (a : Agreement) (t : List ℕ) → IsAgreement a → IsSourceName t → is_fixed (find t (in_text a)) ≡ is_fixed (find t (in_tree a))
 fixed_alike a t h s = fixed_found a (find t (in_text a)) (find t (in_tree a)) (found_alike a t h s)
@@ -117,20 +109,14 @@ abbrev pub simple_declares : ℕ → ℕ → RawSimpleTree → Agreement → Agr
 simple_declares n m (RawDeclareScalar x) a = with_declared x.text n m false a
 simple_declares n m (RawDeclareArray x size) a = with_declared x.text n m true a
 simple_declares n m (RawDeclareWith x v) a = with_declared x.text n m false a
-simple_declares n m (RawSet x v) a = a
-simple_declares n m (RawSetElement x i v) a = a
-simple_declares n m (RawCalling x es) a = a
-simple_declares n m (RawTableCalling x i e) a = a
+simple_declares n m _ a = a
 
 -- and how many variables
 abbrev pub variables_of : RawSimpleTree → ℕ
 variables_of (RawDeclareScalar x) = 1
 variables_of (RawDeclareArray x size) = 1
 variables_of (RawDeclareWith x v) = 1
-variables_of (RawSet x v) = 0
-variables_of (RawSetElement x i v) = 0
-variables_of (RawCalling x es) = 0
-variables_of (RawTableCalling x i e) = 0
+variables_of _ = 0
 
 -- another number of the next site changes nothing of it
 resited : (a : Agreement) (n m j k : ℕ) (s t : Spot) → BothStand a n m s t → BothStand a n m (record s { site = j }) (record t { site = k })
@@ -156,7 +142,4 @@ pub simple_stands : (a : Agreement) (n m k : ℕ) (p : RawSimpleTree) (s t : Spo
 simple_stands a n m k (RawDeclareScalar x) s t named few fewer h = declaration_stands a n m x false 1 s t named few fewer h
 simple_stands a n m k (RawDeclareArray x size) s t named few fewer h = declaration_stands a n m x true size s t named few fewer h
 simple_stands a n m k (RawDeclareWith x v) s t named few fewer h = declaration_stands a n m x false 1 (record s { site = _ }) (record t { site = _ }) named.0 few fewer (resited a n m _ _ s t h)
-simple_stands a n m k (RawSet x v) s t named few fewer h = kept_stand a n m _ _ s t h
-simple_stands a n m k (RawSetElement x i v) s t named few fewer h = kept_stand a n m _ _ s t h
-simple_stands a n m k (RawCalling x es) s t named few fewer h = kept_stand a n m _ _ s t h
-simple_stands a n m k (RawTableCalling x i e) s t named few fewer h = kept_stand a n m _ _ s t h
+simple_stands a n m k _ s t named few fewer h = kept_stand a n m _ _ s t h

@@ -22,9 +22,8 @@ Rows = List (List ℕ)
 -- ---- what stands around a call goes on, within one construct more
 
 around_nothing : (e : Evaluation) → outward e [] Done ≡ e
-around_nothing (Done word) = refl
-around_nothing (Trapped trap) = refl
 around_nothing (Calls call inner) = ap (Calls call) (append-nil inner)
+around_nothing _ = refl
 
 outward_within : (text globals : Rows) (e : Evaluation) (outer : List Around) (more : Around) → ((word : ℕ) → go_on text globals (outer ++ more ∷ []) word ≡ and_then (go_on text globals outer word) more (filled text globals more)) →
     outward e (outer ++ more ∷ []) (go_on text globals (outer ++ more ∷ [])) ≡ and_then (outward e outer (go_on text globals outer)) more (filled text globals more)
@@ -39,9 +38,8 @@ go_on_within text globals (around ∷ outer) more word =
 
 -- where it is strict, something stands around each call that isn't all of the statement's expression
 abbrev pub Opens : Bool → List Around → Type 0
-Opens false outer = Unit {0}
 Opens true [] = ⊥
-Opens true (around ∷ outer) = Unit {0}
+Opens _ _ = Unit {0}
 
 more_opens : (strict : Bool) (inner : List Around) (more : Around) → Opens strict (inner ++ more ∷ [])
 more_opens false inner more = tt

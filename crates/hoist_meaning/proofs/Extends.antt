@@ -2,7 +2,7 @@
 use Rattle.std.proofs.Common.{ℕ, ◌≡◌, ◌+◌, ◌<◌, ◌≤◌, inl, inr, refl, ◌∙◌, Bool, true, false, ◌||◌, arith}
 use Rattle.std.specs.Str.{bytes_eq}
 use Rattle.std.proofs.lemmas.Slice.Eq.{bytes_eq-Decides}
-use Rattle.c_tree.specs.RawTrees.{RawExprTree, RawExprTrees, RawNumber, RawName, RawElement, RawUnary, RawParenthesized, RawBinary, RawLogicalAnd, RawLogicalOr, RawConditional, RawCall, RawTableCall, NoExprs, And}
+use Rattle.c_tree.specs.RawTrees.{RawExprTree, RawExprTrees, RawElement, RawUnary, RawParenthesized, RawBinary, RawLogicalAnd, RawLogicalOr, RawConditional, RawCall, RawTableCall, NoExprs, And}
 use Rattle.scope_rules.specs.Names.{find}
 use Rattle.hoist_parts.specs.NewNames.{new_name}
 use Rattle.hoist_parts.specs.Calls.{holds_call, hold_call, is_named, is_spawn}
@@ -103,8 +103,6 @@ part_then b k v w e a few first =
 
 mutual
   pub names_extend : (k v : ℕ) (e : RawExprTree) (a : Agreement) → Extends k v (v + names_in e) a (with_names k v e a)
-  names_extend k v (RawNumber w) a = Extends.same
-  names_extend k v (RawName n) a = Extends.same
   names_extend k v (RawElement n i) a = names_extend k v i a
   names_extend k v (RawUnary op e) a = names_extend k v e a
   names_extend k v (RawParenthesized e) a = names_extend k v e a
@@ -128,6 +126,7 @@ mutual
       let w = v + names_in (RawTableCall n i e) in
       Extends.more (k1 + names_in e) (v1 + names_in e) (with_names k1 v1 e c) (omega arith) (omega arith) (omega arith)
       (part_and (holds_call e) k v w i a (with_names k1 v1 e c) (omega arith) (names_extend k v i a) (extends_from k1 v1 k1 v1 (v1 + names_in e) w c (with_names k1 v1 e c) (omega arith) (omega arith) (omega arith) (names_extend k1 v1 e c)))
+  names_extend k v _ a = Extends.same
 
   pub arguments_extend : (stays : Bool) (k v : ℕ) (es : RawExprTrees) (a : Agreement) → Extends k v (v + arguments_names stays es) a (with_argument_names stays k v es a)
   arguments_extend stays k v NoExprs a = Extends.same
@@ -142,8 +141,6 @@ mutual
 
 -- one without a call takes none
 pub no_more_names : (k v : ℕ) (e : RawExprTree) (a : Agreement) → holds_call e ≡ false → with_names k v e a ≡ a
-no_more_names k v (RawNumber w) a h = refl
-no_more_names k v (RawName n) a h = refl
 no_more_names k v (RawElement n i) a h = no_more_names k v i a h
 no_more_names k v (RawUnary op e) a h = no_more_names k v e a h
 no_more_names k v (RawParenthesized e) a h = no_more_names k v e a h
@@ -156,6 +153,7 @@ no_more_names k v (RawConditional c x y) a h =
     rw (or_right (holds_call c) (holds_call x || holds_call y) h) (no_more_names k v c a (or_left (holds_call c) (holds_call x || holds_call y) h))
 no_more_names k v (RawCall n es) a h = cc
 no_more_names k v (RawTableCall n i e) a h = cc
+no_more_names k v _ a h = refl
 
 pub no_more_argument_names : (k v : ℕ) (es : RawExprTrees) (a : Agreement) → hold_call es ≡ false → with_argument_names false k v es a ≡ a
 no_more_argument_names k v NoExprs a h = refl

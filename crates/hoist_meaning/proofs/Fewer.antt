@@ -1,6 +1,6 @@
 -- The text declares no more variables than the rewritten tree.
 use Rattle.std.proofs.Common.{ℕ, ◌+◌, ◌≡◌, ◌≤◌, refl, sym, ap, subst, ◌∙◌, Bool, true, false, List, [], ◌∷◌, ◌++◌, length, length-append, Option, Some, None, arith}
-use Rattle.c_tree.specs.RawTrees.{RawExprTree, RawSimpleTree, RawDeclareScalar, RawDeclareArray, RawDeclareWith, RawSet, RawSetElement, RawCalling, RawTableCalling, RawStmtTree, RawStmtTrees, RawDo, RawEmpty, RawBlock, RawIf, RawIfElse, RawWhile, RawFor, RawBreak, RawContinue, RawReturn, NoRawStmts, RawThen}
+use Rattle.c_tree.specs.RawTrees.{RawExprTree, RawSimpleTree, RawDeclareScalar, RawDeclareArray, RawDeclareWith, RawStmtTree, RawStmtTrees, RawDo, RawBlock, RawIf, RawIfElse, RawWhile, RawFor, RawBreak, RawReturn, NoRawStmts, RawThen}
 use Rattle.c_tree.specs.RawViews.{raw_in_order, as_body}
 use Rattle.scope_rules.specs.Places.{Spot}
 use Rattle.scope_rules.specs.Simples as tree_simples
@@ -36,19 +36,13 @@ left_no_more : (k : ℕ) (s t : Spot) (p : RawSimpleTree) → NoMore s (deep.sim
 left_no_more k s t (RawDeclareScalar n) = let a = one_size s.sizes 1 in let b = one_size t.sizes 1 in omega (arith, a, b)
 left_no_more k s t (RawDeclareArray n size) = let a = one_size s.sizes size in let b = one_size t.sizes size in omega (arith, a, b)
 left_no_more k s t (RawDeclareWith n v) = let a = one_size s.sizes 1 in let b = one_size t.sizes 1 in omega (arith, a, b)
-left_no_more k s t (RawSet n v) = omega arith
-left_no_more k s t (RawSetElement n i v) = omega arith
-left_no_more k s t (RawCalling n es) = omega arith
-left_no_more k s t (RawTableCalling n i e) = omega arith
+left_no_more k s t _ = omega arith
 
 same_no_more : (s t : Spot) (p : RawSimpleTree) → NoMore s (deep.simple_after s p) t (tree_simples.simple_after t p)
 same_no_more s t (RawDeclareScalar n) = let a = one_size s.sizes 1 in let b = one_size t.sizes 1 in omega (arith, a, b)
 same_no_more s t (RawDeclareArray n size) = let a = one_size s.sizes size in let b = one_size t.sizes size in omega (arith, a, b)
 same_no_more s t (RawDeclareWith n v) = let a = one_size s.sizes 1 in let b = one_size t.sizes 1 in omega (arith, a, b)
-same_no_more s t (RawSet n v) = omega arith
-same_no_more s t (RawSetElement n i v) = omega arith
-same_no_more s t (RawCalling n es) = omega arith
-same_no_more s t (RawTableCalling n i e) = omega arith
+same_no_more s t _ = omega arith
 
 parts_no_more : (s t : Spot) (ps : List RawSimpleTree) → NoMore s (deep.simples_after s ps) t (tree_simples.simples_after t ps)
 parts_no_more s t [] = omega arith
@@ -98,7 +92,6 @@ while_no_more e p rest false is k s t =
 mutual
   pub stmt_no_more : (p : RawStmtTree) (k : ℕ) (s t : Spot) → NoMore s (deep.stmt_after s p) t (after t (hoisted k p))
   stmt_no_more (RawDo p) k s t = joined_no_more s (deep.simple_after s p) t (simple_before k p) (RawDo (simple_left k p)) (left_no_more k s (after t (simple_before k p)) p)
-  stmt_no_more RawEmpty k s t = omega arith
   stmt_no_more (RawBlock ps) k s t = stmts_no_more ps k (inside s) (inside t)
   stmt_no_more (RawIf e p) k s t =
       let t1 = after t (before k e) in
@@ -127,10 +120,8 @@ mutual
       let two = turn_no_more s1 t1 c in
       let three = step_no_more s2 t1 step in
       let four = body_no_more (inside s3) (deep.stmt_after (inside s3) p) t3 (inside t3) (hoisted k p) refl (λ w. stmt_no_more p k (inside s3) w) in omega (arith, one, two, three, four)
-  stmt_no_more (RawBreak at) k s t = omega arith
-  stmt_no_more (RawContinue at) k s t = omega arith
-  stmt_no_more (RawReturn at None) k s t = omega arith
   stmt_no_more (RawReturn at (Some v)) k s t = joined_no_more s (counted s (calls_in v)) t (value_before k v) (RawReturn at (Some (value_left k v))) (omega arith)
+  stmt_no_more _ k s t = omega arith
 
   pub stmts_no_more : (ps : RawStmtTrees) (k : ℕ) (s t : Spot) → NoMore s (deep.stmts_after s ps) t (after t (all_hoisted k ps))
   stmts_no_more NoRawStmts k s t = omega arith

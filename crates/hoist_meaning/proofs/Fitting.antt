@@ -4,18 +4,18 @@ use Rattle.std.proofs.Common.{ℕ, zero, suc, ◌<◌, ◌≡◌, refl, sym, sub
 use Rattle.std.specs.Prelude.{Result, Ok, Err, nat_lt, slice_index, slice_index_or}
 use Rattle.std.specs.List.{Contains, AllByRecursion}
 use Rattle.std.proofs.lemmas.Bool.Decides.{nat_tests}
-use Rattle.cap_word.specs.Calls.{Call, Blocking, Immediate, call_of, call_with}
-use Rattle.cap_word.specs.Runs.{Goes, Asks, Stops}
+use Rattle.cap_word.specs.Calls.{Call, Immediate, call_of, call_with}
+use Rattle.cap_word.specs.Runs.{Goes, Asks}
 use Rattle.cap_word.specs.declared.calls.Ask.{Ask}
 use Rattle.cap_word.specs.declared.traps.TrapKind.{TrapKind}
 use Rattle.cap_word.specs.ModelledCalls.{number_of}
 use Rattle.cap_word.specs.declared.modelled_calls.ModelledCall.{ModelledCall}
 use Rattle.c_tree.specs.Sizes.{below}
 use Rattle.c_tree.specs.TextOrder.{simple_names}
-use Rattle.c_tree.specs.Trees.{CallTree, CallFunction, CallTable, CallSpawn, CallModelled, RightTree, Computed, Called, SimpleTree, DeclareScalar, DeclareArray, DeclareWith, SetLocal, SetGlobal, SetLocalElement, SetGlobalElement, Calling, StmtTree, StmtTrees, Do, Empty, Block, If, IfElse, While, For, Break, Continue, Return, NoStmts, Then, FunctionTree, ProgramTree}
+use Rattle.c_tree.specs.Trees.{CallTree, CallFunction, CallTable, CallSpawn, CallModelled, RightTree, Computed, Called, SimpleTree, DeclareWith, SetLocal, SetGlobal, SetLocalElement, SetGlobalElement, Calling, StmtTree, StmtTrees, Do, Block, If, IfElse, While, For, Return, NoStmts, Then, FunctionTree, ProgramTree}
 use Rattle.c_tree.specs.WellScoped.{signature_of, Context, context_of, with_names, scope_after, scope_after_all, IsCallScoped, IsRightScoped, IsSimpleScoped, AreSimplesScoped, IsStepScoped, IsReturnScoped, IsStmtScoped, AreStmtsScoped, AreFunctionsScoped, IsWellScoped}
 use Rattle.cap_word.specs.Signatures.{signature_at, IsMember, IsTable}
-use Rattle.c_mean.specs.ToDo.{Item, Simply, Choose, Test, Enter, Back, Leave, Skip, GiveBack, GiveBackWord, Fail, WhileLoop, ForLoop, step_item, all_before, turn_before}
+use Rattle.c_mean.specs.ToDo.{Item, Simply, Choose, Test, Enter, Back, GiveBack, GiveBackWord, WhileLoop, ForLoop, step_item, all_before, turn_before}
 use Rattle.c_mean.specs.Frames.{Place, Nowhere, InLocal, InGlobal, InLocalElement, InGlobalElement, Returned, WaitingFrame, Running, Waiting, function_at}
 use Rattle.c_mean.specs.Sites.{Target, ToNowhere, ToLocal, ToGlobal, ToLocalElement, ToGlobalElement, ToCaller, CallInText, right_calls, simple_calls, simples_calls, step_calls, returned_calls, stmt_calls, stmts_calls, function_calls}
 use Rattle.c_mean.specs.Steps.{SourceMove, to_do, on_value, valued, all_valued, stored, assigned, entered_where, asks_if, called, assigns, does, branched, returned, gives_back, performs_first, source_step}
@@ -31,9 +31,8 @@ less : (a b : ℕ) → nat_lt a b ≡ true → a < b
 less a b h = grind (arith, nat_tests)
 
 signature_is : (fs : List FunctionTree) (g : ℕ) → (signature_at (map signature_of fs) g).params ≡ (slice_index_or fs g no_function).params
-signature_is [] g = refl
-signature_is (f ∷ fs) zero = refl
 signature_is (f ∷ fs) (suc g) = signature_is fs g
+signature_is _ _ = refl
 
 module _ (program : ProgramTree) where
   abbrev pub Fits : CallTree → Type 0
@@ -83,14 +82,13 @@ module _ (program : ProgramTree) where
       right_fits (Called call) target scope there rest h = (call_fits call scope h.0, tt)
 
       simple_fits : (s : SimpleTree) (scope there : List ℕ) (rest : List Item) → IsSimpleScoped c scope s → AllFit (simple_calls s there rest)
-      simple_fits (DeclareScalar x) scope there rest h = tt
-      simple_fits (DeclareArray x n) scope there rest h = tt
       simple_fits (DeclareWith x v) scope there rest h = right_fits v (ToLocal x) scope there rest h.2
       simple_fits (SetLocal x v) scope there rest h = right_fits v (ToLocal x) scope there rest h.3
       simple_fits (SetGlobal g v) scope there rest h = right_fits v (ToGlobal g) scope there rest h.2
       simple_fits (SetLocalElement a i v) scope there rest h = right_fits v (ToLocalElement a) scope there rest h.3
       simple_fits (SetGlobalElement a i v) scope there rest h = right_fits v (ToGlobalElement a) scope there rest h.2
       simple_fits (Calling call) scope there rest h = (call_fits call scope h, tt)
+      simple_fits _ scope there rest h = tt
 
       simples_fit : (ss : List SimpleTree) (scope there : List ℕ) (rest : List Item) → AreSimplesScoped c scope ss → AllFit (simples_calls ss there rest)
       simples_fit [] scope there rest h = tt
@@ -109,7 +107,6 @@ module _ (program : ProgramTree) where
       mutual
         stmt_fits : (s : StmtTree) (loop : Bool) (scope there : List ℕ) (rest : List Item) → IsStmtScoped c loop scope s → AllFit (stmt_calls s there rest)
         stmt_fits (Do s) loop scope there rest h = simple_fits s scope there rest h
-        stmt_fits Empty loop scope there rest h = tt
         stmt_fits (Block ss) loop scope there rest h = stmts_fit ss loop scope there rest h
         stmt_fits (If e s) loop scope there rest h = stmt_fits s loop scope there rest h.1
         stmt_fits (IfElse e s r) loop scope there rest h = both_fit (stmt_calls s there rest) (stmt_calls r there rest) (stmt_fits s loop scope there rest h.1) (stmt_fits r loop scope there rest h.2)
@@ -120,9 +117,8 @@ module _ (program : ProgramTree) where
             (simples_fit init scope there (turn_before (ForLoop e step s) rest) h.0)
             (both_fit (step_calls step (scope_after_all there init) back) (stmt_calls s (scope_after_all there init) (step_item step ++ back))
             (step_fits step (scope_after_all scope init) (scope_after_all there init) back h.2) (stmt_fits s true (scope_after_all scope init) (scope_after_all there init) (step_item step ++ back) h.3))
-        stmt_fits Break loop scope there rest h = tt
-        stmt_fits Continue loop scope there rest h = tt
         stmt_fits (Return v) loop scope there rest h = returned_fits v scope there rest h
+        stmt_fits _ loop scope there rest h = tt
 
         stmts_fit : (ss : StmtTrees) (loop : Bool) (scope there : List ℕ) (rest : List Item) → AreStmtsScoped c loop scope ss → AllFit (stmts_calls ss there rest)
         stmts_fit NoStmts loop scope there rest h = tt
@@ -145,31 +141,22 @@ module _ (program : ProgramTree) where
         let same : call ≡ made = cc in subst Fits same (in_text_fits g (record { call = call; target = target; scope = scope; rest = rest }) h.0)
 
     simple_made : (g : ℕ) (s : SimpleTree) (scope : List ℕ) (rest : List Item) (made : CallTree) → AllIn (function_calls (function_at program g)) (simple_calls s scope rest) → simple_call s ≡ Some made → Fits made
-    simple_made g (DeclareScalar x) scope rest made h k = absurd cc
-    simple_made g (DeclareArray x n) scope rest made h k = absurd cc
     simple_made g (DeclareWith x v) scope rest made h k = right_made g v (ToLocal x) scope rest made h k
     simple_made g (SetLocal x v) scope rest made h k = right_made g v (ToLocal x) scope rest made h k
     simple_made g (SetGlobal x v) scope rest made h k = right_made g v (ToGlobal x) scope rest made h k
     simple_made g (SetLocalElement x i v) scope rest made h k = right_made g v (ToLocalElement x) scope rest made h k
     simple_made g (SetGlobalElement x i v) scope rest made h k = right_made g v (ToGlobalElement x) scope rest made h k
     simple_made g (Calling call) scope rest made h k = right_made g (Called call) ToNowhere scope rest made h k
+    simple_made g _ scope rest made h k = absurd cc
 
     returned_made : (g : ℕ) (v : Option RightTree) (scope : List ℕ) (rest : List Item) (made : CallTree) → AllIn (function_calls (function_at program g)) (returned_calls v scope rest) → returned_call v ≡ Some made → Fits made
     returned_made g None scope rest made h k = absurd cc
     returned_made g (Some v) scope rest made h k = right_made g v ToCaller scope rest made h k
 
     first_made : (g : ℕ) (items : List Item) (made : CallTree) → IsRest (function_calls (function_at program g)) items → first_call items ≡ Some made → Fits made
-    first_made g [] made h k = absurd cc
     first_made g (Simply s ∷ rest) made h k = simple_made g s h.0.0 rest made h.0.1 k
-    first_made g (Choose c s r ∷ rest) made h k = absurd cc
-    first_made g (Test c loop ∷ rest) made h k = absurd cc
-    first_made g (Enter ∷ rest) made h k = absurd cc
-    first_made g (Back loop ∷ rest) made h k = absurd cc
-    first_made g (Leave ∷ rest) made h k = absurd cc
-    first_made g (Skip ∷ rest) made h k = absurd cc
     first_made g (GiveBack v ∷ rest) made h k = returned_made g v h.0.0 rest made h.0.1 k
-    first_made g (GiveBackWord word ∷ rest) made h k = absurd cc
-    first_made g (Fail trap ∷ rest) made h k = absurd cc
+    first_made g _ made h k = absurd cc
 
     pub first_fits : (s : Running) (made : CallTree) → Stands program s → first_call s.frame.to_do ≡ Some made → Fits made
     first_fits s made h k = first_made s.frame.function s.frame.to_do made h.running k
@@ -180,31 +167,20 @@ module _ (program : ProgramTree) where
     -- ---- a thread that is started
 
     abbrev IsStarted : Call → Type 0
-    IsStarted (Blocking block) = Unit {0}
-    IsStarted (Immediate (Ask.Put value)) = Unit {0}
     IsStarted (Immediate (Ask.Spawn f argument)) = 1 ≡ (function_at program f).params
-    IsStarted (Immediate (Ask.Give resource amount)) = Unit {0}
-    IsStarted (Immediate Ask.SelfNumber) = Unit {0}
+    IsStarted _ = Unit {0}
 
     abbrev IsOption : Option Call → Type 0
     IsOption None = Unit {0}
     IsOption (Some call) = IsStarted call
 
     abbrev StartsFit : SourceMove → Type 0
-    StartsFit (Goes next) = Unit {0}
     StartsFit (Asks question waiting) = IsStarted question.call
-    StartsFit (Stops end) = Unit {0}
+    StartsFit _ = Unit {0}
 
     modelled_starts : (call : ModelledCall) (a b : ℕ) → IsStarted (call_with call a b)
     modelled_starts ModelledCall.Accept a b = tt
-    modelled_starts ModelledCall.Wait a b = tt
-    modelled_starts ModelledCall.Sleep a b = tt
-    modelled_starts ModelledCall.Yield a b = tt
-    modelled_starts ModelledCall.Take a b = tt
-    modelled_starts ModelledCall.WaitFor a b = tt
-    modelled_starts ModelledCall.Put a b = tt
-    modelled_starts ModelledCall.Give a b = tt
-    modelled_starts ModelledCall.SelfNumber a b = tt
+    modelled_starts _ a b = tt
 
     call_of_fits : (number : ℕ) (arguments : List ℕ) → IsOption (call_of number arguments)
     call_of_fits number arguments = each_made IsOption tt modelled_starts number arguments
@@ -232,14 +208,13 @@ module _ (program : ProgramTree) where
     right_starts thread place (Called call) h = called_starts thread place call (h call refl)
 
     does_starts : (thread : Running) (s : SimpleTree) → ((made : CallTree) → simple_call s ≡ Some made → Fits made) → StartsFit (does program thread s)
-    does_starts thread (DeclareScalar x) h = tt
-    does_starts thread (DeclareArray x n) h = tt
     does_starts thread (DeclareWith x v) h = right_starts thread (InLocal x) v h
     does_starts thread (SetLocal x v) h = right_starts thread (InLocal x) v h
     does_starts thread (SetGlobal g v) h = right_starts thread (InGlobal g) v h
     does_starts thread (SetLocalElement a i v) h = value_starts thread (valued thread i) _ (λ index. right_starts thread (InLocalElement a index) v h)
     does_starts thread (SetGlobalElement a i v) h = value_starts thread (valued thread i) _ (λ index. right_starts thread (InGlobalElement a index) v h)
     does_starts thread (Calling call) h = called_starts thread Nowhere call (h call refl)
+    does_starts thread _ h = tt
 
     branch_starts : (thread : Running) (first second : List Item) (word : ℕ) → StartsFit (branched thread first second word)
     branch_starts thread first second zero = tt
@@ -260,12 +235,9 @@ module _ (program : ProgramTree) where
     first_starts thread (Simply s ∷ rest) k = does_starts (to_do thread rest) s (λ made e. first_made thread.frame.function (Simply s ∷ rest) made k e)
     first_starts thread (Choose c s r ∷ rest) k = value_starts (to_do thread rest) (valued (to_do thread rest) c) _ (λ word. branch_starts (to_do thread rest) _ _ word)
     first_starts thread (Test c loop ∷ rest) k = value_starts (to_do thread rest) (valued (to_do thread rest) c) _ (λ word. branch_starts (to_do thread rest) _ _ word)
-    first_starts thread (Back loop ∷ rest) k = tt
-    first_starts thread (Leave ∷ rest) k = tt
-    first_starts thread (Skip ∷ rest) k = tt
     first_starts thread (GiveBack v ∷ rest) k = gives_starts (to_do thread rest) v (λ made e. first_made thread.frame.function (GiveBack v ∷ rest) made k e)
     first_starts thread (GiveBackWord word ∷ rest) k = returned_starts (to_do thread rest) thread.below word
-    first_starts thread (Fail trap ∷ rest) k = tt
+    first_starts thread _ k = tt
 
     pub started_fits : (s : Running) (f argument : ℕ) (here : List (List ℕ)) (waiting : Waiting) → Stands program s → source_step program s ≡ Asks (record { call = Immediate (Ask.Spawn f argument); globals = here }) waiting → 1 ≡ (function_at program f).params
     started_fits s f argument here waiting h e = subst StartsFit e (first_starts s s.frame.to_do h.running)

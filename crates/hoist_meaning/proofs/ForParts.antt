@@ -1,6 +1,6 @@
 -- The parts in the parentheses of a `for`, in which each call is whole, stay as they are, and are sound.
 use Rattle.std.proofs.Common.{ℕ, ◌+◌, ◌≡◌, ◌≤◌, refl, sym, ap, subst, ◌∙◌, Bool, true, false, List, [], ◌∷◌, ◌++◌, length, append-nil, length-append, Option, Some, None, arith}
-use Rattle.c_tree.specs.RawTrees.{RawExprTree, RawExprTrees, RawNumber, RawName, RawElement, RawUnary, RawParenthesized, RawBinary, RawLogicalAnd, RawLogicalOr, RawConditional, RawCall, RawTableCall, NoExprs, And, RawSimpleTree, RawDeclareScalar, RawDeclareArray, RawDeclareWith, RawSet, RawSetElement, RawCalling, RawTableCalling, RawDo}
+use Rattle.c_tree.specs.RawTrees.{RawExprTree, RawExprTrees, RawElement, RawUnary, RawParenthesized, RawBinary, RawLogicalAnd, RawLogicalOr, RawConditional, RawCall, RawTableCall, NoExprs, And, RawSimpleTree, RawDeclareScalar, RawDeclareArray, RawDeclareWith, RawSet, RawSetElement, RawCalling, RawTableCalling, RawDo}
 use Rattle.c_tree.specs.Trees.{ProgramTree}
 use Rattle.c_tree.specs.WholeCalls.{HaveNoCall, IsValueWhole, IsSimpleWhole, AreSimplesWhole, IsConditionWhole, IsStepWhole}
 use Rattle.c_mean.specs.Frames.{function_at}
@@ -46,8 +46,6 @@ arguments_plain true (And e es) h = (held_not e h.0, arguments_plain false es h.
 arguments_plain false (And e es) h = (no_call_plain e h.0, arguments_plain false es h.1)
 
 value_plain : (v : RawExprTree) → IsValueWhole v → IsPlain v
-value_plain (RawNumber w) h = tt
-value_plain (RawName n) h = tt
 value_plain (RawElement n i) h = no_call_plain i h
 value_plain (RawUnary op e) h = no_call_plain e h
 value_plain (RawParenthesized e) h = no_call_plain e h
@@ -57,15 +55,15 @@ value_plain (RawLogicalOr l r) h = (no_call_plain l h.0, no_call_plain r h.1)
 value_plain (RawConditional c x y) h = (no_call_plain c h.0, no_call_plain x h.1, no_call_plain y h.2)
 value_plain (RawCall n es) h = arguments_plain (is_spawn n) es h
 value_plain (RawTableCall n i e) h = (no_call_plain i h.0, no_call_plain e h.1)
+value_plain _ h = tt
 
 whole_plain : (p : RawSimpleTree) → IsSimpleWhole p → IsSimplePlain p
-whole_plain (RawDeclareScalar n) h = tt
-whole_plain (RawDeclareArray n size) h = tt
 whole_plain (RawDeclareWith n v) h = value_plain v h
 whole_plain (RawSet n v) h = value_plain v h
 whole_plain (RawSetElement n i v) h = (no_call_plain i h.0, value_plain v h.1)
 whole_plain (RawCalling n es) h = arguments_plain (is_spawn n) es h
 whole_plain (RawTableCalling n i e) h = (no_call_plain i h.0, no_call_plain e h.1)
+whole_plain _ h = tt
 
 -- a whole simple statement stays as it is
 stays_one : (k : ℕ) (p : RawSimpleTree) → IsSimpleWhole p → RawDo p ∷ [] ≡ simple_before k p ++ RawDo (simple_left k p) ∷ []
@@ -188,21 +186,16 @@ module _ (text : DeepProgram) (program : ProgramTree) (ns text_calls tree_calls 
   as_before : (a b : Agreement) (k : ℕ) (s t : Spot) (p : RawSimpleTree) → Within a b → SimpleSound text program ns f a b k s t p → SimpleSound text program ns f a a k s t p
   as_before a b k s t (RawDeclareScalar n) more h = record { middle = h.middle; zeroes = h.zeroes; within = λ x y p. h.within x y (more x y p) }
   as_before a b k s t (RawDeclareArray n size) more h = record { middle = h.middle; zeroes = h.zeroes; within = λ x y p. h.within x y (more x y p) }
-  as_before a b k s t (RawDeclareWith n v) more h = record { middle = h.middle; from = h.from; to = h.to; in_text = h.in_text; in_tree = h.in_tree; places = h.places; within = λ x y p. h.within x y (more x y p); side = h.side }
-  as_before a b k s t (RawSet n v) more h = record { middle = h.middle; from = h.from; to = h.to; in_text = h.in_text; in_tree = h.in_tree; places = h.places; within = λ x y p. h.within x y (more x y p); side = h.side }
   as_before a b k s t (RawSetElement n i v) more h = record { variables = h.variables; gives = h.gives; loop = h.loop; both = h.both; within = λ x y p. p; scope = h.scope; sound = h.sound }
-  as_before a b k s t (RawCalling n es) more h = record { middle = h.middle; from = h.from; to = h.to; in_text = h.in_text; in_tree = h.in_tree; places = h.places; within = λ x y p. h.within x y (more x y p); side = h.side }
-  as_before a b k s t (RawTableCalling n i e) more h = record { middle = h.middle; from = h.from; to = h.to; in_text = h.in_text; in_tree = h.in_tree; places = h.places; within = λ x y p. h.within x y (more x y p); side = h.side }
+  as_before a b k s t _ more h = record { middle = h.middle; from = h.from; to = h.to; in_text = h.in_text; in_tree = h.in_tree; places = h.places; within = λ x y p. h.within x y (more x y p); side = h.side }
 
   -- the step declares nothing
   kind_place : (a : Agreement) (s t : Spot) (p : RawSimpleTree) → step_kind p ≡ [] → PlaceFits a s t → PlaceFits a (deep.simple_after s p) (tree_simples.simple_after t p)
-  kind_place a s t (RawDeclareScalar n) e h = absurd cc
-  kind_place a s t (RawDeclareArray n size) e h = absurd cc
-  kind_place a s t (RawDeclareWith n v) e h = absurd cc
   kind_place a s t (RawSet n v) e h = place_on a s t (deep.simple_after s (RawSet n v)) (tree_simples.simple_after t (RawSet n v)) h refl refl (omega arith) (omega arith)
   kind_place a s t (RawSetElement n i v) e h = place_on a s t (deep.simple_after s (RawSetElement n i v)) (tree_simples.simple_after t (RawSetElement n i v)) h refl refl (omega arith) (omega arith)
   kind_place a s t (RawCalling n es) e h = place_on a s t (deep.simple_after s (RawCalling n es)) (tree_simples.simple_after t (RawCalling n es)) h refl refl (omega arith) (omega arith)
   kind_place a s t (RawTableCalling n i x) e h = place_on a s t (deep.simple_after s (RawTableCalling n i x)) (tree_simples.simple_after t (RawTableCalling n i x)) h refl refl (omega arith) (omega arith)
+  kind_place a s t _ e h = absurd cc
 
   pub step_sound : (a : Agreement) (k : ℕ) (s t : Spot) (step : Option RawSimpleTree) → IsStepWhole step → IsStepNamed step → PlaceFits a s t → step_faults t step ≡ [] → Grows (deep.step_after s step).sizes (frames.function_at text f).sizes
       → Grows (step_after t step).sizes (function_at program f).sizes → Occurs text_calls s.site (step_places is_call step) → Has t.site (step_places is_call step)

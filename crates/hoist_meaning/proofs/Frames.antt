@@ -6,9 +6,9 @@ use Rattle.std.specs.Prelude.{Ok, Err, slice_index}
 use Rattle.cap_word.specs.Rows.{width}
 use Rattle.cap_word.specs.Runs.{Goes, Stops, moves}
 use Rattle.cap_word.specs.declared.traps.TrapKind.{TrapKind}
-use Rattle.c_tree.specs.Trees.{CallTree, RightTree, Computed, Called, SimpleTree, DeclareScalar, DeclareArray, DeclareWith, SetLocal, SetGlobal, SetLocalElement, SetGlobalElement, Calling, ProgramTree}
+use Rattle.c_tree.specs.Trees.{CallTree, RightTree, Computed, Called, SimpleTree, DeclareWith, SetLocal, SetGlobal, SetLocalElement, SetGlobalElement, Calling, ProgramTree}
 use Rattle.c_mean.specs.Values.{Value}
-use Rattle.c_mean.specs.ToDo.{Item, Simply, Choose, Test, Enter, Back, Leave, Skip, GiveBack, GiveBackWord, Fail}
+use Rattle.c_mean.specs.ToDo.{Item, Simply, GiveBack, GiveBackWord, Fail}
 use Rattle.c_mean.specs.Frames.{Place, Nowhere, InLocal, InGlobal, InLocalElement, InGlobalElement, Returned, WaitingFrame, Running, Waiting, function_at}
 use Rattle.c_mean.specs.Steps.{SourceMove, assigned, called, delivered, returned, source_step, source_machine}
 use Rattle.deep_mean.specs.DeepTrees.{DeepExpr, DeepStmt, DeepProgram}
@@ -28,31 +28,22 @@ right_call (Computed e) = None
 right_call (Called call) = Some call
 
 abbrev pub simple_call : SimpleTree → Option CallTree
-simple_call (DeclareScalar x) = None
-simple_call (DeclareArray x n) = None
 simple_call (DeclareWith x v) = right_call v
 simple_call (SetLocal x v) = right_call v
 simple_call (SetGlobal g v) = right_call v
 simple_call (SetLocalElement a i v) = right_call v
 simple_call (SetGlobalElement a i v) = right_call v
 simple_call (Calling call) = Some call
+simple_call _ = None
 
 abbrev pub returned_call : Option RightTree → Option CallTree
 returned_call None = None
 returned_call (Some v) = right_call v
 
 abbrev pub first_call : List Item → Option CallTree
-first_call [] = None
 first_call (Simply s ∷ rest) = simple_call s
-first_call (Choose c s r ∷ rest) = None
-first_call (Test c loop ∷ rest) = None
-first_call (Enter ∷ rest) = None
-first_call (Back loop ∷ rest) = None
-first_call (Leave ∷ rest) = None
-first_call (Skip ∷ rest) = None
 first_call (GiveBack v ∷ rest) = returned_call v
-first_call (GiveBackWord word ∷ rest) = None
-first_call (Fail trap ∷ rest) = None
+first_call _ = None
 
 -- what a use of a value decides between: what is to do where it isn't 0, and where it is
 pub data Decides : Use → List deep_items.Item → List deep_items.Item → List deep_items.Item → Type 0 where

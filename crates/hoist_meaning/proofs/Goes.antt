@@ -145,15 +145,11 @@ module _ (text : DeepProgram) (program : ProgramTree) (f : ℕ) where
 
   own_does : (t : SimpleTree) (r : RightTree) (q : Place) (globals names : Rows) (is : List Item) (below : List WaitingFrame) → OwnSide t r q → source_step program (at program f below globals names (Simply t ∷ is)) ≡ assigns program (at program f below globals names is) q r
   own_does t r q globals names is below (OwnSide.Declares x _) = refl
-  own_does t r q globals names is below (OwnSide.SetsLocal x _) = refl
-  own_does t r q globals names is below (OwnSide.SetsGlobal g _) = refl
-  own_does t r q globals names is below (OwnSide.JustCalls c) = refl
+  own_does t r q globals names is below _ = refl
 
   own_call : (t : SimpleTree) (c : CallTree) (q : Place) (is : List Item) → OwnSide t (Called c) q → first_call (Simply t ∷ is) ≡ Some c
   own_call t c q is (OwnSide.Declares x _) = refl
-  own_call t c q is (OwnSide.SetsLocal x _) = refl
-  own_call t c q is (OwnSide.SetsGlobal g _) = refl
-  own_call t c q is (OwnSide.JustCalls _) = refl
+  own_call t c q is _ = refl
 
   side_leaf : (a : Agreement) (txt globals names : Rows) (t : SimpleTree) (r : RightTree) (q : Place) (is : List Item) (outcome : Value) → OwnSide t r q → Words text program f a txt names → SideIs r globals names outcome → StoreLeaf text program f a txt q (Simply t ∷ is) is globals names outcome
   side_leaf a txt globals names t r q is (Ok word) own words h = record { words = words; goes = λ below. own_does t r q globals names is below own ∙ side_stores r q globals names is word below h }

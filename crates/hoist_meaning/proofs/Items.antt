@@ -116,8 +116,7 @@ module _ (program : ProgramTree) where
 
     two_trap : (thread : Running) (i e : Value) (trap : TrapKind) (use_ : ℕ → ℕ → SourceMove) → with_first i (with_first e (Ok [])) ≡ Err trap → on_value thread i (λ index. on_value thread e (use_ index)) ≡ trapped thread trap
     two_trap thread (Ok index) (Ok word) trap use_ h = absurd (let wrong = h in cc)
-    two_trap thread (Ok index) (Err other) trap use_ h = ap (λ r. on_value thread r (λ words. Goes thread)) h
-    two_trap thread (Err other) e trap use_ h = ap (λ r. on_value thread r (λ words. Goes thread)) h
+    two_trap thread _ _ trap use_ h = ap (λ r. on_value thread r (λ words. Goes thread)) h
 
     pub call_stops : (names : List (List ℕ)) (x : ℕ) (trap : TrapKind) (made : CallTree) (rest : List Item) → values names globals (call_parts made) ≡ Err trap
         → source_step program (at names (Simply (DeclareWith x (Called made)) ∷ rest)) ≡ Stops (record { trap = Some trap; globals = globals })
@@ -134,15 +133,4 @@ ReadyAlike names globals (ReadyCall s (Function f) words) (CallFunction k g es) 
 ReadyAlike names globals (ReadyCall s (Modelled m) words) (CallModelled k o es) = (k ≡ s) × (o ≡ m) × (values names globals es ≡ Ok words)
 ReadyAlike names globals (ReadyCall s (Spawned f) words) (CallSpawn k g e) = (k ≡ s) × (g ≡ f) × (values names globals (e ∷ []) ≡ Ok words)
 ReadyAlike names globals (ReadyTableCall s t i word) (CallTable k u e d) = (k ≡ s) × (u ≡ t) × (value names globals e ≡ Ok i) × (value names globals d ≡ Ok word)
-ReadyAlike names globals (ReadyCall s (Function f) words) (CallTable k u e d) = ⊥
-ReadyAlike names globals (ReadyCall s (Function f) words) (CallSpawn k g e) = ⊥
-ReadyAlike names globals (ReadyCall s (Function f) words) (CallModelled k o es) = ⊥
-ReadyAlike names globals (ReadyCall s (Modelled m) words) (CallFunction k g es) = ⊥
-ReadyAlike names globals (ReadyCall s (Modelled m) words) (CallTable k u e d) = ⊥
-ReadyAlike names globals (ReadyCall s (Modelled m) words) (CallSpawn k g e) = ⊥
-ReadyAlike names globals (ReadyCall s (Spawned f) words) (CallFunction k g es) = ⊥
-ReadyAlike names globals (ReadyCall s (Spawned f) words) (CallTable k u e d) = ⊥
-ReadyAlike names globals (ReadyCall s (Spawned f) words) (CallModelled k o es) = ⊥
-ReadyAlike names globals (ReadyTableCall s t i word) (CallFunction k g es) = ⊥
-ReadyAlike names globals (ReadyTableCall s t i word) (CallSpawn k g e) = ⊥
-ReadyAlike names globals (ReadyTableCall s t i word) (CallModelled k o es) = ⊥
+ReadyAlike names globals _ _ = ⊥

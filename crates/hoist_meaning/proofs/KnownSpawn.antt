@@ -3,7 +3,7 @@ use Rattle.std.proofs.Common.{ℕ, ◌≡◌, refl, sym, ap, ◌∙◌, Bool, tr
 use Rattle.std.specs.Prelude.{codes, if◌then◌else◌}
 use Rattle.std.specs.Str.{bytes_eq}
 use Rattle.std.proofs.lemmas.Slice.Eq.{bytes_eq-Decides}
-use Rattle.c_tree.specs.RawTrees.{NameTree, RawExprTree, RawSimpleTree, RawDeclareScalar, RawDeclareArray, RawDeclareWith, RawSet, RawSetElement, RawCalling, RawTableCalling, RawStmtTree, RawStmtTrees, RawDo, RawEmpty, RawBlock, RawIf, RawIfElse, RawWhile, RawFor, RawBreak, RawContinue, RawReturn, NoRawStmts, RawThen}
+use Rattle.c_tree.specs.RawTrees.{NameTree, RawExprTree, RawSimpleTree, RawDeclareScalar, RawDeclareArray, RawDeclareWith, RawStmtTree, RawStmtTrees, RawDo, RawReturn, NoRawStmts, RawThen}
 use Rattle.c_tree.specs.RawViews.{raw_in_order}
 use Rattle.scope_rules.specs.declared.meanings.Meaning.{Meaning}
 use Rattle.scope_rules.specs.Names.{Binding, find, is_fixed, bound}
@@ -32,10 +32,7 @@ pub simple_knows : (s : Spot) (p : RawSimpleTree) → KnowsSpawn s.names → Kno
 simple_knows s (RawDeclareScalar n) h = bound_knows s.names n.text _ h
 simple_knows s (RawDeclareArray n size) h = bound_knows s.names n.text _ h
 simple_knows s (RawDeclareWith n v) h = bound_knows s.names n.text _ h
-simple_knows s (RawSet n v) h = h
-simple_knows s (RawSetElement n i v) h = h
-simple_knows s (RawCalling n es) h = h
-simple_knows s (RawTableCalling n i e) h = h
+simple_knows s _ h = h
 
 pub simples_know : (s : Spot) (ps : List RawSimpleTree) → KnowsSpawn s.names → KnowsSpawn (simples_after s ps).names
 simples_know s [] h = h
@@ -51,15 +48,8 @@ returned_knows s (Some v) h = h
 
 pub stmt_knows : (s : Spot) (p : RawStmtTree) → KnowsSpawn s.names → KnowsSpawn (stmt_after s p).names
 stmt_knows s (RawDo p) h = simple_knows s p h
-stmt_knows s RawEmpty h = h
-stmt_knows s (RawBlock ps) h = h
-stmt_knows s (RawIf c p) h = h
-stmt_knows s (RawIfElse c p r) h = h
-stmt_knows s (RawWhile c p) h = h
-stmt_knows s (RawFor init c step p) h = h
-stmt_knows s (RawBreak at) h = h
-stmt_knows s (RawContinue at) h = h
 stmt_knows s (RawReturn at v) h = returned_knows s v h
+stmt_knows s _ h = h
 
 pub stmts_know : (s : Spot) (ps : RawStmtTrees) → KnowsSpawn s.names → KnowsSpawn (stmts_after s ps).names
 stmts_know s NoRawStmts h = h

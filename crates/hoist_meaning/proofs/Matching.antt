@@ -142,10 +142,8 @@ module _ (text : DeepProgram) (program : ProgramTree) (R : DeepRunning → Runni
 
       started_match : (next : ℕ) (ask : Ask) → ((f argument : ℕ) → ask ≡ Ask.Spawn f argument → Starts f argument)
           → ThreadsMatch (deep.with_started ds (immediate_row caps exchange number next ask).starts) (source.with_started rs (immediate_row caps exchange number next ask).starts)
-      started_match next (Ask.Put value) h = match
       started_match next (Ask.Spawn f argument) h = more_match ds rs (deep.Fresh f (argument ∷ [])) (source.Fresh f (argument ∷ [])) match (RestsMatch.FreshMatch f (argument ∷ []) (h f argument refl))
-      started_match next (Ask.Give resource amount) h = match
-      started_match next Ask.SelfNumber h = match
+      started_match next _ h = match
 
       answer_match : (running : DeepRunning) (other : Running) (here : List (List ℕ)) (waiting : DeepWaiting) (there : Waiting) (row : ImmediateRow) → V waiting there
           → ThreadsMatch (deep.with_started ds row.starts) (source.with_started rs row.starts)

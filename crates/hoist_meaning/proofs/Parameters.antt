@@ -53,10 +53,9 @@ none_spawn t (b ∷ bs) h = if_other (bytes_eq b.text t) (record { position = le
 
 -- whether two texts are the same, either way round
 both_ways : (b c : Bool) (t u : List ℕ) → bytes_eq t u ≡ b → bytes_eq u t ≡ c → b ≡ c
-both_ways true true t u e f = refl
-both_ways false false t u e f = refl
 both_ways true false t u e f = absurd (let wrong : false ≡ true = sym f ∙ (bytes_eq-Decides u t).1 (sym ((bytes_eq-Decides t u).0 e)) in cc)
 both_ways false true t u e f = absurd (let wrong : false ≡ true = sym e ∙ (bytes_eq-Decides t u).1 (sym ((bytes_eq-Decides u t).0 f)) in cc)
+both_ways _ _ t u e f = refl
 
 first_spawn : (b : Bool) (t : List ℕ) (f : Found) (o : Option Found) → bytes_eq (codes "spawn") t ≡ b → is_spawn_by (callee_in f.meaning) ≡ true → is_spawn_by (callee_of o) ≡ false → is_spawn_by (callee_of (if b then Some f else o)) ≡ bytes_eq t (codes "spawn")
 first_spawn true t f o e h g = h ∙ both_ways true (bytes_eq t (codes "spawn")) (codes "spawn") t e refl
@@ -71,14 +70,7 @@ none_calls names (call ∷ calls) h = none_calls (modelled call ∷ names) calls
 
 call_named : (call : ModelledCall) → IsSourceName (name_of call)
 call_named ModelledCall.Accept = inr (omega arith)
-call_named ModelledCall.Wait = inr (omega arith)
-call_named ModelledCall.Sleep = inr (omega arith)
-call_named ModelledCall.Yield = inr (omega arith)
-call_named ModelledCall.Take = inr (omega arith)
-call_named ModelledCall.WaitFor = inr (omega arith)
-call_named ModelledCall.Put = inr (omega arith)
-call_named ModelledCall.Give = inr (omega arith)
-call_named ModelledCall.SelfNumber = inr (omega arith)
+call_named _ = inr (omega arith)
 
 outside_calls : (names : List Binding) (calls : List ModelledCall) → AreOutside names → AreOutside (with_calls names calls)
 outside_calls names [] h = h

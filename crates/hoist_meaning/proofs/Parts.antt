@@ -37,43 +37,19 @@ use Rattle.hoist_meaning.proofs.Settled.{keeps_on, write_keeps, less_placed, wri
 -- ---- a right side without a call
 
 pub computed : (ds : List Binding) (j : ℕ) (e : RawExprTree) → HasNoCall e → right_of ds j e ≡ Computed (expr_of ds e)
-computed ds j (RawNumber v) h = refl
-computed ds j (RawName n) h = refl
-computed ds j (RawElement n i) h = refl
-computed ds j (RawUnary op e) h = refl
-computed ds j (RawParenthesized e) h = refl
-computed ds j (RawBinary op l r) h = refl
-computed ds j (RawLogicalAnd l r) h = refl
-computed ds j (RawLogicalOr l r) h = refl
-computed ds j (RawConditional c a b) h = refl
 computed ds j (RawCall n es) h = absurd h
 computed ds j (RawTableCall n i e) h = absurd h
+computed ds j _ h = refl
 
 pub plain_faults : (ds : List Binding) (e : RawExprTree) → HasNoCall e → right_faults ds e ≡ expr_faults ds e
-plain_faults ds (RawNumber v) h = refl
-plain_faults ds (RawName n) h = refl
-plain_faults ds (RawElement n i) h = refl
-plain_faults ds (RawUnary op e) h = refl
-plain_faults ds (RawParenthesized e) h = refl
-plain_faults ds (RawBinary op l r) h = refl
-plain_faults ds (RawLogicalAnd l r) h = refl
-plain_faults ds (RawLogicalOr l r) h = refl
-plain_faults ds (RawConditional c a b) h = refl
 plain_faults ds (RawCall n es) h = absurd h
 plain_faults ds (RawTableCall n i e) h = absurd h
+plain_faults ds _ h = refl
 
 pub plain_side_faults : (used_ : Bool) (ds : List Binding) (e : RawExprTree) → HasNoCall e → side_faults used_ ds e ≡ expr_faults ds e
-plain_side_faults used_ ds (RawNumber v) h = refl
-plain_side_faults used_ ds (RawName n) h = refl
-plain_side_faults used_ ds (RawElement n i) h = refl
-plain_side_faults used_ ds (RawUnary op e) h = refl
-plain_side_faults used_ ds (RawParenthesized e) h = refl
-plain_side_faults used_ ds (RawBinary op l r) h = refl
-plain_side_faults used_ ds (RawLogicalAnd l r) h = refl
-plain_side_faults used_ ds (RawLogicalOr l r) h = refl
-plain_side_faults used_ ds (RawConditional c a b) h = refl
 plain_side_faults used_ ds (RawCall n es) h = absurd h
 plain_side_faults used_ ds (RawTableCall n i e) h = absurd h
+plain_side_faults used_ ds _ h = refl
 
 -- ---- one list of statements after another, which break no rule
 
@@ -116,18 +92,9 @@ part_fine gives loop a k v (RawTableCall n i e) t place fine =
 
 -- strictly, an expression that isn't a call
 abbrev pub MayBe : Bool → RawExprTree → Type 0
-MayBe false e = Unit {0}
-MayBe true (RawNumber n) = Unit {0}
-MayBe true (RawName n) = Unit {0}
-MayBe true (RawElement n i) = Unit {0}
-MayBe true (RawUnary op e) = Unit {0}
-MayBe true (RawParenthesized e) = Unit {0}
-MayBe true (RawBinary op l r) = Unit {0}
-MayBe true (RawLogicalAnd l r) = Unit {0}
-MayBe true (RawLogicalOr l r) = Unit {0}
-MayBe true (RawConditional c x y) = Unit {0}
 MayBe true (RawCall n es) = ⊥
 MayBe true (RawTableCall n i e) = ⊥
+MayBe _ _ = Unit {0}
 
 -- ---- values
 

@@ -1,7 +1,7 @@
 -- What is known of a place and of all statements there is known of their parts.
 use Rattle.std.proofs.Common.{ℕ, ◌≡◌, ◌≤◌, refl, sym, ap, subst, ◌∙◌, Bool, List, [], ◌∷◌, ◌++◌, length, length-append, Option, Some, None, arith}
 use Rattle.std.proofs.lemmas.List.{append-nil}
-use Rattle.c_tree.specs.RawTrees.{RawExprTree, RawSimpleTree, RawDeclareScalar, RawDeclareArray, RawDeclareWith, RawSet, RawSetElement, RawCalling, RawTableCalling, RawStmtTree, RawStmtTrees, RawDo, RawEmpty, RawBlock, RawIf, RawIfElse, RawWhile, RawFor, RawBreak, RawContinue, RawReturn, NoRawStmts, RawThen}
+use Rattle.c_tree.specs.RawTrees.{RawExprTree, RawSimpleTree, RawDeclareScalar, RawDeclareArray, RawDeclareWith, RawStmtTree, RawStmtTrees, RawDo, RawBlock, RawIf, RawIfElse, RawWhile, RawFor, RawReturn, NoRawStmts, RawThen}
 use Rattle.c_tree.specs.RawViews.{raw_in_order, as_body}
 use Rattle.c_mean.specs.ToDo as items
 use Rattle.c_mean.specs.ToDo.{Item}
@@ -86,10 +86,7 @@ simple_text : (s : Spot) (p : RawSimpleTree) → Grows s.sizes (deep.simple_afte
 simple_text s (RawDeclareScalar n) = record { more = 1 ∷ []; is = refl }
 simple_text s (RawDeclareArray n size) = record { more = size ∷ []; is = refl }
 simple_text s (RawDeclareWith n v) = record { more = 1 ∷ []; is = refl }
-simple_text s (RawSet n v) = grows_none s.sizes
-simple_text s (RawSetElement n i v) = grows_none s.sizes
-simple_text s (RawCalling n es) = grows_none s.sizes
-simple_text s (RawTableCalling n i e) = grows_none s.sizes
+simple_text s _ = grows_none s.sizes
 
 pub simples_text : (s : Spot) (ps : List RawSimpleTree) → Grows s.sizes (deep.simples_after s ps).sizes
 simples_text s [] = grows_none s.sizes
@@ -106,7 +103,6 @@ step_text s (Some p) = simple_text s p
 mutual
   pub stmt_text : (s : Spot) (p : RawStmtTree) → Grows s.sizes (deep.stmt_after s p).sizes
   stmt_text s (RawDo p) = simple_text s p
-  stmt_text s RawEmpty = grows_none s.sizes
   stmt_text s (RawBlock ps) = stmts_text (inside s) ps
   stmt_text s (RawIf c p) = stmt_text (inside (counted s (calls_in c))) p
   stmt_text s (RawIfElse c p r) =
@@ -119,9 +115,8 @@ mutual
       let three = deep.step_after two step in
       grows_on s.sizes three.sizes (deep.stmt_after (inside three) p).sizes
       (grows_on s.sizes two.sizes three.sizes (grows_on s.sizes one.sizes two.sizes (simples_text (inside s) init) (optional_text one c)) (step_text two step)) (stmt_text (inside three) p)
-  stmt_text s (RawBreak at) = grows_none s.sizes
-  stmt_text s (RawContinue at) = grows_none s.sizes
   stmt_text s (RawReturn at v) = optional_text s v
+  stmt_text s _ = grows_none s.sizes
 
   pub stmts_text : (s : Spot) (ps : RawStmtTrees) → Grows s.sizes (deep.stmts_after s ps).sizes
   stmts_text s NoRawStmts = grows_none s.sizes

@@ -42,48 +42,31 @@ pub data VariablePair (b : Agreement) : Variable → Variable → Type 0 where
 abbrev pub IsVariable : Meaning → Type 0
 IsVariable (Meaning.Local x array) = Unit {0}
 IsVariable (Meaning.Global g array) = Unit {0}
-IsVariable (Meaning.Table t) = ⊥
-IsVariable (Meaning.Function f gives params defined) = ⊥
-IsVariable (Meaning.Modelled m) = ⊥
-IsVariable Meaning.Spawn = ⊥
+IsVariable _ = ⊥
 
 pub array_variable : (n : Meaning) → is_array n ≡ true → IsVariable n
 array_variable (Meaning.Local x array) s = tt
 array_variable (Meaning.Global g array) s = tt
-array_variable (Meaning.Table t) s = absurd (let wrong : false ≡ true = s in cc)
-array_variable (Meaning.Function f gives params defined) s = absurd (let wrong : false ≡ true = s in cc)
-array_variable (Meaning.Modelled m) s = absurd (let wrong : false ≡ true = s in cc)
-array_variable Meaning.Spawn s = absurd (let wrong : false ≡ true = s in cc)
+array_variable _ s = absurd (let wrong : false ≡ true = s in cc)
 
 pub scalar_variable : (n : Meaning) → is_scalar n ≡ true → IsVariable n
 scalar_variable (Meaning.Local x array) s = tt
 scalar_variable (Meaning.Global g array) s = tt
-scalar_variable (Meaning.Table t) s = absurd (let wrong : false ≡ true = s in cc)
-scalar_variable (Meaning.Function f gives params defined) s = absurd (let wrong : false ≡ true = s in cc)
-scalar_variable (Meaning.Modelled m) s = absurd (let wrong : false ≡ true = s in cc)
-scalar_variable Meaning.Spawn s = absurd (let wrong : false ≡ true = s in cc)
+scalar_variable _ s = absurd (let wrong : false ≡ true = s in cc)
 
 pair_local : (b : Agreement) (x : ℕ) (array : Bool) (n : Meaning) → LocalAlike b x array n → VariablePair b (Variable.Local x) (variable_in n)
 pair_local b x array (Meaning.Local y other) h = VariablePair.BothLocal x y h.0
-pair_local b x array (Meaning.Global g other) h = absurd h
-pair_local b x array (Meaning.Table t) h = absurd h
-pair_local b x array (Meaning.Function f gives params defined) h = absurd h
-pair_local b x array (Meaning.Modelled m) h = absurd h
-pair_local b x array Meaning.Spawn h = absurd h
+pair_local b x array _ h = absurd h
 
 pair_meaning : (b : Agreement) (m n : Meaning) → MeaningAlike b m n → IsVariable n → VariablePair b (variable_in m) (variable_in n)
 pair_meaning b (Meaning.Local x array) n h v = pair_local b x array n h
 pair_meaning b (Meaning.Global g array) n h v = subst (λ o. VariablePair b (Variable.Global g) (variable_in o)) (sym h) (VariablePair.BothGlobal g)
-pair_meaning b (Meaning.Table t) n h v = absurd (subst IsVariable h v)
-pair_meaning b (Meaning.Function f gives params defined) n h v = absurd (subst IsVariable h v)
-pair_meaning b (Meaning.Modelled m) n h v = absurd (subst IsVariable h v)
-pair_meaning b Meaning.Spawn n h v = absurd (subst IsVariable h v)
+pair_meaning b _ n h v = absurd (subst IsVariable h v)
 
 pub variable_found : (b : Agreement) (may : Meaning → Bool) (is : (n : Meaning) → may n ≡ true → IsVariable n) (o p : Option Found) (at : ℕ) → FoundAlike b o p → use_faults may p at ≡ [] → VariablePair b (variable_of o) (variable_of p)
 variable_found b may is None None at h f = absurd (let wrong = f in cc)
-variable_found b may is None (Some g) at h f = absurd h
-variable_found b may is (Some d) None at h f = absurd h
 variable_found b may is (Some d) (Some g) at h f = pair_meaning b d.meaning g.meaning h (is g.meaning (not_false (may g.meaning) (not_broken (not (may g.meaning)) at Rule.Kind f)))
+variable_found b may is _ _ at h f = absurd h
 
 -- ---- an expression without a call has its value at once
 

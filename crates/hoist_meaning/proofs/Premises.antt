@@ -4,7 +4,7 @@ use Rattle.std.proofs.Common.{ℕ, ◌+◌, ◌≡◌, ◌<◌, ◌≤◌, Bool,
 use Rattle.std.specs.Prelude.{codes, Ok, Err}
 use Rattle.std.specs.Str.{bytes_eq}
 use Rattle.cap_word.specs.Rows.{row, width}
-use Rattle.c_tree.specs.RawTrees.{RawExprTree, RawExprTrees, RawNumber, RawName, RawElement, RawUnary, RawParenthesized, RawBinary, RawLogicalAnd, RawLogicalOr, RawConditional, RawCall, RawTableCall, NoExprs, And, RawStmtTree}
+use Rattle.c_tree.specs.RawTrees.{RawExprTree, RawExprTrees, RawElement, RawUnary, RawParenthesized, RawBinary, RawLogicalAnd, RawLogicalOr, RawConditional, RawCall, RawTableCall, NoExprs, And, RawStmtTree}
 use Rattle.c_tree.specs.Trees.{ExprTree, RightTree, Computed, Called}
 use Rattle.c_mean.specs.Values.{Value, value, values}
 use Rattle.scope_rules.specs.declared.faults.Fault.{Fault}
@@ -56,8 +56,6 @@ after_condition s k c = after (after s (before k c)) (declared (k + names_in c) 
 -- j-th of ns.
 abbrev mutual
   pub SitesStand : List ℕ → Spot → ℕ → ℕ → RawExprTree → Type 0
-  SitesStand ns s k site (RawNumber v) = Unit {0}
-  SitesStand ns s k site (RawName n) = Unit {0}
   SitesStand ns s k site (RawElement n i) = SitesStand ns s k site i
   SitesStand ns s k site (RawUnary op e) = SitesStand ns s k site e
   SitesStand ns s k site (RawParenthesized e) = SitesStand ns s k site e
@@ -71,6 +69,7 @@ abbrev mutual
   SitesStand ns s k site (RawTableCall n i e) =
       SitesStand ns s k (site + 1) i × SitesStand ns (after_part s k (holds_call e) i) (part_after k (holds_call e) i) (site + 1 + calls_in i) e
       × (number_at ns (after (after_part s k (holds_call e) i) (before (part_after k (holds_call e) i) e)).site ≡ site)
+  SitesStand ns s k site _ = Unit {0}
 
   pub ArgumentSitesStand : List ℕ → Spot → ℕ → ℕ → Bool → RawExprTrees → Type 0
   ArgumentSitesStand ns s k site stays NoExprs = Unit {0}

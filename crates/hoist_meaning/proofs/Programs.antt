@@ -3,7 +3,7 @@ use Rattle.std.proofs.Common.{ℕ, ◌≡◌, sym, ap, subst, ◌∙◌, List, [
 use Rattle.cap_word.specs.Rows.{zeros, scalars}
 use Rattle.c_tree.specs.RawTrees.{RawStmtTrees}
 use Rattle.c_tree.specs.RawViews.{raw_in_order}
-use Rattle.c_tree.specs.Trees.{CallTree, CallFunction, CallTable, CallSpawn, CallModelled, ProgramTree}
+use Rattle.c_tree.specs.Trees.{CallTree, CallFunction, ProgramTree}
 use Rattle.c_tree.specs.WellScoped.{IsWellScoped}
 use Rattle.c_mean.specs.ToDo as items
 use Rattle.c_mean.specs.ToDo.{Item, Loop}
@@ -68,9 +68,7 @@ module _ (text : DeepProgram) (program : ProgramTree) (ns : List ℕ) where
 
     call_fits : (made : CallTree) → Fits program made → CallFits text program These made
     call_fits (CallFunction k g es) h = h
-    call_fits (CallTable k t i e) h = h
-    call_fits (CallSpawn k g e) h = h
-    call_fits (CallModelled k m es) h = h
+    call_fits _ h = h
 
     calls_fit : (s : Running) (made : CallTree) → Stands program s → first_call s.frame.to_do ≡ Some made → CallFits text program These made
     calls_fit s made h e = call_fits made (first_fits program whole s made h e)

@@ -33,31 +33,10 @@ IsOther _ = Unit {0}
 
 keyword_other : (keyword : Keyword) → IsOther (sign_of_keyword keyword)
 keyword_other keywords.Int = tt
-keyword_other keywords.Void = tt
-keyword_other keywords.If = tt
-keyword_other keywords.Else = tt
-keyword_other keywords.While = tt
-keyword_other keywords.For = tt
-keyword_other keywords.Break = tt
-keyword_other keywords.Continue = tt
-keyword_other keywords.Return = tt
 keyword_other _ = tt
 
 mark_other : (mark : Mark) → IsOther (sign_of_mark mark)
 mark_other marks.LeftParenthesis = tt
-mark_other marks.RightParenthesis = tt
-mark_other marks.LeftBracket = tt
-mark_other marks.RightBracket = tt
-mark_other marks.LeftBrace = tt
-mark_other marks.RightBrace = tt
-mark_other marks.Comma = tt
-mark_other marks.Semicolon = tt
-mark_other marks.Question = tt
-mark_other marks.Colon = tt
-mark_other marks.Assign = tt
-mark_other marks.Plus = tt
-mark_other marks.Minus = tt
-mark_other marks.Star = tt
 mark_other _ = tt
 
 letter_high : (b : ℕ) → is_letter b ≡ true → 57 < b
@@ -97,8 +76,7 @@ module _ (source : List ℕ) where
 
   joined_named : (l : RawExprTree) (operator : Infix) (r : RawExprTree) → AreSourceNames l → AreSourceNames r → AreSourceNames (raw_joined l operator r)
   joined_named l (Infix.Binary op) r h g = (h, g)
-  joined_named l Infix.LogicalAnd r h g = (h, g)
-  joined_named l Infix.LogicalOr r h g = (h, g)
+  joined_named l _ r h g = (h, g)
 
   mutual
     expr_named : {before after : List Token} {e : RawExprTree} → IsExpr source before e after → Spelled before → AreSourceNames e × Spelled after

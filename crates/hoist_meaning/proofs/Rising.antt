@@ -38,8 +38,6 @@ part_rises false n m l k a less h = rise_more n m l a (omega (arith, less)) h
 
 mutual
   pub names_rise : (n k v : ℕ) (e : RawExprTree) (a : Agreement) → AreBelow n v a → AreBelow n (v + names_in e) (with_names k v e a)
-  names_rise n k v (RawNumber w) a h = rise_more n v (v + 0) a (omega arith) h
-  names_rise n k v (RawName t) a h = rise_more n v (v + 0) a (omega arith) h
   names_rise n k v (RawElement t i) a h = names_rise n k v i a h
   names_rise n k v (RawUnary op e) a h = names_rise n k v e a h
   names_rise n k v (RawParenthesized e) a h = names_rise n k v e a h
@@ -59,6 +57,7 @@ mutual
       let c = with_part (is_named (holds_call e) i) (k + names_in i) (v + names_in i) b in
       let v1 = part_after v (holds_call e) i in
       (omega arith, names_rise n (part_after k (holds_call e) i) v1 e c (part_rises (is_named (holds_call e) i) n (v + names_in i) v1 (k + names_in i) b (omega arith) (names_rise n k v i a h)))
+  names_rise n k v _ a h = rise_more n v (v + 0) a (omega arith) h
 
   pub arguments_rise : (n k v : ℕ) (stays : Bool) (es : RawExprTrees) (a : Agreement) → AreBelow n v a → AreBelow n (v + arguments_names stays es) (with_argument_names stays k v es a)
   arguments_rise n k v stays NoExprs a h = rise_more n v (v + 0) a (omega arith) h
@@ -108,12 +107,8 @@ extends_pair k v w a b x y (Extends.more h z d r s t g) p = extends_pair k v w a
 -- ---- `spawn`
 
 spawn_meaning : (m : Meaning) → is_spawn_by (callee_in m) ≡ true → m ≡ Meaning.Spawn
-spawn_meaning (Meaning.Local x array) e = absurd (let wrong : false ≡ true = e in cc)
-spawn_meaning (Meaning.Global g array) e = absurd (let wrong : false ≡ true = e in cc)
-spawn_meaning (Meaning.Table t) e = absurd (let wrong : false ≡ true = e in cc)
-spawn_meaning (Meaning.Function f gives params defined) e = absurd (let wrong : false ≡ true = e in cc)
-spawn_meaning (Meaning.Modelled m) e = absurd (let wrong : false ≡ true = e in cc)
 spawn_meaning Meaning.Spawn e = refl
+spawn_meaning _ e = absurd (let wrong : false ≡ true = e in cc)
 
 spawn_found : (o : Option Found) → is_spawn_by (callee_of o) ≡ true → (position : ℕ) × (o ≡ Some (record { position = position; meaning = Meaning.Spawn }))
 spawn_found None e = absurd (let wrong : false ≡ true = e in cc)

@@ -2,8 +2,7 @@
 -- name that holds it, whatever the globals are by then.
 use Rattle.std.proofs.Common.{ℕ, ◌≡◌, ◌≢◌, ◌+◌, ◌<◌, ◌≤◌, ⊎_elim, refl, sym, ap, ◌∙◌, false, List, [], ◌∷◌, ◌++◌, length, set, replicate, arith}
 use Rattle.std.specs.Prelude.{◌%◌, ◌^◌, slice_index, Ok}
-use Rattle.std.proofs.lemmas.Bool.{cases_eq}
-use Rattle.std.proofs.lemmas.List.{get_or-set_other, length-replicate, length-set}
+use Rattle.std.proofs.lemmas.List.{get_or-set_other}
 use Rattle.cap_word.specs.Rows.{row, width, with_word, with_zeros}
 use Rattle.c_tree.specs.RawTrees.{RawExprTree, RawNumber}
 use Rattle.c_mean.specs.Values.{value}
@@ -14,11 +13,13 @@ use Rattle.scope_rules.specs.Meanings.{variable_of}
 use Rattle.scope_rules.specs.Expressions.{scalar_value, expr_of}
 use Rattle.scope_rules.specs.Places.{Spot}
 use Rattle.hoist_parts.specs.NewNames.{new_name, used}
-use Rattle.hoist_meaning.proofs.Bindings.{Agreement, New, in_tree, NamesStand, row_written, row_zeroed, last_found}
+use Rattle.hoist_meaning.proofs.Bindings.{Agreement, New, in_tree, NamesStand, row_written, last_found}
 use Rattle.hoist_meaning.proofs.Spots.{StandsAt}
 use Rattle.hoist_meaning.proofs.Extends.{Extends, TreeBelow, extends_text, extends_paired, extends_find, extends_below, pair_below}
 use Rattle.hoist_meaning.proofs.Ends.{Rows}
 use Rattle.hoist_meaning.proofs.Premises.{IsPlaced, Keeps}
+use Rattle.hoist_meaning.proofs.Storing.{width_kept, only_word}
+use Rattle.hoist_meaning.proofs.Stills.{zeroed_width}
 
 -- ---- what is kept
 
@@ -28,38 +29,21 @@ keeps_all v names = record { words = λ y less. refl; widths = λ y. refl }
 pub keeps_on : (v w : ℕ) (names middle after : Rows) → v ≤ w → Keeps v names middle → Keeps w middle after → Keeps v names after
 keeps_on v w names middle after less h g = record { words = λ y small. g.words y (omega (arith, less, small)) ∙ h.words y small; widths = λ y. g.widths y ∙ h.widths y }
 
-width_written : (rows : Rows) (x i word y : ℕ) → width (with_word rows x i word) y ≡ width rows y
-width_written rows x i word y =
-    ⊎_elim (λ (e : y ≡ x). ap (width (with_word rows x i word)) e ∙ ap length (row_written rows x i word) ∙ length-set (row rows x) i word ∙ sym (ap (width rows) e))
-    (λ (ne : y ≢ x). ap length (get_or-set_other rows x y (set (row rows x) i word) [] ne)) (cases_eq y x)
-
-width_zeroed : (rows : Rows) (x y : ℕ) → width (with_zeros rows x) y ≡ width rows y
-width_zeroed rows x y =
-    ⊎_elim (λ (e : y ≡ x). ap (width (with_zeros rows x)) e ∙ ap length (row_zeroed rows x) ∙ length-replicate (width rows x) 0 ∙ sym (ap (width rows) e))
-    (λ (ne : y ≢ x). ap length (get_or-set_other rows x y (replicate (width rows x) 0) [] ne)) (cases_eq y x)
-
 not_same : (v x y : ℕ) → v ≤ x → y < v → y ≢ x
 not_same v x y less small e = omega (arith, less, small, e)
 
 pub write_keeps : (v x word : ℕ) (names : Rows) → v ≤ x → Keeps v names (with_word names x 0 word)
-write_keeps v x word names less = record { words = λ y small. get_or-set_other names x y (set (row names x) 0 word) [] (not_same v x y less small); widths = λ y. width_written names x 0 word y }
+write_keeps v x word names less = record { words = λ y small. get_or-set_other names x y (set (row names x) 0 word) [] (not_same v x y less small); widths = λ y. width_kept names x 0 word y }
 
 pub zeros_keep : (v x : ℕ) (names : Rows) → v ≤ x → Keeps v names (with_zeros names x)
-zeros_keep v x names less = record { words = λ y small. get_or-set_other names x y (replicate (width names x) 0) [] (not_same v x y less small); widths = λ y. width_zeroed names x y }
-
--- a variable of one word, after it was written
-one_word : (r : List ℕ) (word : ℕ) → length r ≡ 1 → set r 0 word ≡ word ∷ []
-one_word [] word h = absurd (omega (arith, h))
-one_word (a ∷ []) word h = refl
-one_word (a ∷ b ∷ r) word h = absurd (omega (arith, h))
+zeros_keep v x names less = record { words = λ y small. get_or-set_other names x y (replicate (width names x) 0) [] (not_same v x y less small); widths = λ y. zeroed_width names x y }
 
 pub written : (names : Rows) (x word : ℕ) → width names x ≡ 1 → row (with_word names x 0 word) x ≡ word ∷ []
-written names x word h = row_written names x 0 word ∙ one_word (row names x) word h
+written names x word h = row_written names x 0 word ∙ only_word (row names x) word h
 
 pub single : (r : List ℕ) (word : ℕ) → length r ≡ 1 → slice_index r 0 ≡ word → r ≡ word ∷ []
-single [] word h e = absurd (omega (arith, h))
 single (a ∷ []) word h e = ap (λ b. b ∷ []) e
-single (a ∷ b ∷ r) word h e = absurd (omega (arith, h))
+single _ word h e = absurd (omega (arith, h))
 
 -- ---- places
 

@@ -81,8 +81,6 @@ no_value_names k v (RawTableCall n i e) a h =
     let q = two.1 in
     (λ j. with_names (part_after k (q j) i) (part_after v (q j) i) e (with_part (is_named (q j) i) (k + names_in i) (v + names_in i) (with_names k v i a)))
     ∙ no_more_names (part_after k false i) (part_after v false i) e (with_names k v i a) q ∙ no_more_names k v i a two.0
-no_value_names k v (RawNumber w) a h = refl
-no_value_names k v (RawName n) a h = refl
 no_value_names k v (RawElement n i) a h = no_more_names k v (RawElement n i) a h
 no_value_names k v (RawUnary op e) a h = no_more_names k v (RawUnary op e) a h
 no_value_names k v (RawParenthesized e) a h = no_more_names k v (RawParenthesized e) a h
@@ -90,6 +88,7 @@ no_value_names k v (RawBinary op l r) a h = no_more_names k v (RawBinary op l r)
 no_value_names k v (RawLogicalAnd l r) a h = no_more_names k v (RawLogicalAnd l r) a h
 no_value_names k v (RawLogicalOr l r) a h = no_more_names k v (RawLogicalOr l r) a h
 no_value_names k v (RawConditional c x y) a h = no_more_names k v (RawConditional c x y) a h
+no_value_names k v _ a h = refl
 
 quiet_before : (stays : Bool) (k : ℕ) (es : RawExprTrees) → hold_call es ≡ false → arguments_before stays k es ≡ []
 quiet_before stays k NoExprs h = refl
@@ -103,8 +102,6 @@ no_value_before k (RawTableCall n i e) h =
     let q = two.1 in
     let first = no_before k i two.0 in
     (λ j. first j ++ part_named (is_named (q j) i) (k + names_in i) (left_of k i) ++ before (part_after k (q j) i) e) ∙ no_before (part_after k false i) e q
-no_value_before k (RawNumber w) h = refl
-no_value_before k (RawName n) h = refl
 no_value_before k (RawElement n i) h = no_before k (RawElement n i) h
 no_value_before k (RawUnary op e) h = no_before k (RawUnary op e) h
 no_value_before k (RawParenthesized e) h = no_before k (RawParenthesized e) h
@@ -112,3 +109,4 @@ no_value_before k (RawBinary op l r) h = no_before k (RawBinary op l r) h
 no_value_before k (RawLogicalAnd l r) h = no_before k (RawLogicalAnd l r) h
 no_value_before k (RawLogicalOr l r) h = no_before k (RawLogicalOr l r) h
 no_value_before k (RawConditional c x y) h = no_before k (RawConditional c x y) h
+no_value_before k _ h = refl

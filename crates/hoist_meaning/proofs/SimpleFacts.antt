@@ -1,7 +1,7 @@
 -- What simple statements declare, and what their faults say of their right sides.
 use Rattle.std.proofs.Common.{ℕ, ◌≡◌, ◌+◌, ⊎_elim, inl, inr, refl, sym, ap, subst, ◌∙◌, Bool, true, false, List, [], ◌∷◌, ◌++◌, length, arith}
 use Rattle.std.specs.Prelude.{slice_index}
-use Rattle.c_tree.specs.RawTrees.{RawExprTree, RawNumber, RawName, RawElement, RawUnary, RawParenthesized, RawBinary, RawLogicalAnd, RawLogicalOr, RawConditional, RawCall, RawTableCall, RawSimpleTree, RawDeclareScalar, RawDeclareArray, RawDeclareWith, RawSet, RawSetElement, RawCalling, RawTableCalling}
+use Rattle.c_tree.specs.RawTrees.{RawExprTree, RawNumber, RawSimpleTree, RawDeclareScalar, RawDeclareArray, RawDeclareWith}
 use Rattle.scope_rules.specs.Names.{Binding, find, is_fixed}
 use Rattle.scope_rules.specs.Calls.{right_faults}
 use Rattle.scope_rules.specs.Places.{Spot}
@@ -24,16 +24,7 @@ use Rattle.hoist_meaning.proofs.Rising.{bound_alone}
 
 pub right_is_side : (bs : List Binding) (e : RawExprTree) → right_faults bs e ≡ side_faults true bs e
 right_is_side bs (RawNumber v) = refl
-right_is_side bs (RawName n) = refl
-right_is_side bs (RawElement n i) = refl
-right_is_side bs (RawUnary op e) = refl
-right_is_side bs (RawParenthesized e) = refl
-right_is_side bs (RawBinary op l r) = refl
-right_is_side bs (RawLogicalAnd l r) = refl
-right_is_side bs (RawLogicalOr l r) = refl
-right_is_side bs (RawConditional c x y) = refl
-right_is_side bs (RawCall n es) = refl
-right_is_side bs (RawTableCall n i e) = refl
+right_is_side bs _ = refl
 
 -- ---- a size that comes next
 
@@ -57,10 +48,7 @@ pub simple_alone : (s : Spot) (p : RawSimpleTree) → KnowsSpawnAlone s.names �
 simple_alone s (RawDeclareScalar n) h = bound_alone s.names n.text (next_variable s) false h
 simple_alone s (RawDeclareArray n size) h = bound_alone s.names n.text (next_variable s) true h
 simple_alone s (RawDeclareWith n v) h = bound_alone s.names n.text (next_variable s) false h
-simple_alone s (RawSet n v) h = h
-simple_alone s (RawSetElement n i v) h = h
-simple_alone s (RawCalling n es) h = h
-simple_alone s (RawTableCalling n i e) h = h
+simple_alone s _ h = h
 
 -- a name that is declared, or that can't be
 pub declared_within : (v : Bool) (t : List ℕ) (x y : ℕ) (array : Bool) (c a : Agreement) → Within c a → Within (declared_or v t x y array c) (declared_or v t x y array a)
@@ -76,10 +64,7 @@ pub simple_more : (n m : ℕ) (p : RawSimpleTree) (a : Agreement) → Within a (
 simple_more n m (RawDeclareScalar x) a = declared_more (is_fixed (find x.text (in_text a))) x.text n m false a
 simple_more n m (RawDeclareArray x size) a = declared_more (is_fixed (find x.text (in_text a))) x.text n m true a
 simple_more n m (RawDeclareWith x v) a = declared_more (is_fixed (find x.text (in_text a))) x.text n m false a
-simple_more n m (RawSet x v) a = λ u w p. p
-simple_more n m (RawSetElement x i v) a = λ u w p. p
-simple_more n m (RawCalling x es) a = λ u w p. p
-simple_more n m (RawTableCalling x i e) a = λ u w p. p
+simple_more n m _ a = λ u w p. p
 
 pub element_extend : (k v : ℕ) (i e : RawExprTree) (a : Agreement) → Extends k v (v + (part_after 0 (holds_nested e) i + value_names e)) a (with_element_names k v i e a)
 element_extend k v i e a =

@@ -155,10 +155,7 @@ module _ (text : DeepProgram) (program : ProgramTree) (ns text_calls tree_calls 
   deep_grows s (RawDeclareScalar n) = record { more = 1 ∷ []; is = refl }
   deep_grows s (RawDeclareArray n size) = record { more = size ∷ []; is = refl }
   deep_grows s (RawDeclareWith n v) = record { more = 1 ∷ []; is = refl }
-  deep_grows s (RawSet n v) = grows_none s.sizes
-  deep_grows s (RawSetElement n i v) = grows_none s.sizes
-  deep_grows s (RawCalling n es) = grows_none s.sizes
-  deep_grows s (RawTableCalling n i e) = grows_none s.sizes
+  deep_grows s _ = grows_none s.sizes
 
   text_few_at : (s : Spot) (p : RawSimpleTree) → Grows (deep.simple_after s p).sizes (frames.function_at text f).sizes → length s.sizes ≤ 65536
   text_few_at s p h =

@@ -2,7 +2,7 @@
 -- the k-th of the text where both are one.
 use Rattle.std.proofs.Common.{ℕ, zero, suc, ◌≡◌, ◌+◌, ◌≤◌, refl, sym, ap, subst, ◌∙◌, Bool, true, false, ◌||◌, List, [], ◌∷◌, ◌++◌, append_assoc, append-nil, length, length-append, Option, Some, None, arith, if◌then◌else◌}
 use Rattle.std.specs.Prelude.{slice_index_or}
-use Rattle.c_tree.specs.RawTrees.{RawExprTree, RawExprTrees, RawNumber, RawName, RawElement, RawUnary, RawParenthesized, RawBinary, RawLogicalAnd, RawLogicalOr, RawConditional, RawCall, RawTableCall, NoExprs, And, RawSimpleTree, RawDeclareScalar, RawDeclareArray, RawDeclareWith, RawSet, RawSetElement, RawCalling, RawTableCalling, RawStmtTree, RawStmtTrees, RawDo, RawEmpty, RawBlock, RawIf, RawIfElse, RawWhile, RawFor, RawBreak, RawContinue, RawReturn, NoRawStmts, RawThen, RawItemTree}
+use Rattle.c_tree.specs.RawTrees.{RawExprTree, RawExprTrees, RawNumber, RawName, RawElement, RawUnary, RawParenthesized, RawBinary, RawLogicalAnd, RawLogicalOr, RawConditional, RawCall, RawTableCall, NoExprs, And, RawSimpleTree, RawDeclareWith, RawSet, RawSetElement, RawCalling, RawTableCalling, RawStmtTree, RawStmtTrees, RawDo, RawBlock, RawIf, RawIfElse, RawWhile, RawFor, RawReturn, NoRawStmts, RawThen, RawItemTree}
 use Rattle.c_tree.specs.RawViews.{raw_in_order}
 use Rattle.c_tree.specs.WholeCalls.{HasNoCall, IsValueWhole, IsSimpleWhole, AreSimplesWhole, IsStepWhole, IsConditionWhole, IsReturnWhole, IsStmtWhole, AreStmtsWhole}
 use Rattle.grammar_laws.specs.Nested.{is_call}
@@ -66,8 +66,6 @@ both_length xs ys m n e f = let both = length-append xs ys in omega (arith, both
 
 mutual
   pub calls_length : (e : RawExprTree) → length (expr_places is_call e) ≡ calls_in e
-  calls_length (RawNumber v) = refl
-  calls_length (RawName n) = refl
   calls_length (RawElement n i) = calls_length i
   calls_length (RawUnary op e) = calls_length e
   calls_length (RawParenthesized e) = calls_length e
@@ -80,6 +78,7 @@ mutual
       omega (arith, outer)
   calls_length (RawCall n es) = let rest = all_calls_length es in omega (arith, rest)
   calls_length (RawTableCall n i e) = let inner = both_length (expr_places is_call i) (expr_places is_call e) (calls_in i) (calls_in e) (calls_length i) (calls_length e) in omega (arith, inner)
+  calls_length _ = refl
 
   pub all_calls_length : (es : RawExprTrees) → length (exprs_places is_call es) ≡ all_calls_in es
   all_calls_length NoExprs = refl
@@ -91,8 +90,6 @@ none_there : (e : RawExprTree) → HasNoCall e → length (expr_places is_call e
 none_there e h = ap length (no_places e h)
 
 value_site : (j : ℕ) (v : RawExprTree) → IsValueWhole v → j + length (expr_places is_call v) ≤ 65536 → right_after j v ≡ j + length (expr_places is_call v)
-value_site j (RawNumber v) h few = omega arith
-value_site j (RawName n) h few = omega arith
 value_site j (RawElement n i) h few = let none = none_there i h in omega (arith, none)
 value_site j (RawUnary op e) h few = let none = none_there e h in omega (arith, none)
 value_site j (RawParenthesized e) h few = let none = none_there e h in omega (arith, none)
@@ -106,10 +103,9 @@ value_site j (RawTableCall n i e) h few =
     let two = none_there e h.1 in
     let both = length-append (expr_places is_call i) (expr_places is_call e) in
     omega (arith, one, two, both, few)
+value_site j _ h few = omega arith
 
 simple_site : (s : Spot) (p : RawSimpleTree) → IsSimpleWhole p → s.site + length (simple_places is_call p) ≤ 65536 → (simple_after s p).site ≡ s.site + length (simple_places is_call p)
-simple_site s (RawDeclareScalar n) h few = omega arith
-simple_site s (RawDeclareArray n size) h few = omega arith
 simple_site s (RawDeclareWith n v) h few = value_site s.site v h few
 simple_site s (RawSet n v) h few = value_site s.site v h few
 simple_site s (RawSetElement n i v) h few =
@@ -119,6 +115,7 @@ simple_site s (RawSetElement n i v) h few =
     omega (arith, one, two, both)
 simple_site s (RawCalling n es) h few = value_site s.site (RawCall n es) h few
 simple_site s (RawTableCalling n i e) h few = value_site s.site (RawTableCall n i e) h few
+simple_site s _ h few = omega arith
 
 simples_site : (s : Spot) (ps : List RawSimpleTree) → AreSimplesWhole ps → s.site + length (simples_places is_call ps) ≤ 65536 → (simples_after s ps).site ≡ s.site + length (simples_places is_call ps)
 simples_site s [] h few = omega arith
@@ -143,7 +140,6 @@ returned_site s (Some v) h few = value_site s.site v h few
 mutual
   pub stmt_site : (s : Spot) (p : RawStmtTree) → IsStmtWhole p → s.site + length (stmt_places is_call p) ≤ 65536 → (stmt_after s p).site ≡ s.site + length (stmt_places is_call p)
   stmt_site s (RawDo p) h few = simple_site s p h few
-  stmt_site s RawEmpty h few = omega arith
   stmt_site s (RawBlock ps) h few = stmts_site (inside s) ps h few
   stmt_site s (RawIf c p) h few =
       let both = length-append (expr_places is_call c) (stmt_places is_call p) in
@@ -173,9 +169,8 @@ mutual
       let two = step_site first step h.2 (omega (arith, few, outer, middle, inner, one)) in
       let three = stmt_site (inside second) p h.3 (omega (arith, few, outer, middle, inner, none, one, two)) in
       omega (arith, outer, middle, inner, none, one, two, three)
-  stmt_site s (RawBreak at) h few = omega arith
-  stmt_site s (RawContinue at) h few = omega arith
   stmt_site s (RawReturn at v) h few = returned_site s v h few
+  stmt_site s _ h few = omega arith
 
   pub stmts_site : (s : Spot) (ps : RawStmtTrees) → AreStmtsWhole ps → s.site + length (stmts_places is_call ps) ≤ 65536 → (stmts_after s ps).site ≡ s.site + length (stmts_places is_call ps)
   stmts_site s NoRawStmts h few = omega arith
@@ -256,8 +251,6 @@ tree_branches tree s c xs ys quiet whole_x whole_y h =
 -- ---- an expression without a call has no number
 
 quiet_sites : (ns : List ℕ) (s : Spot) (k site : ℕ) (e : RawExprTree) → holds_call e ≡ false → SitesStand ns s k site e
-quiet_sites ns s k site (RawNumber v) h = tt
-quiet_sites ns s k site (RawName n) h = tt
 quiet_sites ns s k site (RawElement n i) h = quiet_sites ns s k site i h
 quiet_sites ns s k site (RawUnary op e) h = quiet_sites ns s k site e h
 quiet_sites ns s k site (RawParenthesized e) h = quiet_sites ns s k site e h
@@ -279,6 +272,7 @@ quiet_sites ns s k site (RawConditional c x y) h =
     )
 quiet_sites ns s k site (RawCall n es) h = absurd (let wrong : true ≡ false = h in cc)
 quiet_sites ns s k site (RawTableCall n i e) h = absurd (let wrong : true ≡ false = h in cc)
+quiet_sites ns s k site _ h = tt
 
 -- ---- the numbers of an expression's calls
 
@@ -344,8 +338,6 @@ module _ (ns tree text : List ℕ) (same : (j k at : ℕ) → StandsAt tree j at
 
   mutual
     pub sites_stand : (k site : ℕ) (e : RawExprTree) (s : Spot) → IsPlain e → TreeHas tree s (before k e) → Occurs text site (expr_places is_call e) → SitesStand ns s k site e
-    sites_stand k site (RawNumber v) s p h g = tt
-    sites_stand k site (RawName n) s p h g = tt
     sites_stand k site (RawElement n i) s p h g = sites_stand k site i s p h g
     sites_stand k site (RawUnary op e) s p h g = sites_stand k site e s p h g
     sites_stand k site (RawParenthesized e) s p h g = sites_stand k site e s p h g
@@ -394,6 +386,7 @@ module _ (ns tree text : List ℕ) (same : (j k at : ℕ) → StandsAt tree j at
           ap (λ (t : Spot). number_at ns t.site) (sym (three_after s (before k i) named (before k1 e)))
               ∙ call_number (after s (table_before k i e)).site site n.at (parts_places k i e ++ []) (expr_places is_call i ++ expr_places is_call e) two.1.occurs g,
         )
+    sites_stand k site _ s p h g = tt
 
     pub argument_sites_stand : (k site : ℕ) (stays : Bool) (es : RawExprTrees) (s : Spot) → ArePlain stays es → TreeHas tree s (arguments_before stays k es) → Occurs text site (exprs_places is_call es) → ArgumentSitesStand ns s k site stays es
     argument_sites_stand k site stays NoExprs s p h g = tt

@@ -2,7 +2,7 @@
 -- each new name.
 use Rattle.std.proofs.Common.{ℕ, zero, suc, ◌≡◌, ◌+◌, ◌<◌, ◌≤◌, refl, sym, ap, subst, ◌∙◌, Bool, true, false, ◌||◌, List, [], ◌∷◌, ◌++◌, append_assoc, append-nil, length, length-append, Option, Some, None, arith, if◌then◌else◌}
 use Rattle.std.specs.Prelude.{slice_index}
-use Rattle.c_tree.specs.RawTrees.{RawExprTree, RawExprTrees, RawNumber, RawName, RawElement, RawUnary, RawParenthesized, RawBinary, RawLogicalAnd, RawLogicalOr, RawConditional, RawCall, RawTableCall, NoExprs, And, RawSimpleTree, RawDeclareScalar, RawDeclareArray, RawDeclareWith, RawSet, RawSetElement, RawCalling, RawTableCalling, RawStmtTree, RawStmtTrees, RawDo, RawEmpty, RawBlock, RawIf, RawIfElse, RawWhile, RawFor, RawBreak, RawContinue, RawReturn, NoRawStmts, RawThen}
+use Rattle.c_tree.specs.RawTrees.{RawExprTree, RawExprTrees, RawNumber, RawName, RawElement, RawUnary, RawParenthesized, RawBinary, RawLogicalAnd, RawLogicalOr, RawConditional, RawCall, RawTableCall, NoExprs, And, RawSimpleTree, RawDeclareScalar, RawDeclareArray, RawDeclareWith, RawStmtTree, RawStmtTrees, RawDo, RawBlock, RawIf, RawIfElse, RawWhile, RawFor, RawReturn, NoRawStmts, RawThen}
 use Rattle.scope_rules.specs.Places.{Spot}
 use Rattle.scope_rules.specs.Simples.{simple_after, simples_after}
 use Rattle.scope_rules.specs.Statements.{inside, left, step_after, stmt_after, stmts_after, returned_after}
@@ -142,8 +142,6 @@ conditional_adds false k c x y s e h gx gy =
 
 mutual
   pub before_adds : (k : ℕ) (e : RawExprTree) (s : Spot) → Adds (names_in e) s.sizes (after s (before k e)).sizes
-  before_adds k (RawNumber v) s = adds_none s.sizes
-  before_adds k (RawName n) s = adds_none s.sizes
   before_adds k (RawElement n i) s = before_adds k i s
   before_adds k (RawUnary op e) s = before_adds k e s
   before_adds k (RawParenthesized e) s = before_adds k e s
@@ -160,6 +158,7 @@ mutual
       let k1 = part_after k (holds_call e) i in
       both_add (names_in i + one_if (is_named (holds_call e) i) + names_in e) 1 s (table_before k i e) (declared_as (k1 + names_in e) (table_call_left k n i e) ∷ [])
       (part_add (holds_call e) k (names_in e) i s (before k1 e) (before_adds k i s) (before_adds k1 e (after_part s k (holds_call e) i))) (part_names_add true (k1 + names_in e) (table_call_left k n i e) (after s (table_before k i e)))
+  before_adds k _ s = adds_none s.sizes
 
   pub arguments_add : (stays : Bool) (k : ℕ) (es : RawExprTrees) (s : Spot) → Adds (arguments_names stays es) s.sizes (after s (arguments_before stays k es)).sizes
   arguments_add stays k NoExprs s = adds_none s.sizes
@@ -199,10 +198,7 @@ simple_grows : (s : Spot) (p : RawSimpleTree) → Grows s.sizes (simple_after s 
 simple_grows s (RawDeclareScalar n) = record { more = 1 ∷ []; is = refl }
 simple_grows s (RawDeclareArray n size) = record { more = size ∷ []; is = refl }
 simple_grows s (RawDeclareWith n v) = record { more = 1 ∷ []; is = refl }
-simple_grows s (RawSet n v) = grows_none s.sizes
-simple_grows s (RawSetElement n i v) = grows_none s.sizes
-simple_grows s (RawCalling n es) = grows_none s.sizes
-simple_grows s (RawTableCalling n i e) = grows_none s.sizes
+simple_grows s _ = grows_none s.sizes
 
 simples_grow : (s : Spot) (ps : List RawSimpleTree) → Grows s.sizes (simples_after s ps).sizes
 simples_grow s [] = grows_none s.sizes
@@ -219,7 +215,6 @@ returned_grows s (Some v) = grows_none s.sizes
 mutual
   pub stmt_grows : (s : Spot) (p : RawStmtTree) → Grows s.sizes (stmt_after s p).sizes
   stmt_grows s (RawDo p) = simple_grows s p
-  stmt_grows s RawEmpty = grows_none s.sizes
   stmt_grows s (RawBlock ps) = stmts_grow (inside s) ps
   stmt_grows s (RawIf c p) = stmt_grows (inside s) p
   stmt_grows s (RawIfElse c p r) = grows_on s.sizes (stmt_after (inside s) p).sizes (stmt_after (inside (left s (stmt_after (inside s) p))) r).sizes (stmt_grows (inside s) p) (stmt_grows (inside (left s (stmt_after (inside s) p))) r)
@@ -228,9 +223,8 @@ mutual
       let one = simples_after (inside s) init in
       let two = step_after one step in
       grows_on s.sizes two.sizes (stmt_after (inside two) p).sizes (grows_on s.sizes one.sizes two.sizes (simples_grow (inside s) init) (step_grows one step)) (stmt_grows (inside two) p)
-  stmt_grows s (RawBreak at) = grows_none s.sizes
-  stmt_grows s (RawContinue at) = grows_none s.sizes
   stmt_grows s (RawReturn at v) = returned_grows s v
+  stmt_grows s _ = grows_none s.sizes
 
   pub stmts_grow : (s : Spot) (ps : RawStmtTrees) → Grows s.sizes (stmts_after s ps).sizes
   stmts_grow s NoRawStmts = grows_none s.sizes

@@ -1,7 +1,7 @@
 -- What is asked of a statement of the text and of the place in the rewritten tree from which what stands for it is: for each expression its
 -- names, rules and numbers, for each name that is set the variable of both, and where `break` and `continue` lead.
 use Rattle.std.proofs.Common.{ℕ, ◌+◌, ◌≡◌, ◌⊎◌, Bool, true, false, List, [], ◌∷◌, Option, Some, None}
-use Rattle.c_tree.specs.RawTrees.{RawExprTree, RawCall, RawTableCall, RawSimpleTree, RawDeclareScalar, RawDeclareArray, RawDeclareWith, RawSet, RawSetElement, RawCalling, RawTableCalling, RawStmtTree, RawStmtTrees, RawDo, RawEmpty, RawBlock, RawIf, RawIfElse, RawWhile, RawFor, RawBreak, RawContinue, RawReturn, NoRawStmts, RawThen}
+use Rattle.c_tree.specs.RawTrees.{RawExprTree, RawCall, RawTableCall, RawSimpleTree, RawDeclareScalar, RawDeclareArray, RawDeclareWith, RawSet, RawSetElement, RawCalling, RawTableCalling, RawStmtTree, RawStmtTrees, RawDo, RawEmpty, RawBlock, RawIf, RawIfElse, RawWhile, RawFor, RawBreak, RawReturn, NoRawStmts, RawThen}
 use Rattle.c_tree.specs.Trees.{ExprTree, RightTree, SimpleTree, ProgramTree}
 use Rattle.c_tree.specs.Trees as tree
 use Rattle.c_tree.specs.WholeCalls.{IsSimpleWhole, HasNoCall}
@@ -148,9 +148,8 @@ module _ (text : DeepProgram) (program : ProgramTree) (ns : List ℕ) (f : ℕ) 
         × StepSound m k (deep.optional_after (deep.simples_after (inside s) init) c) (tree_simples.simples_after (inside t) init) step
         × ((d : Agreement) × (e : Agreement) × (place : Spot) × Within d m × Within m e × IsBodyAt k (inside (tree_stmts.step_after (tree_simples.simples_after (inside t) init) step)) place p
         × StmtSound (Some m) d e k (inside (deep.step_after (deep.optional_after (deep.simples_after (inside s) init) c) step)) place p)
-    StmtSound o a b k s t (RawBreak at) = JumpSound o a
-    StmtSound o a b k s t (RawContinue at) = JumpSound o a
     StmtSound o a b k s t (RawReturn at v) = ReturnSound a k s t v
+    StmtSound o a b k s t _ = JumpSound o a
 
     pub StmtsSound : Option Agreement → Agreement → Agreement → ℕ → Spot → Spot → RawStmtTrees → Type 0
     StmtsSound o a c k s t NoRawStmts = Within c a

@@ -3,7 +3,7 @@ use Rattle.std.proofs.Common.{ℕ, ◌+◌, ◌≡◌, ◌<◌, ◌≤◌, refl,
 use Rattle.std.specs.Prelude.{slice_index_or}
 use Rattle.std.proofs.lemmas.Bool.{cases_lt}
 use Rattle.cap_word.specs.Rows.{zeros, scalars}
-use Rattle.c_tree.specs.RawTrees.{NameTree, RawStmtTrees, RawItemTree, RawGlobal, RawGlobalArray, RawTableItem, RawPrototypeItem, RawFunctionItem, NoRawStmts}
+use Rattle.c_tree.specs.RawTrees.{NameTree, RawStmtTrees, RawItemTree, RawTableItem, RawPrototypeItem, RawFunctionItem, NoRawStmts}
 use Rattle.c_tree.specs.RawViews.{raw_in_order}
 use Rattle.c_tree.specs.Trees.{FunctionTree, ProgramTree}
 use Rattle.c_tree.specs.Trees as tree
@@ -110,8 +110,6 @@ after_declared : (params : List NameTree) (xs : List ℕ) → names_places is_ca
 after_declared params xs = ap (λ (ps : List ℕ). ps ++ xs) (no_declared params)
 
 item_text_site : (one : List Binding) (w : DeepSofar) (i : RawItemTree) → (deep.item_after one w i).spot.site ≡ w.spot.site + length (item_places is_call i)
-item_text_site one w (RawGlobal n start) = omega arith
-item_text_site one w (RawGlobalArray n size) = omega arith
 item_text_site one w (RawTableItem n size members) = let none : length (names_places is_call Used members) ≡ 0 = ap length (no_used members) in omega (arith, none)
 item_text_site one w (RawPrototypeItem gives n params) = let none : length (parameters_places is_call params) ≡ 0 = ap length (no_parameters params) in omega (arith, none)
 item_text_site one w (RawFunctionItem gives n params body) =
@@ -119,10 +117,9 @@ item_text_site one w (RawFunctionItem gives n params body) =
     let first : b.site ≡ w.spot.site = params_site (params_spot one w.spot gives n params) params in
     let rest = deep_sites b body in
     let same : length (names_places is_call Declared params ++ stmts_places is_call body) ≡ length (stmts_places is_call body) = ap length (after_declared params (stmts_places is_call body)) in omega (arith, first, rest, same)
+item_text_site one w _ = omega arith
 
 item_tree_site : (other : List Binding) (v : Sofar) (i : RawItemTree) → IsItemForWhole i → v.spot.site + length (item_places is_call (item_hoisted i)) ≤ 65536 → (item_after other v (item_hoisted i)).spot.site ≡ v.spot.site + length (item_places is_call (item_hoisted i))
-item_tree_site other v (RawGlobal n start) w few = omega arith
-item_tree_site other v (RawGlobalArray n size) w few = omega arith
 item_tree_site other v (RawTableItem n size members) w few = let none : length (names_places is_call Used members) ≡ 0 = ap length (no_used members) in omega (arith, none)
 item_tree_site other v (RawPrototypeItem gives n params) w few = let none : length (parameters_places is_call params) ≡ 0 = ap length (no_parameters params) in omega (arith, none)
 item_tree_site other v (RawFunctionItem gives n params body) w few =
@@ -131,6 +128,7 @@ item_tree_site other v (RawFunctionItem gives n params body) w few =
     let first : b.site ≡ v.spot.site = params_site (params_spot other v.spot gives n params) params in
     let same : length (names_places is_call Declared params ++ stmts_places is_call there) ≡ length (stmts_places is_call there) = ap length (after_declared params (stmts_places is_call there)) in
     let rest = stmts_site b there (in_order_whole (all_hoisted 0 body) (all_hoisted_whole 0 body w)) (omega (arith, few, first, same)) in omega (arith, first, rest, same)
+item_tree_site other v _ w few = omega arith
 
 abbrev no_deep : DeepFunction
 no_deep = record { params = 0; sizes = []; body = deep_tree.NoStmts }
@@ -203,10 +201,6 @@ module _ (text : DeepProgram) (program : ProgramTree) (ns text_calls tree_calls 
   more_sound : (w : DeepSofar) (v : Sofar) (i : RawItemTree) (is : List RawItemTree) → SofarAlike w v → OuterNames w.spot.names → IsItemNamed i → IsItemForWhole i → IsItemPlain i → item_faults other v (item_hoisted i) ≡ [] → text.functions ≡ (deep.items_after one w (i ∷ is)).functions
       → program.functions ≡ map (function_numbered ns) (items_after other v (items_hoisted (i ∷ is))).functions → Occurs text_calls w.spot.site (item_places is_call i) → Occurs tree_calls v.spot.site (item_places is_call (item_hoisted i))
       → AllSound (length w.functions) → AllSound (length (deep.item_after one w i).functions)
-  more_sound w v (RawGlobal n start) is alike outer named fors plain fine in_text in_tree text_has tree_has sound = sound
-  more_sound w v (RawGlobalArray n size) is alike outer named fors plain fine in_text in_tree text_has tree_has sound = sound
-  more_sound w v (RawTableItem n size members) is alike outer named fors plain fine in_text in_tree text_has tree_has sound = sound
-  more_sound w v (RawPrototypeItem gives n params) is alike outer named fors plain fine in_text in_tree text_has tree_has sound = sound
   more_sound w v (RawFunctionItem gives n params body) is alike outer named fors plain fine in_text in_tree text_has tree_has sound = λ f less.
       let s = body_spot one w.spot gives n params in
       let d : DeepFunction = record { params = length params; sizes = (deep.stmts_after s body).sizes; body = deep.stmts_of s body } in
@@ -216,6 +210,7 @@ module _ (text : DeepProgram) (program : ProgramTree) (ns text_calls tree_calls 
       let here : length w.functions ≡ f = omega (arith, last, less, long) in
       subst (λ (j : ℕ). FunctionSound text program ns j) here (next_sound w v gives n params body is alike outer named fors plain fine in_text in_tree text_has tree_has))
       (cases_lt f (length w.functions))
+  more_sound w v _ is alike outer named fors plain fine in_text in_tree text_has tree_has sound = sound
 
   pub items_sound : (is : List RawItemTree) (w : DeepSofar) (v : Sofar) → SofarAlike w v → OuterNames w.spot.names → AreItemsNamed is → AreForPartsWhole is → AreItemsPlain is → items_faults other v (items_hoisted is) ≡ [] → text.functions ≡ (deep.items_after one w is).functions
       → program.functions ≡ map (function_numbered ns) (items_after other v (items_hoisted is)).functions → Occurs text_calls w.spot.site (items_places is_call is) → Occurs tree_calls v.spot.site (items_places is_call (items_hoisted is))

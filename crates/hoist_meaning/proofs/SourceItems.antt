@@ -4,7 +4,7 @@ use Rattle.std.proofs.Common.{ℕ, zero, suc, ◌≡◌, ◌≤◌, refl, sym, a
 use Rattle.std.specs.Prelude.{slice_index_or}
 use Rattle.c_tree.specs.RawTrees.{RawItemTree, RawGlobal, RawGlobalArray, RawTableItem, RawPrototypeItem, RawFunctionItem}
 use Rattle.c_tree.specs.RawViews.{raw_in_order}
-use Rattle.c_tree.specs.Trees.{FunctionTree, ProgramTree}
+use Rattle.c_tree.specs.Trees.{FunctionTree}
 use Rattle.c_tree.specs.Trees as tree
 use Rattle.c_tree.specs.Temporaries.{capped}
 use Rattle.scope_rules.specs.declared.meanings.Meaning.{Meaning}
@@ -18,12 +18,9 @@ use Rattle.hoist_parts.specs.Statements.{item_hoisted, items_hoisted, all_hoiste
 
 -- ---- what is declared outside functions
 
-definition_same : (ds : List Binding) (i : RawItemTree) → with_definition ds (item_hoisted i) ≡ with_definition ds i
+pub definition_same : (ds : List Binding) (i : RawItemTree) → with_definition ds (item_hoisted i) ≡ with_definition ds i
 definition_same ds (RawGlobal n start) = refl
-definition_same ds (RawGlobalArray n size) = refl
-definition_same ds (RawTableItem n size members) = refl
-definition_same ds (RawPrototypeItem gives n params) = refl
-definition_same ds (RawFunctionItem gives n params body) = refl
+definition_same ds _ = refl
 
 pub definitions_same : (ds : List Binding) (is : List RawItemTree) → with_definitions ds (items_hoisted is) ≡ with_definitions ds is
 definitions_same ds [] = refl
@@ -131,9 +128,8 @@ abbrev no_function : FunctionTree
 no_function = record { name = []; params = 0; gives = false; sizes = []; body = tree.NoStmts }
 
 pub at_numbered : (ns : List ℕ) (fs : List FunctionTree) (j : ℕ) → slice_index_or (map (function_numbered ns) fs) j no_function ≡ function_numbered ns (slice_index_or fs j no_function)
-at_numbered ns [] j = refl
-at_numbered ns (f ∷ fs) zero = refl
 at_numbered ns (f ∷ fs) (suc j) = at_numbered ns fs j
+at_numbered ns _ _ = refl
 
 -- none is there beyond the last
 pub past : {A : Type 0} (xs : List A) (j : ℕ) (none : A) → length xs ≤ j → slice_index_or xs j none ≡ none

@@ -3,7 +3,7 @@
 use Rattle.std.proofs.Common.{ℕ, ◌+◌, ◌≡◌, refl, sym, ap, ◌∙◌, inl, inr, ◌⊎◌, ⊎_elim, Bool, true, false, ◌||◌, List, [], ◌∷◌, ◌++◌}
 use Rattle.std.specs.Prelude.{codes, length, if◌then◌else◌}
 use Rattle.std.proofs.lemmas.Slice.Eq.{bytes_eq-Decides}
-use Rattle.c_tree.specs.RawTrees.{NameTree, RawExprTree, RawExprTrees, RawNumber, RawName, RawElement, RawUnary, RawParenthesized, RawBinary, RawLogicalAnd, RawLogicalOr, RawConditional, RawCall, RawTableCall, NoExprs, And, RawStmtTree, RawIf, RawIfElse}
+use Rattle.c_tree.specs.RawTrees.{NameTree, RawExprTree, RawExprTrees, RawNumber, RawElement, RawUnary, RawParenthesized, RawBinary, RawLogicalAnd, RawLogicalOr, RawConditional, RawCall, RawTableCall, NoExprs, And, RawStmtTree, RawIf, RawIfElse}
 use Rattle.c_tree.specs.RawViews.{raw_in_order}
 use Rattle.c_tree.specs.WholeCalls.{HasNoCall}
 use Rattle.scope_rules.specs.declared.meanings.Callee.{Callee}
@@ -26,9 +26,8 @@ use Rattle.hoist_meaning.proofs.KnownSpawn.{KnowsSpawn, stmt_knows, stmts_know, 
 -- ---- the first argument of a call
 
 abbrev pub IsFirstPlain : Bool → RawExprTrees → Type 0
-IsFirstPlain stays NoExprs = Unit {0}
 IsFirstPlain true (And e es) = holds_call e ≡ false
-IsFirstPlain false (And e es) = Unit {0}
+IsFirstPlain _ _ = Unit {0}
 
 -- no later argument is one
 pub later : (es : RawExprTrees) → IsFirstPlain false es
@@ -40,8 +39,6 @@ not_spawned true names at e h = cc
 not_spawned false names at e h = refl
 
 pub first_plain : (stays used : Bool) (names : List Binding) (n : NameTree) (k : ℕ) (es : RawExprTrees) → is_spawn n ≡ stays → KnowsSpawn names → call_faults used names n (listed (arguments_left stays k es)) ≡ [] → IsFirstPlain stays es
-first_plain stays used names n k NoExprs same known h = tt
-first_plain false used names n k (And e es) same known h = tt
 first_plain true used names n k (And e es) same known h =
     let rest = listed (arguments_left false k es) in
     let all = spawned_left e ∷ rest in
@@ -51,12 +48,11 @@ first_plain true used names n k (And e es) same known h =
     (both_none (call_name_faults used (find n.text names) n.at (length all)) (arguments_faults (callee_of (find n.text names)) names n.at all) h).1 in
     let spawned : arguments_faults Callee.Spawn names n.at all ≡ [] = sym (ap (λ c. arguments_faults c names n.at all) callee) ∙ arguments in
     not_spawned (holds_call e) names n.at e (both_none (spawned_faults names n.at (spawned_left e)) (exprs_faults names rest) spawned).0
+first_plain _ used names n k _ same known h = tt
 
 -- ---- no call at all
 
 pub no_call_plain : (e : RawExprTree) → HasNoCall e → IsPlain e
-no_call_plain (RawNumber v) h = tt
-no_call_plain (RawName n) h = tt
 no_call_plain (RawElement n i) h = no_call_plain i h
 no_call_plain (RawUnary op e) h = no_call_plain e h
 no_call_plain (RawParenthesized e) h = no_call_plain e h
@@ -66,6 +62,7 @@ no_call_plain (RawLogicalOr l r) h = (no_call_plain l h.0, no_call_plain r h.1)
 no_call_plain (RawConditional c a b) h = (no_call_plain c h.0, no_call_plain a h.1, no_call_plain b h.2)
 no_call_plain (RawCall n es) h = absurd h
 no_call_plain (RawTableCall n i e) h = absurd h
+no_call_plain _ h = tt
 
 -- ---- what goes before an expression
 
@@ -113,8 +110,6 @@ declared_fine gives loop t m e h = (both_none (declare_faults t (new_name m)) (r
 
 mutual
   pub plain : (gives loop : Bool) (s : Spot) (k : ℕ) (e : RawExprTree) → KnowsSpawn s.names → AreFine gives loop s (before k e) → IsPlain e
-  plain gives loop s k (RawNumber v) known h = tt
-  plain gives loop s k (RawName n) known h = tt
   plain gives loop s k (RawElement n i) known h = plain gives loop s k i known h
   plain gives loop s k (RawUnary op e) known h = plain gives loop s k e known h
   plain gives loop s k (RawParenthesized e) known h = plain gives loop s k e known h
@@ -159,6 +154,7 @@ mutual
       let a = both_fine gives loop s (before k i ++ named ++ before m e) (declared_as (m + names_in e) (table_call_left k n i e) ∷ []) h in
       let b = part_fine gives loop s (before k i) named (before m e) known a.0 in
       (plain gives loop s k i known b.0, plain gives loop b.1.0 m e b.1.1 b.1.2)
+  plain gives loop s k _ known h = tt
 
   pub arguments_plain : (gives loop : Bool) (s : Spot) (k : ℕ) (stays : Bool) (es : RawExprTrees) → KnowsSpawn s.names → AreFine gives loop s (arguments_before stays k es) → IsFirstPlain stays es → ArePlain stays es
   arguments_plain gives loop s k stays NoExprs known h first = tt

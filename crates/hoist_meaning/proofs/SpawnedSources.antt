@@ -2,7 +2,7 @@
 -- of a `spawn`.
 use Rattle.std.proofs.Common.{ℕ, ◌+◌, ◌≡◌, refl, ◌∙◌, Bool, true, false, not, List, [], ◌∷◌, ◌++◌, append-nil, Option, Some, None}
 use Rattle.std.specs.Prelude.{length, if◌then◌else◌}
-use Rattle.c_tree.specs.RawTrees.{RawExprTree, RawCall, RawTableCall, RawSimpleTree, RawDeclareScalar, RawDeclareArray, RawDeclareWith, RawSet, RawSetElement, RawCalling, RawTableCalling, RawStmtTree, RawStmtTrees, RawDo, RawEmpty, RawBlock, RawIf, RawIfElse, RawWhile, RawFor, RawBreak, RawContinue, RawReturn, NoRawStmts, RawThen, RawItemTree, RawGlobal, RawGlobalArray, RawTableItem, RawPrototypeItem, RawFunctionItem}
+use Rattle.c_tree.specs.RawTrees.{RawExprTree, RawCall, RawTableCall, RawSimpleTree, RawDeclareWith, RawSet, RawSetElement, RawCalling, RawTableCalling, RawStmtTree, RawStmtTrees, RawDo, RawBlock, RawIf, RawIfElse, RawWhile, RawFor, RawBreak, RawReturn, NoRawStmts, RawThen, RawItemTree, RawGlobal, RawGlobalArray, RawTableItem, RawPrototypeItem, RawFunctionItem}
 use Rattle.c_tree.specs.RawViews.{raw_in_order, as_body}
 use Rattle.scope_rules.specs.declared.faults.Rule.{Rule}
 use Rattle.scope_rules.specs.Names.{Binding, find}
@@ -31,8 +31,6 @@ value_plain gives loop s t k (RawTableCall n i e) known there h f =
 value_plain gives loop s t k v known there h f = plain gives loop s k v known h
 
 simple_plain : (gives loop : Bool) (s t : Spot) (k : ℕ) (p : RawSimpleTree) → KnowsSpawn s.names → KnowsSpawn t.names → AreFine gives loop s (simple_before k p) → simple_faults t (simple_left k p) ≡ [] → IsSimplePlain p
-simple_plain gives loop s t k (RawDeclareScalar n) known there h f = tt
-simple_plain gives loop s t k (RawDeclareArray n size) known there h f = tt
 simple_plain gives loop s t k (RawDeclareWith n v) known there h f = value_plain gives loop s t k v known there h (both_none (declare_faults t n) (right_faults t.names (value_left k v)) f).1
 simple_plain gives loop s t k (RawSet n v) known there h f = value_plain gives loop s t k v known there h (both_none (scalar_faults t.names n) (right_faults t.names (value_left k v)) f).1
 simple_plain gives loop s t k (RawSetElement n i v) known there h f =
@@ -47,6 +45,7 @@ simple_plain gives loop s t k (RawTableCalling n i e) known there h f =
     let m = part_after k (holds_call e) i in
     let a = part_fine gives loop s (before k i) (part_named (is_named (holds_call e) i) (k + names_in i) (left_of k i)) (before m e) known h in
     (plain gives loop s k i known a.0, plain gives loop a.1.0 m e a.1.1 a.1.2)
+simple_plain gives loop s t k _ known there h f = tt
 
 -- statements as a body
 body_fine : (gives loop : Bool) (s : Spot) (ss : List RawStmtTree) → KnowsSpawn s.names → stmt_faults gives loop s (as_body ss) ≡ [] → SomewhereFine gives loop ss
@@ -87,7 +86,6 @@ mutual
       let t = after_all s xs in
       let a = both_fine gives loop s xs (RawDo (simple_left k p) ∷ []) h in
       simple_plain gives loop s t k p known (stmts_know s (raw_in_order xs) known) a.0 (one_fine gives loop t (RawDo (simple_left k p)) a.1)
-  stmt_plain gives loop s k RawEmpty known h = tt
   stmt_plain gives loop s k (RawBlock ss) known h = all_plain gives loop (inside s) k ss known (one_fine gives loop s (in_block (all_hoisted k ss)) h)
   stmt_plain gives loop s k (RawIf c p) known h =
       let ps = hoisted (k + names_in c) p in
@@ -128,9 +126,8 @@ mutual
       let d = both_none y z b.1 in
       let f = body_fine gives true (inside u) (hoisted k p) (step_knows t step (simples_know (inside s) init known)) d.1 in
       stmt_plain gives true f.0 k p f.1 f.2
-  stmt_plain gives loop s k (RawBreak at) known h = tt
-  stmt_plain gives loop s k (RawContinue at) known h = tt
   stmt_plain gives loop s k (RawReturn at v) known h = returned_plain gives loop s k at v known h
+  stmt_plain gives loop s k _ known h = tt
 
   all_plain : (gives loop : Bool) (s : Spot) (k : ℕ) (ss : RawStmtTrees) → KnowsSpawn s.names → AreFine gives loop s (all_hoisted k ss) → AreStmtsPlain ss
   all_plain gives loop s k NoRawStmts known h = tt
@@ -141,10 +138,6 @@ mutual
 -- ---- items
 
 item_plain : (defs : List Binding) (w : Sofar) (i : RawItemTree) → KnowsSpawn w.spot.names → item_faults defs w (item_hoisted i) ≡ [] → IsItemPlain i
-item_plain defs w (RawGlobal n start) known h = tt
-item_plain defs w (RawGlobalArray n size) known h = tt
-item_plain defs w (RawTableItem n size members) known h = tt
-item_plain defs w (RawPrototypeItem gives n params) known h = tt
 item_plain defs w (RawFunctionItem gives n params body) known h =
     let first = params_spot defs w.spot gives n params in
     let at = body_spot defs w.spot gives n params in
@@ -156,6 +149,7 @@ item_plain defs w (RawFunctionItem gives n params body) known h =
     let b = both_none y (z ++ f) a.1 in
     let d = both_none z f b.1 in
     all_plain gives false at 0 body (params_know first params (bound_knows w.spot.names n.text _ known)) d.1
+item_plain defs w _ known h = tt
 
 item_knows : (defs : List Binding) (w : Sofar) (i : RawItemTree) → KnowsSpawn w.spot.names → KnowsSpawn (item_after defs w i).spot.names
 item_knows defs w (RawGlobal n start) known = bound_knows w.spot.names n.text _ known

@@ -1,7 +1,7 @@
 -- Where the rewritten tree stands after what goes before an expression: the new names at the top level of those statements are in scope,
 -- each under the next number of a variable, and each new name has taken one, those in branches included.
 use Rattle.std.proofs.Common.{ℕ, ◌+◌, ◌≤◌, ◌≡◌, refl, sym, ap, subst, ◌∙◌, Bool, true, false, ◌||◌, List, [], ◌∷◌, ◌++◌, length, length-append, arith, if◌then◌else◌}
-use Rattle.c_tree.specs.RawTrees.{RawExprTree, RawExprTrees, RawNumber, RawName, RawElement, RawUnary, RawParenthesized, RawBinary, RawLogicalAnd, RawLogicalOr, RawConditional, RawCall, RawTableCall, NoExprs, And, RawStmtTree, RawIfElse}
+use Rattle.c_tree.specs.RawTrees.{RawExprTree, RawExprTrees, RawElement, RawUnary, RawParenthesized, RawBinary, RawLogicalAnd, RawLogicalOr, RawConditional, RawCall, RawTableCall, NoExprs, And, RawStmtTree, RawIfElse}
 use Rattle.c_tree.specs.Temporaries.{capped}
 use Rattle.scope_rules.specs.declared.meanings.Meaning.{Meaning}
 use Rattle.scope_rules.specs.Names.{bound}
@@ -22,8 +22,6 @@ with_part false k v a = a
 -- the names in scope after what goes before an expression whose new names have numbers from k on, and are variables from v on
 abbrev mutual
   pub with_names : ℕ → ℕ → RawExprTree → Agreement → Agreement
-  with_names k v (RawNumber w) a = a
-  with_names k v (RawName n) a = a
   with_names k v (RawElement n i) a = with_names k v i a
   with_names k v (RawUnary op e) a = with_names k v e a
   with_names k v (RawParenthesized e) a = with_names k v e a
@@ -36,6 +34,7 @@ abbrev mutual
   with_names k v (RawTableCall n i e) a =
       New (part_after k (holds_call e) i + names_in e) (part_after v (holds_call e) i + names_in e)
       (with_names (part_after k (holds_call e) i) (part_after v (holds_call e) i) e (with_part (is_named (holds_call e) i) (k + names_in i) (v + names_in i) (with_names k v i a)))
+  with_names k v _ a = a
 
   pub with_argument_names : Bool → ℕ → ℕ → RawExprTrees → Agreement → Agreement
   with_argument_names stays k v NoExprs a = a
@@ -158,8 +157,6 @@ conditional_leaves false a k v c x y s e small first rest_x rest_y =
 
 mutual
   pub before_stands : (a : Agreement) (k v : ℕ) (e : RawExprTree) (s : Spot) → StandsAt a v s → v + names_in e ≤ 65536 → Leaves a k v e s
-  before_stands a k v (RawNumber w) s h small = as_many a v (v + 0) s (omega arith) h
-  before_stands a k v (RawName n) s h small = as_many a v (v + 0) s (omega arith) h
   before_stands a k v (RawElement n i) s h small = before_stands a k v i s h small
   before_stands a k v (RawUnary op e) s h small = before_stands a k v e s h small
   before_stands a k v (RawParenthesized e) s h small = before_stands a k v e s h small
@@ -199,6 +196,7 @@ mutual
       let named = declared_stands b (k1 + names_in e) (v1 + names_in e) (table_call_left k n i e) (after s ss) here (omega (arith, small)) in
       after_joined (New (k1 + names_in e) (v1 + names_in e) b) (v + names_in (RawTableCall n i e)) s ss (call ∷ [])
       (as_many (New (k1 + names_in e) (v1 + names_in e) b) (v1 + names_in e + 1) (v + names_in (RawTableCall n i e)) (after (after s ss) (call ∷ [])) (omega arith) named)
+  before_stands a k v _ s h small = as_many a v (v + 0) s (omega arith) h
 
   pub arguments_stand : (a : Agreement) (k v : ℕ) (stays : Bool) (es : RawExprTrees) (s : Spot) → StandsAt a v s → v + arguments_names stays es ≤ 65536 → StandsAt (with_argument_names stays k v es a) (v + arguments_names stays es) (after s (arguments_before stays k es))
   arguments_stand a k v stays NoExprs s h small = as_many a v (v + 0) s (omega arith) h

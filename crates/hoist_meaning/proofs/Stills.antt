@@ -7,8 +7,8 @@ use Rattle.cap_word.specs.Runs.{Goes, Asks, Stops, and_then, moves}
 use Rattle.c_tree.specs.Trees as tree
 use Rattle.c_tree.specs.Trees.{CallTree, SimpleTree, ProgramTree}
 use Rattle.c_mean.specs.ToDo as items
-use Rattle.c_mean.specs.ToDo.{Item, Loop, Simply, Choose, Test, Enter, Back, Leave, Skip, GiveBack, GiveBackWord, Fail}
-use Rattle.c_mean.specs.Frames.{Place, Nowhere, InLocal, InGlobal, InLocalElement, InGlobalElement, Returned, WaitingFrame, Running, Waiting, function_at}
+use Rattle.c_mean.specs.ToDo.{Item, Loop, Simply, Enter, Back, Leave, Skip, GiveBack}
+use Rattle.c_mean.specs.Frames.{Place, WaitingFrame, Running, function_at}
 use Rattle.c_mean.specs.Frames as source_frames
 use Rattle.c_mean.specs.Steps as tree_steps
 use Rattle.c_mean.specs.Steps.{source_step, source_machine}
@@ -16,9 +16,9 @@ use Rattle.c_mean.proofs.StandLemmas.{Stands}
 use Rattle.deep_mean.specs.DeepTrees.{DeepExpr, DeepSimple, DeepProgram}
 use Rattle.deep_mean.specs.Evaluation.{evaluate}
 use Rattle.deep_mean.specs.DeepToDo as deep_items
-use Rattle.deep_mean.specs.DeepToDo.{Use, Stores, IndexesLocal, IndexesGlobal, Branches, Tests, Returns}
+use Rattle.deep_mean.specs.DeepToDo.{Stores, IndexesLocal, IndexesGlobal, Branches, Tests, Returns}
 use Rattle.deep_mean.specs.DeepFrames as frames
-use Rattle.deep_mean.specs.DeepFrames.{DeepWaitingFrame, DeepRunning}
+use Rattle.deep_mean.specs.DeepFrames.{DeepWaitingFrame}
 use Rattle.deep_mean.specs.DeepSteps as deep_steps
 use Rattle.hoist_meaning.proofs.Bindings.{Agreement, Both, Paired, AreBelow, NamesStand, paired_below, row_zeroed}
 use Rattle.hoist_meaning.proofs.Items.{stays, at}
@@ -30,7 +30,7 @@ use Rattle.hoist_meaning.proofs.Alike.{Within, SideSimple, AtDepth, Zeroes, Item
 
 -- ---- words that are set to 0
 
-zeroed_width : (rows : Rows) (x u : ℕ) → width (with_zeros rows x) u ≡ width rows u
+pub zeroed_width : (rows : Rows) (x u : ℕ) → width (with_zeros rows x) u ≡ width rows u
 zeroed_width rows x u =
     ⊎_elim (λ (e : u ≡ x). ap (width (with_zeros rows x)) e ∙ ap length (row_zeroed rows x) ∙ length-replicate (width rows x) 0 ∙ ap (width rows) (sym e))
     (λ (ne : u ≢ x). ap length (get_or-set_other rows x u (replicate (width rows x) 0) [] ne)) (cases_eq u x)
@@ -51,33 +51,13 @@ both_zeroed a t n m txt names below wide stand u v (inr h) = next_zeroed a n m t
 -- ---- the mark of a turn is no step
 
 frame_left : (text : DeepProgram) (program : ProgramTree) (f : ℕ) (xs : List WaitingFrame) (globals names : Rows) (one other is : List Item) → tree_steps.performs_first program (at program f xs globals names one) is ≡ tree_steps.performs_first program (at program f xs globals names other) is
-frame_left text program f [] globals names one other [] = refl
-frame_left text program f (x ∷ xs) globals names one other [] = refl
 frame_left text program f xs globals names one other (Enter ∷ is) = frame_left text program f xs globals names one other is
-frame_left text program f xs globals names one other (Simply s ∷ is) = refl
-frame_left text program f xs globals names one other (Choose c s r ∷ is) = refl
-frame_left text program f xs globals names one other (Test c loop ∷ is) = refl
-frame_left text program f xs globals names one other (Back loop ∷ is) = refl
-frame_left text program f xs globals names one other (Leave ∷ is) = refl
-frame_left text program f xs globals names one other (Skip ∷ is) = refl
-frame_left text program f xs globals names one other (GiveBack v ∷ is) = refl
-frame_left text program f xs globals names one other (GiveBackWord word ∷ is) = refl
-frame_left text program f xs globals names one other (Fail trap ∷ is) = refl
+frame_left text program f _ globals names one other _ = refl
 
 deep_frame_left : (text : DeepProgram) (program : ProgramTree) (f : ℕ) (ws : List DeepWaitingFrame) (globals txt : Rows) (one other ds : List deep_items.Item)
     → deep_steps.performs_first text (text_at text program f ws globals txt one) ds ≡ deep_steps.performs_first text (text_at text program f ws globals txt other) ds
-deep_frame_left text program f [] globals txt one other [] = refl
-deep_frame_left text program f (w ∷ ws) globals txt one other [] = refl
 deep_frame_left text program f ws globals txt one other (deep_items.Enter ∷ ds) = deep_frame_left text program f ws globals txt one other ds
-deep_frame_left text program f ws globals txt one other (deep_items.Simply s ∷ ds) = refl
-deep_frame_left text program f ws globals txt one other (deep_items.Choose c s r ∷ ds) = refl
-deep_frame_left text program f ws globals txt one other (deep_items.Test c loop ∷ ds) = refl
-deep_frame_left text program f ws globals txt one other (deep_items.Back loop ∷ ds) = refl
-deep_frame_left text program f ws globals txt one other (deep_items.Leave ∷ ds) = refl
-deep_frame_left text program f ws globals txt one other (deep_items.Skip ∷ ds) = refl
-deep_frame_left text program f ws globals txt one other (deep_items.GiveBack v ∷ ds) = refl
-deep_frame_left text program f ws globals txt one other (deep_items.Fail trap ∷ ds) = refl
-deep_frame_left text program f ws globals txt one other (deep_items.GoOn around word use_ ∷ ds) = refl
+deep_frame_left text program f _ globals txt one other _ = refl
 
 module _ (text : DeepProgram) (program : ProgramTree) (Loops : ℕ → List Agreement → Agreement → deep_items.Loop → Loop → Type 0) where
   abbrev Items : ℕ → Agreement → List deep_items.Item → List Item → Type 0
@@ -145,9 +125,7 @@ module _ (text : DeepProgram) (program : ProgramTree) (Loops : ℕ → List Agre
     side_does : (d : DeepSimple) (e : DeepExpr) (p : Place) (ds : List deep_items.Item) → SideSimple d e p
         → deep_steps.uses text (text_at text program f ws globals txt ds) (Stores p) (evaluate txt globals e) ≡ deep_steps.does text (text_at text program f ws globals txt ds) d
     side_does d e p ds (SideSimple.Declares x _) = refl
-    side_does d e p ds (SideSimple.SetsLocal x _) = refl
-    side_does d e p ds (SideSimple.SetsGlobal g _) = refl
-    side_does d e p ds (SideSimple.JustCalls _) = refl
+    side_does d e p ds _ = refl
 
     abbrev Goal : List deep_items.Item → List Item → Type 0
     Goal ds is = Answers text program Items (deep_steps.deep_step text (text_at text program f ws globals txt ds)) (at program f xs globals names is)

@@ -1,6 +1,6 @@
 -- The calls of a rewritten source are those of the text: statements and items.
 use Rattle.std.proofs.Common.{ℕ, ◌+◌, ◌≡◌, refl, ap, ◌∙◌, Bool, true, false, List, [], ◌∷◌, ◌++◌, append-nil, Option, Some, None, arith, if◌then◌else◌}
-use Rattle.c_tree.specs.RawTrees.{NameTree, RawExprTree, RawExprTrees, RawCall, RawTableCall, RawSimpleTree, RawDeclareScalar, RawDeclareArray, RawDeclareWith, RawSet, RawSetElement, RawCalling, RawTableCalling, RawStmtTree, RawStmtTrees, RawDo, RawEmpty, RawBlock, RawIf, RawIfElse, RawWhile, RawFor, RawBreak, RawContinue, RawReturn, NoRawStmts, RawThen, RawItemTree, RawGlobal, RawGlobalArray, RawTableItem, RawPrototypeItem, RawFunctionItem}
+use Rattle.c_tree.specs.RawTrees.{NameTree, RawExprTree, RawExprTrees, RawCall, RawTableCall, RawSimpleTree, RawDeclareWith, RawSet, RawSetElement, RawCalling, RawTableCalling, RawStmtTree, RawStmtTrees, RawDo, RawBlock, RawIf, RawIfElse, RawWhile, RawFor, RawBreak, RawReturn, NoRawStmts, RawThen, RawItemTree, RawFunctionItem}
 use Rattle.c_tree.specs.RawViews.{raw_in_order, as_body}
 use Rattle.c_tree.specs.WholeCalls.{HasNoCall}
 use Rattle.grammar_laws.specs.Nested.{is_call}
@@ -49,8 +49,6 @@ module _ (c : List ℕ → ℕ) (none : c [] ≡ 0) (both : (xs ys : List ℕ) �
   value_count k v h = let first = before_count c none both k v h in let left = no_count (left_of k v) (left_whole k v) in omega (arith, first, left)
 
   simple_count : (k : ℕ) (s : RawSimpleTree) → IsSimplePlain s → stmts_count c (simple_before k s) + c (simple_places is_call (simple_left k s)) ≡ c (simple_places is_call s)
-  simple_count k (RawDeclareScalar n) h = omega (arith, none)
-  simple_count k (RawDeclareArray n size) h = omega (arith, none)
   simple_count k (RawDeclareWith n v) h = value_count k v h
   simple_count k (RawSet n v) h = value_count k v h
   simple_count k (RawSetElement n i v) h =
@@ -65,6 +63,7 @@ module _ (c : List ℕ → ℕ) (none : c [] ≡ 0) (both : (xs ys : List ℕ) �
       omega (arith, parts, first, second, left, there)
   simple_count k (RawCalling n es) h = value_count k (RawCall n es) h
   simple_count k (RawTableCalling n i e) h = value_count k (RawTableCall n i e) h
+  simple_count k _ h = omega (arith, none)
 
   returned_count : (k : ℕ) (v : Option RawExprTree) → IsOptionPlain v → stmts_count c (returned_before k v) + c (optional_places is_call (returned_left k v)) ≡ c (optional_places is_call v)
   returned_count k None h = omega (arith, none)
@@ -92,7 +91,6 @@ module _ (c : List ℕ → ℕ) (none : c [] ≡ 0) (both : (xs ys : List ℕ) �
         let last = one_count (RawDo (simple_left k s)) in
         let parts = simple_count k s h in
         omega (arith, all, last, parts)
-    hoisted_count k RawEmpty h = refl
     hoisted_count k (RawBlock ss) h = one_count (in_block (all_hoisted k ss)) ∙ all_count k ss h
     hoisted_count k (RawIf d s) h =
         let body = as_body (hoisted (k + names_in d) s) in
@@ -139,13 +137,12 @@ module _ (c : List ℕ → ℕ) (none : c [] ≡ 0) (both : (xs ys : List ℕ) �
         let y = both (optional_places is_call d) (step_places is_call step ++ stmt_places is_call s) in
         let z = both (step_places is_call step) (stmt_places is_call s) in
         omega (arith, one, inner, rest, a, b, e, x, y, z)
-    hoisted_count k (RawBreak at) h = refl
-    hoisted_count k (RawContinue at) h = refl
     hoisted_count k (RawReturn at v) h =
         let all = both_count c none both (returned_before k v) (RawReturn at (returned_left k v) ∷ []) in
         let last = one_count (RawReturn at (returned_left k v)) in
         let parts = returned_count k v h in
         omega (arith, all, last, parts)
+    hoisted_count k _ h = refl
 
     all_count : (k : ℕ) (ss : RawStmtTrees) → AreStmtsPlain ss → stmts_count c (all_hoisted k ss) ≡ c (stmts_places is_call ss)
     all_count k NoRawStmts h = refl
@@ -157,15 +154,12 @@ module _ (c : List ℕ → ℕ) (none : c [] ≡ 0) (both : (xs ys : List ℕ) �
         omega (arith, all, first, rest, there)
 
   item_count : (i : RawItemTree) → IsItemPlain i → c (item_places is_call (item_hoisted i)) ≡ c (item_places is_call i)
-  item_count (RawGlobal n start) h = refl
-  item_count (RawGlobalArray n size) h = refl
-  item_count (RawTableItem n size members) h = refl
-  item_count (RawPrototypeItem gives n params) h = refl
   item_count (RawFunctionItem gives n params body) h =
       let all = all_count 0 body h in
       let one = both (names_places is_call Declared params) (stmts_places is_call (raw_in_order (all_hoisted 0 body))) in
       let there = both (names_places is_call Declared params) (stmts_places is_call body) in
       omega (arith, all, one, there)
+  item_count _ h = refl
 
   -- as many calls have places of a kind in the rewritten tree as in the text
   pub items_count : (is : List RawItemTree) → AreItemsPlain is → c (items_places is_call (items_hoisted is)) ≡ c (items_places is_call is)

@@ -25,10 +25,9 @@ width_kept rows x i word u =
     (λ (ne : u ≢ x). ap length (get_or-set_other rows x u (set (row rows x) i word) [] ne)) (cases_eq u x)
 
 -- one word in a row of one
-only_word : (r : List ℕ) (word : ℕ) → length r ≡ 1 → set r 0 word ≡ word ∷ []
-only_word [] word e = absurd (omega (arith, e))
+pub only_word : (r : List ℕ) (word : ℕ) → length r ≡ 1 → set r 0 word ≡ word ∷ []
 only_word (x ∷ []) word e = refl
-only_word (x ∷ y ∷ r) word e = absurd (omega (arith, e))
+only_word _ word e = absurd (omega (arith, e))
 
 other_row : (rows : Rows) (x word u : ℕ) → u ≢ x → row (with_word rows x 0 word) u ≡ row rows u
 other_row rows x word u ne = get_or-set_other rows x u (set (row rows x) 0 word) [] ne

@@ -1,12 +1,12 @@
 -- The number of the text's next call after a statement: each call of it has taken one.
 use Rattle.std.proofs.Common.{ℕ, ◌+◌, ◌≡◌, List, [], ◌∷◌, ◌++◌, length, length-append, Option, Some, None, arith}
-use Rattle.c_tree.specs.RawTrees.{RawExprTree, RawSimpleTree, RawDeclareScalar, RawDeclareArray, RawDeclareWith, RawSet, RawSetElement, RawCalling, RawTableCalling, RawStmtTree, RawStmtTrees, RawDo, RawEmpty, RawBlock, RawIf, RawIfElse, RawWhile, RawFor, RawBreak, RawContinue, RawReturn, NoRawStmts, RawThen}
+use Rattle.c_tree.specs.RawTrees.{RawExprTree, RawSimpleTree, RawDeclareWith, RawSet, RawSetElement, RawCalling, RawTableCalling, RawStmtTree, RawStmtTrees, RawDo, RawBlock, RawIf, RawIfElse, RawWhile, RawFor, RawReturn, NoRawStmts, RawThen}
 use Rattle.scope_rules.specs.Places.{Spot}
 use Rattle.scope_rules.specs.Statements.{inside, left}
 use Rattle.grammar_laws.specs.Nested.{is_call}
 use Rattle.grammar_laws.specs.Places.{expr_places, simple_places, simples_places, optional_places, step_places, stmt_places, stmts_places}
 use Rattle.deep_mean.specs.Naming as deep
-use Rattle.deep_mean.specs.Naming.{calls_in, all_calls_in, counted}
+use Rattle.deep_mean.specs.Naming.{calls_in, counted}
 use Rattle.hoist_meaning.proofs.SiteNumbers.{calls_length, all_calls_length}
 
 -- two lists one after another
@@ -14,8 +14,6 @@ two : (xs ys : List ℕ) (site m n : ℕ) → m ≡ site + length xs → n ≡ m
 two xs ys site m n e f = let long = length-append xs ys in omega (arith, long, e, f)
 
 pub simple_site : (s : Spot) (p : RawSimpleTree) → (deep.simple_after s p).site ≡ s.site + length (simple_places is_call p)
-simple_site s (RawDeclareScalar n) = omega arith
-simple_site s (RawDeclareArray n size) = omega arith
 simple_site s (RawDeclareWith n v) = let e = calls_length v in omega (arith, e)
 simple_site s (RawSet n v) = let e = calls_length v in omega (arith, e)
 simple_site s (RawSetElement n i v) =
@@ -27,6 +25,7 @@ simple_site s (RawTableCalling n i e) =
     let h = calls_length i in
     let g = calls_length e in
     let long = length-append (expr_places is_call i) (expr_places is_call e) in omega (arith, h, g, long)
+simple_site s _ = omega arith
 
 pub simples_site : (s : Spot) (ps : List RawSimpleTree) → (deep.simples_after s ps).site ≡ s.site + length (simples_places is_call ps)
 simples_site s [] = omega arith
@@ -46,7 +45,6 @@ counted_site s e = let h = calls_length e in omega (arith, h)
 mutual
   pub deep_site : (s : Spot) (p : RawStmtTree) → (deep.stmt_after s p).site ≡ s.site + length (stmt_places is_call p)
   deep_site s (RawDo p) = simple_site s p
-  deep_site s RawEmpty = omega arith
   deep_site s (RawBlock ps) = deep_sites (inside s) ps
   deep_site s (RawIf c p) =
       two (expr_places is_call c) (stmt_places is_call p) s.site (s.site + calls_in c) (deep.stmt_after s (RawIf c p)).site (counted_site s c) (deep_site (inside (counted s (calls_in c))) p)
@@ -65,9 +63,8 @@ mutual
       let h = two (step_places is_call step) (stmt_places is_call p) s2.site s3.site last.site (step_site s2 step) (deep_site (inside s3) p) in
       let g = two (optional_places is_call c) (step_places is_call step ++ stmt_places is_call p) s1.site s2.site last.site (optional_site s1 c) h in
       two (simples_places is_call init) (optional_places is_call c ++ (step_places is_call step ++ stmt_places is_call p)) s.site s1.site last.site (simples_site (inside s) init) g
-  deep_site s (RawBreak at) = omega arith
-  deep_site s (RawContinue at) = omega arith
   deep_site s (RawReturn at v) = optional_site s v
+  deep_site s _ = omega arith
 
   pub deep_sites : (s : Spot) (ps : RawStmtTrees) → (deep.stmts_after s ps).site ≡ s.site + length (stmts_places is_call ps)
   deep_sites s NoRawStmts = omega arith

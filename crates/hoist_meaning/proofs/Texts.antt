@@ -149,9 +149,7 @@ module _ (text : DeepProgram) (program : ProgramTree) (ns : List ℕ) (f : ℕ) 
         (λ e. stmt_items (Some m) q.0 q.1 k s3 q.2 p (m ∷ os) deep_end tree_end (Led.InLoop m os) q.6 e) ends in
         parts_items text program ns f a m k (inside s) (inside t) init os (deep_items.begun (option_map (deep.expr_of s1.names s1.site) c) loop (deep_items.before deep_body deep_end) ds) (items.begun (option_map (expr_of t1.names) c) there (items.before tree_body tree_end) is) h.2
         (turn_items text program ns f m k s1 t1 c loop there os ds (deep_items.before deep_body deep_end) is (items.before tree_body tree_end) refl refl h.3 inner kept)
-    stmt_items None a b k s t (RawBreak at) os ds is led h rest = absurd h
     stmt_items (Some o) a b k s t (RawBreak at) os ds is (Led.InLoop _ ps) h rest = ItemsAlike.Leaving ps o a b ds is h rest
-    stmt_items None a b k s t (RawContinue at) os ds is led h rest = absurd h
     stmt_items (Some o) a b k s t (RawContinue at) os ds is (Led.InLoop _ ps) h rest = ItemsAlike.Skipping ps o a b ds is h rest
     stmt_items o a b k s t (RawReturn at None) os ds is led h rest = ItemsAlike.GivingNone os a b ds is rest
     stmt_items o a b k s t (RawReturn at (Some e)) os ds is led h rest =
@@ -160,6 +158,7 @@ module _ (text : DeepProgram) (program : ProgramTree) (ns : List ℕ) (f : ℕ) 
         (ItemsAlike.GivingSome os a b (deep.expr_of s.names s.site e) ds (own ∷ is) is (items_of ns t (value_before k e) (own ∷ is))
         (return_goes text program f ns h.gives h.loop h.is_used a k h.variables e s t is h.scope h.sound)
         (passes_over (stmts_numbered ns (tree_stmts.stmts_of t (raw_in_order (value_before k e)))) (own ∷ is) is (record { leaves = λ n. refl; skips = λ n. refl })) rest)
+    stmt_items None a b k s t _ os ds is led h rest = absurd h
 
     pub stmts_items : (o : Option Agreement) (a c : Agreement) (k : ℕ) (s t : Spot) (ps : RawStmtTrees) (os : List Agreement) (ds : List deep_items.Item) (is : List Item) → Led o os → StmtsSound text program ns f o a c k s t ps → B os c ds is
         → B os a (deep_items.all_before (deep.stmts_of s ps) ds) (items_of ns t (all_hoisted k ps) is)

@@ -1,10 +1,10 @@
 -- A tree in which each call is whole has as many calls as the program that it is resolved to.
 use Rattle.std.proofs.Common.{ℕ, ◌≡◌, ◌+◌, refl, sym, ap, ◌∙◌, List, [], ◌∷◌, ◌++◌, length, length-append, Option, Some, None, arith}
 use Rattle.std.specs.Prelude.{option_map}
-use Rattle.c_tree.specs.RawTrees.{RawExprTree, RawExprTrees, RawNumber, RawName, RawElement, RawUnary, RawParenthesized, RawBinary, RawLogicalAnd, RawLogicalOr, RawConditional, RawCall, RawTableCall, NoExprs, And, RawSimpleTree, RawDeclareScalar, RawDeclareArray, RawDeclareWith, RawSet, RawSetElement, RawCalling, RawTableCalling, RawStmtTree, RawStmtTrees, RawDo, RawEmpty, RawBlock, RawIf, RawIfElse, RawWhile, RawFor, RawBreak, RawContinue, RawReturn, NoRawStmts, RawThen, RawItemTree, RawGlobal, RawGlobalArray, RawTableItem, RawPrototypeItem, RawFunctionItem}
+use Rattle.c_tree.specs.RawTrees.{RawExprTree, RawElement, RawUnary, RawParenthesized, RawBinary, RawLogicalAnd, RawLogicalOr, RawConditional, RawCall, RawTableCall, RawSimpleTree, RawDeclareWith, RawSet, RawSetElement, RawCalling, RawTableCalling, RawStmtTree, RawStmtTrees, RawDo, RawBlock, RawIf, RawIfElse, RawWhile, RawFor, RawReturn, NoRawStmts, RawThen, RawItemTree, RawTableItem, RawPrototypeItem, RawFunctionItem}
 use Rattle.c_tree.specs.Trees.{ExprTree, RightTree, FunctionTree}
 use Rattle.c_tree.specs.TextOrder.{right_sites, returned_sites, simple_sites, simples_sites, step_sites, stmt_sites, stmts_sites, functions_sites, program_sites}
-use Rattle.c_tree.specs.WholeCalls.{HasNoCall, HaveNoCall, IsValueWhole, IsSimpleWhole, AreSimplesWhole, IsConditionWhole, IsStepWhole, IsReturnWhole, IsStmtWhole, AreStmtsWhole, IsItemWhole, AreCallsWhole}
+use Rattle.c_tree.specs.WholeCalls.{IsValueWhole, IsSimpleWhole, AreSimplesWhole, IsConditionWhole, IsStepWhole, IsReturnWhole, IsStmtWhole, AreStmtsWhole, IsItemWhole, AreCallsWhole}
 use Rattle.scope_rules.specs.declared.meanings.Variable.{Variable}
 use Rattle.scope_rules.specs.Names.{Binding, find}
 use Rattle.scope_rules.specs.Meanings.{variable_of}
@@ -19,6 +19,7 @@ use Rattle.grammar_laws.specs.Places.{Used, expr_places, exprs_places, optional_
 use Rattle.grammar_laws.specs.Ranks.{site_numbers}
 use Rattle.grammar_laws.proofs.NoNames.{no_declared, no_used, no_parameters}
 use Rattle.grammar_laws.proofs.RankLaws.{ranks_length}
+use Rattle.hoist_meaning.proofs.CallCounts.{no_places, none_of_them}
 
 both : {A B : Type 0} (ks js : List A) (ps qs : List B) → length ks ≡ length ps → length js ≡ length qs → length (ks ++ js) ≡ length (ps ++ qs)
 both ks js ps qs e f = let a = length-append ks js in let b = length-append ps qs in omega (arith, a, b, e, f)
@@ -27,23 +28,6 @@ neither : {xs ys : List ℕ} → xs ≡ [] → ys ≡ [] → xs ++ ys ≡ []
 neither {xs = a} {ys = b} e f = ap (λ x. x ++ b) e ∙ f
 
 -- ---- where no call stands
-
-pub no_places : (e : RawExprTree) → HasNoCall e → expr_places is_call e ≡ []
-no_places (RawNumber v) h = refl
-no_places (RawName n) h = refl
-no_places (RawElement n i) h = no_places i h
-no_places (RawUnary op e) h = no_places e h
-no_places (RawParenthesized e) h = no_places e h
-no_places (RawBinary op l r) h = neither (no_places l h.0) (no_places r h.1)
-no_places (RawLogicalAnd l r) h = neither (no_places l h.0) (no_places r h.1)
-no_places (RawLogicalOr l r) h = neither (no_places l h.0) (no_places r h.1)
-no_places (RawConditional c a b) h = neither (no_places c h.0) (neither (no_places a h.1) (no_places b h.2))
-no_places (RawCall n es) h = absurd h
-no_places (RawTableCall n i e) h = absurd h
-
-all_no_places : (es : RawExprTrees) → HaveNoCall es → exprs_places is_call es ≡ []
-all_no_places NoExprs h = refl
-all_no_places (And e es) h = neither (no_places e h.0) (all_no_places es h.1)
 
 condition_none : (c : Option RawExprTree) → IsConditionWhole c → optional_places is_call c ≡ []
 condition_none None h = refl
@@ -58,8 +42,6 @@ one_counted : (at : ℕ) (ps : List ℕ) → ps ≡ [] → 1 ≡ length (at ∷ 
 one_counted at ps e = sym (ap (λ x. length (at ∷ x)) e)
 
 value_count : (names : List Binding) (k : ℕ) (v : RawExprTree) → IsValueWhole v → length (right_sites (right_of names k v)) ≡ length (expr_places is_call v)
-value_count names k (RawNumber v) h = refl
-value_count names k (RawName n) h = refl
 value_count names k (RawElement n i) h = none_counted (expr_places is_call (RawElement n i)) (no_places (RawElement n i) h)
 value_count names k (RawUnary op e) h = none_counted (expr_places is_call (RawUnary op e)) (no_places (RawUnary op e) h)
 value_count names k (RawParenthesized e) h = none_counted (expr_places is_call (RawParenthesized e)) (no_places (RawParenthesized e) h)
@@ -67,8 +49,9 @@ value_count names k (RawBinary op l r) h = none_counted (expr_places is_call (Ra
 value_count names k (RawLogicalAnd l r) h = none_counted (expr_places is_call (RawLogicalAnd l r)) (no_places (RawLogicalAnd l r) h)
 value_count names k (RawLogicalOr l r) h = none_counted (expr_places is_call (RawLogicalOr l r)) (no_places (RawLogicalOr l r) h)
 value_count names k (RawConditional c a b) h = none_counted (expr_places is_call (RawConditional c a b)) (no_places (RawConditional c a b) h)
-value_count names k (RawCall n es) h = one_counted n.at (exprs_places is_call es) (all_no_places es h)
+value_count names k (RawCall n es) h = one_counted n.at (exprs_places is_call es) (none_of_them es h)
 value_count names k (RawTableCall n i e) h = one_counted n.at (expr_places is_call i ++ expr_places is_call e) (neither (no_places i h.0) (no_places e h.1))
+value_count names k _ h = refl
 
 -- ---- declarations, assignments and calls
 
@@ -85,15 +68,14 @@ after_none : {before : List ℕ} (ps : List ℕ) → before ≡ [] → length ps
 after_none ps e = sym (ap (λ x. length (x ++ ps)) e)
 
 simple_count : (s : Spot) (p : RawSimpleTree) → IsSimpleWhole p → length (simple_sites (simple_of s p)) ≡ length (simple_places is_call p)
-simple_count s (RawDeclareScalar n) h = refl
-simple_count s (RawDeclareArray n size) h = refl
 simple_count s (RawDeclareWith n v) h = value_count s.names s.site v h
 simple_count s (RawSet n v) h = ap length (set_scalar_sites (variable_of (find n.text s.names)) (right_of s.names s.site v)) ∙ value_count s.names s.site v h
 simple_count s (RawSetElement n i v) h =
     ap length (set_element_sites (variable_of (find n.text s.names)) (expr_of s.names i) (right_of s.names s.site v))
     ∙ (value_count s.names s.site v h.1 ∙ after_none (expr_places is_call v) (no_places i h.0))
-simple_count s (RawCalling n es) h = one_counted n.at (exprs_places is_call es) (all_no_places es h)
+simple_count s (RawCalling n es) h = one_counted n.at (exprs_places is_call es) (none_of_them es h)
 simple_count s (RawTableCalling n i e) h = one_counted n.at (expr_places is_call i ++ expr_places is_call e) (neither (no_places i h.0) (no_places e h.1))
+simple_count s _ h = refl
 
 simples_count : (s : Spot) (ps : List RawSimpleTree) → AreSimplesWhole ps → length (simples_sites (simples_of s ps)) ≡ length (simples_places is_call ps)
 simples_count s [] h = refl
@@ -113,7 +95,6 @@ returned_count s (Some v) h = value_count s.names s.site v h
 mutual
   stmt_count : (s : Spot) (p : RawStmtTree) → IsStmtWhole p → length (stmt_sites (stmt_of s p)) ≡ length (stmt_places is_call p)
   stmt_count s (RawDo p) h = simple_count s p h
-  stmt_count s RawEmpty h = refl
   stmt_count s (RawBlock ps) h = stmts_count (inside s) ps h
   stmt_count s (RawIf c p) h = stmt_count (inside s) p h.1 ∙ after_none (stmt_places is_call p) (no_places c h.0)
   stmt_count s (RawIfElse c p r) h =
@@ -127,9 +108,8 @@ mutual
       let rest = both (step_sites (option_map (simple_of b) step)) (stmt_sites (stmt_of d p)) (step_places is_call step) (stmt_places is_call p) (step_count b step h.2) (stmt_count d p h.3) in
       both (simples_sites (simples_of (inside s) init)) (step_sites (option_map (simple_of b) step) ++ stmt_sites (stmt_of d p)) (simples_places is_call init) (optional_places is_call c ++ (step_places is_call step ++ stmt_places is_call p))
       (simples_count (inside s) init h.0) (rest ∙ after_none (step_places is_call step ++ stmt_places is_call p) (condition_none c h.1))
-  stmt_count s (RawBreak at) h = refl
-  stmt_count s (RawContinue at) h = refl
   stmt_count s (RawReturn at v) h = returned_count s v h
+  stmt_count s _ h = refl
 
   stmts_count : (s : Spot) (ps : RawStmtTrees) → AreStmtsWhole ps → length (stmts_sites (stmts_of s ps)) ≡ length (stmts_places is_call ps)
   stmts_count s NoRawStmts h = refl
@@ -151,8 +131,6 @@ same_count : (ps : List ℕ) (n : ℕ) → ps ≡ [] → n ≡ n + length ps
 same_count ps n e = let l = ap length e in omega (arith, l)
 
 item_count : (defs : List Binding) (w : Sofar) (i : RawItemTree) → IsItemWhole i → length (functions_sites (item_after defs w i).functions) ≡ length (functions_sites w.functions) + length (item_places is_call i)
-item_count defs w (RawGlobal n start) h = same_count [] (length (functions_sites w.functions)) refl
-item_count defs w (RawGlobalArray n size) h = same_count [] (length (functions_sites w.functions)) refl
 item_count defs w (RawTableItem n size members) h = same_count (names_places is_call Used members) (length (functions_sites w.functions)) (no_used members)
 item_count defs w (RawPrototypeItem gives n params) h = same_count (parameters_places is_call params) (length (functions_sites w.functions)) (no_parameters params)
 item_count defs w (RawFunctionItem gives n params body) h =
@@ -161,6 +139,7 @@ item_count defs w (RawFunctionItem gives n params body) h =
     let here = stmts_count b body h in
     let none = after_none (stmts_places is_call body) (no_declared params) in
     omega (arith, all, here, none)
+item_count defs w _ h = same_count [] (length (functions_sites w.functions)) refl
 
 items_count : (defs : List Binding) (w : Sofar) (is : List RawItemTree) → AreCallsWhole is → length (functions_sites (items_after defs w is).functions) ≡ length (functions_sites w.functions) + length (items_places is_call is)
 items_count defs w [] h = same_count [] (length (functions_sites w.functions)) refl

@@ -5,7 +5,7 @@ use Rattle.std.proofs.lemmas.List.{length-map}
 use Rattle.std.proofs.lemmas.List.Sums.{sum_by-cons}
 use Rattle.c_tree.specs.Sizes.{below, scalars, declared_words}
 use Rattle.c_tree.specs.TextOrder.{Declared, simple_names, simples_names, step_names, stmt_names, stmts_names}
-use Rattle.c_tree.specs.Trees.{SimpleTree, DeclareScalar, DeclareArray, DeclareWith, SetLocal, SetGlobal, SetLocalElement, SetGlobalElement, Calling, StmtTree, StmtTrees, Do, Empty, Block, If, IfElse, While, For, Break, Continue, Return, NoStmts, Then, FunctionTree, ProgramTree}
+use Rattle.c_tree.specs.Trees.{SimpleTree, DeclareScalar, DeclareArray, DeclareWith, StmtTree, StmtTrees, Do, Block, If, IfElse, While, For, NoStmts, Then, FunctionTree, ProgramTree}
 use Rattle.c_tree.specs.WellScoped.{Context, context_of, with_names, scope_after, scope_after_all, IsSimpleScoped, AreSimplesScoped, IsStepScoped, IsStmtScoped, AreStmtsScoped, IsFunctionScoped, AreFunctionsScoped, IsWellScoped}
 use Rattle.c_mean.specs.Frames.{function_at}
 
@@ -26,11 +26,7 @@ module _ (c : Context) where
   simple_have (DeclareScalar x) scope h = (omega arith, tt)
   simple_have (DeclareArray x n) scope h = (h.2, tt)
   simple_have (DeclareWith x v) scope h = (omega arith, tt)
-  simple_have (SetLocal x v) scope h = tt
-  simple_have (SetGlobal g v) scope h = tt
-  simple_have (SetLocalElement a i v) scope h = tt
-  simple_have (SetGlobalElement a i v) scope h = tt
-  simple_have (Calling k) scope h = tt
+  simple_have _ scope h = tt
 
   simples_have : (ss : List SimpleTree) (scope : List ℕ) → AreSimplesScoped c scope ss → HaveWords (simples_names ss)
   simples_have [] scope h = tt
@@ -43,7 +39,6 @@ module _ (c : Context) where
   mutual
     stmt_have : (s : StmtTree) (loop : Bool) (scope : List ℕ) → IsStmtScoped c loop scope s → HaveWords (stmt_names s)
     stmt_have (Do s) loop scope h = simple_have s scope h
-    stmt_have Empty loop scope h = tt
     stmt_have (Block ss) loop scope h = stmts_have ss loop scope h
     stmt_have (If e s) loop scope h = stmt_have s loop scope h.1
     stmt_have (IfElse e s r) loop scope h = both_have (stmt_names s) (stmt_names r) (stmt_have s loop scope h.1) (stmt_have r loop scope h.2)
@@ -51,9 +46,7 @@ module _ (c : Context) where
     stmt_have (For init e step s) loop scope h =
         both_have (simples_names init) (step_names step ++ stmt_names s) (simples_have init scope h.0)
         (both_have (step_names step) (stmt_names s) (step_have step (scope_after_all scope init) h.2) (stmt_have s true (scope_after_all scope init) h.3))
-    stmt_have Break loop scope h = tt
-    stmt_have Continue loop scope h = tt
-    stmt_have (Return v) loop scope h = tt
+    stmt_have _ loop scope h = tt
 
     stmts_have : (ss : StmtTrees) (loop : Bool) (scope : List ℕ) → AreStmtsScoped c loop scope ss → HaveWords (stmts_names ss)
     stmts_have NoStmts loop scope h = tt

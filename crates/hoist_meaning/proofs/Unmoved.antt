@@ -34,8 +34,7 @@ AreApart h (RawBinary op l r) = AreApart h l × AreApart h r
 AreApart h (RawLogicalAnd l r) = AreApart h l × AreApart h r
 AreApart h (RawLogicalOr l r) = AreApart h l × AreApart h r
 AreApart h (RawConditional c x y) = AreApart h c × AreApart h x × AreApart h y
-AreApart h (RawCall n es) = ⊥
-AreApart h (RawTableCall n i e) = ⊥
+AreApart h _ = ⊥
 
 -- names of the source aren't
 source_apart : (h : ℕ) (e : RawExprTree) → AreSourceNames e → holds_call e ≡ false → AreApart h e
@@ -51,8 +50,7 @@ source_apart h (RawConditional c x y) s q =
     let n = neither (holds_call c) (holds_call x || holds_call y) q in
     let m = neither (holds_call x) (holds_call y) n.1 in
     (source_apart h c s.0 n.0, source_apart h x s.1 m.0, source_apart h y s.2 m.1)
-source_apart h (RawCall n es) s q = absurd (let wrong : true ≡ false = q in cc)
-source_apart h (RawTableCall n i e) s q = absurd (let wrong : true ≡ false = q in cc)
+source_apart h _ s q = absurd (let wrong : true ≡ false = q in cc)
 
 part_apart : (named : Bool) (h k : ℕ) (left : RawExprTree) → (named ≡ true → k < h) → AreApart h left → AreApart h (part_or named k left)
 part_apart true h k left less a = later_apart h k (less refl)
@@ -91,11 +89,7 @@ left_apart h k (RawTableCall n i e) less s = later_apart h (part_after k (holds_
 
 abbrev MeaningBelow : ℕ → Meaning → Type 0
 MeaningBelow m (Meaning.Local x array) = x < m
-MeaningBelow m (Meaning.Global g array) = Unit {0}
-MeaningBelow m (Meaning.Table t) = Unit {0}
-MeaningBelow m (Meaning.Function f gives params defined) = Unit {0}
-MeaningBelow m (Meaning.Modelled n) = Unit {0}
-MeaningBelow m Meaning.Spawn = Unit {0}
+MeaningBelow m _ = Unit {0}
 
 -- a variable that is found is below a number
 abbrev FoundBelow : ℕ → Option Found → Type 0
@@ -104,11 +98,7 @@ FoundBelow m (Some f) = MeaningBelow m f.meaning
 
 outside_below : (m : ℕ) (n : Meaning) → IsOutside n → MeaningBelow m n
 outside_below m (Meaning.Local x array) h = absurd h
-outside_below m (Meaning.Global g array) h = tt
-outside_below m (Meaning.Table t) h = tt
-outside_below m (Meaning.Function f gives params defined) h = tt
-outside_below m (Meaning.Modelled n) h = tt
-outside_below m Meaning.Spawn h = tt
+outside_below m _ h = tt
 
 if_below : (b : Bool) (m : ℕ) (f : Found) (o : Option Found) → MeaningBelow m f.meaning → FoundBelow m o → FoundBelow m (if b then Some f else o)
 if_below true m f o h g = h
@@ -152,8 +142,7 @@ faults_skip h x b (RawConditional c y z) p =
     let second = faults_skip h x b y p.1 in
     let third = faults_skip h x b z p.2 in
     λ j. first j ++ second j ++ third j
-faults_skip h x b (RawCall n es) p = absurd p
-faults_skip h x b (RawTableCall n i e) p = absurd p
+faults_skip h x b _ p = absurd p
 
 row_element : (later names : Rows) (y : ℕ) (v : Value) → row later y ≡ row names y → element later y v ≡ element names y v
 row_element later names y (Ok i) e = ap (λ r. in_range (nat_lt i (length r)) (slice_index r i)) e
@@ -163,10 +152,7 @@ module _ (m : ℕ) (names later globals : Rows) (kept : (y : ℕ) → y < m → 
   scalar_unmoved : (n : Meaning) → MeaningBelow m n → is_scalar n ≡ true → value later globals (scalar_value (variable_in n)) ≡ value names globals (scalar_value (variable_in n))
   scalar_unmoved (Meaning.Local y array) less s = ap (λ r. Ok (slice_index r 0)) (kept y less)
   scalar_unmoved (Meaning.Global g array) less s = refl
-  scalar_unmoved (Meaning.Table t) less s = absurd (let wrong : false ≡ true = s in cc)
-  scalar_unmoved (Meaning.Function f gives params defined) less s = absurd (let wrong : false ≡ true = s in cc)
-  scalar_unmoved (Meaning.Modelled n) less s = absurd (let wrong : false ≡ true = s in cc)
-  scalar_unmoved Meaning.Spawn less s = absurd (let wrong : false ≡ true = s in cc)
+  scalar_unmoved _ less s = absurd (let wrong : false ≡ true = s in cc)
 
   scalar_found : (o : Option Found) (at : ℕ) → FoundBelow m o → use_faults is_scalar o at ≡ [] → value later globals (scalar_value (variable_of o)) ≡ value names globals (scalar_value (variable_of o))
   scalar_found None at less f = absurd (let wrong = f in cc)
@@ -176,10 +162,7 @@ module _ (m : ℕ) (names later globals : Rows) (kept : (y : ℕ) → y < m → 
     array_unmoved : (n : Meaning) → MeaningBelow m n → is_array n ≡ true → value later globals (element_value (variable_in n) i) ≡ value names globals (element_value (variable_in n) j)
     array_unmoved (Meaning.Local y array) less s = ap (element later y) same ∙ row_element later names y (value names globals j) (kept y less)
     array_unmoved (Meaning.Global g array) less s = ap (element globals g) same
-    array_unmoved (Meaning.Table t) less s = absurd (let wrong : false ≡ true = s in cc)
-    array_unmoved (Meaning.Function f gives params defined) less s = absurd (let wrong : false ≡ true = s in cc)
-    array_unmoved (Meaning.Modelled n) less s = absurd (let wrong : false ≡ true = s in cc)
-    array_unmoved Meaning.Spawn less s = absurd (let wrong : false ≡ true = s in cc)
+    array_unmoved _ less s = absurd (let wrong : false ≡ true = s in cc)
 
     array_found : (o : Option Found) (at : ℕ) → FoundBelow m o → use_faults is_array o at ≡ [] → value later globals (element_value (variable_of o) i) ≡ value names globals (element_value (variable_of o) j)
     array_found None at less f = absurd (let wrong = f in cc)
@@ -218,5 +201,4 @@ module _ (m : ℕ) (names later globals : Rows) (kept : (y : ℕ) → y < m → 
         let ey = value_unmoved y p.1 gs.1 in
         let ez = value_unmoved z p.2 fs.1 in
         λ i. choice (ec i) (ey i) (ez i)
-    value_unmoved (RawCall n es) p f = absurd p
-    value_unmoved (RawTableCall n i e) p f = absurd p
+    value_unmoved _ p f = absurd p

@@ -3,11 +3,11 @@
 use Rattle.std.proofs.Common.{ℕ, zero, suc, ◌≡◌, refl, sym, subst, inl, inr, true, false, List, [], ◌∷◌, length, Some}
 use Rattle.std.specs.Prelude.{Result, Ok}
 use Rattle.cap_word.specs.Rows.{with_word}
-use Rattle.cap_word.specs.Runs.{Goes, Asks, Stops, and_then, moves}
+use Rattle.cap_word.specs.Runs.{Goes, Stops, and_then, moves}
 use Rattle.cap_word.specs.declared.traps.TrapKind.{TrapKind}
 use Rattle.c_tree.specs.Trees.{CallTree, Called, DeclareWith, ProgramTree}
 use Rattle.c_mean.specs.ToDo.{Item, Simply, GiveBackWord}
-use Rattle.c_mean.specs.Frames.{Place, InLocal, InLocalElement, InGlobalElement, Returned, WaitingFrame, Running, Waiting, function_at, key_of}
+use Rattle.c_mean.specs.Frames.{Place, InLocal, InLocalElement, InGlobalElement, Returned, WaitingFrame, Running, function_at}
 use Rattle.c_mean.specs.Frames as source_frames
 use Rattle.c_mean.specs.Steps as tree_steps
 use Rattle.c_mean.specs.Steps.{SourceMove, on_value, source_step, source_machine}
@@ -15,9 +15,9 @@ use Rattle.c_mean.proofs.StandLemmas.{Stands, MoveStands, step_stands}
 use Rattle.deep_mean.specs.DeepTrees.{DeepExpr, DeepProgram}
 use Rattle.deep_mean.specs.Evaluation.{Around, Ready, Evaluation, Done, Trapped, Calls, evaluate, go_on}
 use Rattle.deep_mean.specs.DeepToDo as deep_items
-use Rattle.deep_mean.specs.DeepToDo.{Use, Stores, IndexesLocal, IndexesGlobal, Branches, Tests, Returns}
+use Rattle.deep_mean.specs.DeepToDo.{Use, Stores, IndexesLocal, IndexesGlobal, Returns}
 use Rattle.deep_mean.specs.DeepFrames as frames
-use Rattle.deep_mean.specs.DeepFrames.{DeepWaitingFrame, DeepRunning, DeepWaiting}
+use Rattle.deep_mean.specs.DeepFrames.{DeepWaitingFrame, DeepRunning}
 use Rattle.deep_mean.specs.DeepSteps as deep_steps
 use Rattle.hoist_meaning.proofs.Bindings.{Agreement, Paired, AreBelow}
 use Rattle.hoist_meaning.proofs.Items.{Leads, stays, at}
@@ -31,8 +31,7 @@ use Rattle.hoist_meaning.proofs.Answered.{CallFits, Answers, answers_on, one_mov
 module _ (program : ProgramTree) where
   then_stands : (n : ℕ) (move : SourceMove) → MoveStands program move → ((next : Running) → Stands program next → MoveStands program (moves (source_machine program) n next)) → MoveStands program (and_then move (moves (source_machine program) n))
   then_stands n (Goes next) h rest = rest next h
-  then_stands n (Asks question waiting) h rest = h
-  then_stands n (Stops end) h rest = h
+  then_stands n _ h rest = h
 
   pub moves_stand : (n : ℕ) (s : Running) → Stands program s → MoveStands program (moves (source_machine program) n s)
   moves_stand zero s h = h
@@ -44,21 +43,11 @@ module _ (program : ProgramTree) where
 -- a result that isn't stored at once is held in the expression
 abbrev IsHeld : List Around → Use → Type 0
 IsHeld [] (Stores place) = ⊥
-IsHeld [] (IndexesLocal a v) = Unit {0}
-IsHeld [] (IndexesGlobal a v) = Unit {0}
-IsHeld [] (Branches s r) = Unit {0}
-IsHeld [] (Tests loop) = Unit {0}
-IsHeld [] Returns = Unit {0}
-IsHeld (a ∷ outer) use_ = Unit {0}
+IsHeld _ _ = Unit {0}
 
 held : (thread : DeepRunning) (around : List Around) (word : ℕ) (use_ : Use) → IsHeld around use_ → deep_steps.to_do thread (deep_items.GoOn around word use_ ∷ thread.frame.to_do) ≡ deep_steps.delivered_to thread around word use_
 held thread [] word (Stores place) h = absurd h
-held thread [] word (IndexesLocal a v) h = refl
-held thread [] word (IndexesGlobal a v) h = refl
-held thread [] word (Branches s r) h = refl
-held thread [] word (Tests loop) h = refl
-held thread [] word Returns h = refl
-held thread (a ∷ outer) word use_ h = refl
+held thread _ word _ h = refl
 
 strict_held : (around : List Around) (use_ : Use) → Opens true around → IsHeld around use_
 strict_held [] use_ h = absurd h
@@ -189,8 +178,7 @@ module _ (text : DeepProgram) (program : ProgramTree) (Alike : ℕ → Agreement
 
     held_by : (around : List Around) (use_ : Use) (ds first second : List deep_items.Item) → Decides use_ ds first second → IsHeld around use_
     held_by [] use_ ds first second (Decides.ByBranch s r _) = tt
-    held_by [] use_ ds first second (Decides.ByTest loop _) = tt
-    held_by (a ∷ outer) use_ ds first second h = tt
+    held_by _ use_ ds first second _ = tt
 
     deciding_ends : (globals names : Rows) (items : List Item) (e : Evaluation) (a : Agreement) (use_ : Use) (ds first second : List deep_items.Item) (rest one other : List Item) → Decides use_ ds first second → Alike f a first one → Alike f a second other → Stands program (at program f xs globals names items)
         → EndsAs program f txt false (DecideLeaf text program f a txt rest one other) NoCall rest globals names items e → Ends globals names items ds use_ e
@@ -207,8 +195,7 @@ module _ (text : DeepProgram) (program : ProgramTree) (Alike : ℕ → Agreement
     -- the index of an element comes before the right side
     stores_uses : (globals : Rows) (ds : List deep_items.Item) (place : Place) (e : Evaluation) → deep_steps.uses text (text_at text program f ws globals txt ds) (Stores place) e ≡ deep_steps.stores text (text_at text program f ws globals txt ds) place e
     stores_uses globals ds place (Done word) = refl
-    stores_uses globals ds place (Trapped trap) = refl
-    stores_uses globals ds place (Calls call around) = refl
+    stores_uses globals ds place _ = refl
 
     held_local : (around : List Around) (x : ℕ) (v : DeepExpr) → IsHeld around (IndexesLocal x v)
     held_local [] x v = tt

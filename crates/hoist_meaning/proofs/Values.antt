@@ -4,7 +4,7 @@ use Rattle.std.specs.Prelude.{nat_lt, slice_index, ◌||◌, Ok, Err}
 use Rattle.cap_word.specs.Rows.{row}
 use Rattle.c_mean.specs.Operators.{unary_value, binary_value}
 use Rattle.c_mean.specs.Values.{Value, value, in_range, element, on_one, on_both, truth, choice}
-use Rattle.c_tree.specs.RawTrees.{RawExprTree, RawNumber, RawName, RawElement, RawUnary, RawParenthesized, RawBinary, RawLogicalAnd, RawLogicalOr, RawConditional, RawCall, RawTableCall}
+use Rattle.c_tree.specs.RawTrees.{RawExprTree, RawNumber, RawName, RawElement, RawUnary, RawParenthesized, RawBinary, RawLogicalAnd, RawLogicalOr, RawConditional}
 use Rattle.c_tree.specs.Trees.{ExprTree}
 use Rattle.scope_rules.specs.declared.meanings.Meaning.{Meaning}
 use Rattle.scope_rules.specs.declared.meanings.Found.{Found}
@@ -12,7 +12,7 @@ use Rattle.scope_rules.specs.declared.faults.Rule.{Rule}
 use Rattle.scope_rules.specs.Names.{find}
 use Rattle.scope_rules.specs.Meanings.{is_scalar, is_array, variable_in, variable_of}
 use Rattle.scope_rules.specs.Expressions as scope
-use Rattle.scope_rules.specs.Expressions.{use_faults, scalar_faults, array_faults, expr_faults}
+use Rattle.scope_rules.specs.Expressions.{use_faults, array_faults, expr_faults}
 use Rattle.scope_rules.proofs.NoFaults.{both_none, not_broken, not_false, neither}
 use Rattle.deep_mean.specs.DeepTrees.{DeepExpr}
 use Rattle.deep_mean.specs.Evaluation.{Around, IndexOfLocal, IndexOfGlobal, OperandOf, InParentheses, LeftOf, RightOf, LeftOfAnd, LeftOfOr, Decides, ConditionOf, Chosen, Done, of_value, and_then, truth_of, chosen, evaluate}
@@ -34,23 +34,19 @@ then_one (Err trap) around f = refl
 
 then_both : (l r : Value) (first : Around) (second : ℕ → Around) (f : ℕ → ℕ → ℕ) → and_then (of_value l) first (λ left. and_then (of_value r) (second left) (λ right. Done (f left right))) ≡ of_value (on_both f l r)
 then_both (Ok left) (Ok right) first second f = refl
-then_both (Ok left) (Err trap) first second f = refl
-then_both (Err trap) r first second f = refl
+then_both _ _ first second f = refl
 
 then_truth : (v : Value) → and_then (of_value v) Decides (λ word. Done (truth_of word)) ≡ of_value (truth v)
 then_truth (Ok zero) = refl
-then_truth (Ok (suc n)) = refl
-then_truth (Err trap) = refl
+then_truth _ = refl
 
 pub then_and : (l r : Value) (around : Around) → and_then (of_value l) around (λ left. chosen left (and_then (of_value r) Decides (λ right. Done (truth_of right))) (Done 0)) ≡ of_value (choice l (truth r) (Ok 0))
-then_and (Ok zero) r around = refl
 then_and (Ok (suc n)) r around = then_truth r
-then_and (Err trap) r around = refl
+then_and _ r around = refl
 
 pub then_or : (l r : Value) (around : Around) → and_then (of_value l) around (λ left. chosen left (Done 1) (and_then (of_value r) Decides (λ right. Done (truth_of right)))) ≡ of_value (choice l (Ok 1) (truth r))
 then_or (Ok zero) r around = then_truth r
-then_or (Ok (suc n)) r around = refl
-then_or (Err trap) r around = refl
+then_or _ r around = refl
 
 pub then_choice : (c a b : Value) (around : Around) → and_then (of_value c) around (λ word. chosen word (and_then (of_value a) Chosen Done) (and_then (of_value b) Chosen Done)) ≡ of_value (choice c a b)
 then_choice (Ok zero) a b around = then_done b Chosen
@@ -66,50 +62,34 @@ then_element (Err trap) around text tree x y e = refl
 module _ (a : Agreement) (text tree globals : List (List ℕ)) (stand : NamesStand a text tree) where
   local_alike : (x : ℕ) (array : Bool) (n : Meaning) → LocalAlike a x array n → is_scalar n ≡ true → evaluate text globals (deep.scalar_value (variable_in (Meaning.Local x array))) ≡ of_value (value tree globals (scope.scalar_value (variable_in n)))
   local_alike x array (Meaning.Local y other) h s = ap (λ r. Done (slice_index r 0)) (stand x y h.0)
-  local_alike x array (Meaning.Global g other) h s = absurd h
-  local_alike x array (Meaning.Table t) h s = absurd h
-  local_alike x array (Meaning.Function f gives params defined) h s = absurd h
-  local_alike x array (Meaning.Modelled m) h s = absurd h
-  local_alike x array Meaning.Spawn h s = absurd h
+  local_alike x array _ h s = absurd h
 
   scalar_alike : (m n : Meaning) → MeaningAlike a m n → is_scalar n ≡ true → evaluate text globals (deep.scalar_value (variable_in m)) ≡ of_value (value tree globals (scope.scalar_value (variable_in n)))
   scalar_alike (Meaning.Local x array) n h s = local_alike x array n h s
   scalar_alike (Meaning.Global g array) n h s = rw h refl
-  scalar_alike (Meaning.Table t) n h s = let no : false ≡ true = subst (λ k. is_scalar k ≡ true) h s in cc
-  scalar_alike (Meaning.Function f gives params defined) n h s = let no : false ≡ true = subst (λ k. is_scalar k ≡ true) h s in cc
-  scalar_alike (Meaning.Modelled m) n h s = let no : false ≡ true = subst (λ k. is_scalar k ≡ true) h s in cc
-  scalar_alike Meaning.Spawn n h s = let no : false ≡ true = subst (λ k. is_scalar k ≡ true) h s in cc
+  scalar_alike _ n h s = let no : false ≡ true = subst (λ k. is_scalar k ≡ true) h s in cc
 
   scalar_found : (o p : Option Found) (at : ℕ) → FoundAlike a o p → use_faults is_scalar p at ≡ [] → evaluate text globals (deep.scalar_value (variable_of o)) ≡ of_value (value tree globals (scope.scalar_value (variable_of p)))
   scalar_found None None at h f = cc
-  scalar_found None (Some g) at h f = absurd h
-  scalar_found (Some d) None at h f = absurd h
   scalar_found (Some d) (Some g) at h f = scalar_alike d.meaning g.meaning h (not_false (is_scalar g.meaning) (not_broken (not (is_scalar g.meaning)) at Rule.Kind f))
+  scalar_found _ _ at h f = absurd h
 
   module _ (i : DeepExpr) (j : ExprTree) (same : evaluate text globals i ≡ of_value (value tree globals j)) where
     local_element : (x : ℕ) (array : Bool) (n : Meaning) → LocalAlike a x array n → evaluate text globals (deep.element_value (variable_in (Meaning.Local x array)) i) ≡ of_value (value tree globals (scope.element_value (variable_in n) j))
     local_element x array (Meaning.Local y other) h =
         ap (λ e. and_then e (IndexOfLocal x) (λ index. of_value (element text x (Ok index)))) same ∙ then_element (value tree globals j) (IndexOfLocal x) text tree x y (stand x y h.0)
-    local_element x array (Meaning.Global g other) h = absurd h
-    local_element x array (Meaning.Table t) h = absurd h
-    local_element x array (Meaning.Function f gives params defined) h = absurd h
-    local_element x array (Meaning.Modelled m) h = absurd h
-    local_element x array Meaning.Spawn h = absurd h
+    local_element x array _ h = absurd h
 
     array_alike : (m n : Meaning) → MeaningAlike a m n → is_array n ≡ true → evaluate text globals (deep.element_value (variable_in m) i) ≡ of_value (value tree globals (scope.element_value (variable_in n) j))
     array_alike (Meaning.Local x array) n h s = local_element x array n h
     array_alike (Meaning.Global g array) n h s =
         rw h (ap (λ e. and_then e (IndexOfGlobal g) (λ index. of_value (element globals g (Ok index)))) same ∙ then_element (value tree globals j) (IndexOfGlobal g) globals globals g g refl)
-    array_alike (Meaning.Table t) n h s = let no : false ≡ true = subst (λ k. is_array k ≡ true) h s in cc
-    array_alike (Meaning.Function f gives params defined) n h s = let no : false ≡ true = subst (λ k. is_array k ≡ true) h s in cc
-    array_alike (Meaning.Modelled m) n h s = let no : false ≡ true = subst (λ k. is_array k ≡ true) h s in cc
-    array_alike Meaning.Spawn n h s = let no : false ≡ true = subst (λ k. is_array k ≡ true) h s in cc
+    array_alike _ n h s = let no : false ≡ true = subst (λ k. is_array k ≡ true) h s in cc
 
     array_found : (o p : Option Found) (at : ℕ) → FoundAlike a o p → use_faults is_array p at ≡ [] → evaluate text globals (deep.element_value (variable_of o) i) ≡ of_value (value tree globals (scope.element_value (variable_of p) j))
     array_found None None at h f = cc
-    array_found None (Some g) at h f = absurd h
-    array_found (Some d) None at h f = absurd h
     array_found (Some d) (Some g) at h f = array_alike d.meaning g.meaning h (not_false (is_array g.meaning) (not_broken (not (is_array g.meaning)) at Rule.Kind f))
+    array_found _ _ at h f = absurd h
 
   -- ---- expressions
 
@@ -161,5 +141,4 @@ module _ (a : Agreement) (text tree globals : List (List ℕ)) (stand : NamesSta
       let around = ConditionOf (deep.expr_of (in_text a) kx x) (deep.expr_of (in_text a) ky y) in
       (λ i. and_then (condition i) around (λ word. chosen word (and_then (first i) Chosen Done) (and_then (second i) Chosen Done)))
       ∙ then_choice (value tree globals (scope.expr_of (in_tree a) d)) (value tree globals (scope.expr_of (in_tree a) x)) (value tree globals (scope.expr_of (in_tree a) y)) around
-  value_alike k (RawCall n es) g s c f = cc
-  value_alike k (RawTableCall n i e) g s c f = cc
+  value_alike k _ g s c f = cc

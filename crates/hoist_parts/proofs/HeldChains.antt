@@ -12,8 +12,7 @@ chain_held b (p ∷ ps) = chain_held (b || holds_call p.1) ps
 
 joined_held : (l : RawExprTree) (op : Infix) (r : RawExprTree) → holds_call (raw_joined l op r) ≡ (holds_call l || holds_call r)
 joined_held l (Infix.Binary op) r = refl
-joined_held l Infix.LogicalAnd r = refl
-joined_held l Infix.LogicalOr r = refl
+joined_held l _ r = refl
 
 pub chained_held : (l : RawExprTree) (ps : List (Infix × RawExprTree)) → holds_call (raw_chained l ps) ≡ chain_held (holds_call l) ps
 chained_held l [] = refl
@@ -32,13 +31,11 @@ some_chain P one l (p ∷ ps) some = chain_all P one (raw_joined l p.0 p.1) ps (
 -- such a chain is neither a call nor a number
 pub joined_nested : (l : RawExprTree) (op : Infix) (r : RawExprTree) → holds_call (raw_joined l op r) ≡ holds_nested (raw_joined l op r)
 joined_nested l (Infix.Binary op) r = refl
-joined_nested l Infix.LogicalAnd r = refl
-joined_nested l Infix.LogicalOr r = refl
+joined_nested l _ r = refl
 
 pub joined_alone : (l : RawExprTree) (op : Infix) (r : RawExprTree) → is_left_alone (raw_joined l op r) ≡ false
 joined_alone l (Infix.Binary op) r = refl
-joined_alone l Infix.LogicalAnd r = refl
-joined_alone l Infix.LogicalOr r = refl
+joined_alone l _ r = refl
 
 -- a row that was tested not to be empty
 not_empty : (n m : ℕ) (b : Bool) → b ≡ false → b ≡ nat_eq n 0 → n ≡ m → m ≢ 0

@@ -1,6 +1,6 @@
 -- An expression in which no call stands stays as it is: nothing goes before it, and it takes no new name.
 use Rattle.std.proofs.Common.{ℕ, ◌≡◌, refl, ap, Bool, true, false, ◌||◌, []}
-use Rattle.c_tree.specs.RawTrees.{RawExprTree, RawNumber, RawName, RawElement, RawUnary, RawParenthesized, RawBinary, RawLogicalAnd, RawLogicalOr, RawConditional, RawCall, RawTableCall}
+use Rattle.c_tree.specs.RawTrees.{RawExprTree, RawElement, RawUnary, RawParenthesized, RawBinary, RawLogicalAnd, RawLogicalOr, RawConditional, RawCall, RawTableCall}
 use Rattle.hoist_parts.specs.Calls.{holds_call}
 use Rattle.hoist_parts.specs.Expressions.{names_in, part_after, left_of, before}
 
@@ -13,8 +13,6 @@ or_right true b h = cc
 or_right false b h = h
 
 pub no_names : (e : RawExprTree) → holds_call e ≡ false → names_in e ≡ 0
-no_names (RawNumber v) h = refl
-no_names (RawName n) h = refl
 no_names (RawElement n i) h = no_names i h
 no_names (RawUnary op e) h = no_names e h
 no_names (RawParenthesized e) h = no_names e h
@@ -28,10 +26,9 @@ no_names (RawConditional c a b) h =
     rw (ha, hb, no_names c (or_left (holds_call c) (holds_call a || holds_call b) h), no_names a ha, no_names b hb) refl
 no_names (RawCall n es) h = cc
 no_names (RawTableCall n i e) h = cc
+no_names _ h = refl
 
 pub no_left : (k : ℕ) (e : RawExprTree) → holds_call e ≡ false → left_of k e ≡ e
-no_left k (RawNumber v) h = refl
-no_left k (RawName n) h = refl
 no_left k (RawElement n i) h = ap (RawElement n) (no_left k i h)
 no_left k (RawUnary op e) h = ap (RawUnary op) (no_left k e h)
 no_left k (RawParenthesized e) h = ap RawParenthesized (no_left k e h)
@@ -43,10 +40,9 @@ no_left k (RawLogicalOr l r) h = let hr = or_right (holds_call l) (holds_call r)
 no_left k (RawConditional c a b) h = rw (or_right (holds_call c) (holds_call a || holds_call b) h, no_left k c (or_left (holds_call c) (holds_call a || holds_call b) h)) refl
 no_left k (RawCall n es) h = cc
 no_left k (RawTableCall n i e) h = cc
+no_left k _ h = refl
 
 pub no_before : (k : ℕ) (e : RawExprTree) → holds_call e ≡ false → before k e ≡ []
-no_before k (RawNumber v) h = refl
-no_before k (RawName n) h = refl
 no_before k (RawElement n i) h = no_before k i h
 no_before k (RawUnary op e) h = no_before k e h
 no_before k (RawParenthesized e) h = no_before k e h
@@ -58,3 +54,4 @@ no_before k (RawLogicalOr l r) h = let hr = or_right (holds_call l) (holds_call 
 no_before k (RawConditional c a b) h = rw (or_right (holds_call c) (holds_call a || holds_call b) h, no_before k c (or_left (holds_call c) (holds_call a || holds_call b) h)) refl
 no_before k (RawCall n es) h = cc
 no_before k (RawTableCall n i e) h = cc
+no_before k _ h = refl

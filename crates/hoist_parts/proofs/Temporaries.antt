@@ -1,6 +1,6 @@
 -- The rewriting takes no more temporaries than the source, or two: `x != 0` takes two. So a bound of at least two stays one.
 use Rattle.std.proofs.Common.{ℕ, ◌+◌, ◌≤◌, Bool, true, false, ◌||◌, List, [], ◌∷◌, ◌++◌, Option, Some, None, if◌then◌else◌, arith}
-use Rattle.c_tree.specs.RawTrees.{NameTree, RawExprTree, RawExprTrees, RawNumber, RawName, RawElement, RawUnary, RawParenthesized, RawBinary, RawLogicalAnd, RawLogicalOr, RawConditional, RawCall, RawTableCall, NoExprs, And, RawSimpleTree, RawDeclareScalar, RawDeclareArray, RawDeclareWith, RawSet, RawSetElement, RawCalling, RawTableCalling, RawStmtTree, RawStmtTrees, RawDo, RawEmpty, RawBlock, RawIf, RawIfElse, RawWhile, RawFor, RawBreak, RawContinue, RawReturn, NoRawStmts, RawThen, RawItemTree, RawGlobal, RawGlobalArray, RawTableItem, RawPrototypeItem, RawFunctionItem}
+use Rattle.c_tree.specs.RawTrees.{NameTree, RawExprTree, RawExprTrees, RawNumber, RawElement, RawUnary, RawParenthesized, RawBinary, RawLogicalAnd, RawLogicalOr, RawConditional, RawCall, RawTableCall, NoExprs, And, RawSimpleTree, RawDeclareWith, RawSet, RawSetElement, RawCalling, RawTableCalling, RawStmtTree, RawStmtTrees, RawDo, RawBlock, RawIf, RawIfElse, RawWhile, RawFor, RawBreak, RawReturn, NoRawStmts, RawThen, RawItemTree, RawFunctionItem}
 use Rattle.c_tree.specs.RawViews.{raw_in_order, as_body}
 use Rattle.c_tree.specs.RawTemporaries.{raw_temporaries, raw_arguments_temporaries, raw_simple_temporaries, raw_optional_temporaries, raw_stmt_temporaries, raw_stmts_temporaries, raw_item_temporaries, AreWithinTemporaries}
 use Rattle.hoist_parts.specs.NewNames.{used, declared, declared_as, set_to}
@@ -11,17 +11,13 @@ use Rattle.hoist_parts.specs.Statements.{value_left, value_before, table_before,
 -- ---- what is left of an expression
 
 some_temporaries : (e : RawExprTree) → 1 ≤ raw_temporaries e
-some_temporaries (RawNumber v) = omega arith
-some_temporaries (RawName n) = omega arith
 some_temporaries (RawElement n i) = some_temporaries i
 some_temporaries (RawUnary op e) = some_temporaries e
 some_temporaries (RawParenthesized e) = some_temporaries e
-some_temporaries (RawBinary op l r) = omega arith
 some_temporaries (RawLogicalAnd l r) = omega (arith, some_temporaries l)
 some_temporaries (RawLogicalOr l r) = omega (arith, some_temporaries l)
 some_temporaries (RawConditional c a b) = omega (arith, some_temporaries c)
-some_temporaries (RawCall n es) = omega arith
-some_temporaries (RawTableCall n i e) = omega arith
+some_temporaries _ = omega arith
 
 part_small : (b : Bool) (n m : ℕ) (e : RawExprTree) → 1 ≤ m → raw_temporaries e ≤ m → raw_temporaries (part_or b n e) ≤ m
 part_small true n m e one h = one
@@ -32,8 +28,6 @@ if_small true m x y h g = h
 if_small false m x y h g = g
 
 pub left_small : (k : ℕ) (e : RawExprTree) → raw_temporaries (left_of k e) ≤ raw_temporaries e
-left_small k (RawNumber v) = omega arith
-left_small k (RawName n) = omega arith
 left_small k (RawElement n i) = left_small k i
 left_small k (RawUnary op e) = left_small k e
 left_small k (RawParenthesized e) = left_small k e
@@ -49,6 +43,7 @@ left_small k (RawConditional c a b) =
     if_small (holds_call a || holds_call b) (raw_temporaries (RawConditional c a b)) (used (k + names_in c)) (RawConditional (left_of k c) a b) (some_temporaries (RawConditional c a b)) (let h = left_small k c in omega (arith, h))
 left_small k (RawCall n es) = some_temporaries (RawCall n es)
 left_small k (RawTableCall n i e) = some_temporaries (RawTableCall n i e)
+left_small k _ = omega arith
 
 spawned_small_at : (b : Bool) (e : RawExprTree) → raw_temporaries (if b then RawNumber 0 else e) ≤ raw_temporaries e
 spawned_small_at true e = some_temporaries e
@@ -123,8 +118,6 @@ logical_small m k l r c two hc hl hr first second =
 
 mutual
   pub before_small : (m k : ℕ) (e : RawExprTree) → 2 ≤ m → raw_temporaries e ≤ m → AreSmall m (before k e)
-  before_small m k (RawNumber v) two h = omega arith
-  before_small m k (RawName n) two h = omega arith
   before_small m k (RawElement n i) two h = before_small m k i two h
   before_small m k (RawUnary op e) two h = before_small m k e two h
   before_small m k (RawParenthesized e) two h = before_small m k e two h
@@ -166,6 +159,7 @@ mutual
       both_small m (table_before k i e) (declared_as (part_after k (holds_call e) i + names_in e) (table_call_left k n i e) ∷ [])
       (part_before_small m k (holds_call e) i (before (part_after k (holds_call e) i) e) index (before_small m k i two index) (before_small m (part_after k (holds_call e) i) e two (omega (arith, h))))
       (one_small m (declared_as (part_after k (holds_call e) i + names_in e) (table_call_left k n i e)) (omega (arith, left, h)))
+  before_small m k _ two h = omega arith
 
   arguments_before_small : (m k j : ℕ) (stays : Bool) (es : RawExprTrees) → 2 ≤ m → raw_arguments_temporaries j es ≤ m → AreSmall m (arguments_before stays k es)
   arguments_before_small m k j stays NoExprs two h = omega arith
@@ -190,8 +184,6 @@ value_before_small m k (RawTableCall n i e) two h =
 value_before_small m k v two h = before_small m k v two h
 
 simple_small : (m k : ℕ) (s : RawSimpleTree) → raw_simple_temporaries s ≤ m → raw_simple_temporaries (simple_left k s) ≤ m
-simple_small m k (RawDeclareScalar n) h = h
-simple_small m k (RawDeclareArray n size) h = h
 simple_small m k (RawDeclareWith n v) h = let left = value_small k v in omega (arith, left, h)
 simple_small m k (RawSet n v) h = let left = value_small k v in omega (arith, left, h)
 simple_small m k (RawSetElement n i v) h =
@@ -200,10 +192,9 @@ simple_small m k (RawSetElement n i v) h =
     omega (arith, first, second, h)
 simple_small m k (RawCalling n es) h = let left = arguments_small (is_spawn n) k 0 es in omega (arith, left, h)
 simple_small m k (RawTableCalling n i e) h = let left = table_small k n i e in omega (arith, left, h)
+simple_small m k _ h = h
 
 simple_before_small : (m k : ℕ) (s : RawSimpleTree) → 2 ≤ m → raw_simple_temporaries s ≤ m → AreSmall m (simple_before k s)
-simple_before_small m k (RawDeclareScalar n) two h = omega arith
-simple_before_small m k (RawDeclareArray n size) two h = omega arith
 simple_before_small m k (RawDeclareWith n v) two h = value_before_small m k v two h
 simple_before_small m k (RawSet n v) two h = value_before_small m k v two h
 simple_before_small m k (RawSetElement n i v) two h =
@@ -213,6 +204,7 @@ simple_before_small m k (RawCalling n es) two h = arguments_before_small m k 0 (
 simple_before_small m k (RawTableCalling n i e) two h =
     let index : raw_temporaries i ≤ m = omega (arith, h) in
     part_before_small m k (holds_call e) i (before (part_after k (holds_call e) i) e) index (before_small m k i two index) (before_small m (part_after k (holds_call e) i) e two (omega (arith, h)))
+simple_before_small m k _ two h = omega arith
 
 body_small : (m : ℕ) (ss : List RawStmtTree) → AreSmall m ss → raw_stmt_temporaries (as_body ss) ≤ m
 body_small m [] h = omega arith
@@ -241,7 +233,6 @@ returned_before_small m k (Some v) two h = value_before_small m k v two h
 mutual
   hoisted_small : (m k : ℕ) (s : RawStmtTree) → 2 ≤ m → raw_stmt_temporaries s ≤ m → AreSmall m (hoisted k s)
   hoisted_small m k (RawDo s) two h = both_small m (simple_before k s) (RawDo (simple_left k s) ∷ []) (simple_before_small m k s two h) (one_small m (RawDo (simple_left k s)) (simple_small m k s h))
-  hoisted_small m k RawEmpty two h = omega arith
   hoisted_small m k (RawBlock ss) two h = one_small m (in_block (all_hoisted k ss)) (all_small m k ss two h)
   hoisted_small m k (RawIf c s) two h =
       let condition : raw_temporaries c ≤ m = omega (arith, h) in
@@ -270,10 +261,9 @@ mutual
   hoisted_small m k (RawFor init c step s) two h =
       let body = body_small m (hoisted k s) (hoisted_small m k s two (omega (arith, h))) in
       one_small m (RawFor init c step (as_body (hoisted k s))) (omega (arith, h, body))
-  hoisted_small m k (RawBreak at) two h = omega arith
-  hoisted_small m k (RawContinue at) two h = omega arith
   hoisted_small m k (RawReturn at v) two h =
       both_small m (returned_before k v) (RawReturn at (returned_left k v) ∷ []) (returned_before_small m k v two h) (one_small m (RawReturn at (returned_left k v)) (returned_small m k v h))
+  hoisted_small m k _ two h = omega arith
 
   pub all_small : (m k : ℕ) (ss : RawStmtTrees) → 2 ≤ m → raw_stmts_temporaries ss ≤ m → AreSmall m (all_hoisted k ss)
   all_small m k NoRawStmts two h = omega arith
@@ -281,11 +271,8 @@ mutual
       both_small m (hoisted k s) (all_hoisted (k + stmt_names s) ss) (hoisted_small m k s two (omega (arith, h))) (all_small m (k + stmt_names s) ss two (omega (arith, h)))
 
 item_small : (i : RawItemTree) → raw_item_temporaries i ≤ 65536 → raw_item_temporaries (item_hoisted i) ≤ 65536
-item_small (RawGlobal n start) h = h
-item_small (RawGlobalArray n size) h = h
-item_small (RawTableItem n size members) h = h
-item_small (RawPrototypeItem gives n params) h = h
 item_small (RawFunctionItem gives n params body) h = all_small 65536 0 body (omega arith) h
+item_small _ h = h
 
 pub items_small : (is : List RawItemTree) → AreWithinTemporaries is → AreWithinTemporaries (items_hoisted is)
 items_small [] h = tt

@@ -1,7 +1,7 @@
 -- After the rewriting every call is whole.
 use Rattle.std.proofs.Common.{ℕ, ◌≡◌, ◌+◌, refl, Bool, true, false, ◌||◌, List, [], ◌∷◌, ◌++◌, Option, Some, None}
 use Rattle.std.specs.Prelude.{if◌then◌else◌}
-use Rattle.c_tree.specs.RawTrees.{RawExprTree, RawExprTrees, RawNumber, RawName, RawElement, RawUnary, RawParenthesized, RawBinary, RawLogicalAnd, RawLogicalOr, RawConditional, RawCall, RawTableCall, NoExprs, And, RawSimpleTree, RawDeclareScalar, RawDeclareArray, RawDeclareWith, RawSet, RawSetElement, RawCalling, RawTableCalling, RawStmtTree, RawStmtTrees, RawDo, RawEmpty, RawBlock, RawIf, RawIfElse, RawWhile, RawFor, RawBreak, RawContinue, RawReturn, NoRawStmts, RawThen, RawItemTree, RawGlobal, RawGlobalArray, RawTableItem, RawPrototypeItem, RawFunctionItem}
+use Rattle.c_tree.specs.RawTrees.{RawExprTree, RawExprTrees, RawNumber, RawName, RawElement, RawUnary, RawParenthesized, RawBinary, RawLogicalAnd, RawLogicalOr, RawConditional, RawCall, RawTableCall, NoExprs, And, RawSimpleTree, RawDeclareWith, RawSet, RawSetElement, RawCalling, RawTableCalling, RawStmtTree, RawStmtTrees, RawDo, RawBlock, RawIf, RawIfElse, RawWhile, RawFor, RawBreak, RawReturn, NoRawStmts, RawThen, RawItemTree, RawFunctionItem}
 use Rattle.c_tree.specs.RawViews.{raw_in_order, as_body}
 use Rattle.c_tree.specs.WholeCalls.{HasNoCall, HaveNoCall, IsValueWhole, IsSimpleWhole, IsReturnWhole, IsStmtWhole, AreStmtsWhole, IsItemWhole, AreCallsWhole}
 use Rattle.c_tree.specs.WholeForParts.{IsForWhole, AreForsWhole, IsItemForWhole, AreForPartsWhole}
@@ -25,8 +25,6 @@ in_order_whole [] h = tt
 in_order_whole (s ∷ ss) h = (h.0, in_order_whole ss h.1)
 
 pub not_held : (e : RawExprTree) → holds_call e ≡ false → HasNoCall e
-not_held (RawNumber v) h = tt
-not_held (RawName n) h = tt
 not_held (RawElement n i) h = not_held i h
 not_held (RawUnary op e) h = not_held e h
 not_held (RawParenthesized e) h = not_held e h
@@ -38,19 +36,14 @@ not_held (RawConditional c a b) h =
     (not_held c (or_left (holds_call c) (holds_call a || holds_call b) h), not_held a (or_left (holds_call a) (holds_call b) hab), not_held b (or_right (holds_call a) (holds_call b) hab))
 not_held (RawCall n es) h = cc
 not_held (RawTableCall n i e) h = cc
+not_held _ h = tt
 
 no_call_value : (v : RawExprTree) → HasNoCall v → IsValueWhole v
 no_call_value (RawNumber v) h = tt
 no_call_value (RawName n) h = tt
-no_call_value (RawElement n i) h = h
-no_call_value (RawUnary op e) h = h
-no_call_value (RawParenthesized e) h = h
-no_call_value (RawBinary op l r) h = h
-no_call_value (RawLogicalAnd l r) h = h
-no_call_value (RawLogicalOr l r) h = h
-no_call_value (RawConditional c a b) h = h
 no_call_value (RawCall n es) h = absurd h
 no_call_value (RawTableCall n i e) h = absurd h
+no_call_value _ h = h
 
 part_whole : (named : Bool) (k : ℕ) (e : RawExprTree) → HasNoCall e → HasNoCall (part_or named k e)
 part_whole true k e h = tt
@@ -62,8 +55,6 @@ if_whole true n e h = tt
 if_whole false n e h = h refl
 
 pub left_whole : (k : ℕ) (e : RawExprTree) → HasNoCall (left_of k e)
-left_whole k (RawNumber v) = tt
-left_whole k (RawName n) = tt
 left_whole k (RawElement n i) = left_whole k i
 left_whole k (RawUnary op e) = left_whole k e
 left_whole k (RawParenthesized e) = left_whole k e
@@ -73,8 +64,7 @@ left_whole k (RawLogicalOr l r) = if_whole (holds_call r) (k + names_in l) (RawL
 left_whole k (RawConditional c a b) =
     if_whole (holds_call a || holds_call b) (k + names_in c) (RawConditional (left_of k c) a b)
     (λ e. (left_whole k c, not_held a (or_left (holds_call a) (holds_call b) e), not_held b (or_right (holds_call a) (holds_call b) e)))
-left_whole k (RawCall n es) = tt
-left_whole k (RawTableCall n i e) = tt
+left_whole k _ = tt
 
 spawned_whole_at : (b : Bool) (e : RawExprTree) → holds_call e ≡ b → HasNoCall (if b then RawNumber 0 else e)
 spawned_whole_at true e h = tt
@@ -102,8 +92,6 @@ branch_whole k n ss e hs he = in_order_whole (ss ++ set_to n e ∷ []) (both_who
 
 mutual
   pub before_whole : (k : ℕ) (e : RawExprTree) → AllWhole (before k e)
-  before_whole k (RawNumber v) = tt
-  before_whole k (RawName n) = tt
   before_whole k (RawElement n i) = before_whole k i
   before_whole k (RawUnary op e) = before_whole k e
   before_whole k (RawParenthesized e) = before_whole k e
@@ -135,6 +123,7 @@ mutual
       (both_whole (before k i) (part_named (is_named (holds_call e) i) (k + names_in i) (left_of k i)) (before_whole k i) (named_whole (is_named (holds_call e) i) (k + names_in i) (left_of k i) (left_whole k i)))
       (before_whole (part_after k (holds_call e) i) e))
       ((part_whole (is_named (holds_call e) i) (k + names_in i) (left_of k i) (left_whole k i), left_whole (part_after k (holds_call e) i) e), tt)
+  before_whole k _ = tt
 
   pub arguments_before_whole : (stays : Bool) (k : ℕ) (es : RawExprTrees) → AllWhole (arguments_before stays k es)
   arguments_before_whole stays k NoExprs = tt
@@ -164,22 +153,20 @@ value_before_whole k (RawTableCall n i e) = part_before_whole (holds_call e) k i
 value_before_whole k v = before_whole k v
 
 simple_whole : (k : ℕ) (s : RawSimpleTree) → IsSimpleWhole (simple_left k s)
-simple_whole k (RawDeclareScalar n) = tt
-simple_whole k (RawDeclareArray n size) = tt
 simple_whole k (RawDeclareWith n v) = value_whole k v
 simple_whole k (RawSet n v) = value_whole k v
 simple_whole k (RawSetElement n i v) = (index_whole (holds_nested v) k i, value_whole (part_after k (holds_nested v) i) v)
 simple_whole k (RawCalling n es) = arguments_whole (is_spawn n) k es
 simple_whole k (RawTableCalling n i e) = (index_whole (holds_call e) k i, left_whole (part_after k (holds_call e) i) e)
+simple_whole k _ = tt
 
 simple_before_whole : (k : ℕ) (s : RawSimpleTree) → AllWhole (simple_before k s)
-simple_before_whole k (RawDeclareScalar n) = tt
-simple_before_whole k (RawDeclareArray n size) = tt
 simple_before_whole k (RawDeclareWith n v) = value_before_whole k v
 simple_before_whole k (RawSet n v) = value_before_whole k v
 simple_before_whole k (RawSetElement n i v) = part_before_whole (holds_nested v) k i (value_before (part_after k (holds_nested v) i) v) (value_before_whole (part_after k (holds_nested v) i) v)
 simple_before_whole k (RawCalling n es) = arguments_before_whole (is_spawn n) k es
 simple_before_whole k (RawTableCalling n i e) = part_before_whole (holds_call e) k i (before (part_after k (holds_call e) i) e) (before_whole (part_after k (holds_call e) i) e)
+simple_before_whole k _ = tt
 
 pub body_whole : (ss : List RawStmtTree) → AllWhole ss → IsStmtWhole (as_body ss)
 body_whole [] h = tt
@@ -202,7 +189,6 @@ returned_whole k (Some v) = value_whole k v
 mutual
   pub hoisted_whole : (k : ℕ) (s : RawStmtTree) → IsForWhole s → AllWhole (hoisted k s)
   hoisted_whole k (RawDo s) h = both_whole (simple_before k s) (RawDo (simple_left k s) ∷ []) (simple_before_whole k s) (simple_whole k s, tt)
-  hoisted_whole k RawEmpty h = (tt, tt)
   hoisted_whole k (RawBlock ss) h = (in_order_whole (all_hoisted k ss) (all_hoisted_whole k ss h), tt)
   hoisted_whole k (RawIf c s) h =
       both_whole (before k c) (RawIf (left_of k c) (as_body (hoisted (k + names_in c) s)) ∷ []) (before_whole k c)
@@ -213,20 +199,16 @@ mutual
   hoisted_whole k (RawWhile c s) h =
       (while_whole (holds_call c) k c (as_body (hoisted (k + names_in c) s)) (as_body (hoisted k s)) refl (body_whole (hoisted (k + names_in c) s) (hoisted_whole (k + names_in c) s h)) (body_whole (hoisted k s) (hoisted_whole k s h)), tt)
   hoisted_whole k (RawFor init c step s) h = ((h.0, h.1, h.2, body_whole (hoisted k s) (hoisted_whole k s h.3)), tt)
-  hoisted_whole k (RawBreak at) h = (tt, tt)
-  hoisted_whole k (RawContinue at) h = (tt, tt)
   hoisted_whole k (RawReturn at v) h = both_whole (returned_before k v) (RawReturn at (returned_left k v) ∷ []) (returned_before_whole k v) (returned_whole k v, tt)
+  hoisted_whole k _ h = (tt, tt)
 
   pub all_hoisted_whole : (k : ℕ) (ss : RawStmtTrees) → AreForsWhole ss → AllWhole (all_hoisted k ss)
   all_hoisted_whole k NoRawStmts h = tt
   all_hoisted_whole k (RawThen s ss) h = both_whole (hoisted k s) (all_hoisted (k + stmt_names s) ss) (hoisted_whole k s h.0) (all_hoisted_whole (k + stmt_names s) ss h.1)
 
 item_hoisted_whole : (i : RawItemTree) → IsItemForWhole i → IsItemWhole (item_hoisted i)
-item_hoisted_whole (RawGlobal n start) h = tt
-item_hoisted_whole (RawGlobalArray n size) h = tt
-item_hoisted_whole (RawTableItem n size members) h = tt
-item_hoisted_whole (RawPrototypeItem gives n params) h = tt
 item_hoisted_whole (RawFunctionItem gives n params body) h = in_order_whole (all_hoisted 0 body) (all_hoisted_whole 0 body h)
+item_hoisted_whole _ h = tt
 
 pub items_hoisted_whole : (is : List RawItemTree) → AreForPartsWhole is → AreCallsWhole (items_hoisted is)
 items_hoisted_whole [] h = tt

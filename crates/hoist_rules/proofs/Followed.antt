@@ -41,9 +41,8 @@ then_pushed s t u a x y ht hu hx = hu ∙ (λ i. then_all (ht i) (hx i ∷ [])) 
 -- ---- a block, or a statement with a body
 
 body_places : (ss : List RawStmtTree) → stmts_places is_call (raw_in_order ss) ≡ stmt_places is_call (as_body ss)
-body_places [] = refl
 body_places (s ∷ []) = append-nil (stmt_places is_call s)
-body_places (s ∷ t ∷ ss) = refl
+body_places _ = refl
 
 whole_places : (o : OpeningTree) (ss : List RawStmtTree) → opening_places o ++ stmts_places is_call (raw_in_order ss) ≡ stmt_places is_call (whole o ss) ++ []
 whole_places OpenBlock ss = sym (append-nil (stmts_places is_call (raw_in_order ss)))

@@ -7,7 +7,7 @@ use Rattle.c_tree.specs.RawViews.{raw_expr_trees, raw_joined, as_body}
 use Rattle.c_tree.specs.declared.raw_expressions.RawExpr.{RawExpr}
 use Rattle.hoist_parts.specs.Arguments.{calls_among}
 use Rattle.hoist_rules.proofs.ArgumentTurns.{some_hold}
-use Rattle.c_tree.specs.RawTrees.{RawExprTree, RawExprTrees, RawNumber, RawName, RawElement, RawUnary, RawParenthesized, RawBinary, RawLogicalAnd, RawLogicalOr, RawConditional, RawCall, RawTableCall, NoExprs, And, RawSimpleTree, RawDeclareScalar, RawDeclareArray, RawDeclareWith, RawSet, RawSetElement, RawCalling, RawTableCalling, RawStmtTree, RawDo, RawEmpty, RawBlock, RawIf, RawIfElse, RawWhile, RawFor, RawBreak, RawContinue, RawReturn}
+use Rattle.c_tree.specs.RawTrees.{RawExprTree, RawExprTrees, RawElement, RawUnary, RawParenthesized, RawBinary, RawLogicalAnd, RawLogicalOr, RawConditional, RawCall, RawTableCall, NoExprs, And, RawSimpleTree, RawDeclareWith, RawSet, RawSetElement, RawCalling, RawTableCalling, RawStmtTree, RawDo, RawIf, RawIfElse, RawReturn}
 use Rattle.hoist_parts.specs.Calls.{holds_call, hold_call, holds_nested, is_named, is_spawn}
 use Rattle.hoist_parts.specs.Expressions.{names_in, part_after, part_named, left_of, before, arguments_before, in_block}
 use Rattle.hoist_parts.specs.Statements.{value_before, simple_before, returned_before, hoisted, table_before}
@@ -60,8 +60,6 @@ three_go false b c xs ys zs g h i = rw g (both_go b c ys zs h i)
 
 mutual
   goes_before : (k : ℕ) (e : RawExprTree) → Goes (holds_call e) (before k e)
-  goes_before k (RawNumber v) = refl
-  goes_before k (RawName n) = refl
   goes_before k (RawElement n i) = goes_before k i
   goes_before k (RawUnary op e) = goes_before k e
   goes_before k (RawParenthesized e) = goes_before k e
@@ -74,6 +72,7 @@ mutual
   goes_before k (RawConditional c a b) = both_go (holds_call c) (holds_call a || holds_call b) (before k c) _ (goes_before k c) (if_goes (holds_call a || holds_call b) _ (omega arith))
   goes_before k (RawCall n es) = later_go (arguments_before (is_spawn n) k es) _ (omega arith)
   goes_before k (RawTableCall n i e) = later_go (table_before k i e) _ (omega arith)
+  goes_before k _ = refl
 
 goes_arguments : (k : ℕ) (es : RawExprTrees) → Goes (hold_call es) (arguments_before false k es)
 goes_arguments k NoExprs = refl
@@ -83,10 +82,9 @@ goes_arguments k (And e es) =
     (none_named (hold_call es) (k + names_in e) e (left_of k e)) (goes_before k e) (goes_arguments m es)
 
 goes_move : (stays : Bool) (k : ℕ) (es : RawExprTrees) → Goes (move_call stays es) (arguments_before stays k es)
-goes_move true k NoExprs = refl
-goes_move false k NoExprs = refl
 goes_move true k (And e es) = goes_arguments k es
 goes_move false k (And e es) = goes_arguments k (And e es)
+goes_move _ k NoExprs = refl
 
 goes_table : (k : ℕ) (i e : RawExprTree) → Goes (holds_call i || holds_call e) (table_before k i e)
 goes_table k i e =
@@ -95,8 +93,6 @@ goes_table k i e =
     (none_named (holds_call e) (k + names_in i) i (left_of k i)) (goes_before k i) (goes_before m e)
 
 goes_value : (k : ℕ) (v : RawExprTree) → Goes (moves_call v) (value_before k v)
-goes_value k (RawNumber v) = refl
-goes_value k (RawName n) = refl
 goes_value k (RawElement n i) = goes_before k (RawElement n i)
 goes_value k (RawUnary op e) = goes_before k (RawUnary op e)
 goes_value k (RawParenthesized e) = goes_before k (RawParenthesized e)
@@ -106,12 +102,11 @@ goes_value k (RawLogicalOr l r) = goes_before k (RawLogicalOr l r)
 goes_value k (RawConditional c a b) = goes_before k (RawConditional c a b)
 goes_value k (RawCall n es) = goes_move (is_spawn n) k es
 goes_value k (RawTableCall n i e) = goes_table k i e
+goes_value k _ = refl
 
 -- ---- statements
 
 goes_simple : (k : ℕ) (s : RawSimpleTree) → Goes (simple_moves s) (simple_before k s)
-goes_simple k (RawDeclareScalar n) = refl
-goes_simple k (RawDeclareArray n size) = refl
 goes_simple k (RawDeclareWith n v) = goes_value k v
 goes_simple k (RawSet n v) = goes_value k v
 goes_simple k (RawSetElement n i v) =
@@ -120,6 +115,7 @@ goes_simple k (RawSetElement n i v) =
     (named_goes later (k + names_in i) (left_of k i)) (goes_value (part_after k (holds_nested v) i) v)
 goes_simple k (RawCalling n es) = goes_move (is_spawn n) k es
 goes_simple k (RawTableCalling n i e) = goes_table k i e
+goes_simple k _ = refl
 
 goes_returned : (k : ℕ) (v : Option RawExprTree) → Goes (returned_moves v) (returned_before k v)
 goes_returned k None = refl
@@ -135,27 +131,17 @@ many_by (b ∷ c ∷ bs) x h = refl
 
 pub single : (s : RawStmtTree) (k : ℕ) → stmt_moves s ≡ false → hoisted k s ≡ as_body (hoisted k s) ∷ []
 single (RawDo s) k h = single_by (simple_before k s) _ (first_goes (simple_moves s) (simple_before k s) h (goes_simple k s))
-single RawEmpty k h = refl
-single (RawBlock ss) k h = refl
 single (RawIf c s) k h = single_by (before k c) _ (first_goes (holds_call c) (before k c) h (goes_before k c))
 single (RawIfElse c s r) k h = single_by (before k c) _ (first_goes (holds_call c) (before k c) h (goes_before k c))
-single (RawWhile c s) k h = refl
-single (RawFor init c step s) k h = refl
-single (RawBreak at) k h = refl
-single (RawContinue at) k h = refl
 single (RawReturn at v) k h = single_by (returned_before k v) _ (first_goes (returned_moves v) (returned_before k v) h (goes_returned k v))
+single _ k h = refl
 
 pub many : (s : RawStmtTree) (k : ℕ) → stmt_moves s ≡ true → as_body (hoisted k s) ≡ in_block (hoisted k s)
 many (RawDo s) k h = many_by (simple_before k s) _ (some_go (simple_moves s) (simple_before k s) h (goes_simple k s))
-many RawEmpty k h = cc
-many (RawBlock ss) k h = cc
 many (RawIf c s) k h = many_by (before k c) _ (some_go (holds_call c) (before k c) h (goes_before k c))
 many (RawIfElse c s r) k h = many_by (before k c) _ (some_go (holds_call c) (before k c) h (goes_before k c))
-many (RawWhile c s) k h = cc
-many (RawFor init c step s) k h = cc
-many (RawBreak at) k h = cc
-many (RawContinue at) k h = cc
 many (RawReturn at v) k h = many_by (returned_before k v) _ (some_go (returned_moves v) (returned_before k v) h (goes_returned k v))
+many _ k h = cc
 
 -- ---- arguments as they are
 
@@ -174,12 +160,10 @@ moved_all false NoExprs h = refl
 moved_all false (And e es) h = some_hold (And e es)
 
 pub moved_none : (stays : Bool) (es : List RawExpr) → length es ≤ 0 → nat_lt 0 (calls_among (raw_expr_trees es)) ≡ move_call stays (raw_expr_trees es)
-moved_none true [] h = refl
-moved_none false [] h = refl
 moved_none stays (e ∷ es) h = absurd (omega (arith, h))
+moved_none _ [] h = refl
 
 -- a chain of operators isn't a call
 pub joined_moves : (l : RawExprTree) (op : Infix) (r : RawExprTree) → holds_call (raw_joined l op r) ≡ moves_call (raw_joined l op r)
 joined_moves l (Infix.Binary op) r = refl
-joined_moves l Infix.LogicalAnd r = refl
-joined_moves l Infix.LogicalOr r = refl
+joined_moves l _ r = refl

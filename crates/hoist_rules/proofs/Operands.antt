@@ -20,20 +20,17 @@ operands_seen (p ∷ ps) = ap (λ qs. raw_operand_tree p ∷ qs) (operands_seen 
 
 joined_left : (k : ℕ) (l : RawExprTree) (op : Infix) (r : RawExprTree) → left_of k (raw_joined l op r) ≡ operand_left (k + names_in l) op (is_left_alone l) (left_of k l) r
 joined_left k l (Infix.Binary op) r = refl
-joined_left k l Infix.LogicalAnd r = refl
-joined_left k l Infix.LogicalOr r = refl
+joined_left k l _ r = refl
 
 joined_before : (k : ℕ) (l : RawExprTree) (op : Infix) (r : RawExprTree) → before k (raw_joined l op r) ≡ before k l ++ operand_before (k + names_in l) op (is_left_alone l) (left_of k l) r
 joined_before k l (Infix.Binary op) r =
     let named = holds_call r && not (is_left_alone l) in
     append_assoc (before k l) (part_named named (k + names_in l) (left_of k l)) (before (k + names_in l + one_if named) r)
-joined_before k l Infix.LogicalAnd r = refl
-joined_before k l Infix.LogicalOr r = refl
+joined_before k l _ r = refl
 
 joined_after : (k : ℕ) (l : RawExprTree) (op : Infix) (r : RawExprTree) → k + names_in (raw_joined l op r) ≡ operand_after (k + names_in l) op (is_left_alone l) r
 joined_after k l (Infix.Binary op) r = omega arith
-joined_after k l Infix.LogicalAnd r = omega arith
-joined_after k l Infix.LogicalOr r = omega arith
+joined_after k l _ r = omega arith
 
 -- ---- several
 

@@ -13,14 +13,12 @@ use Rattle.hoist_rules.proofs.Followed.{then_then}
 plain_left_is : (k : ℕ) (op : Infix) (alone : Bool) (l r : RawExprTree) → branches op (holds_call r) ≡ false →
     raw_joined (part_or (holds_call r && not alone) k l) op (left_of (k + one_if (holds_call r && not alone)) r) ≡ operand_left k op alone l r
 plain_left_is k (Infix.Binary op) alone l r h = refl
-plain_left_is k Infix.LogicalAnd alone l r h = let held : holds_call r ≡ false = h in rw (held, no_left (k + one_if false) r held) refl
-plain_left_is k Infix.LogicalOr alone l r h = let held : holds_call r ≡ false = h in rw (held, no_left (k + one_if false) r held) refl
+plain_left_is k _ alone l r h = let held : holds_call r ≡ false = h in rw (held, no_left (k + one_if false) r held) refl
 
 plain_before_is : (k : ℕ) (op : Infix) (alone : Bool) (l r : RawExprTree) → branches op (holds_call r) ≡ false →
     part_named (holds_call r && not alone) k l ++ before (k + one_if (holds_call r && not alone)) r ≡ operand_before k op alone l r
 plain_before_is k (Infix.Binary op) alone l r h = refl
-plain_before_is k Infix.LogicalAnd alone l r h = let held : holds_call r ≡ false = h in rw (held, no_before (k + one_if false) r held) refl
-plain_before_is k Infix.LogicalOr alone l r h = let held : holds_call r ≡ false = h in rw (held, no_before (k + one_if false) r held) refl
+plain_before_is k _ alone l r h = let held : holds_call r ≡ false = h in rw (held, no_before (k + one_if false) r held) refl
 
 needs : (calling alone b : Bool) (r : RawExprTree) → calling ≡ holds_call r → b ≡ (calling && not alone) → b ≡ (holds_call r && not alone)
 needs calling alone b r hc hb = hb ∙ ap (λ x. x && not alone) hc

@@ -8,15 +8,12 @@ use Rattle.hoist_parts.specs.Statements.{value_names, value_left, value_before}
 
 pub joined_value_left : (k : ℕ) (l : RawExprTree) (op : Infix) (r : RawExprTree) → left_of k (raw_joined l op r) ≡ value_left k (raw_joined l op r)
 joined_value_left k l (Infix.Binary op) r = refl
-joined_value_left k l Infix.LogicalAnd r = refl
-joined_value_left k l Infix.LogicalOr r = refl
+joined_value_left k l _ r = refl
 
 pub joined_value_before : (k : ℕ) (l : RawExprTree) (op : Infix) (r : RawExprTree) → before k (raw_joined l op r) ≡ value_before k (raw_joined l op r)
 joined_value_before k l (Infix.Binary op) r = refl
-joined_value_before k l Infix.LogicalAnd r = refl
-joined_value_before k l Infix.LogicalOr r = refl
+joined_value_before k l _ r = refl
 
 pub joined_value_names : (l : RawExprTree) (op : Infix) (r : RawExprTree) → names_in (raw_joined l op r) ≡ value_names (raw_joined l op r)
 joined_value_names l (Infix.Binary op) r = refl
-joined_value_names l Infix.LogicalAnd r = refl
-joined_value_names l Infix.LogicalOr r = refl
+joined_value_names l _ r = refl

@@ -20,8 +20,7 @@ module _ (g : Setup) (state : State) where
   told (Entry.Out thread value) s p = inl (out_goes g state thread value s p)
   told (Entry.Block thread node key cost free) s p = inl (block_goes g state thread node key cost free s p)
   told (Entry.End thread cost free) s p = inl (end_goes g state thread cost free s p)
-  told (Entry.Edge from to count cost changes) s p = absurd p
-  told (Entry.Stop line) s p = absurd p
+  told _ s p = absurd p
 
   one_told : (a b : Entry) (s t : State) → IsGoing g state a s ⊎ IsAtPoint g state a s → IsGoing g state b t ⊎ IsAtPoint g state b t → (a ≡ b) × (s ≡ t)
   one_told a b s t (inl p) (inl q) = one_going g state a b s t p q
@@ -33,14 +32,12 @@ module _ (g : Setup) (state : State) where
   one_entry a b s t p q = one_told a b s t (told a s p) (told b t q)
 
   no_stop : (a : Entry) (s : State) (line : StopLine) (machine : World) → IsGoing g state a s ⊎ IsAtPoint g state a s → IsStop g state line machine → ⊥
-  no_stop a s StopLine.Done machine (inl p) q = going_under_way g state a s p q.0.between
-  no_stop a s StopLine.Idle machine (inl p) q = going_under_way g state a s p q.0.between
-  no_stop a s (StopLine.Trace line) machine (inl p) q = going_under_way g state a s p q.0.between
   no_stop a s (StopLine.Cut thread stop cost free) machine (inl p) q = going_not_cut g state a s _ machine p (stop_cuts g state thread stop cost free machine q)
   no_stop a s StopLine.Done machine (inr p) q = point_not_done g state a s p q.0
   no_stop a s StopLine.Idle machine (inr p) q = point_not_idle g state a s p q.0
   no_stop a s (StopLine.Trace line) machine (inr p) q = point_not_bad g state a s line p q.0
   no_stop a s (StopLine.Cut thread stop cost free) machine (inr p) q = cut_under_way g state _ machine (stop_cuts g state thread stop cost free machine q) p.point.between
+  no_stop a s _ machine (inl p) q = going_under_way g state a s p q.0.between
 
   pub entry_or_stop : (a : Entry) (s : State) (line : StopLine) (machine : World) → IsAllowed g state a s → IsStop g state line machine → ⊥
   entry_or_stop a s line machine p q = no_stop a s line machine (told a s p) q
@@ -49,20 +46,18 @@ module _ (g : Setup) (state : State) where
   one_stop StopLine.Done StopLine.Done s t p q = (refl, p.1 ∙ sym q.1)
   one_stop StopLine.Done StopLine.Idle s t p q = absurd (q.0.live p.0.nobody)
   one_stop StopLine.Done (StopLine.Trace line) s t p q = absurd (q.0.live p.0.nobody)
-  one_stop StopLine.Done (StopLine.Cut thread stop cost free) s t p q = absurd (cut_under_way g state _ t (stop_cuts g state thread stop cost free t q) p.0.between)
   one_stop StopLine.Idle StopLine.Done s t p q = absurd (p.0.live q.0.nobody)
   one_stop StopLine.Idle StopLine.Idle s t p q = (refl, p.1 ∙ sym q.1)
   one_stop StopLine.Idle (StopLine.Trace line) s t p q = absurd (not_refused state.trace None line p.0.over q.0.refused)
-  one_stop StopLine.Idle (StopLine.Cut thread stop cost free) s t p q = absurd (cut_under_way g state _ t (stop_cuts g state thread stop cost free t q) p.0.between)
   one_stop (StopLine.Trace line) StopLine.Done s t p q = absurd (p.0.live q.0.nobody)
   one_stop (StopLine.Trace line) StopLine.Idle s t p q = absurd (not_refused state.trace None line q.0.over p.0.refused)
   one_stop (StopLine.Trace line) (StopLine.Trace line') s t p q = (ap StopLine.Trace (one_refusal state.trace line line' p.0.refused q.0.refused), p.1 ∙ sym q.1)
-  one_stop (StopLine.Trace line) (StopLine.Cut thread stop cost free) s t p q = absurd (cut_under_way g state _ t (stop_cuts g state thread stop cost free t q) p.0.between)
   one_stop (StopLine.Cut thread stop cost free) StopLine.Done s t p q = absurd (cut_under_way g state _ s (stop_cuts g state thread stop cost free s p) q.0.between)
   one_stop (StopLine.Cut thread stop cost free) StopLine.Idle s t p q = absurd (cut_under_way g state _ s (stop_cuts g state thread stop cost free s p) q.0.between)
   one_stop (StopLine.Cut thread stop cost free) (StopLine.Trace line) s t p q = absurd (cut_under_way g state _ s (stop_cuts g state thread stop cost free s p) q.0.between)
   one_stop (StopLine.Cut thread stop cost free) (StopLine.Cut thread' stop' cost' free') s t p q =
       one_cut g state _ _ s t (stop_cuts g state thread stop cost free s p) (stop_cuts g state thread' stop' cost' free' t q)
+  one_stop _ (StopLine.Cut thread stop cost free) s t p q = absurd (cut_under_way g state _ t (stop_cuts g state thread stop cost free t q) p.0.between)
 
 -- what is led to, with the rest of the way to a stop
 pub record IsOnTheRoad (g : Setup) (a b : List Entry) (here there : State) : Type 0 where

@@ -39,9 +39,8 @@ both_by places nodes a a' b b' e f is = subst (λ (o : Option Client). AreBoth p
 both_kept : (places places' : List (Option ℕ)) (nodes nodes' : List ℕ) (a : Option Client) (b : Option Waiter) → ((c : Client) (w : Waiter) → a ≡ Some c → b ≡ Some w → IsClientOf places nodes c w → IsClientOf places' nodes' c w) →
     AreBoth places nodes a b → AreBoth places' nodes' a b
 both_kept places places' nodes nodes' None None keeps is = tt
-both_kept places places' nodes nodes' None (Some w) keeps is = absurd is
-both_kept places places' nodes nodes' (Some c) None keeps is = absurd is
 both_kept places places' nodes nodes' (Some c) (Some w) keeps is = keeps c w refl refl is
+both_kept places places' nodes nodes' _ _ keeps is = absurd is
 
 all_waiting : (rule : StrideState) → rule.running ≡ None → waiting_of rule ≡ rule.clients
 all_waiting rule none = ap (λ (r : Option ℕ). waiting_in r rule.clients) none ∙ waiting-none rule.clients

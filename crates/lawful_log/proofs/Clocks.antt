@@ -5,8 +5,8 @@ use Rattle.std.specs.List.{AllByRecursion, list_any, cons_option}
 use Rattle.std.proofs.lemmas.Bool.Decides.{nat_tests}
 use Rattle.cap_word.specs.declared.calls.Block.{Block}
 use Rattle.c_mean.specs.ModelledCalls as table
-use Rattle.c_mean.specs.ModelledCalls.{Exchange, blocking_row, is_past, wake_of, wakes_at}
-use Rattle.c_mean.specs.World.{Rest, Fresh, Blocked as Blocks, Ended}
+use Rattle.c_mean.specs.ModelledCalls.{Exchange, blocking_row, wake_of, wakes_at}
+use Rattle.c_mean.specs.World.{Rest, Fresh, Blocked as Blocks}
 use Rattle.c_mean.proofs.CallLemmas.{waits_alone}
 use Rattle.event_trace.specs.declared.events.Event.{Event}
 use Rattle.choice_rules.specs.Readiness as rules
@@ -93,8 +93,7 @@ awake_block caps x clock since block e = awake_by (blocking_row caps x block).re
 awake_ready : (caps : List ℕ) (x : Exchange) (clock since : ℕ) (rest : Option Rest) → rules.wakes since rest ≡ Some clock → rules.is_ready_at caps x clock since rest ≡ true
 awake_ready caps x clock since (Some (Fresh function arguments)) e = refl
 awake_ready caps x clock since (Some (Blocks block waiting)) e = awake_block caps x clock since block e
-awake_ready caps x clock since (Some Ended) e = absurd (cc)
-awake_ready caps x clock since None e = absurd (cc)
+awake_ready caps x clock since _ e = absurd (cc)
 
 ready_at_wake : (g : Setup) (state : State) (clock : ℕ) → Contains (waking_times (seen_of state)) clock → any_ready g.policy (seen_of state) clock ≡ true
 ready_at_wake g state clock c =

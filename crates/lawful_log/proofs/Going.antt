@@ -10,7 +10,7 @@ use Rattle.c_mean.specs.Frames.{Waiting, key_of}
 use Rattle.c_mean.specs.World as source
 use Rattle.c_mean.proofs.WorldLemmas.{one_run}
 use Rattle.choice_rules.specs.Seen.{end_node}
-use Rattle.machine_world.specs.Threads.{World, Move, Goes, Puts, Spawns, Blocks, Ends, Stops, Wrong, step}
+use Rattle.machine_world.specs.Threads.{World, Move, Puts, Blocks, Ends, Stops, step}
 use Rattle.schedule_log.specs.declared.entries.Entry.{Entry}
 use Rattle.schedule_log.specs.declared.entries.StopLine.{StopLine}
 use Rattle.lawful_log.specs.Setup.{Setup, setting_of}
@@ -50,10 +50,7 @@ module _ (g : Setup) (state : State) where
   Tells segment steps (Puts word machine) entry after = (entry ≡ Entry.Out segment.thread (signed word)) × (after ≡ put_from segment steps word machine)
   Tells segment steps (Blocks machine) entry after = HasBlocked segment steps machine entry after
   Tells segment steps (Ends machine) entry after = HasEnded segment steps machine entry after
-  Tells segment steps (Goes machine) entry after = ⊥
-  Tells segment steps (Spawns number machine) entry after = ⊥
-  Tells segment steps (Stops stop) entry after = ⊥
-  Tells segment steps Wrong entry after = ⊥
+  Tells segment steps _ entry after = ⊥
 
   -- an entry of a segment
   pub record IsGoing (entry : Entry) (after : State) : Type 0 where
@@ -67,12 +64,7 @@ module _ (g : Setup) (state : State) where
   abbrev TellsStop : Segment → ℕ → World → Move → StopLine → World → Type 0
   TellsStop segment steps here (Stops stop) line machine =
       (line ≡ StopLine.Cut segment.thread stop (segment.cost + steps) (free_count here.areas.pool)) × (machine ≡ here)
-  TellsStop segment steps here (Puts word after) line machine = ⊥
-  TellsStop segment steps here (Blocks after) line machine = ⊥
-  TellsStop segment steps here (Ends after) line machine = ⊥
-  TellsStop segment steps here (Goes after) line machine = ⊥
-  TellsStop segment steps here (Spawns number after) line machine = ⊥
-  TellsStop segment steps here Wrong line machine = ⊥
+  TellsStop segment steps here _ line machine = ⊥
 
   pub record IsCutHere (line : StopLine) (machine : World) : Type 0 where
     segment : Segment
@@ -87,19 +79,11 @@ module _ (g : Setup) (state : State) where
   loud segment steps (Puts word machine) entry after t = refl
   loud segment steps (Blocks machine) entry after t = refl
   loud segment steps (Ends machine) entry after t = refl
-  loud segment steps (Goes machine) entry after t = absurd t
-  loud segment steps (Spawns number machine) entry after t = absurd t
-  loud segment steps (Stops stop) entry after t = absurd t
-  loud segment steps Wrong entry after t = absurd t
+  loud segment steps _ entry after t = absurd t
 
   loud_stop : (segment : Segment) (steps : ℕ) (here : World) (move : Move) (line : StopLine) (machine : World) → TellsStop segment steps here move line machine → quiet_world move ≡ None
-  loud_stop segment steps here (Puts word machine) line after t = absurd t
-  loud_stop segment steps here (Blocks machine) line after t = absurd t
-  loud_stop segment steps here (Ends machine) line after t = absurd t
-  loud_stop segment steps here (Goes machine) line after t = absurd t
-  loud_stop segment steps here (Spawns number machine) line after t = absurd t
   loud_stop segment steps here (Stops stop) line after t = refl
-  loud_stop segment steps here Wrong line after t = absurd t
+  loud_stop segment steps here _ line after t = absurd t
 
   one_way : (a b : Segment) (n m : ℕ) (v w : World) → IsOnTheWay g state a n v → quiet_world (step (setting_of g) v) ≡ None →
       IsOnTheWay g state b m w → quiet_world (step (setting_of g) w) ≡ None → (a ≡ b) × (n ≡ m) × (v ≡ w)
@@ -133,10 +117,7 @@ module _ (g : Setup) (state : State) where
         p.entry_is ∙ sym q.entry_is,
         p.after_is ∙ ap (λ (u : source.World). rested state segment end_node (segment.cost + steps + 1) machine u [] state.past.keys) worlds ∙ sym q.after_is,
       )
-  tells_one segment steps (Goes machine) a b s t p q = absurd p
-  tells_one segment steps (Spawns number machine) a b s t p q = absurd p
-  tells_one segment steps (Stops stop) a b s t p q = absurd p
-  tells_one segment steps Wrong a b s t p q = absurd p
+  tells_one segment steps _ a b s t p q = absurd p
 
   moved : (a b : Segment) (n m : ℕ) (v w : World) (entry : Entry) (after : State) → (a ≡ b) × (n ≡ m) × (v ≡ w) →
       Tells a n (step (setting_of g) v) entry after → Tells b m (step (setting_of g) w) entry after
@@ -152,13 +133,8 @@ module _ (g : Setup) (state : State) where
       tells_one q.segment q.steps (step (setting_of g) q.here) a b s t (moved _ _ _ _ _ _ a s same p.tells) q.tells
 
   not_both : (segment : Segment) (steps : ℕ) (here : World) (move : Move) (a : Entry) (s : State) (line : StopLine) (machine : World) → Tells segment steps move a s → TellsStop segment steps here move line machine → ⊥
-  not_both segment steps here (Puts word machine) a s line after p q = q
-  not_both segment steps here (Blocks machine) a s line after p q = q
-  not_both segment steps here (Ends machine) a s line after p q = q
-  not_both segment steps here (Goes machine) a s line after p q = q
-  not_both segment steps here (Spawns number machine) a s line after p q = q
   not_both segment steps here (Stops stop) a s line after p q = p
-  not_both segment steps here Wrong a s line after p q = q
+  not_both segment steps here _ a s line after p q = q
 
   moved_stop : (a b : Segment) (n m : ℕ) (v w : World) (line : StopLine) (machine : World) → (a ≡ b) × (n ≡ m) × (v ≡ w) →
       TellsStop a n v (step (setting_of g) v) line machine → TellsStop b m w (step (setting_of g) w) line machine
@@ -174,13 +150,8 @@ module _ (g : Setup) (state : State) where
       not_both q.segment q.steps q.here (step (setting_of g) q.here) a s line machine (moved _ _ _ _ _ _ a s same p.tells) q.tells
 
   stop_one : (segment : Segment) (steps : ℕ) (here : World) (move : Move) (a b : StopLine) (s t : World) → TellsStop segment steps here move a s → TellsStop segment steps here move b t → (a ≡ b) × (s ≡ t)
-  stop_one segment steps here (Puts word machine) a b s t p q = absurd p
-  stop_one segment steps here (Blocks machine) a b s t p q = absurd p
-  stop_one segment steps here (Ends machine) a b s t p q = absurd p
-  stop_one segment steps here (Goes machine) a b s t p q = absurd p
-  stop_one segment steps here (Spawns number machine) a b s t p q = absurd p
   stop_one segment steps here (Stops stop) a b s t p q = (p.0 ∙ sym q.0, p.1 ∙ sym q.1)
-  stop_one segment steps here Wrong a b s t p q = absurd p
+  stop_one segment steps here _ a b s t p q = absurd p
 
   pub one_cut : (a b : StopLine) (s t : World) → IsCutHere a s → IsCutHere b t → (a ≡ b) × (s ≡ t)
   one_cut a b s t p q =

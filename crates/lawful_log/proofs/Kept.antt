@@ -13,7 +13,7 @@ use Rattle.machine_world.specs.Numbered.{IsNumbered}
 use Rattle.machine_world.specs.Runs.{empty_world}
 use Rattle.machine_world.specs.Threads.{Blocked, Thread, World, thread_of, with_thread}
 use Rattle.lawful_log.specs.Waiting.{SinceIs, IsWaiting, AreWaiting}
-use Rattle.lawful_log.proofs.Counts.{StartsOne, IsOver}
+use Rattle.machine_world.proofs.Counts.{StartsOne, IsOver}
 use Rattle.lawful_log.proofs.Own.{found_below, StandsBlocked, StandsFresh, IsBlockedSince}
 
 pub some_of : (o : Option Thread) → IsSome o → (t : Thread) × (o ≡ Some t)

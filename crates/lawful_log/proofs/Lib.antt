@@ -6,7 +6,6 @@ pub mod Finding
 pub mod Passing
 pub mod StrideChoices
 pub mod ClientsGoing
-pub mod Counts
 pub mod Own
 pub mod Kept
 pub mod Same

@@ -73,8 +73,7 @@ module _ (g : Setup) (state : State) where
   one_point : (next : Option Event) (clock : ℕ) (due : Bool) (a b : Entry) (s t : State) → TellsPoint next clock due a s → TellsPoint next clock due b t → (a ≡ b) × (s ≡ t)
   one_point (Some event) clock true a b s t p q = one_coming event clock a b s t p q
   one_point None clock true a b s t p q = absurd p
-  one_point (Some event) clock false a b s t p q = one_running clock a b s t p q
-  one_point None clock false a b s t p q = one_running clock a b s t p q
+  one_point _ clock false a b s t p q = one_running clock a b s t p q
 
   pub one_at_point : (a b : Entry) (s t : State) → IsAtPoint a s → IsAtPoint b t → (a ≡ b) × (s ≡ t)
   one_at_point a b s t p q =

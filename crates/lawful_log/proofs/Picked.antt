@@ -1,15 +1,16 @@
 -- What the pick of a thread leaves as it was.
-use Rattle.std.proofs.Common.{◌≡◌, ◌≢◌, ℕ, Bool, true, false, not, nat_eq, List, [], ◌∷◌, Option, Some, None, refl, sym, ap, ◌∙◌, subst, cond, ⊎_elim}
+use Rattle.std.proofs.Common.{◌≡◌, ◌≢◌, ℕ, Bool, true, false, not, List, [], ◌∷◌, Option, Some, None, refl, sym, ap, ◌∙◌, subst, cond, ⊎_elim}
 use Rattle.std.specs.Prelude.{IsSome, if◌then◌else◌}
 use Rattle.std.specs.List.{AllByRecursion}
-use Rattle.std.proofs.lemmas.Bool.{cond_both, cases_eq, cond-false, eq-eqb, ne_eqb, eqb-true}
+use Rattle.std.proofs.lemmas.Bool.{cases_eq, eq-eqb, ne_eqb}
 use Rattle.choice_rules.specs.Seen.{Waiter}
 use Rattle.choice_rules.specs.Waiting.{waits}
 use Rattle.choice_rules.proofs.Waiters.{but, once_but, waits_but_other, waits_but_self}
 use Rattle.machine_world.specs.Runs.{Pick, picked, picked_at, may_run, after_action, is_between}
-use Rattle.machine_world.specs.Threads.{Blocked, Thread, World, Setting, thread_of, replaced, first_with}
+use Rattle.machine_world.specs.Threads.{Blocked, Thread, World, Setting, thread_of}
 use Rattle.lawful_log.specs.Waiting.{IsWaiting, AreWaiting}
 use Rattle.lawful_log.proofs.Own.{number_of_found}
+use Rattle.machine_world.proofs.OtherThreads.{first_with-replaced}
 
 pub record IsPicked (w : World) (number : ℕ) (after : World) : Type 0 where
   pub cost : after.cost ≡ w.cost
@@ -18,23 +19,11 @@ pub record IsPicked (w : World) (number : ℕ) (after : World) : Type 0 where
   pub running : after.running ≡ Some number
   pub others : (n : ℕ) → n ≢ number → thread_of after n ≡ thread_of w n
 
-others_replaced : (number : ℕ) (new : Thread) (threads : List Thread) → number ≢ new.number → first_with number (replaced new threads) ≡ first_with number threads
-others_replaced number new [] apart = refl
-others_replaced number new (t ∷ ts) apart =
-    let rest = others_replaced number new ts apart in
-    cond_both (nat_eq t.number new.number) new t (λ (u : Thread). first_with number (u ∷ replaced new ts) ≡ first_with number (t ∷ ts))
-    (λ same.
-    let equal : t.number ≡ new.number = eqb-true t.number new.number same in
-    cond-false (nat_eq new.number number) (Some new) (first_with number (replaced new ts)) (ne_eqb new.number number (λ e. apart (sym e)))
-    ∙ rest
-    ∙ sym (cond-false (nat_eq t.number number) (Some t) (first_with number ts) (ne_eqb t.number number (λ e. apart (sym e ∙ equal)))))
-    (λ _. ap (cond (nat_eq t.number number) (Some t)) rest)
-
 picked_kept : (s : Setting) (w : World) (thread : Thread) (blocked : Option Blocked) → IsPicked w thread.number (picked_at s w thread blocked)
 picked_kept s w thread None = record { cost = refl; clock = refl; next = refl; running = refl; others = λ n apart. refl }
-picked_kept s w thread (Some b) = record { cost = refl; clock = refl; next = refl; running = refl; others = λ n apart. others_replaced n _ w.threads apart }
+picked_kept s w thread (Some b) = record { cost = refl; clock = refl; next = refl; running = refl; others = λ n apart. first_with-replaced n _ w.threads apart }
 
-given_if : (b : Bool) (x y : World) → (if b then Some x else None) ≡ Some y → x ≡ y
+pub given_if : (b : Bool) (x y : World) → (if b then Some x else None) ≡ Some y → x ≡ y
 given_if true x y e = cc
 given_if false x y e = absurd (cc)
 
@@ -44,7 +33,7 @@ picked_found s w number (Some thread) after e p =
     let is : picked_at s w thread thread.blocked ≡ after = given_if (may_run s w thread.blocked) _ after p in
     subst (IsPicked w number) is (subst (λ (n : ℕ). IsPicked w n (picked_at s w thread thread.blocked)) (number_of_found number w.threads thread e) (picked_kept s w thread thread.blocked))
 
-between_if : (b : Bool) (o : Option World) (after : World) → (if b then o else None) ≡ Some after → o ≡ Some after
+pub between_if : (b : Bool) (o : Option World) (after : World) → (if b then o else None) ≡ Some after → o ≡ Some after
 between_if true o after e = e
 between_if false o after e = absurd (cc)
 

@@ -5,7 +5,7 @@ use Rattle.chunk_pool.specs.Pool.{Pool}
 use Rattle.c_mean.specs.Frames.{Waiting}
 use Rattle.c_mean.specs.ModelledCalls as table
 use Rattle.c_mean.specs.ModelledCalls.{wakes_at}
-use Rattle.c_mean.specs.World.{Rest, Fresh, Blocked as Blocks, Ended}
+use Rattle.c_mean.specs.World.{Rest, Fresh, Blocked as Blocks}
 use Rattle.c_tree.specs.Trees.{ProgramTree}
 use Rattle.choice_rules.specs.Readiness as rules
 use Rattle.cap_word.specs.Calls.{is_accept}
@@ -19,13 +19,8 @@ use Rattle.lawful_log.specs.Waiting.{SinceIs}
 -- blocked at the same since the same clock, or at the start
 abbrev pub RestsAlike : Option Blocked → ℕ → Option Rest → Type 0
 RestsAlike None since (Some (Fresh function arguments)) = Unit {0}
-RestsAlike None since (Some (Blocks block waiting)) = ⊥
-RestsAlike None since (Some Ended) = ⊥
-RestsAlike None since None = ⊥
 RestsAlike (Some b) since (Some (Blocks block waiting)) = (b.block ≡ block) × (b.since ≡ since)
-RestsAlike (Some b) since (Some (Fresh function arguments)) = ⊥
-RestsAlike (Some b) since (Some Ended) = ⊥
-RestsAlike (Some b) since None = ⊥
+RestsAlike _ since _ = ⊥
 
 blocked_alike : (b : Option Blocked) (since : ℕ) (block : Block) (waiting : Waiting) → option_map (λ v. v.block) b ≡ Some block → SinceIs b since → RestsAlike b since (Some (Blocks block waiting))
 blocked_alike None since block waiting e s = absurd (cc)
@@ -39,39 +34,23 @@ pub alike_rest : (c : Checked) (program : ProgramTree) (pool : Pool) (thread : T
     RestsAlike thread.blocked since rest
 alike_rest c program pool thread since (Some (Fresh function arguments)) stands s = fresh_alike thread.blocked since function arguments stands.unblocked
 alike_rest c program pool thread since (Some (Blocks block waiting)) stands s = blocked_alike thread.blocked since block waiting stands.blocked s
-alike_rest c program pool thread since (Some Ended) stands s = absurd stands
-alike_rest c program pool thread since None stands s = absurd stands
+alike_rest c program pool thread since _ stands s = absurd stands
 
 -- ---- the three tests
 
 pub ready_alike : (s : Setting) (w : World) (b : Option Blocked) (since : ℕ) (rest : Option Rest) → RestsAlike b since rest → may_run s w b ≡ rules.is_ready_at s.caps w.exchange w.clock since rest
 ready_alike s w None since (Some (Fresh function arguments)) alike = refl
-ready_alike s w None since (Some (Blocks block waiting)) alike = absurd alike
-ready_alike s w None since (Some Ended) alike = absurd alike
-ready_alike s w None since None alike = absurd alike
 ready_alike s w (Some b) since (Some (Blocks block waiting)) alike =
     ap (λ (v : Block). table.is_ready s.caps w.exchange w.clock b.since v) alike.0 ∙ ap (λ (n : ℕ). table.is_ready s.caps w.exchange w.clock n block) alike.1
-ready_alike s w (Some b) since (Some (Fresh function arguments)) alike = absurd alike
-ready_alike s w (Some b) since (Some Ended) alike = absurd alike
-ready_alike s w (Some b) since None alike = absurd alike
+ready_alike s w _ since _ alike = absurd alike
 
 pub accept_alike : (b : Option Blocked) (since : ℕ) (rest : Option Rest) → RestsAlike b since rest → is_blocked_at_accept b ≡ rules.is_accepting rest
 accept_alike None since (Some (Fresh function arguments)) alike = refl
-accept_alike None since (Some (Blocks block waiting)) alike = absurd alike
-accept_alike None since (Some Ended) alike = absurd alike
-accept_alike None since None alike = absurd alike
 accept_alike (Some b) since (Some (Blocks block waiting)) alike = ap is_accept alike.0
-accept_alike (Some b) since (Some (Fresh function arguments)) alike = absurd alike
-accept_alike (Some b) since (Some Ended) alike = absurd alike
-accept_alike (Some b) since None alike = absurd alike
+accept_alike _ since _ alike = absurd alike
 
 pub wakes_alike : (b : Option Blocked) (since : ℕ) (rest : Option Rest) → RestsAlike b since rest → waking_time b ≡ rules.wakes since rest
 wakes_alike None since (Some (Fresh function arguments)) alike = refl
-wakes_alike None since (Some (Blocks block waiting)) alike = absurd alike
-wakes_alike None since (Some Ended) alike = absurd alike
-wakes_alike None since None alike = absurd alike
 wakes_alike (Some b) since (Some (Blocks block waiting)) alike =
     ap (λ (v : Block). wakes_at b.since v) alike.0 ∙ ap (λ (n : ℕ). wakes_at n block) alike.1
-wakes_alike (Some b) since (Some (Fresh function arguments)) alike = absurd alike
-wakes_alike (Some b) since (Some Ended) alike = absurd alike
-wakes_alike (Some b) since None alike = absurd alike
+wakes_alike _ since _ alike = absurd alike

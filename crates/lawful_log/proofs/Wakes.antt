@@ -22,16 +22,13 @@ use Rattle.lawful_log.proofs.Any.{any_found, waiter_of}
 use Rattle.lawful_log.proofs.Clocks.{gives_contains, gives_none, gives_above, is_time, asleep_is, contains_later, contains_head, contains_tail, contains_none}
 use Rattle.lawful_log.proofs.Kept.{is_some_of}
 use Rattle.lawful_log.proofs.Same.{alike_rest, ready_alike, wakes_alike}
+use Rattle.lawful_log.proofs.Finding.{all_both}
 
 -- ---- lists
 
 pub all_false : {X : Type 0} (test : X → Bool) (xs : List X) → list_any test xs ≡ false → AllByRecursion (λ x. test x ≡ false) xs
 all_false test [] e = tt
 all_false test (x ∷ xs) e = let both : (test x ≡ false) × (list_any test xs ≡ false) = not_both (test x) (list_any test xs) e in (both.0, all_false test xs both.1)
-
-pub zipped : {X : Type 0} (P Q R : X → Type 0) → ((x : X) → P x → Q x → R x) → (xs : List X) → AllByRecursion P xs → AllByRecursion Q xs → AllByRecursion R xs
-zipped P Q R join [] p q = tt
-zipped P Q R join (x ∷ xs) p q = (join x p.0 q.0, zipped P Q R join xs p.1 q.1)
 
 pub weakened : {X : Type 0} (P Q : X → Type 0) → ((x : X) → P x → Q x) → (xs : List X) → AllByRecursion P xs → AllByRecursion Q xs
 weakened P Q f [] p = tt
@@ -111,7 +108,7 @@ fits_state g state clock x stands v unready =
 module _ (g : Setup) (state : State) (clock : ℕ) (numbered : IsNumbered state.machine) (stands : StandsForWorld (checked_of g) g.program state.machine state.source) (are : AreWaiting state.machine state.waiting)
     (unready : any_ready g.policy (seen_of state) clock ≡ false) where
   fitting : AllByRecursion (λ x. (v : IsWaiting state.machine x) × (rules.wakes x.since (rules.rest_of (seen_of state) x.thread) ≡ asleep_until (setting_of g) (advanced state.machine clock) v.thread.blocked)) state.waiting
-  fitting = zipped (IsWaiting state.machine) (λ x. is_ready g.policy (seen_of state) clock x ≡ false) (λ x. (v : IsWaiting state.machine x) × (rules.wakes x.since (rules.rest_of (seen_of state) x.thread) ≡ asleep_until (setting_of g) (advanced state.machine clock) v.thread.blocked))
+  fitting = all_both (IsWaiting state.machine) (λ x. is_ready g.policy (seen_of state) clock x ≡ false) (λ x. (v : IsWaiting state.machine x) × (rules.wakes x.since (rules.rest_of (seen_of state) x.thread) ≡ asleep_until (setting_of g) (advanced state.machine clock) v.thread.blocked))
       (λ x v e. fits_state g state clock x stands v e) state.waiting are.each (all_false (is_ready g.policy (seen_of state) clock) state.waiting unready)
 
   pub none_wakes : All (λ thread. asleep_until (setting_of g) (advanced state.machine clock) thread.blocked ≡ None) state.machine.threads → waking_times (seen_of state) ≡ []

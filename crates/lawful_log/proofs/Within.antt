@@ -25,7 +25,7 @@ use Rattle.machine_world.proofs.FormWorlds.{KeepsWellFormed-step}
 use Rattle.machine_world.proofs.OtherThreads.{KeepsThread-step}
 use Rattle.lawful_log.specs.Waiting.{AreWaiting, IsWaiting}
 use Rattle.lawful_log.specs.Within.{IsWithin}
-use Rattle.lawful_log.proofs.Counts.{Counts, Retires, StartsOne, IsOver, counts_step}
+use Rattle.machine_world.proofs.Counts.{Counts, Retires, StartsOne, IsOver, counts_step}
 use Rattle.lawful_log.proofs.Kept.{all_kept, waiting_on, waiting_started, waiting_blocked, waiting_ended}
 use Rattle.lawful_log.proofs.Own.{found_below, LeavesOwn, StandsFresh, StandsBlocked, IsBlockedSince, own_step}
 use Rattle.chunk_pool.specs.Pool.{free_count}
@@ -184,8 +184,7 @@ module _ (g : Setup) (state : State) (segment : Segment) (begun : ℕ) (here : W
     fresh : (b : Option Blocked) → b ≡ None → IsBlockedSince b after.clock → ⊥
     fresh None e s = s
     fresh (Some b) e s = absurd (cc)
-  rests_at after world thread (Some source.Ended) live since e stands = absurd stands
-  rests_at after world thread None live since e stands = absurd stands
+  rests_at after world thread _ live since e stands = absurd stands
 
   pub rests_blocked : (after : World) (world : source.World) → step (setting_of g) here ≡ Blocks after → StandsForWorld (checked_of g) g.program after world → RestsBlocked after world
   rests_blocked after world e stands =
@@ -240,10 +239,9 @@ module _ (g : Setup) (state : State) (segment : Segment) (begun : ℕ) (here : W
 
   -- where the thread that has ended rests
   ended_rest : (after : World) (rest : Option source.Rest) → StandsForRest (checked_of g) g.program after.areas.pool None rest → IsSome rest → rest ≡ Some source.Ended
-  ended_rest after (Some (source.Blocked block waiting_at)) stands some = absurd stands
-  ended_rest after (Some (source.Fresh function arguments)) stands some = absurd stands
   ended_rest after (Some source.Ended) stands some = refl
   ended_rest after None stands some = absurd (let no : false ≡ true = some in cc)
+  ended_rest after (Some _) stands some = absurd stands
 
   pub end_allowed : (after : World) (world : source.World) (free : ℕ) → step (setting_of g) here ≡ Ends after → HasRun g state segment None world → StandsForWorld (checked_of g) g.program after world →
       IsSome (slice_get world.threads segment.thread) → free ≡ free_count after.areas.pool → IsEnd g state segment.thread cost_of free (ended_state after world)
@@ -309,8 +307,7 @@ module _ (g : Setup) (state : State) (segment : Segment) (begun : ℕ) (here : W
   Still (Spawns number after) = AllByRecursion (IsWaiting after) waiting
   Still (Blocks after) = AllByRecursion (IsWaiting after) waiting
   Still (Ends after) = AllByRecursion (IsWaiting after) waiting
-  Still (Stops stop) = Unit {0}
-  Still Wrong = Unit {0}
+  Still _ = Unit {0}
 
   still_in : (after : World) → IsWellFormed (checked_of g) (setting_of g) after → ((number : ℕ) → here.running ≢ Some number → number ≢ here.next → thread_of after number ≡ thread_of here number) → AllByRecursion (IsWaiting after) waiting
   still_in after formed kept = all_kept here after numbered formed.counted.numbered kept waiting is.threads
@@ -321,8 +318,7 @@ module _ (g : Setup) (state : State) (segment : Segment) (begun : ℕ) (here : W
   still_by (Spawns number after) e formed kept = still_in after formed kept
   still_by (Blocks after) e formed kept = still_in after formed kept
   still_by (Ends after) e formed kept = still_in after formed kept
-  still_by (Stops stop) e formed kept = tt
-  still_by Wrong e formed kept = tt
+  still_by _ e formed kept = tt
 
   pub still_waiting : (move : Move) → step (setting_of g) here ≡ move → Still move
   still_waiting move e = still_by move e

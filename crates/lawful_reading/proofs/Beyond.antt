@@ -103,24 +103,15 @@ module _ (g : Given) (s : State) (within : s.steps ≤ g.most_steps) where
         under_way = p.under_way;
         beyond = λ n comes. all_beyond after.steps p.steps n is (never after p) (same_most p.steps n (one_come g p.segment.here p.steps n (inl (p.word, p.here, p.puts)) comes));
       }
-  beyond_all (Entry.Block thread node key cost free) after p never =
-      let is : after.steps ≡ s.steps + p.steps = ap (λ (x : State). x.steps) p.after_is in
-      let closed = p.closed in
-      record {
-        segment = p.segment;
-        under_way = closed.under_way;
-        beyond = λ n comes. all_beyond after.steps p.steps n is (never after p)
-            (same_most p.steps n (one_come g p.segment.here p.steps n (inr (record { trap = None; world = p.world }, closed.rests)) comes));
-      }
-  beyond_all (Entry.End thread cost free) after p never =
-      let is : after.steps ≡ s.steps + p.steps = ap (λ (x : State). x.steps) p.after_is in
-      let closed = p.closed in
-      record {
-        segment = p.segment;
-        under_way = closed.under_way;
-        beyond = λ n comes. all_beyond after.steps p.steps n is (never after p)
-            (same_most p.steps n (one_come g p.segment.here p.steps n (inr (record { trap = None; world = p.world }, closed.rests)) comes));
-      }
   beyond_all (Entry.Edge from to count cost changes) after p never =
       stands (Entry.Edge from to count cost changes) after (ap (λ (x : State). x.steps) p.after_is) p never
   beyond_all (Entry.Stop line) after p never = stop_beyond line after p never
+  beyond_all _ after p never =
+      let is : after.steps ≡ s.steps + p.steps = ap (λ (x : State). x.steps) p.after_is in
+      let closed = p.closed in
+      record {
+        segment = p.segment;
+        under_way = closed.under_way;
+        beyond = λ n comes. all_beyond after.steps p.steps n is (never after p)
+            (same_most p.steps n (one_come g p.segment.here p.steps n (inr (record { trap = None; world = p.world }, closed.rests)) comes));
+      }

@@ -29,13 +29,11 @@ abbrev Put : List (ℕ × ℕ) → ℕ → List (ℕ × ℕ) → ℕ → Type 0
 Put before number after word = after ≡ before ++ (number, word) ∷ []
 
 put_decided : (before : List (ℕ × ℕ)) (number : ℕ) (after : List (ℕ × ℕ)) → Decided ((word : ℕ) × Put before number after word)
-put_decided [] number [] = inr (λ h. let e = h.1 in absurd (cc))
-put_decided [] number (x ∷ y ∷ xs) = inr (λ h. let e = h.1 in absurd (cc))
 put_decided [] number (x ∷ []) = decided_by (λ (e : x.0 ≡ number). (x.1, ap (λ (n : ℕ). (n, x.1) ∷ []) e)) (λ h. let e = h.1 in let same : x ≡ (number, h.0) = cc in (λ k. (same k).0)) (number_same x.0 number)
-put_decided (x ∷ before) number [] = inr (λ h. let e = h.1 in absurd (cc))
 put_decided (x ∷ before) number (y ∷ after) =
     decided_by (λ (h : (y ≡ x) × ((word : ℕ) × Put before number after word)). (h.1.0, (let first = h.0 in let rest = h.1.1 in cc))) (λ h. let e = h.1 in (cc, (h.0, cc)))
     (both_decided (pair_same y x) (put_decided before number after))
+put_decided _ number _ = inr (λ h. let e = h.1 in absurd (cc))
 
 -- ---- with a step
 

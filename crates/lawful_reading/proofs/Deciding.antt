@@ -54,9 +54,8 @@ bool_same false false = inl refl
 
 pub integer_same : (a b : ℤ) → Decided (a ≡ b)
 integer_same (pos a) (pos b) = decided_by (λ (e : a ≡ b). ap pos e) (λ e. cc) (number_same a b)
-integer_same (pos a) (negsuc b) = inr (λ e. cc)
-integer_same (negsuc a) (pos b) = inr (λ e. cc)
 integer_same (negsuc a) (negsuc b) = decided_by (λ (e : a ≡ b). ap negsuc e) (λ e. cc) (number_same a b)
+integer_same _ _ = inr (λ e. cc)
 
 -- ---- of the numbers below a bound
 
@@ -82,22 +81,20 @@ all_decided P each (x ∷ xs) = both_decided (each x) (all_decided P each xs)
 
 pub list_same : {A : Type 0} → ((x y : A) → Decided (x ≡ y)) → (a b : List A) → Decided (a ≡ b)
 list_same each [] [] = inl refl
-list_same each [] (y ∷ b) = inr (λ e. absurd (cc))
-list_same each (x ∷ a) [] = inr (λ e. absurd (cc))
 list_same each (x ∷ a) (y ∷ b) = by (each x y) (list_same each a b) where
   by : Decided (x ≡ y) → Decided (a ≡ b) → Decided (x ∷ a ≡ y ∷ b)
   by (inl e) (inl f) = inl (cc)
   by (inr none) f = inr (λ e. none (cc))
   by (inl e) (inr none) = inr (λ f. none (cc))
+list_same each _ _ = inr (λ e. absurd (cc))
 
 pub option_same : {A : Type 0} → ((x y : A) → Decided (x ≡ y)) → (a b : Option A) → Decided (a ≡ b)
 option_same each None None = inl refl
-option_same each None (Some y) = inr (λ e. absurd (cc))
-option_same each (Some x) None = inr (λ e. absurd (cc))
 option_same each (Some x) (Some y) = by (each x y) where
   by : Decided (x ≡ y) → Decided (Some x ≡ Some y)
   by (inl e) = inl (cc)
   by (inr none) = inr (λ e. none (cc))
+option_same each _ _ = inr (λ e. absurd (cc))
 
 -- what an option holds is there, and it holds of that
 pub held_decided : {A : Type 0} (P : A → Type 0) (o : Option A) → ((x : A) → o ≡ Some x → Decided (P x)) → Decided ((x : A) × ((o ≡ Some x) × P x))

@@ -1,5 +1,5 @@
 -- A log is read line by line, and something is said of it.
-use Rattle.std.proofs.Common.{◌≡◌, ℕ, zero, suc, ◌≤◌, inl, inr, List, [], ◌∷◌, ◌++◌, length, refl, sym, ap, ◌∙◌, arith, append_assoc, append-nil, length-append}
+use Rattle.std.proofs.Common.{◌≡◌, ℕ, zero, suc, ◌≤◌, inl, inr, List, [], ◌∷◌, ◌++◌, length, refl, sym, ap, ◌∙◌, arith, append-nil, length-append}
 use Rattle.schedule_log.specs.EntryRanges.{FitsEntry}
 use Rattle.schedule_log.specs.EntryText.{entry_text, log_text}
 use Rattle.schedule_log.specs.declared.entries.Entry.{Entry}
@@ -12,6 +12,7 @@ use Rattle.lawful_reading.proofs.Deciding.{Decided, both_decided, line_decided, 
 use Rattle.lawful_reading.proofs.Searching.{Found, entries}
 use Rattle.lawful_reading.proofs.Lines.{GoesOn, goes_decided, beyond_decided, is_stopped_decided}
 use Rattle.lawful_reading.proofs.Beyond.{beyond_all}
+use Rattle.lawful_reading.proofs.Verdicts.{first_line}
 
 -- ---- one line more
 
@@ -20,11 +21,7 @@ one_more g a b c _ entry nowhere fits allowed within = by_line fits allowed with
 one_more g a b c _ entry (by_line {between = s} {entry = x} {entries = es} also and_so and_within rest) fits allowed within =
     by_line also and_so and_within (one_more g s b c es entry rest fits allowed within)
 
-first_line : (entry : Entry) (read : List Entry) (u : List ℕ) → log_text (entry ∷ read) ++ u ≡ entry_text entry ++ 10 ∷ (log_text read ++ u)
-unfolding log_text
-first_line entry read u = append_assoc (entry_text entry ++ 10 ∷ []) (log_text read) u ∙ append_assoc (entry_text entry) (10 ∷ []) (log_text read ++ u)
-
-last_line : (read : List Entry) (entry : Entry) (u : List ℕ) → log_text (read ++ entry ∷ []) ++ u ≡ log_text read ++ (entry_text entry ++ 10 ∷ u)
+pub last_line : (read : List Entry) (entry : Entry) (u : List ℕ) → log_text (read ++ entry ∷ []) ++ u ≡ log_text read ++ (entry_text entry ++ 10 ∷ u)
 unfolding log_text
 last_line [] entry u = first_line entry [] u
 last_line (x ∷ read) entry u =

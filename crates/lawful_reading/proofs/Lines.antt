@@ -29,13 +29,11 @@ use Rattle.lawful_reading.proofs.SegmentLines.{possible_decided, OutAt, out_deci
 
 not_yet_decided : (end : End) → Decided (end ≡ NotYet)
 not_yet_decided NotYet = inl refl
-not_yet_decided (Edges left) = inr (λ e. absurd (cc))
-not_yet_decided Stopped = inr (λ e. absurd (cc))
+not_yet_decided _ = inr (λ e. absurd (cc))
 
 stopped_decided : (end : End) → Decided (end ≡ Stopped)
-stopped_decided NotYet = inr (λ e. absurd (cc))
-stopped_decided (Edges left) = inr (λ e. absurd (cc))
 stopped_decided Stopped = inl refl
+stopped_decided _ = inr (λ e. absurd (cc))
 
 some_decided : {A : Type 0} (o : Option A) → Decided ((x : A) × (o ≡ Some x))
 some_decided None = inr (λ h. let e = h.1 in absurd (cc))
@@ -251,22 +249,15 @@ module _ (g : Given) (s : State) (within : s.steps ≤ g.most_steps) where
 
   stop_needs : (segment : Segment) (stop : Stop) (n : ℕ) → Decided (StopNeeds g segment stop n)
   stop_needs segment (Stop.Trap kind) n = comes_decided g.program g.policy.caps segment.here n
-  stop_needs segment Stop.NoChunk n = number_same n 0
-  stop_needs segment Stop.Fuel n = number_same n 0
   stop_needs segment Stop.Threads n = either_decided (crowded_decided g.program g.policy.caps segment.here n) (comes_decided g.program g.policy.caps segment.here n)
+  stop_needs segment _ n = number_same n 0
 
   needs_decided : (segment : Segment) (entry : Entry) (n : ℕ) → Decided (Needs g segment entry n)
-  needs_decided segment (Entry.Event clock item) n = number_same n 0
-  needs_decided segment (Entry.Dropped clock item) n = number_same n 0
-  needs_decided segment (Entry.Run clock thread node) n = number_same n 0
   needs_decided segment (Entry.Out thread value) n = comes_decided g.program g.policy.caps segment.here n
   needs_decided segment (Entry.Block thread node key cost free) n = comes_decided g.program g.policy.caps segment.here n
   needs_decided segment (Entry.End thread cost free) n = comes_decided g.program g.policy.caps segment.here n
-  needs_decided segment (Entry.Edge from to count cost changes) n = number_same n 0
-  needs_decided segment (Entry.Stop StopLine.Done) n = number_same n 0
-  needs_decided segment (Entry.Stop StopLine.Idle) n = number_same n 0
-  needs_decided segment (Entry.Stop (StopLine.Trace line)) n = number_same n 0
   needs_decided segment (Entry.Stop (StopLine.Cut thread stop cost free)) n = stop_needs segment stop n
+  needs_decided segment _ n = number_same n 0
 
   abbrev AreBeyond : Entry → Segment → Type 0
   AreBeyond entry segment = (n : ℕ) → Needs g segment entry n → g.most_steps < s.steps + n

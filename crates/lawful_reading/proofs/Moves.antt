@@ -17,7 +17,7 @@ use Rattle.lawful_reading.specs.Happenings.{IsSilent, PutsNext, RestsNext}
 pub same_next : (a b : Segment) → ◌≡◌ {A = SegmentMove} (Goes a) (Goes b) → a ≡ b
 same_next a b e = cc
 
-same_end : (a b : Rested) → ◌≡◌ {A = SegmentMove} (Stops a) (Stops b) → a ≡ b
+pub same_end : (a b : Rested) → ◌≡◌ {A = SegmentMove} (Stops a) (Stops b) → a ≡ b
 same_end a b e = cc
 
 pub not_both : (a : Rested) (b : Segment) → ◌≡◌ {A = SegmentMove} (Stops a) (Goes b) → ⊥

@@ -130,14 +130,11 @@ no_edge : (g : Given) (s : State) (end : End) (entry : Entry) (rest : List Entry
 no_edge g s end entry rest stopped first = let no : [] ≡ entry ∷ rest = ap (λ (e : End). edges_left g s e) (sym stopped) ∙ first in absurd (cc)
 
 pub none_after : (g : Given) (s : State) (entry : Entry) (a : State) → s.end ≡ Stopped → IsAllowed g s entry a → ⊥
-none_after g s (Entry.Event clock item) a stopped p = over s stopped p.not_over
-none_after g s (Entry.Dropped clock item) a stopped p = over s stopped p.not_over
-none_after g s (Entry.Run clock thread node) a stopped p = over s stopped p.not_over
-none_after g s (Entry.Out thread value) a stopped p = over s stopped p.not_over
 none_after g s (Entry.Block thread node key cost free) a stopped p = over s stopped p.closed.not_over
 none_after g s (Entry.End thread cost free) a stopped p = over s stopped p.closed.not_over
 none_after g s (Entry.Edge from to count cost changes) a stopped p = no_edge g s s.end (Entry.Edge from to count cost changes) p.rest stopped p.first
 none_after g s (Entry.Stop line) a stopped p = p.first stopped
+none_after g s _ a stopped p = over s stopped p.not_over
 
 -- ---- steps
 
@@ -154,26 +151,21 @@ abbrev Crowds : Given → Segment → ℕ → Type 0
 Crowds g segment steps = IsCrowdedNext g.program g.policy.caps segment.here steps
 
 stop_steps : (g : Given) (s : State) (line : StopLine) (steps : ℕ) (b : IsBeyond g s (Entry.Stop line)) → StopsBy g s line steps → g.most_steps < s.steps + steps
-stop_steps g s StopLine.Done steps b stops = b.beyond steps stops.1
-stop_steps g s StopLine.Idle steps b stops = b.beyond steps stops.1
-stop_steps g s (StopLine.Trace line) steps b stops = b.beyond steps stops.1
 stop_steps g s (StopLine.Cut thread (Stop.Trap kind) cost free) steps b stops =
     b.beyond steps (comes_in g s stops.segment b.segment steps stops.under_way b.under_way (inr (stops.cause.0, stops.cause.1)))
 stop_steps g s (StopLine.Cut thread Stop.NoChunk cost free) steps b stops = b.beyond steps stops.cause
 stop_steps g s (StopLine.Cut thread Stop.Fuel cost free) steps b stops = b.beyond steps stops.cause.1
 stop_steps g s (StopLine.Cut thread Stop.Threads cost free) steps b stops =
     b.beyond steps (inl (subst (λ (x : Segment). Crowds g x steps) (same_segment s stops.segment b.segment stops.under_way b.under_way) stops.cause))
+stop_steps g s _ steps b stops = b.beyond steps stops.1
 
 -- an allowed line within the steps needs no more
 pub within_steps : (g : Given) (s : State) (entry : Entry) (a : State) → IsAllowed g s entry a → a.steps ≤ g.most_steps → IsBeyond g s entry → ⊥
-within_steps g s (Entry.Event clock item) a p within b = beyond_none g s a g.most_steps (ap (λ (x : State). x.steps) p.after_is) within (b.beyond 0 refl)
-within_steps g s (Entry.Dropped clock item) a p within b = beyond_none g s a g.most_steps (ap (λ (x : State). x.steps) p.after_is) within (b.beyond 0 refl)
-within_steps g s (Entry.Run clock thread node) a p within b = beyond_none g s a g.most_steps (ap (λ (x : State). x.steps) p.after_is) within (b.beyond 0 refl)
 within_steps g s (Entry.Out thread value) a p within b = beyond_some s a p.steps g.most_steps (ap (λ (x : State). x.steps) p.after_is) within
     (b.beyond p.steps (comes_in g s p.segment b.segment p.steps p.under_way b.under_way (inl (p.word, p.here, p.puts))))
 within_steps g s (Entry.Block thread node key cost free) a p within b = beyond_some s a p.steps g.most_steps (ap (λ (x : State). x.steps) p.after_is) within
     (b.beyond p.steps (comes_in g s p.segment b.segment p.steps p.closed.under_way b.under_way (inr (record { trap = None; world = p.world }, p.closed.rests))))
 within_steps g s (Entry.End thread cost free) a p within b = beyond_some s a p.steps g.most_steps (ap (λ (x : State). x.steps) p.after_is) within
     (b.beyond p.steps (comes_in g s p.segment b.segment p.steps p.closed.under_way b.under_way (inr (record { trap = None; world = p.world }, p.closed.rests))))
-within_steps g s (Entry.Edge from to count cost changes) a p within b = beyond_none g s a g.most_steps (ap (λ (x : State). x.steps) p.after_is) within (b.beyond 0 refl)
 within_steps g s (Entry.Stop line) a p within b = beyond_some s a p.steps g.most_steps (ap (λ (x : State). x.steps) p.after_is) within (stop_steps g s line p.steps b p.stops)
+within_steps g s _ a p within b = beyond_none g s a g.most_steps (ap (λ (x : State). x.steps) p.after_is) within (b.beyond 0 refl)

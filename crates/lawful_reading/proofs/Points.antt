@@ -1,5 +1,5 @@
 -- At a choice point it is decided which event comes, which thread is the lawful choice, and whether a run stops there.
-use Rattle.std.proofs.Common.{◌≡◌, ◌≢◌, ℕ, suc, ◌+◌, ◌≤◌, ◌&&◌, ◌||◌, Bool, true, false, inl, inr, List, [], ◌∷◌, ◌++◌, length, get_or, Option, Some, None, find, refl, sym, ◌∙◌, subst, arith}
+use Rattle.std.proofs.Common.{◌≡◌, ◌≢◌, ℕ, suc, ◌+◌, ◌≤◌, ◌&&◌, ◌||◌, Bool, true, false, inr, List, [], ◌∷◌, ◌++◌, length, get_or, Option, Some, None, find, refl, sym, ◌∙◌, subst, arith}
 use Rattle.std.specs.Prelude.{Contains, IsTrue, IsSome, is_some, filter, nat_eq}
 use Rattle.std.specs.List.{AllByRecursion}
 use Rattle.std.proofs.lemmas.Bool.{ne_eqb}
@@ -16,7 +16,7 @@ use Rattle.choice_rules.specs.Clock.{is_due, event_times, IsLeastOf, IsClockBy, 
 use Rattle.choice_rules.specs.Deliveries.{delivery_of, item_of, IsDelivery}
 use Rattle.choice_rules.specs.Choice.{is_eligible, queue_at, score_of, IsGraphChoice, goes_before_at, IsStrideChoice, IsLawfulBy, IsLawful, IsChoice}
 use Rattle.choice_rules.specs.Stops.{IsDone, IsBadTrace, IsIdle}
-use Rattle.choice_rules.proofs.Points.{one_next, not_refused, one_refusal}
+use Rattle.choice_rules.proofs.Points.{one_next, not_refused, one_refusal, refused_number}
 use Rattle.lawful_reading.proofs.Deciding.{Decided, decided_by, both_decided, denied, implied_decided, only_decided, le_decided, number_same, bool_same, integer_same, Below, below_decided, everywhere, all_decided, option_same, text_same}
 use Rattle.lawful_reading.proofs.TraceLines.{Next, Over, Line, Refused, next_of}
 
@@ -32,9 +32,8 @@ waiter_same a b = decided_by (λ (e : (a.thread ≡ b.thread) × ((a.node ≡ b.
 
 item_same : (a b : Item) → Decided (a ≡ b)
 item_same (Item.Arrive v) (Item.Arrive w) = decided_by (λ (e : v ≡ w) k. Item.Arrive (e k)) (λ e. cc) (integer_same v w)
-item_same (Item.Arrive v) (Item.Data channel w) = inr (λ e. cc)
-item_same (Item.Data channel v) (Item.Arrive w) = inr (λ e. cc)
 item_same (Item.Data c v) (Item.Data d w) = decided_by (λ (e : (c ≡ d) × (v ≡ w)) k. Item.Data (e.0 k) (e.1 k)) (λ e. (cc, cc)) (both_decided (number_same c d) (integer_same v w))
+item_same _ _ = inr (λ e. cc)
 
 contains_decided : (xs : List ℕ) (x : ℕ) → Decided (Contains xs x)
 contains_decided xs x = decided_by (λ (b : Below (λ k. get_or xs k x ≡ x) (length xs)). (b.0, b.1.0, b.1.1)) (λ c. (c.0, (c.1, c.2))) (below_decided (λ k. get_or xs k x ≡ x) (λ k. number_same (get_or xs k x) x) (length xs))
@@ -54,10 +53,6 @@ refused_decided trace line = by (next_of trace) where
   by (Line event is) = inr (λ r. not_refused trace (Some event) line is r)
   by (Refused number r) = decided_by (λ (e : number ≡ line). subst (λ (n : ℕ). IsRefused trace n) e r) (λ s. one_refusal trace number line r s) (number_same number line)
 
-number_of : (trace : Trace) (line : ℕ) → IsRefused trace line → line ≡ trace.lines + 1
-number_of trace line (inl r) = r.number_is
-number_of trace line (inr r) = r.2.number_is
-
 module _ (policy : Policy) (seen : Seen) where
   pub done_decided : Decided (IsDone seen)
   done_decided = decided_by (λ (p : (seen.under_way ≡ false) × (seen.live ≡ 0)). record { between = p.0; nobody = p.1 }) (λ d. (d.between, d.nobody))
@@ -69,7 +64,7 @@ module _ (policy : Policy) (seen : Seen) where
       (both_decided (bool_same seen.under_way false) (both_decided (denied (number_same seen.live 0)) (refused_decided seen.trace line)))
 
   pub some_bad_decided : Decided ((line : ℕ) × IsBadTrace seen line)
-  some_bad_decided = only_decided (λ line. IsBadTrace seen line) (seen.trace.lines + 1) (λ line bad. number_of seen.trace line bad.refused) (bad_decided (seen.trace.lines + 1))
+  some_bad_decided = only_decided (λ line. IsBadTrace seen line) (seen.trace.lines + 1) (λ line bad. refused_number seen.trace line bad.refused) (bad_decided (seen.trace.lines + 1))
 
   abbrev IdleParts : Type 0
   IdleParts = (seen.under_way ≡ false) × ((seen.live ≢ 0) × ((seen.trace.bytes ≡ []) × ((any_ready policy seen seen.clock ≡ false) × (waking_times seen ≡ []))))

@@ -2,7 +2,7 @@
 use Rattle.std.proofs.Common.{◌≡◌, ℕ, suc, ◌+◌, List, [], ◌∷◌, ◌++◌, length, refl, ap, ◌∙◌, arith, length-append, subst}
 use Rattle.schedule_log.specs.EntryText.{entry_text, log_text}
 use Rattle.lawful_reading.specs.Given.{Given}
-use Rattle.lawful_reading.specs.State.{End, NotYet, Edges, Stopped, start_of}
+use Rattle.lawful_reading.specs.State.{End, NotYet, Stopped, start_of}
 use Rattle.lawful_reading.specs.Reading.{nowhere, IsUnlawful}
 
 pub not-empty : (xs rest : List ℕ) → [] ≡ xs ++ 10 ∷ rest → ⊥
@@ -12,8 +12,7 @@ not-empty xs rest e =
 
 abbrev IsNotYet : End → Type 0
 IsNotYet NotYet = Unit {0}
-IsNotYet (Edges left) = ⊥
-IsNotYet Stopped = ⊥
+IsNotYet _ = ⊥
 
 pub stopped-not : NotYet ≡ Stopped → ⊥
 stopped-not e = subst IsNotYet e tt

@@ -31,11 +31,11 @@ cut_lines (x ∷ xs) (y ∷ ys) u v a b e =
     let rest = cut_lines xs ys u v a.1 b.1 (tails x y (xs ++ 10 ∷ u) (ys ++ 10 ∷ v) e) in
     (ap (λ (n : ℕ). n ∷ xs) (heads x y (xs ++ 10 ∷ u) (ys ++ 10 ∷ v) e) ∙ ap (λ (l : List ℕ). y ∷ l) rest.0, rest.1)
 
-first_line : (entry : Entry) (entries : List Entry) (u : List ℕ) → log_text (entry ∷ entries) ++ u ≡ entry_text entry ++ 10 ∷ (log_text entries ++ u)
+pub first_line : (entry : Entry) (entries : List Entry) (u : List ℕ) → log_text (entry ∷ entries) ++ u ≡ entry_text entry ++ 10 ∷ (log_text entries ++ u)
 unfolding log_text
 first_line entry entries u = append_assoc (entry_text entry ++ 10 ∷ []) (log_text entries) u ∙ append_assoc (entry_text entry) (10 ∷ []) (log_text entries ++ u)
 
-no_lines : (u : List ℕ) → log_text [] ++ u ≡ u
+pub no_lines : (u : List ℕ) → log_text [] ++ u ≡ u
 unfolding log_text
 no_lines u = refl
 

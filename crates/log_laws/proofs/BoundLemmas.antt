@@ -1,5 +1,5 @@
 -- A thread whose first function is main or is started by some site holds at most as many chunks as a budget gives it.
-use Rattle.std.proofs.Common.{◌≡◌, ℕ, zero, suc, ◌+◌, ◌<◌, ◌≤◌, Bool, true, false, nat_eq, cond, List, [], ◌∷◌, length, Option, Some, None, refl, sym, ap, subst, ◌∙◌, arith}
+use Rattle.std.proofs.Common.{◌≡◌, ℕ, zero, ◌+◌, ◌<◌, ◌≤◌, Bool, true, false, nat_eq, cond, List, [], ◌∷◌, length, Option, Some, None, refl, sym, ap, subst, ◌∙◌, arith, suc}
 use Rattle.std.specs.List.{AllByRecursion}
 use Rattle.chunk_budget.specs.declared.budgets.Budget.{Budget}
 use Rattle.chunk_budget.specs.Budgets.{height_of, chunks_added, IsCovered, IsBudget}
@@ -22,9 +22,8 @@ use Rattle.log_laws.proofs.StackLemmas.{added_is, stack_heights}
 
 -- of a linked transfer alone
 linking_kind : (kind : LinkKind) (w before : ℕ) → transfer_row kind w (Some before) ≡ Linking → is_linked kind ≡ true
-linking_kind LinkKind.Plain w before e = absurd cc
 linking_kind (LinkKind.Linked need) w before e = refl
-linking_kind (LinkKind.Spawned need) w before e = absurd cc
+linking_kind _ w before e = absurd cc
 
 return-none : (b : Bool) → cond b Empty Whole ≡ Linking → ⊥
 return-none true e = cc
@@ -42,24 +41,7 @@ linked_high c heights f b (Op.Call site d g args) member covered call linked =
 linked_high c heights f b (Op.CallTable site d t i s) member covered call linked =
     one_high heights (members_of c.flat t) (chunks_added (kind_of c.certificate (Op.CallTable site d t i s))) (height_of heights f) (member site d t i s refl)
     (added_is (kind_of c.certificate (Op.CallTable site d t i s)) ∙ ap (λ (x : Bool). cond x 1 0) linked) covered
-linked_high c heights f b (Op.Spawn site d g s) member covered call linked = absurd cc
-linked_high c heights f b (Op.Model site d n args) member covered call linked = absurd cc
-linked_high c heights f b (Op.Const d value) member covered call linked = absurd cc
-linked_high c heights f b (Op.Copy d x) member covered call linked = absurd cc
-linked_high c heights f b (Op.Neg d x) member covered call linked = absurd cc
-linked_high c heights f b (Op.Not d x) member covered call linked = absurd cc
-linked_high c heights f b (Op.Flip d x) member covered call linked = absurd cc
-linked_high c heights f b (Op.Bin op d x y) member covered call linked = absurd cc
-linked_high c heights f b (Op.Zero a) member covered call linked = absurd cc
-linked_high c heights f b (Op.LoadGlobal d g) member covered call linked = absurd cc
-linked_high c heights f b (Op.StoreGlobal g x) member covered call linked = absurd cc
-linked_high c heights f b (Op.LoadLocal d a i) member covered call linked = absurd cc
-linked_high c heights f b (Op.LoadArray d a i) member covered call linked = absurd cc
-linked_high c heights f b (Op.StoreLocal a i x) member covered call linked = absurd cc
-linked_high c heights f b (Op.StoreArray a i x) member covered call linked = absurd cc
-linked_high c heights f b (Op.Jump to) member covered call linked = absurd cc
-linked_high c heights f b (Op.JumpZero x to) member covered call linked = absurd cc
-linked_high c heights f b (Op.Return x) member covered call linked = absurd cc
+linked_high c heights f b _ member covered call linked = absurd cc
 
 -- an operation with that row calls at a linked site
 record IsLinkedCall (c : Checked) (op : Op) : Type 0 where
@@ -76,23 +58,7 @@ linked_call c w (Op.Return None) e = absurd (return-none (nat_eq w 2) e)
 linked_call c w (Op.Return (Some s)) e = absurd (return-none (nat_eq w 3) e)
 linked_call c w (Op.Call site d g args) e = linked_by c w (Op.Call site d g args) (Some (length args)) refl e
 linked_call c w (Op.CallTable site d t i s) e = linked_by c w (Op.CallTable site d t i s) (Some 13) refl e
-linked_call c w (Op.Spawn site d g s) e = absurd cc
-linked_call c w (Op.Model site d n args) e = absurd cc
-linked_call c w (Op.Const d value) e = absurd cc
-linked_call c w (Op.Copy d x) e = absurd cc
-linked_call c w (Op.Neg d x) e = absurd cc
-linked_call c w (Op.Not d x) e = absurd cc
-linked_call c w (Op.Flip d x) e = absurd cc
-linked_call c w (Op.Bin op d a b) e = absurd cc
-linked_call c w (Op.Zero a) e = absurd cc
-linked_call c w (Op.LoadGlobal d g) e = absurd cc
-linked_call c w (Op.StoreGlobal g x) e = absurd cc
-linked_call c w (Op.LoadLocal d a i) e = absurd cc
-linked_call c w (Op.LoadArray d a i) e = absurd cc
-linked_call c w (Op.StoreLocal a i x) e = absurd cc
-linked_call c w (Op.StoreArray a i x) e = absurd cc
-linked_call c w (Op.Jump to) e = absurd cc
-linked_call c w (Op.JumpZero x to) e = absurd cc
+linked_call c w _ e = absurd cc
 
 module _ (c : Checked) (budget : Budget) (formed : IsWellFormed c.flat) (is : IsBudget c.flat c.certificate budget) where
   at_high : (f i w : ℕ) (o : Option Op) → operation_at c.flat f i ≡ o → row_at c.certificate w o ≡ Linking → 1 ≤ height_of budget.heights f
@@ -135,11 +101,8 @@ module _ (c : Checked) (budget : Budget) (formed : IsWellFormed c.flat) (is : Is
   standing_by pool core place Linking (linked ∷ chunk ∷ chain) frame below at = record { frame = frame; below = below; frames_are = refl; chain = chunk ∷ chain; stack = at.3; function = at.2.function }
 
   ahead_high : (row : Row) (height : ℕ) → (row ≡ Linking → 1 ≤ height) → chunk_ahead row ≤ height
-  ahead_high NoFrame height high = omega arith
-  ahead_high Empty height high = omega arith
-  ahead_high Fresh height high = omega arith
-  ahead_high Whole height high = omega arith
   ahead_high Linking height high = let one = high refl in omega (arith, one)
+  ahead_high _ height high = omega arith
 
   -- a thread in place holds at most as many chunks as the budget gives it
   pub holds_at_most : (pool : Pool) (core : Core) (place : Place) (frames : List Frame) → HasFrames c pool core place frames → StartsAtRoot c frames → length core.chain ≤ budget.per_thread

@@ -8,7 +8,7 @@ use Rattle.c_lower.specs.ProgramCode.{lowered}
 use Rattle.c_mean.specs.Frames.{Waiting}
 use Rattle.c_tree.specs.WellScoped.{IsWellScoped}
 use Rattle.cap_word.specs.Calls.{Question}
-use Rattle.cap_word.specs.Runs.{Goes, Asks, Stops, moves}
+use Rattle.cap_word.specs.Runs.{Asks, Stops, moves}
 use Rattle.cap_word.specs.declared.stops.Stop.{Stop}
 use Rattle.c_mean.specs.Steps.{source_machine}
 use Rattle.certificate_rules.specs.Sites.{certified_site}
@@ -30,7 +30,7 @@ use Rattle.machine_world.specs.Places.{before_transfer}
 use Rattle.machine_world.specs.Rests.{IsAtCall}
 use Rattle.machine_world.specs.StandsFor.{StandAtCall}
 use Rattle.machine_world.specs.Threads as machine
-use Rattle.machine_world.specs.Threads.{World, Thread, Move, step, moved, thread_of}
+use Rattle.machine_world.specs.Threads.{World, Thread, step, thread_of, local_in}
 use Rattle.machine_meaning.specs.AsSource.{AsksCall, IsStepAsSource}
 use Rattle.segment_laws.specs.Alike.{last_function as last_frame, IsCutOff, IsCutMove}
 use Rattle.segment_laws.proofs.Needs.{need_path}
@@ -39,7 +39,6 @@ use Rattle.machine_meaning.proofs.FirstLemmas.{asks-first}
 use Rattle.stack_certificate.specs.Certificates.{need_of}
 use Rattle.stack_certificate.specs.Templates.{kind_of}
 use Rattle.stack_certificate.specs.declared.sites.LinkKind.{LinkKind}
-use Rattle.machine_meaning.proofs.Forms.{local_in}
 use Rattle.machine_meaning.proofs.Sound.{each_live}
 use Rattle.log_laws.specs.Lives.{starting, starting_by, starting_under, live}
 use Rattle.log_laws.specs.Roots.{root_of}
@@ -63,24 +62,7 @@ record HasSite (op : Op) : Type 0 where
 call_site : (op : Op) (before : ℕ) → before_transfer op ≡ Some before → HasSite op
 call_site (Op.Call site d g args) before e = record { site = site; is = refl }
 call_site (Op.CallTable site d t i s) before e = record { site = site; is = refl }
-call_site (Op.Spawn site d g s) before e = absurd (none-some before e)
-call_site (Op.Model site d n args) before e = absurd (none-some before e)
-call_site (Op.Const d value) before e = absurd (none-some before e)
-call_site (Op.Copy d x) before e = absurd (none-some before e)
-call_site (Op.Neg d x) before e = absurd (none-some before e)
-call_site (Op.Not d x) before e = absurd (none-some before e)
-call_site (Op.Flip d x) before e = absurd (none-some before e)
-call_site (Op.Bin op d x y) before e = absurd (none-some before e)
-call_site (Op.Zero a) before e = absurd (none-some before e)
-call_site (Op.LoadGlobal d g) before e = absurd (none-some before e)
-call_site (Op.StoreGlobal g x) before e = absurd (none-some before e)
-call_site (Op.LoadLocal d a i) before e = absurd (none-some before e)
-call_site (Op.LoadArray d a i) before e = absurd (none-some before e)
-call_site (Op.StoreLocal a i x) before e = absurd (none-some before e)
-call_site (Op.StoreArray a i x) before e = absurd (none-some before e)
-call_site (Op.Jump to) before e = absurd (none-some before e)
-call_site (Op.JumpZero x to) before e = absurd (none-some before e)
-call_site (Op.Return x) before e = absurd (none-some before e)
+call_site _ before e = absurd (none-some before e)
 
 module _ (g : Setup) (scoped : IsWellScoped g.program) (valid : IsValid (lowered g.program) g.image g.certificate) (shape : Shape) (budget : Budget) (is_budget : IsBudget (lowered g.program) g.certificate budget) (w : World) (is : Runs g scoped valid shape w) where
   abbrev number : ℕ
@@ -147,38 +129,17 @@ module _ (g : Setup) (scoped : IsWellScoped g.program) (valid : IsValid (lowered
       need_same : (a b e p q r : ℕ) → (let u : local.Question = local.Starts a b e in u) ≡ local.Starts p q r → e ≡ r
       need_same a b e p q r u = cc
   start_finds n entry argument need m asked waiting f i word (Op.Model site d k args) frames few enough rests stands comes same none = (let u = same.2 in cc)
-  start_finds n entry argument need m asked waiting f i word (Op.Call site d h args) frames few enough rests stands comes same none = same
-  start_finds n entry argument need m asked waiting f i word (Op.CallTable site d t k x) frames few enough rests stands comes same none = same
-  start_finds n entry argument need m asked waiting f i word (Op.Return v) frames few enough rests stands comes same none = same
-  start_finds n entry argument need m asked waiting f i word (Op.Const d x) frames few enough rests stands comes same none = same
-  start_finds n entry argument need m asked waiting f i word (Op.Copy d x) frames few enough rests stands comes same none = same
-  start_finds n entry argument need m asked waiting f i word (Op.Neg d x) frames few enough rests stands comes same none = same
-  start_finds n entry argument need m asked waiting f i word (Op.Not d x) frames few enough rests stands comes same none = same
-  start_finds n entry argument need m asked waiting f i word (Op.Flip d x) frames few enough rests stands comes same none = same
-  start_finds n entry argument need m asked waiting f i word (Op.Bin o d x y) frames few enough rests stands comes same none = same
-  start_finds n entry argument need m asked waiting f i word (Op.Zero x) frames few enough rests stands comes same none = same
-  start_finds n entry argument need m asked waiting f i word (Op.LoadGlobal d x) frames few enough rests stands comes same none = same
-  start_finds n entry argument need m asked waiting f i word (Op.StoreGlobal x y) frames few enough rests stands comes same none = same
-  start_finds n entry argument need m asked waiting f i word (Op.LoadLocal d x y) frames few enough rests stands comes same none = same
-  start_finds n entry argument need m asked waiting f i word (Op.LoadArray d x y) frames few enough rests stands comes same none = same
-  start_finds n entry argument need m asked waiting f i word (Op.StoreLocal d x y) frames few enough rests stands comes same none = same
-  start_finds n entry argument need m asked waiting f i word (Op.StoreArray d x y) frames few enough rests stands comes same none = same
-  start_finds n entry argument need m asked waiting f i word (Op.Jump to) frames few enough rests stands comes same none = same
-  start_finds n entry argument need m asked waiting f i word (Op.JumpZero x to) frames few enough rests stands comes same none = same
+  start_finds n entry argument need m asked waiting f i word _ frames few enough rests stands comes same none = same
 
   -- ---- both
 
   move_finds : (n : ℕ) (move : LocalMove) → length w.threads + starting move ≤ n → n * budget.per_thread ≤ roomy w.areas.pool g.certificate.max_path → IsStepAsSource (checked_of g) g.program is.reached.segment.running at move →
       IsCutMove (checked_of g) (first_of is.reached.segment.running) at move → FindsNone (setting_of g) w thread move → ⊥
-  move_finds n (Goes next) few enough h cut none = none
-  move_finds n (Asks (local.Calls call) still) few enough h cut none = none
   move_finds n (Asks (local.Starts entry argument need) still) few enough h cut none =
       let a = h.1.4 in
       start_finds n entry argument need h.1.0 h.1.1 h.1.2 a.function a.operation a.word a.op a.frames few enough a.rests a.stands h.1.3 a.same none
   move_finds n (Stops NoRoom) few enough h cut none = link_finds n (omega (arith, few)) enough cut
-  move_finds n (Stops (local.Ended areas)) few enough h cut none = none
-  move_finds n (Stops (local.Trapped kind)) few enough h cut none = none
-  move_finds n (Stops local.Wrong) few enough h cut none = none
+  move_finds n _ few enough h cut none = none
 
   live_is : live (setting_of g) w ≡ length w.threads + starting (local_step (setting_of g).code at)
   live_is =

@@ -145,8 +145,7 @@ module _ (g : Setup) (B U : World → Type 0) (kept : AreKept (checked_of g) (se
   entry_goes before after (Entry.Out thread value) more is later w position = out_goes before after thread value (machine_entries more) is later w position
   entry_goes before after (Entry.Block thread node key cost free) more is later w position = block_goes before after thread node key cost free (machine_entries more) is later w position
   entry_goes before after (Entry.End thread cost free) more is later w position = end_goes before after thread cost free (machine_entries more) is later w position
-  entry_goes before after (Entry.Edge from to count cost changes) more is later w position = absurd is
-  entry_goes before after (Entry.Stop line) more is later w position = absurd is
+  entry_goes before after _ more is later w position = absurd is
 
   leads_goes : (before after : State) (entries more : List Entry) → Leads g before entries after → GoesOn after more → GoesOn before (entries ++ more)
   leads_goes before after entries more nowhere later w position = later w position
@@ -160,9 +159,6 @@ module _ (g : Setup) (B U : World → Type 0) (kept : AreKept (checked_of g) (se
   edges_nothing (edge ∷ edges) stop = edges_nothing edges stop
 
   stop_goes : (last : State) (stop : StopLine) (end : World) → IsStop g last stop end → (w : World) → Position last w → IsGoodRun c s (stop_turns stop) w
-  stop_goes last StopLine.Done end is w position = tt
-  stop_goes last StopLine.Idle end is w position = tt
-  stop_goes last (StopLine.Trace line) end is w position = tt
   stop_goes last (StopLine.Cut thread stop cost free) end is w (Between none here rests) = absurd (let both : no_segment ≡ Some is.segment = sym none ∙ is.way.under_way in cc)
   stop_goes last (StopLine.Cut thread stop cost free) end is w (Within segment under way) =
       let same = same_segment last segment is.segment under is.way.under_way in
@@ -173,6 +169,7 @@ module _ (g : Setup) (B U : World → Type 0) (kept : AreKept (checked_of g) (se
         subst (λ (o : Option World). InWorld o (IsGoodRun c s [])) (sym (ap (λ (n : ℕ). after_steps s n here.begun) is.cost_is ∙ here.steps)) tt,
       ) in
       subst (λ (o : Option World). InWorld o (λ (begun : World). IsGoodStretch c s cost begun × InWorld (after_steps s cost begun) (IsGoodRun c s []))) (sym (ap (λ (n : ℕ). after_action s w (Pick n)) is.thread_is ∙ here.picks)) inner
+  stop_goes last _ end is w position = tt
 
   -- ---- the log
 

@@ -21,13 +21,12 @@ le_decided (suc a) (suc b) = ⊎_elim (λ (h : a ≤ b). inl (omega (arith, h)))
 
 same_decided : (a b : List ℕ) → Decided (a ≡ b)
 same_decided [] [] = inl refl
-same_decided [] (y ∷ b) = inr (λ e. absurd (cc))
-same_decided (x ∷ a) [] = inr (λ e. absurd (cc))
 same_decided (x ∷ a) (y ∷ b) = by (cases_eq x y) (same_decided a b) where
   by : Decided (x ≡ y) → Decided (a ≡ b) → Decided (x ∷ a ≡ y ∷ b)
   by (inl e) (inl f) = inl (cc)
   by (inr none) f = inr (λ e. none (cc))
   by (inl e) (inr none) = inr (λ f. none (cc))
+same_decided _ _ = inr (λ e. absurd (cc))
 
 -- one of the numbers below a bound, or none
 abbrev Below : (ℕ → Type 0) → ℕ → Type 0

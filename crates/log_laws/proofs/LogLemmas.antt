@@ -41,11 +41,7 @@ delivers-word (events.Message channel value) fits = fits.1
 quiet-is : (move : Move) (next : World) → quiet_world move ≡ Some next → world_of move ≡ Some next
 quiet-is (machine.Goes after) next e = e
 quiet-is (machine.Spawns number after) next e = e
-quiet-is (machine.Puts value after) next e = absurd (none-some next e)
-quiet-is (machine.Blocks after) next e = absurd (none-some next e)
-quiet-is (machine.Ends after) next e = absurd (none-some next e)
-quiet-is (machine.Stops stop) next e = absurd (none-some next e)
-quiet-is machine.Wrong next e = absurd (none-some next e)
+quiet-is _ next e = absurd (none-some next e)
 
 module _ (g : Setup) (scoped : IsWellScoped g.program) (valid : IsValid (lowered g.program) g.image g.certificate) (shape : Shape) where
   abbrev IsAt : World → Type 0
@@ -87,8 +83,7 @@ module _ (g : Setup) (scoped : IsWellScoped g.program) (valid : IsValid (lowered
       subst StandsAt (sym is.after_is) (step-on is.here is.machine (machine.Blocks is.machine) (quiet-on is.steps before.machine is.here at is.way.quiet) is.blocks refl)
   entry-on before after (Entry.End thread cost free) is at =
       subst StandsAt (sym is.after_is) (step-on is.here is.machine (machine.Ends is.machine) (quiet-on is.steps before.machine is.here at is.way.quiet) is.ends refl)
-  entry-on before after (Entry.Edge from to count cost changes) is at = absurd is
-  entry-on before after (Entry.Stop line) is at = absurd is
+  entry-on before after _ is at = absurd is
 
   leads-on : (before after : State) (entries : List Entry) → Leads g before entries after → StandsAt before → StandsAt after
   leads-on before after [] nowhere at = at

@@ -65,22 +65,19 @@ module _ (code : FlatCode) where
   IsRootedRest Ended = Unit {0}
 
   pub began-rooted : (f : ℕ) (rest : Rest) → Began f rest → IsRootedRest rest → IsRoot code f
-  began-rooted f (Fresh function arguments) began rooted = subst (IsRoot code) (sym began) rooted
-  began-rooted f (Blocked block waiting) began rooted = subst (IsRoot code) (sym began) rooted
   began-rooted f Ended began rooted = absurd began
+  began-rooted f _ began rooted = subst (IsRoot code) (sym began) rooted
 
   pub first-rooted : (f : ℕ) (rest : Rest) → IsFirst f rest → IsRoot code f → IsRootedRest rest
-  first-rooted f (Fresh function arguments) first root = subst (IsRoot code) first root
-  first-rooted f (Blocked block waiting) first root = subst (IsRoot code) first root
   first-rooted f Ended first root = tt
+  first-rooted f _ first root = subst (IsRoot code) first root
 
 -- ---- machine threads
 
 pub waiting-root : (c : Checked) (program : ProgramTree) (pool : Pool) (frame : Frame) (frames : List Frame) (f : ℕ) (waitings : List WaitingFrame) → frame.function ≡ f → AreWaitingFrames c program pool frames waitings → root_of frame frames ≡ last_function f waitings
 waiting-root c program pool frame [] f [] e are = e
-waiting-root c program pool frame [] f (waiting ∷ waitings) e are = absurd are
-waiting-root c program pool frame (next ∷ frames) f [] e are = absurd are
 waiting-root c program pool frame (next ∷ frames) f (waiting ∷ waitings) e are = waiting-root c program pool next frames waiting.frame.function waitings are.0.function are.1
+waiting-root c program pool frame _ f _ e are = absurd are
 
 -- a thread that is in place and started with main or a function that some site starts a thread with
 pub record IsRootedThread (c : Checked) (pool : Pool) (core : Core) : Type 0 where
@@ -101,8 +98,7 @@ module _ (c : Checked) (program : ProgramTree) (pool : Pool) where
 
   fresh-rooted : (core : Core) (rests : IsResting c pool core) (starting : SourceFrame) → StandsFor c program pool core rests (Starts starting []) → IsRoot c.flat starting.function → IsRootedThread c pool core
   fresh-rooted core (AtStart f frames in_place) starting stands root = record { place = InPrologue f 0; frames = frames; in_place = in_place; root = start-root core frames starting stands root }
-  fresh-rooted core (AtCall f i op word frames in_place) starting stands root = absurd stands
-  fresh-rooted core (PastCall f i op word place frames in_place) starting stands root = absurd stands
+  fresh-rooted core _ starting stands root = absurd stands
 
   blocked-rooted : (core : Core) (rests : IsResting c pool core) (waiting : Waiting) → StandsFor c program pool core rests (Waits waiting) → IsRoot c.flat (first_waiting waiting) → IsRootedThread c pool core
   blocked-rooted core (AtStart f frames in_place) waiting stands root = absurd stands
@@ -112,9 +108,8 @@ module _ (c : Checked) (program : ProgramTree) (pool : Pool) where
   -- a machine thread that rests for a source thread
   pub rest-rooted : (o : Option Thread) (r : Option Rest) (t : Thread) → StandsForRest c program pool o r → o ≡ Some t → ((rest : Rest) → r ≡ Some rest → IsRootedRest c.flat rest) → IsRootedThread c pool t.core
   rest-rooted None r t stands e rooted = absurd (none-some t e)
-  rest-rooted (Some u) None t stands e rooted = absurd stands
-  rest-rooted (Some u) (Some Ended) t stands e rooted = absurd stands
   rest-rooted (Some u) (Some (Fresh function arguments)) t stands e rooted =
       subst (λ (x : Thread). IsRootedThread c pool x.core) (same_Some u t e) (fresh-rooted u.core stands.rests _ stands.stands (rooted (Fresh function arguments) refl))
   rest-rooted (Some u) (Some (Blocked block waiting)) t stands e rooted =
       subst (λ (x : Thread). IsRootedThread c pool x.core) (same_Some u t e) (blocked-rooted u.core stands.rests waiting stands.stands (rooted (Blocked block waiting) refl))
+  rest-rooted (Some u) _ t stands e rooted = absurd stands

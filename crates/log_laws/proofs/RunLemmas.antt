@@ -75,8 +75,7 @@ module _ (g : Setup) (scoped : IsWellScoped g.program) (valid : IsValid (lowered
   step-by w after (machine.Spawns number next) is e to = subst Stage (same_Some next after to) (inr (spawns g scoped valid shape w next number is e))
   step-by w after (machine.Blocks next) is e to = subst Stage (same_Some next after to) (inl (blocks g scoped valid shape w next is e))
   step-by w after (machine.Ends next) is e to = subst Stage (same_Some next after to) (inl (ends g scoped valid shape w next is e))
-  step-by w after (machine.Stops stop) is e to = absurd (none-some after to)
-  step-by w after machine.Wrong is e to = absurd (none-some after to)
+  step-by w after _ is e to = absurd (none-some after to)
 
   runs-on : (w after : World) (action : Action) → Runs g scoped valid shape w → after_action (setting_of g) w action ≡ Some after → Stage after
   runs-on w after (Deliver delivery) is e = absurd (under_way w is.reached.segment.number _ after is.reached.under_way.running e)

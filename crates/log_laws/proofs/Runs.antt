@@ -45,7 +45,7 @@ use Rattle.lawful_log.specs.Waiting.{IsWaiting}
 use Rattle.lawful_log.specs.Within.{IsBetween, IsWithin}
 use Rattle.lawful_log.proofs.Between.{between_after, between_read, between_moved, come_state, coming, between_came, run_state, run_segment, run_allowed, within_run}
 use Rattle.lawful_log.proofs.Clocks.{moved_goes_on}
-use Rattle.lawful_log.proofs.Counts.{Counts, Retires, StartsOne, IsOver, counts_step}
+use Rattle.machine_world.proofs.Counts.{Counts, Retires, StartsOne, IsOver, counts_step}
 use Rattle.lawful_log.proofs.Own.{found_below}
 use Rattle.lawful_log.proofs.Picked.{is_picked}
 use Rattle.lawful_log.proofs.Told.{ready_same}
@@ -128,9 +128,7 @@ module _ (g : Setup) (scoped : IsWellScoped g.program) (valid : IsValid (lowered
 
     cut : (stop : Stop) → StepReaches (checked_of g) g.program s state.source segment.thread segment.puts (Stops stop) → IsCutBy g state segment stop
     cut (Stop.Trap kind) found = (found.0, record { runs = found.1.runs; puts = found.1.outputs })
-    cut Stop.NoChunk found = record { reached = w.reached.cut; cut = w.reached.is_cut; puts = w.reached.cut_outputs }
-    cut Stop.Fuel found = record { reached = w.reached.cut; cut = w.reached.is_cut; puts = w.reached.cut_outputs }
-    cut Stop.Threads found = record { reached = w.reached.cut; cut = w.reached.is_cut; puts = w.reached.cut_outputs }
+    cut _ found = record { reached = w.reached.cut; cut = w.reached.is_cut; puts = w.reached.cut_outputs }
 
     by_move : (move : Move) → step s now ≡ move → Rest state
     by_move (Goes after) e =

@@ -15,8 +15,7 @@ use Rattle.log_laws.specs.Roots.{root_of}
 
 pub added_is : (kind : LinkKind) → chunks_added kind ≡ cond (is_linked kind) 1 0
 added_is LinkKind.Plain = refl
-added_is (LinkKind.Linked need) = refl
-added_is (LinkKind.Spawned need) = refl
+added_is _ = refl
 
 -- a covered call leaves its caller high enough for the function that it enters
 covers : (code : FlatCode) (certificate : Certificate) (heights : List ℕ) (f g : ℕ) (op : Op) → IsCovered code certificate heights f op → Calls code op g →
@@ -26,24 +25,7 @@ covers code certificate heights f g (Op.Call site d h args) covered calls =
 covers code certificate heights f g (Op.CallTable site d t i s) covered calls =
     subst (λ (n : ℕ). height_of heights n + chunks_added (kind_of certificate (Op.CallTable site d t i s)) ≤ height_of heights f) calls.2
     (all-at (λ n. height_of heights n + chunks_added (kind_of certificate (Op.CallTable site d t i s)) ≤ height_of heights f) (members_of code t) calls.0 g covered calls.1)
-covers code certificate heights f g (Op.Spawn site d h s) covered calls = absurd calls
-covers code certificate heights f g (Op.Model site d n args) covered calls = absurd calls
-covers code certificate heights f g (Op.Const d value) covered calls = absurd calls
-covers code certificate heights f g (Op.Copy d x) covered calls = absurd calls
-covers code certificate heights f g (Op.Neg d x) covered calls = absurd calls
-covers code certificate heights f g (Op.Not d x) covered calls = absurd calls
-covers code certificate heights f g (Op.Flip d x) covered calls = absurd calls
-covers code certificate heights f g (Op.Bin op d a b) covered calls = absurd calls
-covers code certificate heights f g (Op.Zero a) covered calls = absurd calls
-covers code certificate heights f g (Op.LoadGlobal d x) covered calls = absurd calls
-covers code certificate heights f g (Op.StoreGlobal x s) covered calls = absurd calls
-covers code certificate heights f g (Op.LoadLocal d a i) covered calls = absurd calls
-covers code certificate heights f g (Op.LoadArray d a i) covered calls = absurd calls
-covers code certificate heights f g (Op.StoreLocal a i x) covered calls = absurd calls
-covers code certificate heights f g (Op.StoreArray a i x) covered calls = absurd calls
-covers code certificate heights f g (Op.Jump to) covered calls = absurd calls
-covers code certificate heights f g (Op.JumpZero x to) covered calls = absurd calls
-covers code certificate heights f g (Op.Return x) covered calls = absurd calls
+covers code certificate heights f g _ covered calls = absurd calls
 
 -- a frame and the one below it
 one_below : (c : Checked) (heights : List ℕ) (frame below : Frame) (op : Option Op) → AreCovered c.flat c.certificate heights → standing c below ≡ op → ReturnsInto c frame below op →

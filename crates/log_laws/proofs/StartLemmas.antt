@@ -10,28 +10,28 @@ use Rattle.c_mean.specs.World as source
 use Rattle.c_mean.specs.World.{Rest, Fresh, Segment, thread_moves, segment_machine}
 use Rattle.c_mean.proofs.SegmentLemmas.{asks_in_world}
 use Rattle.c_tree.specs.WellScoped.{IsWellScoped}
-use Rattle.cap_word.specs.Calls.{Call, Question, Blocking, Immediate, most_threads}
+use Rattle.cap_word.specs.Calls.{Call, Question}
 use Rattle.cap_word.specs.declared.stops.Stop.{Stop}
-use Rattle.cap_word.specs.declared.traps.TrapKind.{TrapKind}
 use Rattle.c_mean.specs.Frames.{Waiting}
-use Rattle.c_mean.specs.ModelledCalls.{Delivery, is_dropped, with_delivery, blocking_row, immediate_row}
+use Rattle.c_mean.specs.ModelledCalls.{Delivery, is_dropped, with_delivery}
 use Rattle.c_mean.specs.Steps.{source_machine}
 use Rattle.cap_word.specs.Runs.{Goes, Asks, Stops, moves}
 use Rattle.certificate_rules.specs.Validity.{IsValid}
 use Rattle.chunk_budget.specs.Budgets.{IsRoot}
-use Rattle.chunk_pool.specs.Pool.{Taken, taken_for, shape_of}
+use Rattle.chunk_pool.specs.Pool.{shape_of}
 use Rattle.chunk_pool.specs.declared.shape.Shape.{Shape}
 use Rattle.flat_code.specs.declared.operations.Op.{Op}
 use Rattle.lawful_log.specs.Setup.{Setup, setting_of}
 use Rattle.lawful_log.specs.Good.{checked_of}
 use Rattle.machine_world.specs.Local as local
-use Rattle.machine_world.specs.Local.{LocalMove, NoRoom, local_step}
+use Rattle.machine_world.specs.Local.{LocalMove, local_step}
 use Rattle.machine_world.specs.InPlace.{Frame}
 use Rattle.machine_world.specs.Rests.{IsAtCall}
 use Rattle.machine_world.specs.Runs.{Action, Deliver, Advance, Pick, Step, after_action, picked, picked_at, may_run, is_between, delivered, advanced}
 use Rattle.machine_world.specs.Threads as machine
-use Rattle.machine_world.specs.Threads.{Blocked, World, Thread, Move, package_call, printed, spawned, unless_trap, step, moved, thread_of}
+use Rattle.machine_world.specs.Threads.{Blocked, World, Thread, Move, step, moved, thread_of, local_in}
 use Rattle.machine_world.specs.WellFormed.{IsWellFormed, IsWellFormedIf, KeepsWellFormed, DeliversWords}
+use Rattle.machine_world.proofs.StepCases.{row_for, on_thread, on_printed}
 use Rattle.machine_world.proofs.FormWorlds.{KeepsWellFormed-step, IsWellFormedIf-action}
 use Rattle.machine_meaning.specs.AsSource.{AsksCall, IsStepAsSource, IsAlongSource}
 use Rattle.machine_meaning.specs.Firsts.{first_of, IsGrown, IsUnderWayFrom, RestsFrom}
@@ -39,7 +39,6 @@ use Rattle.machine_meaning.proofs.FirstLemmas.{under-way-from, grown-either, res
 use Rattle.machine_meaning.specs.Reached.{IsReached, StepReaches, IsFinishedIn}
 use Rattle.machine_meaning.specs.UnderWay.{StandsSettled}
 use Rattle.machine_meaning.proofs.BetweenSegments.{delivered_law, advanced_law}
-use Rattle.machine_meaning.proofs.Forms.{local_in}
 use Rattle.machine_meaning.proofs.WorldLaws as laws
 use Rattle.machine_meaning.proofs.WorldSteps.{step_is}
 use Rattle.log_laws.proofs.RestLemmas.{all-left, all-more, all-get, all-set, none-added, IsRootedRest, began-rooted, first-rooted}
@@ -138,9 +137,7 @@ module _ (g : Setup) (scoped : IsWellScoped g.program) (valid : IsValid (lowered
 
   abbrev HasSpawnedAt : (w : World) → Runs w → LocalMove → Type 0
   HasSpawnedAt w is (Asks (local.Starts entry argument need) still) = HasSpawned w is
-  HasSpawnedAt w is (Asks (local.Calls call) still) = Unit {0}
-  HasSpawnedAt w is (Goes next) = Unit {0}
-  HasSpawnedAt w is (Stops end) = Unit {0}
+  HasSpawnedAt w is _ = Unit {0}
 
   starts_not_calls : {A : Type 0} (entry argument need : ℕ) (call : Call) → (let q : local.Question = local.Starts entry argument need in q) ≡ local.Calls call → A
   starts_not_calls entry argument need call e = absurd cc
@@ -161,71 +158,17 @@ module _ (g : Setup) (scoped : IsWellScoped g.program) (valid : IsValid (lowered
         comes = thread-on g.program (setting_of g).caps is.start is.number is.reached.steps world.0 is.reached.segment _ is.reached.comes on;
         threads = refl;
       }
-  spawned-by w is entry argument need n asked waiting f i word (Op.Call site d h args) frames rests comes same = absurd same
-  spawned-by w is entry argument need n asked waiting f i word (Op.CallTable site d t k x) frames rests comes same = absurd same
-  spawned-by w is entry argument need n asked waiting f i word (Op.Return v) frames rests comes same = absurd same
-  spawned-by w is entry argument need n asked waiting f i word (Op.Const d x) frames rests comes same = absurd same
-  spawned-by w is entry argument need n asked waiting f i word (Op.Copy d x) frames rests comes same = absurd same
-  spawned-by w is entry argument need n asked waiting f i word (Op.Neg d x) frames rests comes same = absurd same
-  spawned-by w is entry argument need n asked waiting f i word (Op.Not d x) frames rests comes same = absurd same
-  spawned-by w is entry argument need n asked waiting f i word (Op.Flip d x) frames rests comes same = absurd same
-  spawned-by w is entry argument need n asked waiting f i word (Op.Bin o d x y) frames rests comes same = absurd same
-  spawned-by w is entry argument need n asked waiting f i word (Op.Zero x) frames rests comes same = absurd same
-  spawned-by w is entry argument need n asked waiting f i word (Op.LoadGlobal d x) frames rests comes same = absurd same
-  spawned-by w is entry argument need n asked waiting f i word (Op.StoreGlobal x y) frames rests comes same = absurd same
-  spawned-by w is entry argument need n asked waiting f i word (Op.LoadLocal d x y) frames rests comes same = absurd same
-  spawned-by w is entry argument need n asked waiting f i word (Op.LoadArray d x y) frames rests comes same = absurd same
-  spawned-by w is entry argument need n asked waiting f i word (Op.StoreLocal d x y) frames rests comes same = absurd same
-  spawned-by w is entry argument need n asked waiting f i word (Op.StoreArray d x y) frames rests comes same = absurd same
-  spawned-by w is entry argument need n asked waiting f i word (Op.Jump to) frames rests comes same = absurd same
-  spawned-by w is entry argument need n asked waiting f i word (Op.JumpZero x to) frames rests comes same = absurd same
+  spawned-by w is entry argument need n asked waiting f i word _ frames rests comes same = absurd same
 
   spawned-at : (w : World) (is : Runs w) (move : LocalMove) → IsStepAsSource (checked_of g) g.program is.reached.segment.running (local_in w is.reached.under_way.thread) move → HasSpawnedAt w is move
-  spawned-at w is (Goes next) h = tt
-  spawned-at w is (Asks (local.Calls call) still) h = tt
   spawned-at w is (Asks (local.Starts entry argument need) still) h =
       let at = h.1.4 in
       spawned-by w is entry argument need h.1.0 h.1.1 h.1.2 at.function at.operation at.word at.op at.frames at.rests h.1.3 at.same
-  spawned-at w is (Stops end) h = tt
+  spawned-at w is _ h = tt
 
   abbrev StepSpawns : (w : World) → Runs w → Move → Type 0
   StepSpawns w is (machine.Spawns number after) = HasSpawned w is
-  StepSpawns w is (machine.Goes after) = Unit {0}
-  StepSpawns w is (machine.Puts value after) = Unit {0}
-  StepSpawns w is (machine.Blocks after) = Unit {0}
-  StepSpawns w is (machine.Ends after) = Unit {0}
-  StepSpawns w is (machine.Stops stop) = Unit {0}
-  StepSpawns w is machine.Wrong = Unit {0}
-
-  trap-spawns : (w : World) (is : Runs w) (trap : Option TrapKind) (move : Move) → StepSpawns w is move → StepSpawns w is (unless_trap trap move)
-  trap-spawns w is (Some kind) move h = tt
-  trap-spawns w is None move h = h
-
-  printed-spawns : (w : World) (is : Runs w) (value : Option ℕ) (after : World) → StepSpawns w is (printed value after)
-  printed-spawns w is None after = tt
-  printed-spawns w is (Some value) after = tt
-
-  call-spawns : (w : World) (is : Runs w) (thread : Thread) (call : Call) → StepSpawns w is (package_call (setting_of g) w thread call)
-  call-spawns w is thread (Blocking block) = trap-spawns w is (blocking_row (setting_of g).caps w.exchange block).trap _ tt
-  call-spawns w is thread (Immediate ask) =
-      let row = immediate_row (setting_of g).caps w.exchange thread.number w.next ask in
-      trap-spawns w is row.trap _ (printed-spawns w is row.prints _)
-
-  start-spawns : (w : World) (is : Runs w) (thread : Thread) (entry argument : ℕ) (found : Option Taken) → HasSpawned w is → StepSpawns w is (spawned w thread entry argument found)
-  start-spawns w is thread entry argument None h = tt
-  start-spawns w is thread entry argument (Some taken) h = h
-
-  moved-spawns : (w : World) (is : Runs w) (thread : Thread) (move : LocalMove) → HasSpawnedAt w is move → StepSpawns w is (moved (setting_of g) w thread move)
-  moved-spawns w is thread (Goes next) h = tt
-  moved-spawns w is thread (Asks (local.Calls call) still) h = call-spawns w is thread call
-  moved-spawns w is thread (Asks (local.Starts entry argument need) still) h =
-      cond_both (nat_le most_threads (length w.threads)) (machine.Stops Stop.Threads) (spawned w thread entry argument (taken_for w.areas.pool need)) (StepSpawns w is)
-      (λ _. tt)
-      (λ _. start-spawns w is thread entry argument (taken_for w.areas.pool need) h)
-  moved-spawns w is thread (Stops (local.Ended areas)) h = tt
-  moved-spawns w is thread (Stops (local.Trapped kind)) h = tt
-  moved-spawns w is thread (Stops NoRoom) h = tt
-  moved-spawns w is thread (Stops local.Wrong) h = tt
+  StepSpawns w is _ = Unit {0}
 
   -- where the running thread is, it runs as the source's
   pub along : (w : World) (is : Runs w) → IsAlongSource (checked_of g) (setting_of g).code g.program is.reached.segment.running (local_in w is.reached.under_way.thread)
@@ -234,11 +177,16 @@ module _ (g : Setup) (scoped : IsWellScoped g.program) (valid : IsValid (lowered
   step-spawns : (w : World) (is : Runs w) (move : Move) → step (setting_of g) w ≡ move → StepSpawns w is move
   step-spawns w is move e =
       let thread = is.reached.under_way.thread in
-      let local_move = local_step (setting_of g).code (local_in w thread) in
+      let own = spawned-at w is (local_step (setting_of g).code (local_in w thread)) (along w is).step in
       subst (StepSpawns w is) (sym (step_of_running w is) ∙ e)
-      (cond_both (nat_eq w.cost (setting_of g).fuel) (machine.Stops Stop.Fuel) (moved (setting_of g) w thread local_move) (StepSpawns w is)
-      (λ _. tt)
-      (λ _. moved-spawns w is thread local_move (spawned-at w is local_move (along w is).step)))
+      (on_thread (setting_of g) w (StepSpawns w is) (λ stop. tt) tt thread
+      (λ left. record {
+        goes = λ after at. tt;
+        answers = λ ask still at. on_printed (StepSpawns w is) (row_for (setting_of g) w thread ask).prints _ tt (λ word some. tt);
+        blocks = λ block. tt;
+        spawns = λ entry argument need still taken at few some. subst (HasSpawnedAt w is) at own;
+        ends = λ areas at. tt;
+      }))
 
   pub spawns : (w after : World) (number : ℕ) → Runs w → step (setting_of g) w ≡ machine.Spawns number after → Runs after
   spawns w after number is e =

@@ -12,7 +12,8 @@ use Rattle.machine_world.specs.Held.{KeepsShape}
 use Rattle.machine_world.specs.Local as local
 use Rattle.machine_world.specs.Local.{Local, LocalMove, Ended, Trapped, NoRoom, Wrong, local_step}
 use Rattle.machine_world.specs.Threads as machine
-use Rattle.machine_world.specs.Threads.{Thread, World, Setting, Move, moved, package_call, printed, spawned, unless_trap}
+use Rattle.machine_world.specs.Threads.{Thread, World, Setting, Move, step_of, moved, package_call, printed, spawned, unless_trap, local_in}
+use Rattle.machine_world.proofs.StepCases.{Ways, row_for, on_thread, on_printed}
 use Rattle.machine_world.proofs.HeldLaws.{KeepsShape-step}
 
 -- the next number is the same, or one more where a thread has started; the pool has its shape
@@ -26,71 +27,35 @@ StaysAt w (machine.Puts value after) = Stays w after 0
 StaysAt w (machine.Spawns number after) = Stays w after 1
 StaysAt w (machine.Blocks after) = Stays w after 0
 StaysAt w (machine.Ends after) = Stays w after 0
-StaysAt w (machine.Stops stop) = Unit {0}
-StaysAt w machine.Wrong = Unit {0}
+StaysAt w _ = Unit {0}
+
+stays-ways : (s : Setting) (w : World) (thread : Thread) → Ways s w (StaysAt w) thread
+stays-ways s w thread =
+    let keeps : KeepsShape (local_in w thread) (local_step s.code (local_in w thread)) = KeepsShape-step s.code (local_in w thread) in
+    record {
+      goes = λ after e. record { next = omega arith; shape = subst (KeepsShape (local_in w thread)) e keeps };
+      answers = λ ask still e. on_printed (StaysAt w) (row_for s w thread ask).prints _ (record { next = omega arith; shape = refl }) (λ word some. record { next = omega arith; shape = refl });
+      blocks = λ block. record { next = omega arith; shape = refl };
+      spawns = λ entry argument need still taken e few some. record { next = refl; shape = taken_for-shape w.areas.pool need taken some };
+      ends = λ areas e. record { next = omega arith; shape = subst (KeepsShape (local_in w thread)) e keeps };
+    }
 
 module _ (s : Setting) (w : World) (thread : Thread) where
-  stays-trap : (trap : Option TrapKind) (move : Move) → StaysAt w move → StaysAt w (unless_trap trap move)
-  stays-trap (Some kind) move stays = tt
-  stays-trap None move stays = stays
-
-  stays-printed : (value : Option ℕ) (after : World) → Stays w after 0 → StaysAt w (printed value after)
-  stays-printed None after stays = stays
-  stays-printed (Some value) after stays = stays
-
-  stays-call : (call : Call) → StaysAt w (package_call s w thread call)
-  stays-call (Blocking block) = stays-trap (blocking_row s.caps w.exchange block).trap _ (record { next = omega arith; shape = refl })
-  stays-call (Immediate ask) =
-      let row = immediate_row s.caps w.exchange thread.number w.next ask in
-      stays-trap row.trap _ (stays-printed row.prints _ (record { next = omega arith; shape = refl }))
-
-  stays-spawned : (entry argument need : ℕ) (found : Option Taken) → taken_for w.areas.pool need ≡ found → StaysAt w (spawned w thread entry argument found)
-  stays-spawned entry argument need None e = tt
-  stays-spawned entry argument need (Some taken) e = record { next = refl; shape = taken_for-shape w.areas.pool need taken e }
-
-  stays-moved : (move : LocalMove) → KeepsShape (record { areas = w.areas; core = thread.core }) move → StaysAt w (moved s w thread move)
-  stays-moved (Goes after) keeps = record { next = omega arith; shape = keeps }
-  stays-moved (Asks (local.Calls call) still) keeps = stays-call call
-  stays-moved (Asks (local.Starts entry argument need) still) keeps =
-      cond_both (nat_le most_threads (length w.threads)) (machine.Stops Stop.Threads) (spawned w thread entry argument (taken_for w.areas.pool need)) (StaysAt w)
-      (λ _. tt)
-      (λ _. stays-spawned entry argument need (taken_for w.areas.pool need) refl)
-  stays-moved (Stops (Ended areas)) keeps = record { next = omega arith; shape = keeps }
-  stays-moved (Stops (Trapped kind)) keeps = tt
-  stays-moved (Stops NoRoom) keeps = tt
-  stays-moved (Stops Wrong) keeps = tt
-
   -- what a step of the thread leaves
-  pub stays-step : (move : Move) → cond (nat_eq w.cost s.fuel) (machine.Stops Stop.Fuel) (moved s w thread (local_step s.code (record { areas = w.areas; core = thread.core }))) ≡ move → StaysAt w move
-  stays-step move e =
-      subst (StaysAt w) e
-      (cond_both (nat_eq w.cost s.fuel) (machine.Stops Stop.Fuel) (moved s w thread (local_step s.code (record { areas = w.areas; core = thread.core }))) (StaysAt w)
-      (λ _. tt)
-      (λ _. stays-moved (local_step s.code (record { areas = w.areas; core = thread.core })) (KeepsShape-step s.code (record { areas = w.areas; core = thread.core }))))
+  pub stays-step : (move : Move) → step_of s w (Some thread) ≡ move → StaysAt w move
+  stays-step move e = subst (StaysAt w) e (on_thread s w (StaysAt w) (λ stop. tt) tt thread (λ left. stays-ways s w thread))
 
   -- ---- where no chunk is found
 
   -- a local move after which the step of the world stops for want of a chunk
   abbrev pub FindsNone : LocalMove → Type 0
-  FindsNone (Goes after) = ⊥
-  FindsNone (Asks (local.Calls call) still) = ⊥
   FindsNone (Asks (local.Starts entry argument need) still) = taken_for w.areas.pool need ≡ None
   FindsNone (Stops NoRoom) = Unit {0}
-  FindsNone (Stops (Ended areas)) = ⊥
-  FindsNone (Stops (Trapped kind)) = ⊥
-  FindsNone (Stops Wrong) = ⊥
+  FindsNone _ = ⊥
 
   abbrev HasChunk : Move → Type 0
   HasChunk (machine.Stops Stop.NoChunk) = ⊥
-  HasChunk (machine.Stops (Stop.Trap kind)) = Unit {0}
-  HasChunk (machine.Stops Stop.Fuel) = Unit {0}
-  HasChunk (machine.Stops Stop.Threads) = Unit {0}
-  HasChunk (machine.Goes after) = Unit {0}
-  HasChunk (machine.Puts value after) = Unit {0}
-  HasChunk (machine.Spawns number after) = Unit {0}
-  HasChunk (machine.Blocks after) = Unit {0}
-  HasChunk (machine.Ends after) = Unit {0}
-  HasChunk machine.Wrong = Unit {0}
+  HasChunk _ = Unit {0}
 
   has-trap : (trap : Option TrapKind) (move : Move) → HasChunk move → HasChunk (unless_trap trap move)
   has-trap (Some kind) move has = tt

@@ -4,7 +4,7 @@ use Rattle.c_mean.specs.ModelledCalls.{Delivery}
 use Rattle.machine_world.specs.Places.{Checked}
 use Rattle.machine_world.specs.Runs.{Deliver, Advance, Pick, after_action, world_of, and_then, after_steps}
 use Rattle.machine_world.specs.Stretches.{IsSound, IsFramedNext, OnWorld, IsGoodStretch}
-use Rattle.machine_world.specs.Threads.{World, Setting, Move, Goes, Puts, Spawns, Blocks, Ends, Stops, Wrong, step}
+use Rattle.machine_world.specs.Threads.{World, Setting, Move, Goes, Puts, Spawns, Blocks, Ends, step}
 use Rattle.machine_world.specs.WellFormed.{DeliversWords}
 use Rattle.machine_world.proofs.StretchLaws as stretches
 use Rattle.machine_world.proofs.ActionLaws.{after_steps-add}
@@ -47,11 +47,7 @@ module _ (c : Checked) (s : Setting) (B U : World → Type 0) (kept : AreKept c 
       let rest = later next (kept.spawns w next number under e) quiet in
       let both = first_step n w next here (Spawns number next) under e refl rest.stretch rest.steps in
       record { stretch = both.0; steps = both.1; under = rest.under }
-  quiet_by n w here (Puts value next) under e later quiet = absurd cc
-  quiet_by n w here (Blocks next) under e later quiet = absurd cc
-  quiet_by n w here (Ends next) under e later quiet = absurd cc
-  quiet_by n w here (Stops stop) under e later quiet = absurd cc
-  quiet_by n w here Wrong under e later quiet = absurd cc
+  quiet_by n w here _ under e later quiet = absurd cc
 
   pub quiet : (n : ℕ) (w here : World) → U w → after_quiet s n w ≡ Some here → Quiet n w here
   quiet zero w here under e =

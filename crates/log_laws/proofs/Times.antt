@@ -5,7 +5,7 @@ use Rattle.std.specs.List.{AllByRecursion}
 use Rattle.std.proofs.lemmas.Bool.Decides.{nat_tests}
 use Rattle.std.proofs.lemmas.List.Elements.{All-from_recursion}
 use Rattle.c_mean.specs.ModelledCalls.{Exchange}
-use Rattle.c_mean.specs.World.{Rest, Fresh, Blocked as Blocks, Ended}
+use Rattle.c_mean.specs.World.{Rest, Blocked as Blocks}
 use Rattle.event_trace.specs.declared.events.Event.{Event}
 use Rattle.choice_rules.specs.Readiness as rules
 use Rattle.choice_rules.specs.Clock.{event_times, IsLeastOf}
@@ -47,10 +47,8 @@ is_least times l = record { one = l.one; least = All-from_recursion (λ other. l
 -- ---- the times are to come
 
 later_rest : (caps : List ℕ) (x : Exchange) (clock since : ℕ) (rest : Option Rest) (t : ℕ) → rules.is_ready_at caps x clock since rest ≡ false → rules.wakes since rest ≡ Some t → clock ≤ t
-later_rest caps x clock since (Some (Fresh function arguments)) t e w = absurd (let no : None ≡ Some t = w in cc)
 later_rest caps x clock since (Some (Blocks block waiting)) t e w = let later = later_block caps x clock since block t e w in omega (arith, later)
-later_rest caps x clock since (Some Ended) t e w = absurd (let no : None ≡ Some t = w in cc)
-later_rest caps x clock since None t e w = absurd (let no : None ≡ Some t = w in cc)
+later_rest caps x clock since _ t e w = absurd (let no : None ≡ Some t = w in cc)
 
 module _ (g : Setup) (state : State) (clock : ℕ) where
   sleepers_later : any_ready g.policy (seen_of state) clock ≡ false → AllByRecursion (λ t. clock ≤ t) (waking_times (seen_of state))

@@ -32,8 +32,6 @@ module _ (program : ProgramTree) (image : Image) (certificate : Certificate) (sc
     pub stands : StandsFor checked program pool core (AtStart f frames in_place) (Starts (pushed program function arguments) [])
 
   pub fresh_somewhere : (pool : Pool) (core : Core) (f : ℕ) (frames : List Frame) (in_place : HasFrames checked pool core (InPrologue f 0) frames) → length frames ≡ 1 → JustStarted pool core f frames in_place
-  fresh_somewhere pool core f [] in_place single = absurd (omega (arith, single))
-  fresh_somewhere pool core f (frame ∷ next ∷ frames) in_place single = absurd (omega (arith, single))
   fresh_somewhere pool core f (frame ∷ []) in_place single =
       let at = at_place checked pool core (InPrologue f 0) (row_of checked (InPrologue f 0)) core.chain frame [] in_place.frames_are in
       let there : frame.function < length program.functions = subst (λ (g : ℕ). g < length program.functions) (sym at.function) (omega (arith, in_place.at.0, length-map program.functions lowered_function)) in
@@ -54,3 +52,4 @@ module _ (program : ProgramTree) (image : Image) (certificate : Certificate) (sc
           tt,
         );
       }
+  fresh_somewhere pool core f _ in_place single = absurd (omega (arith, single))

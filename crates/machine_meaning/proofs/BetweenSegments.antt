@@ -22,7 +22,7 @@ use Rattle.machine_world.specs.Globals.{AreGlobals}
 use Rattle.machine_world.specs.InPlace.{Frame}
 use Rattle.machine_world.specs.Local.{Core}
 use Rattle.machine_world.specs.Places.{Checked}
-use Rattle.machine_world.specs.Rests.{IsResting, AtStart, AtCall, PastCall}
+use Rattle.machine_world.specs.Rests.{IsResting, AtStart, PastCall}
 use Rattle.machine_world.specs.Runs.{Advance, Deliver, after_action, delivered, advanced, empty_world, started_on, start_world, is_between}
 use Rattle.machine_world.specs.StandsFor.{SourceThread, Starts, Waits, StandsFor}
 use Rattle.machine_world.specs.StandsForWorld.{StandsForRest, StandsForWorld}
@@ -78,9 +78,8 @@ advanced_law c program s w after other to h e =
 
 same_words : {A : Type 0} (xs ys : List A) → ((i : ℕ) → slice_get xs i ≡ slice_get ys i) → xs ≡ ys
 same_words [] [] h = refl
-same_words [] (y ∷ ys) h = absurd (let e = h 0 in cc)
-same_words (x ∷ xs) [] h = absurd (let e = h 0 in cc)
 same_words (x ∷ xs) (y ∷ ys) h = (let first : Some x ≡ Some y = h 0 in let same : x ≡ y = cc in let rest = same_words xs ys (λ i. h (suc i)) in λ k. same k ∷ rest k)
+same_words _ _ h = absurd (let e = h 0 in cc)
 
 starts_wide : (gs : List GlobalFact) → map length (map (λ (g : GlobalFact). replicate g.words g.start) gs) ≡ map (λ g. g.words) (map lowered_global gs)
 starts_wide [] = refl
@@ -173,10 +172,6 @@ module _ (program : ProgramTree) (image : Image) (certificate : Certificate) (sc
   rest_for pool thread None (AtStart f frames in_place) is single =
       let new = fresh_somewhere program image certificate scoped valid pool thread.core f frames in_place single in
       record { rest = source.Fresh new.function new.arguments; stands = record { unblocked = is; rests = AtStart f frames in_place; stands = new.stands } }
-  rest_for pool thread (Some blocked) (AtStart f frames in_place) is so = absurd so
-  rest_for pool thread None (AtCall f i op word frames in_place) is so = absurd so
-  rest_for pool thread (Some blocked) (AtCall f i op word frames in_place) is so = absurd so
-  rest_for pool thread None (PastCall f i op word place frames in_place) is so = absurd so
   rest_for pool thread (Some blocked) (PastCall f i op word place frames in_place) is so =
       let some = between.somewhere program checked image pool thread.core (PastCall f i op word place frames in_place) scoped refl valid in
       let waits = waits_for pool thread.core f i op word place frames in_place some.0 some.1 in
@@ -184,6 +179,7 @@ module _ (program : ProgramTree) (image : Image) (certificate : Certificate) (sc
         rest = source.Blocked blocked.block waits.0;
         stands = record { blocked = ap (option_map (λ (b : Blocked). b.block)) is; rests = PastCall f i op word place frames in_place; past = tt; stands = waits.1 };
       }
+  rest_for pool thread _ _ is so = absurd so
 
   rest_if : (pool : Pool) (thread : Option Thread) → IsSettledIf checked pool thread → RestFor checked program pool thread
   rest_if pool None h = record { rest = source.Ended; stands = tt }

@@ -46,24 +46,7 @@ module _ (program : ProgramTree) (image : Image) (certificate : Certificate) (sc
   asks_call : (op : Op) (question : local.Question) (asked : Question) (waiting : FlatWaiting) → Asked (lowered program) asked waiting → operation_at (lowered program) waiting.frame.function waiting.frame.next ≡ Some op → AsksTheSame checked op question asked.call → AsksCall checked op question asked.call
   asks_call (Op.Model site d n args) question asked waiting last at h = (let call = called_by (lowered program) asked waiting site n d args last at in (call.0, call.1, h))
   asks_call (Op.Spawn site d g x) question asked waiting last at h = h
-  asks_call (Op.Call site d g args) question asked waiting last at h = absurd h
-  asks_call (Op.CallTable site d t k x) question asked waiting last at h = absurd h
-  asks_call (Op.Return s) question asked waiting last at h = absurd h
-  asks_call (Op.Const d x) question asked waiting last at h = absurd h
-  asks_call (Op.Copy d x) question asked waiting last at h = absurd h
-  asks_call (Op.Neg d x) question asked waiting last at h = absurd h
-  asks_call (Op.Not d x) question asked waiting last at h = absurd h
-  asks_call (Op.Flip d x) question asked waiting last at h = absurd h
-  asks_call (Op.Bin o d x y) question asked waiting last at h = absurd h
-  asks_call (Op.Zero x) question asked waiting last at h = absurd h
-  asks_call (Op.LoadGlobal d g) question asked waiting last at h = absurd h
-  asks_call (Op.StoreGlobal g x) question asked waiting last at h = absurd h
-  asks_call (Op.LoadLocal d x y) question asked waiting last at h = absurd h
-  asks_call (Op.LoadArray d x y) question asked waiting last at h = absurd h
-  asks_call (Op.StoreLocal d x y) question asked waiting last at h = absurd h
-  asks_call (Op.StoreArray d x y) question asked waiting last at h = absurd h
-  asks_call (Op.Jump to) question asked waiting last at h = absurd h
-  asks_call (Op.JumpZero x to) question asked waiting last at h = absurd h
+  asks_call _ question asked waiting last at h = absurd h
 
   waits_source : (at : Local) (question : local.Question) (asked : Question) (waiting : Waiting) (flat : FlatWaiting) → Asked (lowered program) asked flat → StandsFor program waiting flat → WaitsAlike checked at question asked flat → WaitsAsSource checked program at question asked waiting
   waits_source at question asked waiting flat last stands h = record {
@@ -158,19 +141,17 @@ module _ (program : ProgramTree) (image : Image) (certificate : Certificate) (sc
       → HoldsResult checked l.areas.pool l.core rests result → StandsForFlat checked l.areas.pool l.core rests (frame ∷ below)
       → flat_going_on (lowered program) thread frame below result globals ≡ running_on checked l.areas.pool l.core rests (record { frame = frame; below = below; globals = globals })
   running_same l (AtStart f frames in_place) (Starts starting waitings) globals frame below result alike may holds stands = refl
-  running_same l (AtStart f frames in_place) (Waits waiting) globals frame below result alike may holds stands = absurd alike
   running_same l (AtCall f i op word frames in_place) thread globals frame below result alike may holds stands = absurd may
   running_same l (PastCall f i op word place frames in_place) (Waits waiting) globals frame below result alike may holds stands =
       ap (λ (flat : FlatFrame). record { frame = flat; below = below; globals = globals }) (answered_same l frame op result (past_standing l f i op word place frames in_place frame below stands) holds)
-  running_same l (PastCall f i op word place frames in_place) (Starts starting waitings) globals frame below result alike may holds stands = absurd alike
+  running_same l _ _ globals frame below result alike may holds stands = absurd alike
 
   -- ---- the function with which both started
 
   waitings-first : (waitings : List WaitingFrame) (flats : List FlatFrame) (f g : ℕ) → f ≡ g → FramesStandFor program waitings flats → last_flat f flats ≡ source_last g waitings
   waitings-first [] [] f g e stand = e
-  waitings-first [] (flat ∷ flats) f g e stand = absurd stand
-  waitings-first (waiting ∷ waitings) [] f g e stand = absurd stand
   waitings-first (waiting ∷ waitings) (flat ∷ flats) f g e stand = waitings-first waitings flats flat.function waiting.frame.function stand.0.function stand.1
+  waitings-first _ _ f g e stand = absurd stand
 
   between-first : (thread : SourceThread) (frame : FlatFrame) (below : List FlatFrame) (result : ℕ) (globals : List (List ℕ)) → FlatsStandFor program (frame ∷ below) thread → last_flat frame.function below ≡ first_of (going_on thread result globals)
   between-first (Starts starting waitings) frame below result globals stand = waitings-first waitings below frame.function starting.function stand.0.function stand.1
@@ -179,10 +160,9 @@ module _ (program : ProgramTree) (image : Image) (certificate : Certificate) (sc
       ∙ sym (delivered-keeps waiting.front waiting.below globals result)
 
   running-first : (l : Local) (rests : IsResting checked l.areas.pool l.core) (t : FlatThread) → flat_first (running_on checked l.areas.pool l.core rests t) ≡ flat_first t
-  running-first l (AtStart f frames in_place) t = refl
-  running-first l (AtCall f i op word frames in_place) t = refl
   running-first l (PastCall f i op word place frames in_place) t =
       ap (λ (f : ℕ). last_flat f t.below) (result-function t.frame (place_in (standing (lowered program) t.frame)) (read l.core.x a0))
+  running-first l _ t = refl
 
   -- what the law of flat code gives
   abbrev pub FlatLaw : Local → Type 0

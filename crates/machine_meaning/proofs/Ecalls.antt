@@ -14,7 +14,7 @@ use Rattle.stack_certificate.specs.Registers.{a0}
 use Rattle.machine_world.specs.InPlace.{Frame}
 use Rattle.machine_world.specs.Local.{Local}
 use Rattle.machine_world.specs.Places.{Checked}
-use Rattle.machine_world.specs.Rests.{ecall_word, IsAtCall, IsResting, AtStart, AtCall, PastCall}
+use Rattle.machine_world.specs.Rests.{ecall_word, IsAtCall, IsResting, AtCall}
 use Rattle.segment_laws.specs.Facts.{CodeFacts}
 use Rattle.segment_laws.specs.Alike.{MayRun}
 
@@ -32,24 +32,7 @@ some_word n = Some n
 ecall_at : (fact : FunctionFact) (sizes : List ℕ) (s : Setting) (op : Op) (word : ℕ) → ecall_word op ≡ Some word → slice_get (row fact sizes s op) word ≡ Some Instr.Ecall
 ecall_at fact sizes s (Op.Model site d n args) word e = (let same : length args + 1 ≡ word = (let known : some_word (length args + 1) ≡ Some word = e in cc) in ap (slice_get (row fact sizes s (Op.Model site d n args))) (sym same)) ∙ behind_arguments fact a0 args n _
 ecall_at fact sizes s (Op.Spawn site d g x) word e = (let same : 6 ≡ word = (let known : some_word 6 ≡ Some word = e in cc) in ap (slice_get (row fact sizes s (Op.Spawn site d g x))) (sym same)) ∙ refl
-ecall_at fact sizes s (Op.Call site d g args) word e = absurd (let n : no_word ≡ Some word = e in cc)
-ecall_at fact sizes s (Op.CallTable site d g x y) word e = absurd (let n : no_word ≡ Some word = e in cc)
-ecall_at fact sizes s (Op.Return v) word e = absurd (let n : no_word ≡ Some word = e in cc)
-ecall_at fact sizes s (Op.Const d x) word e = absurd (let n : no_word ≡ Some word = e in cc)
-ecall_at fact sizes s (Op.Copy d x) word e = absurd (let n : no_word ≡ Some word = e in cc)
-ecall_at fact sizes s (Op.Neg d x) word e = absurd (let n : no_word ≡ Some word = e in cc)
-ecall_at fact sizes s (Op.Not d x) word e = absurd (let n : no_word ≡ Some word = e in cc)
-ecall_at fact sizes s (Op.Flip d x) word e = absurd (let n : no_word ≡ Some word = e in cc)
-ecall_at fact sizes s (Op.Bin o d x y) word e = absurd (let n : no_word ≡ Some word = e in cc)
-ecall_at fact sizes s (Op.Zero x) word e = absurd (let n : no_word ≡ Some word = e in cc)
-ecall_at fact sizes s (Op.LoadGlobal d g) word e = absurd (let n : no_word ≡ Some word = e in cc)
-ecall_at fact sizes s (Op.StoreGlobal g x) word e = absurd (let n : no_word ≡ Some word = e in cc)
-ecall_at fact sizes s (Op.LoadLocal d x y) word e = absurd (let n : no_word ≡ Some word = e in cc)
-ecall_at fact sizes s (Op.LoadArray d x y) word e = absurd (let n : no_word ≡ Some word = e in cc)
-ecall_at fact sizes s (Op.StoreLocal d x y) word e = absurd (let n : no_word ≡ Some word = e in cc)
-ecall_at fact sizes s (Op.StoreArray d x y) word e = absurd (let n : no_word ≡ Some word = e in cc)
-ecall_at fact sizes s (Op.Jump to) word e = absurd (let n : no_word ≡ Some word = e in cc)
-ecall_at fact sizes s (Op.JumpZero x to) word e = absurd (let n : no_word ≡ Some word = e in cc)
+ecall_at fact sizes s _ word e = absurd (let n : no_word ≡ Some word = e in cc)
 
 stands_at : (c : Checked) (code : List ℕ) (l : Local) (f i : ℕ) (op : Op) (word : ℕ) (frames : List Frame) → CodeFacts c code → IsAtCall c l.areas.pool l.core f i op word frames → instruction_at code l.core.pc ≡ Ok Instr.Ecall
 stands_at c code l f i op word frames facts at =
@@ -60,6 +43,5 @@ stands_at c code l f i op word frames facts at =
 
 -- a thread that rests at no ECALL may run
 pub may_run : (c : Checked) (code : List ℕ) (l : Local) → CodeFacts c code → (rests : IsResting c l.areas.pool l.core) → (instruction_at code l.core.pc ≡ Ok Instr.Ecall → ⊥) → MayRun c l.areas.pool l.core rests
-may_run c code l facts (AtStart f frames in_place) none = tt
 may_run c code l facts (AtCall f i op word frames in_place) none = absurd (none (stands_at c code l f i op word frames facts in_place))
-may_run c code l facts (PastCall f i op word place frames in_place) none = tt
+may_run c code l facts _ none = tt

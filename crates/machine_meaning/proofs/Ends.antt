@@ -1,8 +1,7 @@
 -- The last operation of a lowered function is a return, so that another one follows each call.
-use Rattle.std.proofs.Common.{◌≡◌, ℕ, zero, suc, ◌+◌, ◌<◌, ◌≤◌, Bool, true, false, List, [], ◌∷◌, ◌++◌, length, take, Option, Some, None, refl, sym, ap, ◌∙◌, subst, arith, ⊎_elim}
-use Rattle.std.specs.Prelude.{slice_get, sum_by}
+use Rattle.std.proofs.Common.{◌≡◌, ℕ, zero, suc, ◌+◌, ◌<◌, ◌≤◌, Bool, true, false, List, [], ◌∷◌, ◌++◌, length, Option, Some, None, refl, sym, ap, ◌∙◌, subst, arith, ⊎_elim}
+use Rattle.std.specs.Prelude.{slice_get}
 use Rattle.std.proofs.lemmas.Bool.{cases_eq}
-use Rattle.std.proofs.lemmas.List.Sums.{sum_by-cons}
 use Rattle.c_lower.specs.ProgramCode.{closing_code, first_temporary, function_ops, lowered}
 use Rattle.c_lower.specs.StmtCode.{stmts_code}
 use Rattle.c_mean.specs.Frames.{function_at}
@@ -11,10 +10,11 @@ use Rattle.c_tree.specs.WellScoped.{IsWellScoped}
 use Rattle.flat_code.specs.declared.functions.FlatFunction.{FlatFunction}
 use Rattle.flat_code.specs.declared.operations.Op.{Op}
 use Rattle.flat_code.specs.Codes as codes
-use Rattle.flat_code.specs.Codes.{FlatCode, operation_at, site_of}
+use Rattle.flat_code.specs.Codes.{FlatCode, site_of}
 use Rattle.machine_meaning.proofs.Lowered.{function_is}
 use Rattle.stack_certificate.specs.Templates.{words_before, size, kind_of}
 use Rattle.stack_certificate.specs.declared.certificates.Certificate.{Certificate}
+use Rattle.segment_laws.proofs.OnePlace.{sum-front}
 
 -- ---- the last operation
 
@@ -56,12 +56,5 @@ before_last ops i s op ends e site = ⊎_elim
 
 -- ---- words before operations
 
-sum_front : (f : Op → ℕ) (ops : List Op) (i j : ℕ) → i ≤ j → sum_by f (take i ops) ≤ sum_by f (take j ops)
-sum_front f ops zero j below = omega arith
-sum_front f [] (suc i) zero below = absurd (omega arith)
-sum_front f [] (suc i) (suc j) below = omega arith
-sum_front f (op ∷ ops) (suc i) zero below = absurd (omega arith)
-sum_front f (op ∷ ops) (suc i) (suc j) below = omega (arith, sum_front f ops i j (omega arith), sum_by-cons f op (take i ops), sum_by-cons f op (take j ops))
-
 pub before_front : (code : FlatCode) (certificate : Certificate) (f i j : ℕ) → i ≤ j → words_before code certificate f i ≤ words_before code certificate f j
-before_front code certificate f i j below = omega (arith, sum_front (λ op. size (codes.function_at code f).sizes (kind_of certificate op) op) (codes.function_at code f).ops i j below)
+before_front code certificate f i j below = omega (arith, sum-front (λ op. size (codes.function_at code f).sizes (kind_of certificate op) op) (codes.function_at code f).ops i j below)

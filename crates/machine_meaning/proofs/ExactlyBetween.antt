@@ -63,9 +63,8 @@ scalar_size (suc n) rest zero lt = refl
 scalar_size (suc n) rest (suc x) lt = scalar_size n rest x (omega arith)
 
 one_row : (ws : List ℕ) → length ws ≡ 1 → ws ≡ slice_index ws 0 ∷ []
-one_row [] e = absurd (omega (arith, e))
 one_row (w ∷ []) e = refl
-one_row (w ∷ v ∷ ws) e = absurd (omega (arith, e))
+one_row _ e = absurd (omega (arith, e))
 
 -- ---- places
 

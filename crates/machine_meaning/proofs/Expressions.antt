@@ -28,9 +28,8 @@ abbrev pub Wide : Context → List (List ℕ) → Type 0
 Wide c names = map length names ≡ c.sizes
 
 widths_at : (names : List (List ℕ)) (x : ℕ) → width names x ≡ slice_index (map length names) x
-widths_at [] x = refl
-widths_at (n ∷ names) zero = refl
 widths_at (n ∷ names) (suc x) = widths_at names x
+widths_at _ _ = refl
 
 pub wide_at : (c : Context) (names : List (List ℕ)) → Wide c names → (x : ℕ) → width names x ≡ slice_index c.sizes x
 wide_at c names wide x = widths_at names x ∙ ap (λ s. slice_index s x) wide
@@ -40,33 +39,15 @@ reads_kept c scope names n vars after le h reads x lt seen = h.same x (omega ari
 
 -- a row of one word is its word
 pub one_word : (words : List ℕ) → length words ≡ 1 → words ≡ slice_index words 0 ∷ []
-one_word [] e = absurd (omega arith)
 one_word (w ∷ []) e = refl
-one_word (w ∷ v ∷ words) e = absurd (omega arith)
+one_word _ e = absurd (omega arith)
 
 same_operator : (op : BinaryOperator) (a b : ℕ) → result_of (operator_of op) a b ≡ binary_value op a b
 same_operator BinaryOperator.Add a b = refl
-same_operator BinaryOperator.Subtract a b = refl
-same_operator BinaryOperator.Multiply a b = refl
-same_operator BinaryOperator.Divide a b = refl
-same_operator BinaryOperator.Remainder a b = refl
-same_operator BinaryOperator.BitAnd a b = refl
-same_operator BinaryOperator.BitOr a b = refl
-same_operator BinaryOperator.BitXor a b = refl
-same_operator BinaryOperator.ShiftLeft a b = refl
-same_operator BinaryOperator.ShiftRight a b = refl
-same_operator BinaryOperator.Less a b = refl
-same_operator BinaryOperator.Greater a b = refl
-same_operator BinaryOperator.LessOrEqual a b = refl
-same_operator BinaryOperator.GreaterOrEqual a b = refl
-same_operator BinaryOperator.Equal a b = refl
-same_operator BinaryOperator.NotEqual a b = refl
+same_operator _ a b = refl
 
 -- an expression takes at least one temporary
 pub some_temporaries : (e : ExprTree) → 1 ≤ expr_temporaries e
-some_temporaries (Number v) = omega arith
-some_temporaries (Local x) = omega arith
-some_temporaries (Global g) = omega arith
 some_temporaries (LocalElement a i) = some_temporaries i
 some_temporaries (GlobalElement a i) = some_temporaries i
 some_temporaries (Unary op e) = some_temporaries e
@@ -75,6 +56,7 @@ some_temporaries (Binary op l r) = omega (arith, some_temporaries l)
 some_temporaries (LogicalAnd l r) = omega (arith, some_temporaries l)
 some_temporaries (LogicalOr l r) = omega (arith, some_temporaries l)
 some_temporaries (Conditional c a b) = omega (arith, some_temporaries c)
+some_temporaries _ = omega arith
 
 module _ (code : FlatCode) (f : ℕ) (below : List FlatFrame) (globals : List (List ℕ)) where
   abbrev at : ℕ → Vars → FlatThread

@@ -8,7 +8,7 @@ use Rattle.cap_word.specs.Runs.{Goes, Asks, Stops, and_then, moves}
 use Rattle.cap_word.proofs.RunLemmas.{goes_on, stops_stay}
 use Rattle.cap_word.specs.declared.traps.TrapKind.{TrapKind}
 use Rattle.cap_word.specs.ModelledCalls.{number_of}
-use Rattle.c_tree.specs.Trees.{ProgramTree, CallTree, CallFunction, CallTable, CallSpawn, CallModelled, RightTree, Computed, Called, SimpleTree, DeclareScalar, DeclareArray, DeclareWith, SetLocal, SetGlobal, SetLocalElement, SetGlobalElement, Calling}
+use Rattle.c_tree.specs.Trees.{ProgramTree, CallTree, CallFunction, CallTable, CallSpawn, CallModelled, RightTree, Computed, Called, SimpleTree, DeclareWith, SetLocal, SetGlobal, SetLocalElement, SetGlobalElement, Calling}
 use Rattle.c_mean.specs.Frames.{Place, Nowhere, InLocal, InGlobal, InLocalElement, InGlobalElement, Returned, WaitingFrame, Running, Waiting}
 use Rattle.c_mean.specs.ModelledCalls.{blocking_row, immediate_row}
 use Rattle.c_mean.specs.Steps.{SourceMove, to_do, on_value, stored, stored_where, assigned, delivered_or, delivered, entered, entered_where, asks, asks_if, called, assigns, does, branched, returned, gives_back, performs, performs_first, source_step, source_machine, valued, all_valued}
@@ -88,14 +88,13 @@ assigns-keeps program thread place (Called call) = called-keeps program thread p
 -- ---- statements
 
 does-keeps : (program : ProgramTree) (thread : Running) (s : SimpleTree) → Keeps (first_of thread) (does program thread s)
-does-keeps program thread (DeclareScalar x) = refl
-does-keeps program thread (DeclareArray x n) = refl
 does-keeps program thread (DeclareWith x v) = assigns-keeps program thread (InLocal x) v
 does-keeps program thread (SetLocal x v) = assigns-keeps program thread (InLocal x) v
 does-keeps program thread (SetGlobal g v) = assigns-keeps program thread (InGlobal g) v
 does-keeps program thread (SetLocalElement a i v) = on_value-keeps (first_of thread) thread (valued thread i) (λ index. assigns program thread (InLocalElement a index) v) (λ index. assigns-keeps program thread (InLocalElement a index) v)
 does-keeps program thread (SetGlobalElement a i v) = on_value-keeps (first_of thread) thread (valued thread i) (λ index. assigns program thread (InGlobalElement a index) v) (λ index. assigns-keeps program thread (InGlobalElement a index) v)
 does-keeps program thread (Calling call) = called-keeps program thread Nowhere call
+does-keeps program thread _ = refl
 
 branched-keeps : (thread : Running) (first second : List Item) (n : ℕ) → Keeps (first_of thread) (branched thread first second n)
 branched-keeps thread first second zero = refl
@@ -114,13 +113,10 @@ performs-keeps : (program : ProgramTree) (thread : Running) (item : Item) (rest 
 performs-keeps program thread (Simply s) rest = does-keeps program thread s
 performs-keeps program thread (Choose c s r) rest = on_value-keeps (first_of thread) thread (valued thread c) (branched thread (before s rest) (before r rest)) (λ n. branched-keeps thread (before s rest) (before r rest) n)
 performs-keeps program thread (Test c loop) rest = on_value-keeps (first_of thread) thread (valued thread c) (branched thread (body_before loop rest) rest) (λ n. branched-keeps thread (body_before loop rest) rest n)
-performs-keeps program thread Enter rest = refl
-performs-keeps program thread (Back loop) rest = refl
-performs-keeps program thread Leave rest = refl
-performs-keeps program thread Skip rest = refl
 performs-keeps program thread (GiveBack v) rest = gives_back-keeps program thread v
 performs-keeps program thread (GiveBackWord word) rest = returned-keeps thread thread.below word
 performs-keeps program thread (Fail trap) rest = tt
+performs-keeps program thread _ rest = refl
 
 first-keeps : (program : ProgramTree) (thread : Running) (items : List Item) → Keeps (first_of thread) (performs_first program thread items)
 first-keeps program thread [] = returned-keeps thread thread.below 0
@@ -230,8 +226,6 @@ module _ (program : ProgramTree) (caps : List ℕ) where
     same : segment.world.threads ≡ start.threads
 
   begun-by : (start : World) (number : ℕ) (rest : Option Rest) (segment : Segment) → slice_get start.threads number ≡ rest → begun_at program caps start number rest ≡ Some segment → IsBegun start number segment
-  begun-by start number None segment there e = absurd (none-some segment e)
-  begun-by start number (Some Ended) segment there e = absurd (none-some segment e)
   begun-by start number (Some (Fresh function arguments)) segment there e =
       let is = same_Some _ segment e in
       subst (IsBegun start number) is (record { number_is = refl; rest = Fresh function arguments; rested = there; first = refl; same = refl })
@@ -244,6 +238,7 @@ module _ (program : ProgramTree) (caps : List ℕ) where
         first = delivered-keeps waiting.front waiting.below start.globals (blocking_row caps start.exchange block).result;
         same = refl;
       })
+  begun-by start number _ segment there e = absurd (none-some segment e)
 
   -- the move of a thread is one of the segment that begins
   record IsFrom (start : World) (number n : ℕ) (move : SegmentMove) : Type 0 where

@@ -42,7 +42,7 @@ few_operations program image certificate f scoped valid there =
     (let short : length (function_at code f).ops ≤ 200000 = omega (arith, many, all, inside.2, few.1) in omega (arith, short))
 
 -- what holds of each element holds of all
-all_from : (P : FlatFunction → Type 0) (d : FlatFunction) (fs : List FlatFunction) → ((f : ℕ) → f < length fs → P (slice_index_or fs f d)) → AllByRecursion P fs
+pub all_from : (P : FlatFunction → Type 0) (d : FlatFunction) (fs : List FlatFunction) → ((f : ℕ) → f < length fs → P (slice_index_or fs f d)) → AllByRecursion P fs
 all_from P d [] each = tt
 all_from P d (g ∷ fs) each = (each 0 (omega arith), all_from P d fs (λ f lt. each (suc f) (omega arith)))
 

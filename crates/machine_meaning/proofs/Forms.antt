@@ -13,7 +13,7 @@ use Rattle.machine_world.specs.Held.{copies_in, KeepsShape, copies}
 use Rattle.machine_world.specs.Local.{Local, Ended, local_step}
 use Rattle.machine_world.specs.Places.{Checked}
 use Rattle.machine_world.specs.StandsForWorld.{StandsForRest}
-use Rattle.machine_world.specs.Threads.{Thread, World, Setting, first_with, thread_of}
+use Rattle.machine_world.specs.Threads.{Thread, World, Setting, local_in, first_with, thread_of}
 use Rattle.machine_world.specs.WellFormed.{IsCore, IsWellFormed}
 use Rattle.machine_world.proofs.HeldLaws.{KeepsShape-step}
 use Rattle.segment_laws.proofs.Untouched.{keeps_step}
@@ -21,10 +21,6 @@ use Rattle.segment_laws.specs.Ways.{HasForm, IsGoodState}
 use Rattle.segment_laws.specs.Kept.{KeepsChunks}
 use Rattle.segment_laws.proofs.SameRest.{rests_law}
 use Rattle.segment_laws.proofs.OtherThreads.{held_one, held_two, each_chunk}
-
--- the thread over the areas
-abbrev pub local_in : World → Thread → Local
-local_in w thread = record { areas = w.areas; core = thread.core }
 
 core_of : (number : ℕ) (threads : List Thread) (t : Thread) → AllByRecursion (λ thread. IsCore thread.core) threads → first_with number threads ≡ Some t → IsCore t.core
 core_of number [] t all found = absurd cc

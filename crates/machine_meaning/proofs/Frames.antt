@@ -24,30 +24,23 @@ use Rattle.machine_meaning.proofs.Rows.{reads_word, wide_word, reads_element}
 
 -- where the text says that a result goes, it can
 abbrev pub TargetScoped : Context → List ℕ → Target → Type 0
-TargetScoped c scope ToNowhere = Unit {0}
 TargetScoped c scope (ToLocal x) = (x < length c.sizes) × (slice_index c.sizes x ≡ 1)
-TargetScoped c scope (ToGlobal g) = Unit {0}
 TargetScoped c scope (ToLocalElement a) = (a < length c.sizes) × IsTrue (visible a scope)
-TargetScoped c scope (ToGlobalElement a) = Unit {0}
-TargetScoped c scope ToCaller = Unit {0}
+TargetScoped c scope _ = Unit {0}
 
 -- the index of a place is in the first temporary
 abbrev pub IndexHeld : ℕ → Place → Vars → Type 0
-IndexHeld t Nowhere vars = Unit {0}
-IndexHeld t (InLocal x) vars = Unit {0}
-IndexHeld t (InGlobal g) vars = Unit {0}
 IndexHeld t (InLocalElement a i) vars = Has vars t i
 IndexHeld t (InGlobalElement a i) vars = Has vars t i
-IndexHeld t Returned vars = Unit {0}
+IndexHeld t _ vars = Unit {0}
 
 -- there is a variable in which a result is held before it is stored, where it is
 abbrev pub HeldRoom : ℕ → Target → ℕ → Type 0
-HeldRoom t ToNowhere n = Unit {0}
-HeldRoom t (ToLocal x) n = Unit {0}
 HeldRoom t (ToGlobal g) n = t + 1 ≤ n
 HeldRoom t (ToLocalElement a) n = t + 2 ≤ n
 HeldRoom t (ToGlobalElement a) n = t + 2 ≤ n
 HeldRoom t ToCaller n = t + 1 ≤ n
+HeldRoom t _ n = Unit {0}
 
 pub index_kept : (t : ℕ) (place : Place) (vars after : Vars) (fetch : ℕ → Option Op) → Kept (held fetch t (target_of place)) vars after → IndexHeld t place vars → IndexHeld t place after
 index_kept t Nowhere vars after fetch kept h = tt
@@ -59,11 +52,7 @@ index_kept t Returned vars after fetch kept h = tt
 
 pub after_base : (fetch : ℕ → Option Op) (t : ℕ) (target : Target) → t ≤ held fetch t target
 after_base fetch t ToNowhere = omega arith
-after_base fetch t (ToLocal x) = omega arith
-after_base fetch t (ToGlobal g) = omega arith
-after_base fetch t (ToLocalElement a) = omega arith
-after_base fetch t (ToGlobalElement a) = omega arith
-after_base fetch t ToCaller = omega arith
+after_base fetch t _ = omega arith
 
 module _ (program : ProgramTree) (code : FlatCode) where
   abbrev pub fn : ℕ → FunctionTree
@@ -117,12 +106,9 @@ module _ (program : ProgramTree) (code : FlatCode) where
 
   -- what follows a result stands at q, unless it goes back to the caller
   abbrev pub RestStands : Target → Frame → List ℕ → ℕ → Type 0
-  RestStands ToNowhere frame scope q = StandsIn frame.function frame.to_do q scope
   RestStands (ToLocal x) frame scope q = StandsIn frame.function frame.to_do q (x ∷ scope)
-  RestStands (ToGlobal g) frame scope q = StandsIn frame.function frame.to_do q scope
-  RestStands (ToLocalElement a) frame scope q = StandsIn frame.function frame.to_do q scope
-  RestStands (ToGlobalElement a) frame scope q = StandsIn frame.function frame.to_do q scope
   RestStands ToCaller frame scope q = Unit {0}
+  RestStands _ frame scope q = StandsIn frame.function frame.to_do q scope
 
   -- a frame that is to have a word for a place, and is then at q
   pub record Ready (frame : Frame) (place : Place) (vars : Vars) (scope : List ℕ) (q : ℕ) : Type 0 where
@@ -148,9 +134,8 @@ module _ (program : ProgramTree) (code : FlatCode) where
 
   abbrev pub AllWait : List WaitingFrame → List FlatFrame → Type 0
   AllWait [] [] = Unit {0}
-  AllWait [] (g ∷ gs) = ⊥
-  AllWait (w ∷ ws) [] = ⊥
   AllWait (w ∷ ws) (g ∷ gs) = Waits w g × AllWait ws gs
+  AllWait _ _ = ⊥
 
   abbrev pub thread_of : Running → ℕ → Vars → List FlatFrame → FlatThread
   thread_of thread p vars below = th code thread.frame.function below thread.globals p vars

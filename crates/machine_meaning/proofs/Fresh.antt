@@ -1,16 +1,13 @@
 -- A new thread on a chunk that was free: it rests at its start for the source thread, and the others keep their chunks.
-use Rattle.std.proofs.Common.{◌≡◌, ◌≢◌, ℕ, ◌+◌, ◌^◌, ◌<◌, ◌≤◌, nat_eq, ltb, List, [], ◌∷◌, length, Some, refl, sym, ap, subst, ◌∙◌, arith, cond}
+use Rattle.std.proofs.Common.{◌≡◌, ℕ, ◌+◌, ◌^◌, ◌<◌, ◌≤◌, ltb, List, [], ◌∷◌, length, Some, refl, sym, ap, subst, ◌∙◌, arith}
 use Rattle.std.specs.Prelude.{slice_index}
-use Rattle.std.proofs.lemmas.Bool.{cond-true, eq-eqb}
-use Rattle.std.proofs.lemmas.List.{get_or-set_other}
-use Rattle.std.proofs.lemmas.List.Sums.{sum_by-cons}
 use Rattle.c_lower.specs.ProgramCode.{lowered_function, lowered}
 use Rattle.c_mean.specs.Frames.{function_at, pushed}
 use Rattle.c_tree.specs.Trees.{ProgramTree}
 use Rattle.c_tree.specs.WellScoped.{IsWellScoped}
 use Rattle.certificate_rules.specs.Validity.{IsValid}
-use Rattle.chunk_pool.specs.Pool.{Pool, Taken, taken_for, chunk_of, with_word, all_free}
-use Rattle.chunk_pool.proofs.NeedLaws.{taken_for-leaves, taken_for-keeps, taken_for-shape}
+use Rattle.chunk_pool.specs.Pool.{Pool, Taken, taken_for, chunk_of, all_free}
+use Rattle.chunk_pool.proofs.NeedLaws.{taken_for-keeps, taken_for-shape}
 use Rattle.flat_code.specs.Codes as codes
 use Rattle.flat_code.specs.Frames as flats
 use Rattle.flat_code.specs.declared.functions.FlatFunction.{FlatFunction}
@@ -40,21 +37,11 @@ use Rattle.machine_meaning.proofs.Going as going
 use Rattle.machine_meaning.proofs.BetweenLaws as between
 use Rattle.machine_meaning.proofs.Past.{InFunction, past_function}
 use Rattle.segment_laws.specs.Kept.{KeepsChunks}
-use Rattle.segment_laws.proofs.OtherThreads.{held_one, each_chunk}
+use Rattle.segment_laws.proofs.OtherThreads.{held_one, each_chunk, taken_free}
 use Rattle.machine_meaning.proofs.Forms.{at_most_one}
+use Rattle.machine_world.proofs.AloneLaws.{chunk_of-with_header}
 
 -- ---- chunks
-
-header_other : (p : Pool) (chunk tp_now sp_now other : ℕ) → other ≢ chunk → chunk_of (with_header p chunk tp_now sp_now) other ≡ chunk_of p other
-header_other p chunk tp_now sp_now other apart = get_or-set_other (with_word p chunk 0 tp_now).contents chunk other _ [] apart ∙ get_or-set_other p.contents chunk other _ [] apart
-
--- a chunk that was taken was free
-taken_free : (p : Pool) (need : ℕ) (taken : Taken) → taken_for p need ≡ Some taken → 0 < copies taken.chunk (all_free p)
-taken_free p need taken e =
-    let left = taken_for-leaves p need taken e taken.chunk in
-    let first : copies taken.chunk (taken.chunk ∷ all_free taken.pool) ≡ cond (nat_eq taken.chunk taken.chunk) 1 0 + copies taken.chunk (all_free taken.pool) = sum_by-cons (λ (other : ℕ). cond (nat_eq other taken.chunk) 1 0) taken.chunk (all_free taken.pool) in
-    let one : ◌≡◌ {A = ℕ} (cond (nat_eq taken.chunk taken.chunk) 1 0) 1 = cond-true (nat_eq taken.chunk taken.chunk) 1 0 (eq-eqb taken.chunk taken.chunk refl) in
-    omega (arith, left, first, one)
 
 pub kept_starting : (c : Checked) (s : Setting) (w : World) (number need : ℕ) (taken : Taken) (v : Thread) → IsWellFormed c s w → taken_for w.areas.pool need ≡ Some taken → thread_of w number ≡ Some v → KeepsChunks w.areas.pool (with_header taken.pool taken.chunk 0 0) v.core.chain
 kept_starting c s w number need taken v formed e found =
@@ -62,7 +49,7 @@ kept_starting c s w number need taken v formed e found =
     record {
       shape = taken_for-shape w.areas.pool need taken e;
       words = each_chunk (λ chunk. chunk_of (with_header taken.pool taken.chunk 0 0) chunk ≡ chunk_of w.areas.pool chunk) v.core.chain
-          (λ chunk some. header_other taken.pool taken.chunk 0 0 chunk
+          (λ chunk some. chunk_of-with_header taken.pool taken.chunk 0 0 chunk
           (λ (same : chunk ≡ taken.chunk). (let held = held_one chunk number w.threads v found in
           let all = formed.counted.partition chunk in
           let most = at_most_one (ltb chunk w.areas.pool.count) in

@@ -2,7 +2,7 @@
 use Rattle.std.proofs.Common.{◌≡◌, ℕ, ◌+◌, Bool, true, false, List, [], ◌∷◌, ◌++◌, length, Option, Some, None, refl, sym, ap, ◌∙◌, subst, arith, length-append}
 use Rattle.c_tree.specs.declared.operators.UnaryOperator.{UnaryOperator}
 use Rattle.cap_word.specs.ModelledCalls.{number_of}
-use Rattle.c_tree.specs.Trees.{ExprTree, Number, Local, Global, LocalElement, GlobalElement, Unary, Parenthesized, Binary, LogicalAnd, LogicalOr, Conditional, CallTree, CallFunction, CallTable, CallSpawn, CallModelled, RightTree, Computed, Called, SimpleTree, DeclareScalar, DeclareArray, DeclareWith, SetLocal, SetGlobal, SetLocalElement, SetGlobalElement, Calling, StmtTree, StmtTrees, Do, Empty, Block, If, IfElse, While, For, Break, Continue, Return, NoStmts, Then}
+use Rattle.c_tree.specs.Trees.{ExprTree, LocalElement, GlobalElement, Unary, Parenthesized, Binary, LogicalAnd, LogicalOr, Conditional, CallTree, CallFunction, CallTable, CallSpawn, CallModelled, RightTree, Computed, Called, SimpleTree, DeclareWith, SetLocal, SetGlobal, SetLocalElement, SetGlobalElement, Calling, StmtTree, StmtTrees, Do, Empty, Block, If, IfElse, While, For, Return, NoStmts, Then}
 use Rattle.c_mean.specs.Sites.{Target, ToLocal, ToGlobal, ToLocalElement, ToGlobalElement, ToCaller}
 use Rattle.flat_code.specs.declared.operations.Op.{Op}
 use Rattle.c_lower.specs.ExprCode.{expr_size, expr_code}
@@ -34,9 +34,6 @@ module _ (fetch : ℕ → Option Op) where
   at_is p q op e h = ap fetch (sym e) ∙ h
 
   pub expr_at : (e : ExprTree) (p k q : ℕ) → PartAt p (expr_code e p k) → q ≡ p + expr_size e → ExprAt fetch p e k q
-  expr_at (Number v) p k q h e = (h.0, e)
-  expr_at (Local x) p k q h e = (h.0, e)
-  expr_at (Global g) p k q h e = (h.0, e)
   expr_at (LocalElement a i) p k q h e =
       let m = p + expr_size i in
       let s = split (expr_code i p k) (Op.LoadLocal k a k ∷ []) p m (omega (arith, expr_length i p k)) h in
@@ -109,6 +106,7 @@ module _ (fetch : ℕ → Option Op) where
       let s'' = split (one ++ test) two p (m + 1) (omega (arith, length-append one test, expr_length c p k)) s'.0 in
       let s''' = split one test p m (omega (arith, expr_length c p k)) s''.0 in
       (m, n, z, expr_at c p k m s'''.0 refl, s'''.1.0, expr_at a (m + 1) k n s''.1 refl, jump_is n (z + expr_size b) q s'.1.0 (omega arith), expr_at b z k q s.1 (omega arith))
+  expr_at _ p k q h e = (h.0, e)
 
   args_at : (es : List ExprTree) (p k q : ℕ) → PartAt p (arguments_code es p k) → q ≡ p + arguments_size es → ArgsAt fetch p es k q
   args_at [] p k q h e = omega arith
@@ -157,8 +155,6 @@ module _ (fetch : ℕ → Option Op) where
     set_right (Called c) x p q h at' = let call = call_at c p t (Some x) h in (call.0, Some x, call.1, (refl, at' ∙ call.2))
 
     simple_at : (s : SimpleTree) (p q : ℕ) → PartAt p (simple_code s p t) → q ≡ p + simple_size s → SimpleAt fetch t p s q
-    simple_at (DeclareScalar x) p q h at' = (h.0, at')
-    simple_at (DeclareArray x n) p q h at' = (h.0, at')
     simple_at (DeclareWith x v) p q h at' = set_right v x p q h at'
     simple_at (SetLocal x v) p q h at' = set_right v x p q h at'
     simple_at (SetGlobal g v) p q h at' =
@@ -182,6 +178,7 @@ module _ (fetch : ℕ → Option Op) where
         let s' = split one two p m (omega (arith, expr_length i p t)) s.0 in
         (m, expr_at i p t m s'.0 refl, held_right v (ToGlobalElement a) m n q s'.1 refl (s.1.0, omega arith) (λ k store. (refl, store)))
     simple_at (Calling c) p q h at' = let call = call_at c p t None h in (call.0, None, call.1, (refl, at' ∙ call.2))
+    simple_at _ p q h at' = (h.0, at')
 
     simples_at : (ss : List SimpleTree) (p q : ℕ) → PartAt p (simples_code ss p t) → q ≡ p + simples_size ss → SimplesAt fetch t p ss q
     simples_at [] p q h at' = omega arith
@@ -267,9 +264,8 @@ module _ (fetch : ℕ → Option Op) where
           let e = split one two p turn (omega (arith, simples_length init p t)) d.0 in
           let same : end ≡ q = omega arith in
           (turn, simples_at init p turn e.0 refl, (body, next, k, test_at c turn end q body e.1 same refl, subst (λ x. StmtAt fetch t body s x next next) same (stmt_at s body next end next d.1 refl), step_at step next k b.1 refl, a.1.0))
-      stmt_at Break p q leave skip h at' = h.0
-      stmt_at Continue p q leave skip h at' = h.0
       stmt_at (Return v) p q leave skip h at' = return_at v p q h
+      stmt_at _ p q leave skip h at' = h.0
 
       pub stmts_at : (ss : StmtTrees) (p q leave skip : ℕ) → PartAt p (stmts_code ss p t leave skip) → q ≡ p + stmts_size ss → StmtsAt fetch t p ss leave skip q
       stmts_at NoStmts p q leave skip h at' = omega arith

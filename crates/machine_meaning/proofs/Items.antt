@@ -1,14 +1,14 @@
 -- Each item that a frame has still to do is answered by the operations that stand for it.
 use Rattle.std.proofs.Common.{◌≡◌, ℕ, zero, suc, ◌+◌, ◌<◌, ◌≤◌, Bool, true, false, List, [], ◌∷◌, length, replicate, Option, Some, None, refl, sym, ap, ◌∙◌, subst, arith, set}
-use Rattle.std.specs.Prelude.{IsTrue, max, slice_index, slice_index_or, Result, Ok, Err}
+use Rattle.std.specs.Prelude.{max, slice_index, Result, Ok, Err}
 use Rattle.std.proofs.lemmas.List.{length-set}
 use Rattle.cap_word.specs.Rows.{width, with_zeros}
 use Rattle.cap_word.specs.Runs.{Goes, Stops}
 use Rattle.cap_word.specs.declared.traps.TrapKind.{TrapKind}
-use Rattle.c_tree.specs.Temporaries.{expr_temporaries, call_temporaries, right_temporaries, held_temporaries, simple_temporaries, returned_temporaries}
+use Rattle.c_tree.specs.Temporaries.{expr_temporaries, right_temporaries, held_temporaries, simple_temporaries, returned_temporaries}
 use Rattle.c_tree.specs.TextOrder.{scalar, simple_names}
 use Rattle.c_tree.specs.Trees.{ExprTree, RightTree, Computed, Called, SimpleTree, DeclareScalar, DeclareArray, DeclareWith, SetLocal, SetGlobal, SetLocalElement, SetGlobalElement, Calling, ProgramTree}
-use Rattle.c_tree.specs.WellScoped.{Context, IsExprScoped, IsRightScoped, IsSimpleScoped, IsReturnScoped}
+use Rattle.c_tree.specs.WellScoped.{IsExprScoped, IsRightScoped, IsSimpleScoped, IsReturnScoped}
 use Rattle.c_mean.specs.Frames.{Place, Nowhere, InLocal, InGlobal, InLocalElement, InGlobalElement, Returned, WaitingFrame, Running}
 use Rattle.c_mean.specs.Sites.{target_of, right_calls, simple_calls, returned_calls, function_calls}
 use Rattle.c_mean.specs.Steps.{to_do, with_names, valued, on_value, stored, assigned, delivered, assigns, does, branched, returned, gives_back, performs_first}
@@ -38,11 +38,10 @@ module _ (program : ProgramTree) (code : FlatCode) (given : Lowers program code)
   -- a return to the frame below, or the thread's end
   pub returned_by : (thread : Running) (flat : FlatThread) (ws : List WaitingFrame) (gs : List FlatFrame) (word : ℕ) → flat.globals ≡ thread.globals → AllWait program code ws gs → flat_step code flat ≡ returns code flat gs word → Answers program code (returned thread ws word) flat
   returned_by thread flat [] [] word same all e = stops_by program code flat (record { trap = None; globals = thread.globals }) (e ∙ ap (λ (gs : List (List ℕ)). Stops (Finished (record { trap = None; globals = gs }))) same)
-  returned_by thread flat [] (g ∷ gs) word same all e = absurd all
-  returned_by thread flat (w ∷ ws) [] word same all e = absurd all
   returned_by thread flat (w ∷ ws) (g ∷ gs) word same all e =
       goes_by program code flat (record { frame = answered code g word; below = gs; globals = thread.globals }) (delivered w ws thread.globals word)
       (e ∙ ap (λ (gl : List (List ℕ)). Goes (record { frame = answered code g word; below = gs; globals = gl })) same) (delivers program code w ws g gs thread.globals word all.0 all.1)
+  returned_by thread flat _ _ word same all e = absurd all
 
   module _ (thread : Running) (below : List FlatFrame) (waits : AllWait program code thread.below below) where
     abbrev f : ℕ

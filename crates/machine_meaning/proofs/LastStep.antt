@@ -29,9 +29,8 @@ module _ (code : FlatCode) where
   -- ---- a thread that asks waits in its frame
 
   abbrev WaitsIn : FlatThread → FlatMove → Type 0
-  WaitsIn t (Goes next) = Unit {0}
   WaitsIn t (Asks asked waiting) = waiting.frame ≡ t.frame
-  WaitsIn t (Stops end) = Unit {0}
+  WaitsIn t _ = Unit {0}
 
   on_waits : {A : Type 0} (t : FlatThread) (o : Option A) (use_it : A → FlatMove) → ((a : A) → WaitsIn t (use_it a)) → WaitsIn t (on o use_it)
   on_waits t None use_it h = tt
@@ -50,20 +49,16 @@ module _ (code : FlatCode) where
   returns_waits t (frame ∷ below) word = tt
 
   does_waits : (t : FlatThread) (op : Op) → WaitsIn t (does code t op)
-  does_waits t (Op.Const d x) = tt
   does_waits t (Op.Copy d x) = on_waits t (scalar t x) _ (λ a. tt)
   does_waits t (Op.Neg d x) = on_waits t (scalar t x) _ (λ a. tt)
   does_waits t (Op.Not d x) = on_waits t (scalar t x) _ (λ a. tt)
   does_waits t (Op.Flip d x) = on_waits t (scalar t x) _ (λ a. tt)
   does_waits t (Op.Bin o d x y) = on_waits t (scalar t x) _ (λ a. on_waits t (scalar t y) _ (λ b. tt))
-  does_waits t (Op.Zero x) = tt
-  does_waits t (Op.LoadGlobal d g) = tt
   does_waits t (Op.StoreGlobal g x) = on_waits t (scalar t x) _ (λ a. tt)
   does_waits t (Op.LoadLocal d a i) = on_waits t (scalar t i) _ (λ k. on_waits t (variable t.frame a) _ (λ row. where_waits t (nat_lt k (length row)) TrapKind.Index _ tt))
   does_waits t (Op.LoadArray d a i) = on_waits t (scalar t i) _ (λ k. where_waits t (nat_lt k (width t.globals a)) TrapKind.Index (puts t d (word_at t.globals a k)) tt)
   does_waits t (Op.StoreLocal a i x) = on_waits t (scalar t i) _ (λ k. on_waits t (scalar t x) _ (λ v. on_waits t (variable t.frame a) _ (λ row. where_waits t (nat_lt k (length row)) TrapKind.Index _ tt)))
   does_waits t (Op.StoreArray a i x) = on_waits t (scalar t i) _ (λ k. on_waits t (scalar t x) _ (λ v. where_waits t (nat_lt k (width t.globals a)) TrapKind.Index (goes_with t (with_word t.globals a k v)) tt))
-  does_waits t (Op.Jump to) = tt
   does_waits t (Op.JumpZero x to) = on_waits t (scalar t x) _ (λ a. jumps_waits t to a)
   does_waits t (Op.Call site d f args) = on_waits t (scalars t args) _ (λ ws. tt)
   does_waits t (Op.CallTable site d table i x) = on_waits t (scalar t i) _ (λ k. on_waits t (scalar t x) _ (λ v. where_waits t (nat_lt k (length (members_of code table))) TrapKind.Table _ tt))
@@ -71,13 +66,13 @@ module _ (code : FlatCode) where
   does_waits t (Op.Spawn site d f x) = on_waits t (scalar t x) _ (λ a. refl)
   does_waits t (Op.Return None) = returns_waits t t.below 0
   does_waits t (Op.Return (Some x)) = on_waits t (scalar t x) _ (λ a. returns_waits t t.below a)
+  does_waits t _ = tt
 
   -- ---- a modelled call by its number
 
   abbrev CallsBy : ℕ → FlatMove → Type 0
-  CallsBy n (Goes next) = Unit {0}
   CallsBy n (Asks asked waiting) = (words : List ℕ) × (call_of n words ≡ Some asked.call)
-  CallsBy n (Stops end) = Unit {0}
+  CallsBy n _ = Unit {0}
 
   call_by : (t : FlatThread) (n : ℕ) (words : List ℕ) (o : Option Call) → call_of n words ≡ o → CallsBy n (on o (asks t))
   call_by t n words None e = tt

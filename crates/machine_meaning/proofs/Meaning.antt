@@ -23,27 +23,23 @@ use Rattle.machine_meaning.proofs.Following.{follows}
 
 finishing_then : {S W Q : Type 0} (move : Move S W Q Finish) (f : S → Move S W Q Finish) (g : S → Move S W Q End) → ((s : S) → g s ≡ finishing_move (f s)) → and_then (finishing_move move) g ≡ finishing_move (and_then move f)
 finishing_then (Goes next) f g h = h next
-finishing_then (Asks question waiting) f g h = refl
-finishing_then (Stops finish) f g h = refl
+finishing_then _ f g h = refl
 
 finishing_moves : {S W Q A : Type 0} (machine : Machine S W Q A Finish) (n : ℕ) (state : S) → moves (finishing machine) n state ≡ finishing_move (moves machine n state)
 finishing_moves machine zero state = refl
 finishing_moves machine (suc n) state = finishing_then (machine.step state) (moves machine n) (moves (finishing machine) n) (λ s. finishing_moves machine n s)
 
 asks_back : {S W Q : Type 0} (move : Move S W Q Finish) (question : Q) (waiting : W) → finishing_move move ≡ Asks question waiting → move ≡ Asks question waiting
-asks_back (Goes next) question waiting e = absurd cc
 asks_back (Asks question' waiting') question waiting e = let same : question' ≡ question = cc in let other : waiting' ≡ waiting = cc in ap (λ q. Asks q waiting') same ∙ ap (λ w. Asks question w) other
-asks_back (Stops finish) question waiting e = absurd cc
+asks_back _ question waiting e = absurd cc
 
 stops_back : {S W Q : Type 0} (move : Move S W Q Finish) (finish : Finish) → finishing_move move ≡ Stops (Finished finish) → move ≡ Stops finish
-stops_back (Goes next) finish e = absurd cc
-stops_back (Asks question waiting) finish e = absurd cc
 stops_back (Stops finish') finish e = let same : finish' ≡ finish = cc in ap (λ f. Stops f) same
+stops_back _ finish e = absurd cc
 
 not_lost : {S W Q : Type 0} (move : Move S W Q Finish) → finishing_move move ≡ Stops Lost → ⊥
 not_lost (Goes next) e = cc
-not_lost (Asks question waiting) e = cc
-not_lost (Stops finish) e = cc
+not_lost _ e = cc
 
 module _ (program : ProgramTree) (scoped : IsWellScoped program) where
   abbrev R : Running → FlatThread → Type 0

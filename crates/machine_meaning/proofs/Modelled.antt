@@ -32,14 +32,7 @@ IsCallOf n (Immediate ask) = modelled_gives n ≡ ask_gives ask
 -- a row of the table
 row_known : (call : ModelledCall) (a b : ℕ) → IsCallOf (number_of call) (call_with call a b)
 row_known ModelledCall.Accept a b = refl
-row_known ModelledCall.Wait a b = refl
-row_known ModelledCall.Sleep a b = refl
-row_known ModelledCall.Yield a b = refl
-row_known ModelledCall.Take a b = refl
-row_known ModelledCall.WaitFor a b = refl
-row_known ModelledCall.Put a b = refl
-row_known ModelledCall.Give a b = refl
-row_known ModelledCall.SelfNumber a b = refl
+row_known _ a b = refl
 
 pub call_is : (n : ℕ) (words : List ℕ) (call : Call) → call_of n words ≡ Some call → IsCallOf n call
 call_is n words call e =

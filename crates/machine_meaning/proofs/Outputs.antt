@@ -1,5 +1,5 @@
 -- The outputs of a source's run grow, so that a run that has put so many values has a first moment at which it had.
-use Rattle.std.proofs.Common.{◌≡◌, ℕ, zero, suc, ◌+◌, ◌<◌, ◌≤◌, List, [], ◌∷◌, ◌++◌, length, map, Option, Some, None, refl, sym, ap, subst, ◌∙◌, arith, append_assoc, length-append, ⊎_elim}
+use Rattle.std.proofs.Common.{◌≡◌, ℕ, zero, suc, ◌+◌, ◌<◌, ◌≤◌, List, [], ◌∷◌, ◌++◌, length, Option, Some, None, refl, sym, ap, subst, ◌∙◌, arith, append_assoc, length-append, ⊎_elim}
 use Rattle.std.specs.Prelude.{option_map}
 use Rattle.std.proofs.lemmas.Bool.{cases_lt}
 use Rattle.std.proofs.lemmas.List.{append-nil}
@@ -27,8 +27,7 @@ module _ (program : ProgramTree) (caps : List ℕ) where
   -- a segment that a move goes on to has outputs that follow these
   abbrev Grows : List (ℕ × ℕ) → SegmentMove → Type 0
   Grows outputs (Goes next) = Follows outputs next.world.outputs
-  Grows outputs (Asks question waiting) = Unit {0}
-  Grows outputs (Stops rested) = Unit {0}
+  Grows outputs _ = Unit {0}
 
   grows_unless : (segment : Segment) (globals : List (List ℕ)) (trap : Option TrapKind) (other : SegmentMove) → Grows segment.world.outputs other → Grows segment.world.outputs (unless_trap segment globals trap other)
   grows_unless segment globals (Some trap) other h = tt
@@ -56,8 +55,7 @@ module _ (program : ProgramTree) (caps : List ℕ) where
       grows_more outputs next (Goes later) h k = follows_both outputs next.world.outputs later.world.outputs h k
       grows_more outputs next (Asks question waiting) h k = tt
       grows_more outputs next (Stops rested) h k = tt
-  grows_then outputs (Asks question waiting) n h rest = tt
-  grows_then outputs (Stops rested) n h rest = tt
+  grows_then outputs _ n h rest = tt
 
   grows : (n : ℕ) (segment : Segment) → Grows segment.world.outputs (moves (segment_machine program caps) n segment)
   grows zero segment = follows_self segment.world.outputs

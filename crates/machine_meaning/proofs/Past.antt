@@ -13,12 +13,12 @@ use Rattle.flat_code.specs.Codes.{FlatCode, operation_at, site_of}
 use Rattle.machine_world.specs.Places.{Checked, Place, InStub, InPrologue, InOperation, IsAt, size_in, function_of}
 use Rattle.machine_world.specs.Rests.{ecall_word}
 use Rattle.stack_certificate.specs.Certificates.{fact_at}
-use Rattle.stack_certificate.specs.Templates.{words_before, begin, size, size_at, kind_of}
+use Rattle.stack_certificate.specs.Templates.{words_before, begin, size, kind_of}
 use Rattle.stack_certificate.specs.declared.certificates.Certificate.{Certificate}
-use Rattle.stack_certificate.proofs.AddressLemmas.{words_step}
 use Rattle.stack_image.specs.declared.images.Image.{Image}
 use Rattle.machine_meaning.proofs.Ends.{function_ends, before_last, before_front}
 use Rattle.machine_meaning.proofs.Sites.{has_operation}
+use Rattle.segment_laws.proofs.ValidFacts.{before_next}
 
 -- pc is word n of function f
 pub record IsWordOf (code : FlatCode) (certificate : Certificate) (pc f n : ℕ) : Type 0 where
@@ -39,53 +39,16 @@ ecall_site (Op.Model site d n args) word e = (site, refl)
 ecall_site (Op.Spawn site d g x) word e = (site, refl)
 ecall_site (Op.Call site d g args) word e = (site, refl)
 ecall_site (Op.CallTable site d g x y) word e = (site, refl)
-ecall_site (Op.Return s) word e = absurd (let n : no_word ≡ Some word = e in cc)
-ecall_site (Op.Const d x) word e = absurd (let n : no_word ≡ Some word = e in cc)
-ecall_site (Op.Copy d x) word e = absurd (let n : no_word ≡ Some word = e in cc)
-ecall_site (Op.Neg d x) word e = absurd (let n : no_word ≡ Some word = e in cc)
-ecall_site (Op.Not d x) word e = absurd (let n : no_word ≡ Some word = e in cc)
-ecall_site (Op.Flip d x) word e = absurd (let n : no_word ≡ Some word = e in cc)
-ecall_site (Op.Bin o d x y) word e = absurd (let n : no_word ≡ Some word = e in cc)
-ecall_site (Op.Zero x) word e = absurd (let n : no_word ≡ Some word = e in cc)
-ecall_site (Op.LoadGlobal d g) word e = absurd (let n : no_word ≡ Some word = e in cc)
-ecall_site (Op.StoreGlobal g x) word e = absurd (let n : no_word ≡ Some word = e in cc)
-ecall_site (Op.LoadLocal d x y) word e = absurd (let n : no_word ≡ Some word = e in cc)
-ecall_site (Op.LoadArray d x y) word e = absurd (let n : no_word ≡ Some word = e in cc)
-ecall_site (Op.StoreLocal d x y) word e = absurd (let n : no_word ≡ Some word = e in cc)
-ecall_site (Op.StoreArray d x y) word e = absurd (let n : no_word ≡ Some word = e in cc)
-ecall_site (Op.Jump to) word e = absurd (let n : no_word ≡ Some word = e in cc)
-ecall_site (Op.JumpZero x to) word e = absurd (let n : no_word ≡ Some word = e in cc)
+ecall_site _ word e = absurd (let n : no_word ≡ Some word = e in cc)
 
 pub ecall_inside : (sizes : List ℕ) (certificate : Certificate) (op : Op) (word : ℕ) → ecall_word op ≡ Some word → word + 1 ≤ size sizes (kind_of certificate op) op
 ecall_inside sizes certificate (Op.Model site d n args) word e = let same : length args + 1 ≡ word = (let known : some_word (length args + 1) ≡ Some word = e in cc) in omega (arith, same)
 ecall_inside sizes certificate (Op.Spawn site d g x) word e = let same : 6 ≡ word = (let known : some_word 6 ≡ Some word = e in cc) in omega (arith, same)
-ecall_inside sizes certificate (Op.Call site d g args) word e = absurd (let n : no_word ≡ Some word = e in cc)
-ecall_inside sizes certificate (Op.CallTable site d g x y) word e = absurd (let n : no_word ≡ Some word = e in cc)
-ecall_inside sizes certificate (Op.Return s) word e = absurd (let n : no_word ≡ Some word = e in cc)
-ecall_inside sizes certificate (Op.Const d x) word e = absurd (let n : no_word ≡ Some word = e in cc)
-ecall_inside sizes certificate (Op.Copy d x) word e = absurd (let n : no_word ≡ Some word = e in cc)
-ecall_inside sizes certificate (Op.Neg d x) word e = absurd (let n : no_word ≡ Some word = e in cc)
-ecall_inside sizes certificate (Op.Not d x) word e = absurd (let n : no_word ≡ Some word = e in cc)
-ecall_inside sizes certificate (Op.Flip d x) word e = absurd (let n : no_word ≡ Some word = e in cc)
-ecall_inside sizes certificate (Op.Bin o d x y) word e = absurd (let n : no_word ≡ Some word = e in cc)
-ecall_inside sizes certificate (Op.Zero x) word e = absurd (let n : no_word ≡ Some word = e in cc)
-ecall_inside sizes certificate (Op.LoadGlobal d g) word e = absurd (let n : no_word ≡ Some word = e in cc)
-ecall_inside sizes certificate (Op.StoreGlobal g x) word e = absurd (let n : no_word ≡ Some word = e in cc)
-ecall_inside sizes certificate (Op.LoadLocal d x y) word e = absurd (let n : no_word ≡ Some word = e in cc)
-ecall_inside sizes certificate (Op.LoadArray d x y) word e = absurd (let n : no_word ≡ Some word = e in cc)
-ecall_inside sizes certificate (Op.StoreLocal d x y) word e = absurd (let n : no_word ≡ Some word = e in cc)
-ecall_inside sizes certificate (Op.StoreArray d x y) word e = absurd (let n : no_word ≡ Some word = e in cc)
-ecall_inside sizes certificate (Op.Jump to) word e = absurd (let n : no_word ≡ Some word = e in cc)
-ecall_inside sizes certificate (Op.JumpZero x to) word e = absurd (let n : no_word ≡ Some word = e in cc)
+ecall_inside sizes certificate _ word e = absurd (let n : no_word ≡ Some word = e in cc)
 
 return_some : (sizes : List ℕ) (certificate : Certificate) (value : Option ℕ) → 0 < size sizes (kind_of certificate (Op.Return value)) (Op.Return value)
 return_some sizes certificate None = omega arith
 return_some sizes certificate (Some s) = omega arith
-
--- the words of an operation that is there end where the next begins
-step_of : (code : FlatCode) (certificate : Certificate) (f i : ℕ) (op : Op) → operation_at code f i ≡ Some op → words_before code certificate f i + size (codes.function_at code f).sizes (kind_of certificate op) op ≡ words_before code certificate f (i + 1)
-step_of code certificate f i op e =
-    ap (λ (o : Option Op). words_before code certificate f i + size_at (codes.function_at code f).sizes (kind_of certificate op) o) (sym e) ∙ words_step code certificate f i op (sym e)
 
 -- words of two functions are apart
 pub same_function : (code : FlatCode) (image : Image) (certificate : Certificate) (pc f g m n : ℕ) → IsValid code image certificate → IsWordOf code certificate pc f m → IsWordOf code certificate pc g n → f ≡ g
@@ -99,7 +62,7 @@ same_function code image certificate pc f g m n valid first second = ⊎_elim (�
 -- a place in a function is a word of it
 operation_there : (c : Checked) (f i w : ℕ) (found : Option Op) → operation_at c.flat f i ≡ found → w < size_in c f found → words_before c.flat c.certificate f i + w < words_before c.flat c.certificate f (i + 1)
 operation_there c f i w None e small = absurd (omega arith)
-operation_there c f i w (Some op) e small = let step = step_of c.flat c.certificate f i op e in omega (arith, step, small)
+operation_there c f i w (Some op) e small = let step = before_next c.flat c.certificate f i op e in omega (arith, step, small)
 
 module _ (code : FlatCode) (image : Image) (certificate : Certificate) (valid : IsValid code image certificate) where
   abbrev checked : Checked
@@ -144,10 +107,10 @@ past_word program image certificate pc f i word op scoped valid e ecall at =
     let ends = function_ends program scoped f there in
     let site = ecall_site op word ecall in
     let before = before_last (codes.function_at code f).ops i site.0 op ends e site.1 in
-    let step = step_of code certificate f i op e in
+    let step = before_next code certificate f i op e in
     let inside = ecall_inside (codes.function_at code f).sizes certificate op word ecall in
     let front = before_front code certificate f (i + 1) ends.last (omega (arith, before)) in
-    let last = step_of code certificate f ends.last (Op.Return ends.value) ends.there in
+    let last = before_next code certificate f ends.last (Op.Return ends.value) ends.there in
     let some = return_some (codes.function_at code f).sizes certificate ends.value in
     let all : words_before code certificate f (ends.last + 1) ≡ (fact_at certificate f).words = ap (words_before code certificate f) (sym ends.count) ∙ whole code image certificate valid f (flat_there program f there) in
     record { function = flat_there program f there; is = omega (arith, at); small = omega (arith, step, inside, front, last, some, all) }

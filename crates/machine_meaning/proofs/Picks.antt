@@ -29,7 +29,7 @@ use Rattle.machine_world.specs.Rests.{ecall_word, IsPastCall, IsResting, AtStart
 use Rattle.machine_world.specs.Runs.{Pick, after_action, picked, picked_at, picked_row, may_run, is_between}
 use Rattle.machine_world.specs.StandsFor.{Starts, Waits, StandsFor, StandsForThread}
 use Rattle.machine_world.specs.StandsForWorld.{IsFresh, IsBlockedAt, IsPast, StandsForRest}
-use Rattle.machine_world.specs.Threads.{Blocked, Thread, World, Setting, first_with, thread_of, replaced, result_on}
+use Rattle.machine_world.specs.Threads.{Blocked, Thread, World, Setting, first_with, thread_of, replaced, result_on, local_in}
 use Rattle.machine_world.specs.WellFormed.{IsWellFormed}
 use Rattle.machine_world.proofs.FormWorlds.{IsWellFormedIf-action}
 use Rattle.rv_machine.specs.Registers.{read}
@@ -46,7 +46,7 @@ use Rattle.segment_laws.specs.Kept.{KeepsChunks, KeepsStack}
 use Rattle.segment_laws.proofs.Frames.{frames_law}
 use Rattle.machine_meaning.specs.Reached.{with_puts, IsReached}
 use Rattle.machine_meaning.specs.UnderWay.{IsBlockingCall, RestsSo, IsSettledThread, IsSettledIf, StandsSettled, IsUnderWay}
-use Rattle.machine_meaning.proofs.Forms.{local_in, has_form}
+use Rattle.machine_meaning.proofs.Forms.{has_form}
 use Rattle.machine_meaning.proofs.Modelled.{call_is, block_gives}
 use Rattle.machine_meaning.proofs.Outputs.{cut_at}
 use Rattle.machine_meaning.proofs.Staying.{holds_by}
@@ -107,9 +107,8 @@ block_result n result (Block.Take resource amount) gives does = absurd (let no :
 block_result n result (Block.WaitFor channel ticks) gives does = refl
 
 start_may : (c : Checked) (program : ProgramTree) (pool : Pool) (core : Core) (rests : IsResting c pool core) (frame : Rattle.c_mean.specs.Frames.Frame) (below : List Rattle.c_mean.specs.Frames.WaitingFrame) → StandsFor c program pool core rests (Starts frame below) → MayRun c pool core rests
-start_may c program pool core (AtStart f frames in_place) frame below h = tt
 start_may c program pool core (AtCall f i op word frames in_place) frame below h = absurd h
-start_may c program pool core (PastCall f i op word place frames in_place) frame below h = tt
+start_may c program pool core _ frame below h = tt
 
 -- where a rest is, its number is below their count
 get_there : {A : Type 0} (xs : List A) (i : ℕ) (a : A) → slice_get xs i ≡ Some a → i < length xs
@@ -200,8 +199,6 @@ module _ (program : ProgramTree) (image : Image) (certificate : Certificate) (sc
 
   goes_on : (t : Thread) (blocked : Blocked) (waiting : Waiting) (result : ℕ) (rests : IsResting here w.areas.pool t.core) (settled : IsResting here w.areas.pool t.core) → length t.core.x ≡ 32 → IsPast here w.areas.pool t.core rests → StandsFor here program w.areas.pool t.core rests (Waits waiting)
       → RestsSo here w.areas.pool t settled (Some blocked) → GoesOn (record t.core { x = with_result t.core.x (result_on blocked.block result) }) waiting result
-  goes_on t blocked waiting result (AtStart f frames in_place) settled long past h so = absurd past
-  goes_on t blocked waiting result (AtCall f i op word frames in_place) settled long past h so = absurd past
   goes_on t blocked waiting result (PastCall f i op word place frames in_place) (AtStart g frames' at) long past h so = absurd so
   goes_on t blocked waiting result (PastCall f i op word place frames in_place) (AtCall g j other v frames' at) long past h so = absurd so
   goes_on t blocked waiting result (PastCall f i op word place frames in_place) (PastCall g j other v place' frames' at) long past h so =
@@ -213,6 +210,7 @@ module _ (program : ProgramTree) (image : Image) (certificate : Certificate) (sc
         may = tt;
         holds = holds_block t block result f i word op place frames long in_place (subst (λ (o : Op). IsBlockingCall o block) (sym same) so);
       }
+  goes_on t blocked waiting result _ settled long past h so = absurd past
 
   blocked_begins : (t : Thread) (blocked : Blocked) (waiting : Waiting) → thread_of w number ≡ Some t → slice_get start.threads number ≡ Some (source.Blocked blocked.block waiting) → IsBlockedAt here program w.areas.pool t blocked.block waiting → (settled : IsResting here w.areas.pool t.core) → RestsSo here w.areas.pool t settled (Some blocked)
       → IsWellFormed here s (picked_row w t blocked.block (blocking_row s.caps start.exchange blocked.block)) → IsReached here program s start number [] (picked_row w t blocked.block (blocking_row s.caps start.exchange blocked.block))
@@ -248,8 +246,6 @@ module _ (program : ProgramTree) (image : Image) (certificate : Certificate) (sc
 
   by_rest : (t : Thread) (blocked : Option Blocked) (rest : Option Rest) → thread_of w number ≡ Some t → t.blocked ≡ blocked → slice_get start.threads number ≡ rest → StandsForRest here program w.areas.pool (Some t) rest → (settled : IsResting here w.areas.pool t.core) → RestsSo here w.areas.pool t settled blocked
       → Begins (picked_at s w t blocked)
-  by_rest t blocked None found is at h settled so formed_now = absurd h
-  by_rest t blocked (Some source.Ended) found is at h settled so formed_now = absurd h
   by_rest t None (Some (source.Fresh f arguments)) found is at h settled so formed_now = fresh_begins t f arguments found at h
   by_rest t (Some blocked) (Some (source.Fresh f arguments)) found is at h settled so formed_now = absurd (let e : Some blocked ≡ Rattle.std.specs.Prelude.None = sym is ∙ h.unblocked in cc)
   by_rest t None (Some (source.Blocked block waiting)) found is at h settled so formed_now = absurd (let e = sym (ap (option_map (λ (b : Blocked). b.block)) is) ∙ h.blocked in cc)
@@ -258,6 +254,7 @@ module _ (program : ProgramTree) (image : Image) (certificate : Certificate) (sc
       let same : blocked.block ≡ block = cc in
       subst (λ (x : Exchange). Begins (picked_row w t blocked.block (blocking_row s.caps x blocked.block))) (sym stands.stands.exchange)
       (blocked_begins t blocked waiting found (at ∙ ap (λ (b : Block). Some (source.Blocked b waiting)) (sym same)) (subst (λ (b : Block). IsBlockedAt here program w.areas.pool t b waiting) (sym same) h) settled so) formed_now
+  by_rest t blocked _ found is at h settled so formed_now = absurd h
 
   by_thread : (o : Option Thread) (after : World) → thread_of w number ≡ o → picked s w o ≡ Some after → Begins after
   by_thread None after found e formed_now = absurd (let none : no_world ≡ Some after = e in cc)

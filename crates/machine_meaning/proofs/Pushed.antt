@@ -1,12 +1,12 @@
 -- A frame that is pushed stands at its function's start.
-use Rattle.std.proofs.Common.{◌≡◌, ℕ, zero, suc, ◌+◌, ◌-◌, ◌<◌, Bool, true, false, List, [], ◌∷◌, ◌++◌, map, length, drop, replicate, Option, Some, None, refl, sym, ap, ◌∙◌, subst, arith, get_or, append_assoc, length-append, ⊎_elim, eqb}
-use Rattle.std.specs.Prelude.{IsTrue, ◌||◌}
+use Rattle.std.proofs.Common.{◌≡◌, ℕ, zero, suc, ◌+◌, ◌-◌, ◌<◌, false, List, [], ◌∷◌, ◌++◌, map, length, drop, replicate, Option, Some, None, refl, sym, ap, ◌∙◌, subst, arith, get_or, append_assoc, length-append, ⊎_elim, eqb}
+use Rattle.std.specs.Prelude.{IsTrue}
 use Rattle.std.specs.List.{Contains}
 use Rattle.std.proofs.Math.Seq.{get_or-append_seam}
 use Rattle.std.proofs.lemmas.Bool.Decides.{eqb_tells}
 use Rattle.std.proofs.lemmas.List.{length-map, length-replicate}
 use Rattle.cap_word.specs.Rows.{row, zeros, scalars}
-use Rattle.c_tree.specs.Sizes.{below, declared_words, sizes_of}
+use Rattle.c_tree.specs.Sizes.{below, declared_words}
 use Rattle.c_tree.specs.Sizes as words
 use Rattle.c_tree.specs.Trees.{ProgramTree}
 use Rattle.c_tree.specs.WellScoped.{visible}
@@ -18,6 +18,7 @@ use Rattle.flat_code.specs.Frames as flat
 use Rattle.machine_meaning.proofs.Silent.{Vars}
 use Rattle.machine_meaning.proofs.Stands.{Stands, AtEnd, all_before_stands}
 use Rattle.machine_meaning.proofs.Frames.{Lowers, Holds, Runs, fn, cx, base, temps}
+use Rattle.machine_meaning.proofs.Rows.{or_cases}
 
 -- an element in the midst of a list is in it
 contains_seam : {A : Type 0} (a : List A) (x : A) (b : List A) → Contains (a ++ x ∷ b) x
@@ -42,10 +43,6 @@ arguments_read : (arguments : List ℕ) (rows : List (List ℕ)) (vars : Vars) (
 arguments_read [] rows vars x lt = absurd (omega arith)
 arguments_read (v ∷ arguments) rows vars zero lt = refl
 arguments_read (v ∷ arguments) rows vars (suc x) lt = arguments_read arguments rows vars x (omega arith)
-
-or_cases : (a b : Bool) → IsTrue (a || b) → a ≡ false → IsTrue b
-or_cases true b h e = absurd cc
-or_cases false b h e = h
 
 pub seen_below : (n x : ℕ) → IsTrue (visible x (below n)) → x < n
 seen_below zero x h = absurd cc

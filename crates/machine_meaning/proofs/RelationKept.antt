@@ -8,7 +8,7 @@ use Rattle.c_tree.specs.Temporaries.{function_temporaries}
 use Rattle.c_tree.specs.Trees.{FunctionTree, ProgramTree, NoStmts}
 use Rattle.c_tree.specs.WellScoped.{IsWellScoped}
 use Rattle.c_mean.specs.Frames.{Place, Nowhere, InLocal, InGlobal, InLocalElement, InGlobalElement, Returned, Frame, WaitingFrame, Running, Waiting, function_at}
-use Rattle.c_mean.specs.Sites.{Target, ToNowhere, ToLocal, ToGlobal, ToLocalElement, ToGlobalElement, ToCaller, target_of, CallInText, function_calls}
+use Rattle.c_mean.specs.Sites.{Target, ToLocal, ToCaller, target_of, CallInText, function_calls}
 use Rattle.c_mean.specs.ToDo.{Item}
 use Rattle.flat_code.specs.declared.functions.FlatFunction.{FlatFunction}
 use Rattle.flat_code.specs.declared.operations.Op.{Op}
@@ -79,12 +79,9 @@ module _ (program : ProgramTree) (scoped : IsWellScoped program) where
   rest_is : (target : Target) (frame : Frame) (items : List Item) (scope : List ℕ) (q : ℕ) → frame.to_do ≡ items
       → RestIs (operation_at (lowered program) frame.function) (base program (lowered program) frame.function) (cx program (lowered program) frame.function) (temps program (lowered program) frame.function) (function_calls (function_at program frame.function)) target items scope q
       → RestStands program (lowered program) target frame scope q
-  rest_is ToNowhere frame items scope q e h = subst (λ items. StandsIn program (lowered program) frame.function items q scope) (sym e) h
   rest_is (ToLocal x) frame items scope q e h = subst (λ items. StandsIn program (lowered program) frame.function items q (x ∷ scope)) (sym e) h
-  rest_is (ToGlobal g) frame items scope q e h = subst (λ items. StandsIn program (lowered program) frame.function items q scope) (sym e) h
-  rest_is (ToLocalElement a) frame items scope q e h = subst (λ items. StandsIn program (lowered program) frame.function items q scope) (sym e) h
-  rest_is (ToGlobalElement a) frame items scope q e h = subst (λ items. StandsIn program (lowered program) frame.function items q scope) (sym e) h
   rest_is ToCaller frame items scope q e h = tt
+  rest_is _ frame items scope q e h = subst (λ items. StandsIn program (lowered program) frame.function items q scope) (sym e) h
 
   -- two operations of a function with the same site are one
   one_site : (f i j s : ℕ) → f < length program.functions → site_in (operation_at (lowered program) f i) ≡ Some s → site_in (operation_at (lowered program) f j) ≡ Some s → i ≡ j
@@ -140,15 +137,13 @@ module _ (program : ProgramTree) (scoped : IsWellScoped program) where
 
   all_from : (ws : List WaitingFrame) (gs : List FlatFrame) → FramesStandFor program ws gs → AllWait program (lowered program) ws gs
   all_from [] [] h = tt
-  all_from [] (g ∷ gs) h = h
-  all_from (w ∷ ws) [] h = h
   all_from (w ∷ ws) (g ∷ gs) h = (waits_from w g h.0, all_from ws gs h.1)
+  all_from _ _ h = h
 
   all_stand : (ws : List WaitingFrame) (gs : List FlatFrame) → AllWait program (lowered program) ws gs → FramesStandFor program ws gs
   all_stand [] [] h = tt
-  all_stand [] (g ∷ gs) h = h
-  all_stand (w ∷ ws) [] h = h
   all_stand (w ∷ ws) (g ∷ gs) h = (stands_from w g h.0, all_stand ws gs h.1)
+  all_stand _ _ h = h
 
   pub wait_from : (waiting : Waiting) (flat : FlatWaiting) → StandsFor program waiting flat → WaitUnder program (lowered program) waiting flat
   wait_from waiting flat h = record { front = waits_from waiting.front flat.frame h.front; below = all_from waiting.below flat.below h.below }

@@ -26,7 +26,7 @@ wide_set c rows x words e wide = map-set_same length rows x words [] e ∙ wide
 pub reads_fewer : (c : Context) (fewer scope : List ℕ) (names : List (List ℕ)) (vars : Vars) → Within fewer scope → Reads c scope names vars → Reads c fewer names vars
 reads_fewer c fewer scope names vars w reads x lt seen = reads x lt (w x seen)
 
-or_cases : (a b : Bool) → IsTrue (a || b) → a ≡ false → IsTrue b
+pub or_cases : (a b : Bool) → IsTrue (a || b) → a ≡ false → IsTrue b
 or_cases true b h e = absurd cc
 or_cases false b h e = h
 
@@ -47,9 +47,8 @@ reads_set c scope names vars x words there room reads y lt seen = ⊎_elim same 
     other ne = get_or-set_other vars x y (Some words) None ne ∙ reads y lt (seen_before y x scope ne seen) ∙ ap (λ r. Some r) (sym (get_or-set_other names x y words [] ne))
 
 set_one : (words : List ℕ) (v : ℕ) → length words ≡ 1 → set words 0 v ≡ v ∷ []
-set_one [] v e = absurd (omega arith)
 set_one (w ∷ []) v e = refl
-set_one (w ∷ u ∷ words) v e = absurd (omega arith)
+set_one _ v e = absurd (omega arith)
 
 -- a name of one word is set
 pub reads_word : (c : Context) (scope : List ℕ) (names : List (List ℕ)) (vars : Vars) (x v : ℕ) → Wide c names → slice_index c.sizes x ≡ 1 → x < length vars → Reads c scope names vars

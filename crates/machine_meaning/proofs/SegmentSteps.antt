@@ -35,7 +35,7 @@ use Rattle.machine_world.specs.Rests.{IsAtCall, PastCall}
 use Rattle.machine_world.specs.StandsFor.{SourceThread, Waits, StandAtCall, StandsForThread, going_on}
 use Rattle.machine_world.specs.StandsForWorld.{StandsForRest}
 use Rattle.machine_world.specs.Threads as machine
-use Rattle.machine_world.specs.Threads.{Blocked, Thread, World, Setting, first_with, thread_of, replaced, retired, resumed, unless_trap, printed, answered, blocks, package_call, stopped}
+use Rattle.machine_world.specs.Threads.{Blocked, Thread, World, Setting, first_with, thread_of, replaced, retired, resumed, unless_trap, printed, answered, blocks, package_call, stopped, local_in}
 use Rattle.machine_world.specs.WellFormed.{IsWellFormed, KeepsWellFormed}
 use Rattle.rv_machine.specs.Registers.{read}
 use Rattle.segment_laws.proofs.ValidFacts.{CodeFacts-valid}
@@ -49,7 +49,7 @@ use Rattle.stack_certificate.specs.declared.certificates.Certificate.{Certificat
 use Rattle.stack_image.specs.declared.images.Image.{Image}
 use Rattle.machine_meaning.specs.Reached.{with_puts, IsReached, IsFinished, StepReaches}
 use Rattle.machine_meaning.specs.UnderWay.{IsSettledIf, IsUnderWay}
-use Rattle.machine_meaning.proofs.Forms.{local_in, has_form, kept_going, kept_ending, rest_stays}
+use Rattle.machine_meaning.proofs.Forms.{has_form, kept_going, kept_ending, rest_stays}
 use Rattle.machine_meaning.proofs.Modelled.{call_is}
 use Rattle.machine_meaning.proofs.Outputs.{then_moves, cut_at}
 use Rattle.machine_meaning.proofs.Passing.{PastWaits, past_waits}

@@ -17,10 +17,9 @@ use Rattle.machine_meaning.specs.Between.{resting_key}
 
 sites_are : (c : Checked) (program : ProgramTree) (pool : Pool) (frames : List Frame) (waitings : List WaitingFrame) → AreWaitingFrames c program pool frames waitings → sites_of c frames ≡ map (λ w. w.site) waitings
 sites_are c program pool [] [] h = refl
-sites_are c program pool [] (waiting ∷ waitings) h = absurd h
-sites_are c program pool (frame ∷ frames) [] h = absurd h
 sites_are c program pool (frame ∷ frames) (waiting ∷ waitings) h =
     ap (λ (s : Option ℕ). with_site s (sites_of c frames)) h.0.site ∙ ap (λ (sites : List ℕ). waiting.site ∷ sites) (sites_are c program pool frames waitings h.1)
+sites_are c program pool _ _ h = absurd h
 
 call_key : (c : Checked) (program : ProgramTree) (pool : Pool) (f i : ℕ) (op : Op) (frames : List Frame) (waiting : Waiting) → operation_at c.flat f i ≡ Some op → StandAtCall c program pool op frames waiting → key_of c f i frames ≡ source.key_of waiting
 call_key c program pool f i op [] waiting at h = absurd h

@@ -24,7 +24,7 @@ unfolding IsDistinct
 distinct_first [] b h = tt
 distinct_first (x ∷ a) b h = (all_first (λ y. eqb x y ≡ false) a b h.0, distinct_first a b h.1)
 
-distinct_second : (a b : List ℕ) → IsDistinct eqb (a ++ b) → IsDistinct eqb b
+pub distinct_second : (a b : List ℕ) → IsDistinct eqb (a ++ b) → IsDistinct eqb b
 distinct_second [] b h = h
 distinct_second (x ∷ a) b h = distinct_second a b (IsDistinct-tail eqb x (a ++ b) h)
 

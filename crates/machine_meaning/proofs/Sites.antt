@@ -9,7 +9,7 @@ use Rattle.c_tree.specs.Sizes.{below}
 use Rattle.c_tree.specs.Trees.{FunctionTree, ProgramTree, NoStmts}
 use Rattle.c_tree.specs.WellScoped.{IsWellScoped}
 use Rattle.c_mean.specs.Frames.{function_at}
-use Rattle.c_mean.specs.Sites.{CallInText, WaitsAt, function_calls}
+use Rattle.c_mean.specs.Sites.{CallInText, function_calls}
 use Rattle.c_lower.specs.ProgramCode.{function_ops, lowered_function, lowered}
 use Rattle.c_lower.proofs.Sites.{sites_distinct}
 use Rattle.flat_code.specs.declared.functions.FlatFunction.{FlatFunction}
@@ -20,7 +20,7 @@ use Rattle.flat_code.specs.Frames.{site_in}
 use Rattle.machine_meaning.proofs.Frames.{base, cx, temps}
 use Rattle.machine_meaning.proofs.Lowered.{function_is, lowers}
 use Rattle.machine_meaning.proofs.Pushed.{all_in_self}
-use Rattle.machine_meaning.proofs.SiteNumbers.{sites}
+use Rattle.machine_meaning.proofs.SiteNumbers.{sites, distinct_second}
 use Rattle.machine_meaning.proofs.Stands.{AtEnd}
 use Rattle.machine_meaning.proofs.TextCalls.{CallStands, stmts_calls_stand, contained_stands}
 use Rattle.machine_meaning.proofs.Numbering.{past_end}
@@ -80,10 +80,6 @@ each_site P (x ∷ fs) (suc f) i s lt h e = each_site P fs f i s (omega arith) (
     rest [] b h = h
     rest (y ∷ a) b h = rest a b h.1
 
-distinct_behind : (a b : List ℕ) → IsDistinct eqb (a ++ b) → IsDistinct eqb b
-distinct_behind [] b h = h
-distinct_behind (x ∷ a) b h = distinct_behind a b (IsDistinct-tail eqb x (a ++ b) h)
-
 same_place : (fs : List FunctionTree) (f g i j s : ℕ) → f < length fs → g < length fs → IsDistinct eqb (all_sites fs) → site_in (slice_get (function_ops (slice_index_or fs f no_function)) i) ≡ Some s → site_in (slice_get (function_ops (slice_index_or fs g no_function)) j) ≡ Some s → f ≡ g
 same_place [] f g i j s lt lt' h e k = absurd (omega arith)
 same_place (x ∷ fs) zero zero i j s lt lt' h e k = refl
@@ -93,11 +89,11 @@ same_place (x ∷ fs) zero (suc g) i j s lt lt' h e k =
 same_place (x ∷ fs) (suc f) zero i j s lt lt' h e k =
     let all : AllByRecursion (λ y. eqb s y ≡ false) (all_sites fs) = apart (function_ops x) (all_sites fs) j s h k in
     absurd (eqb-false s s (each_site (λ y. eqb s y ≡ false) fs f i s (omega arith) all e) refl)
-same_place (x ∷ fs) (suc f) (suc g) i j s lt lt' h e k = ap suc (same_place fs f g i j s (omega arith) (omega arith) (distinct_behind (sites (function_ops x)) (all_sites fs) h) e k)
+same_place (x ∷ fs) (suc f) (suc g) i j s lt lt' h e k = ap suc (same_place fs f g i j s (omega arith) (omega arith) (distinct_second (sites (function_ops x)) (all_sites fs) h) e k)
 
 -- ---- calls in the text
 
-nothing_in : {A : Type 0} (x : A) → Contains [] x → ⊥
+pub nothing_in : {A : Type 0} (x : A) → Contains [] x → ⊥
 nothing_in x h = omega (arith, h.1)
 
 module _ (program : ProgramTree) (scoped : IsWellScoped program) where

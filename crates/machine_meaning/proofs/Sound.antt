@@ -11,10 +11,9 @@ use Rattle.machine_world.specs.Numbered.{RiseBetween}
 use Rattle.machine_world.specs.Places.{Checked, InPrologue, InOperation}
 use Rattle.machine_world.specs.Rests.{IsResting, AtStart, AtCall, PastCall}
 use Rattle.machine_world.specs.Stretches.{IsFramedStep, IsFramedNext, IsSound}
-use Rattle.machine_world.specs.Threads.{Thread, World, Setting, first_with, thread_of}
+use Rattle.machine_world.specs.Threads.{Thread, World, Setting, first_with, thread_of, local_in}
 use Rattle.machine_world.specs.WellFormed.{IsWellFormed}
 use Rattle.machine_meaning.specs.UnderWay.{IsSettledIf, IsSettled, IsUnderWay}
-use Rattle.machine_meaning.proofs.Forms.{local_in}
 
 rests_in_place : (c : Checked) (pool : Pool) (core : Core) → IsResting c pool core → IsInPlace c pool core
 rests_in_place c pool core (AtStart f frames in_place) = (InPrologue f 0, frames, in_place)

@@ -12,7 +12,7 @@ use Rattle.machine_meaning.proofs.Zeroes.{program_zeroes}
 use Rattle.stack_certificate.specs.Registers.{a0}
 use Rattle.machine_world.specs.Local.{Core, Local}
 use Rattle.machine_world.specs.Places.{Checked}
-use Rattle.machine_world.specs.Rests.{IsResting, AtStart, AtCall, PastCall}
+use Rattle.machine_world.specs.Rests.{IsResting, PastCall}
 use Rattle.machine_world.specs.StandsFor.{SourceThread, StandsForThread, going_on}
 use Rattle.rv_code.specs.declared.instructions.Instr.{Instr}
 use Rattle.rv_machine.specs.Registers.{read}
@@ -48,9 +48,8 @@ module _ (program : ProgramTree) (image : Image) (certificate : Certificate) whe
   wanted_a0 (Some d) core = refl
 
   holds_a0 : (pool : Pool) (core : Core) (rests : IsResting checked pool core) → HoldsResult checked pool core rests (read core.x a0)
-  holds_a0 pool core (AtStart f frames in_place) = tt
-  holds_a0 pool core (AtCall f i op word frames in_place) = tt
   holds_a0 pool core (PastCall f i op word place frames in_place) = wanted_a0 (result_place op) core
+  holds_a0 pool core _ = tt
 
   pub runs : (l : Local) → IsWellScoped program → IsValid (lowered program) image certificate → HasForm checked l → (rests : IsResting checked l.areas.pool l.core) → MayRun checked l.areas.pool l.core rests → (running : Running) × RunsAsSource checked image.code program l running
   runs l scoped valid form rests may =

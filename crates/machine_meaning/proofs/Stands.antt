@@ -26,15 +26,7 @@ within_names (d ∷ ds) scope x h = within_names ds (d.variable ∷ scope) x (or
 
 pub within_after : (s : StmtTree) (scope : List ℕ) → Within scope (scope_after scope s)
 within_after (Do s) scope x h = within_names (simple_names s) scope x h
-within_after Empty scope x h = h
-within_after (Block ss) scope x h = h
-within_after (If c s) scope x h = h
-within_after (IfElse c s r) scope x h = h
-within_after (While c s) scope x h = h
-within_after (For init c step s) scope x h = h
-within_after Break scope x h = h
-within_after Continue scope x h = h
-within_after (Return v) scope x h = h
+within_after _ scope x h = h
 
 pub within_all : (ss : List SimpleTree) (scope : List ℕ) → Within scope (scope_after_all scope ss)
 within_all [] scope x h = h
@@ -154,10 +146,9 @@ module _ (fetch : ℕ → Option Op) (t : ℕ) (c : Context) (temps : ℕ) (text
         (InFewer inner (within_after s inner) after)
         (subst (λ items. Stands items q inner) (sym (leave_step step (ForLoop None step s) rest)) then_, subst (λ items. Stands items h.2.1 inner) (sym (skip_step step (ForLoop None step s) rest)) after))))
     before_stands Break true p q leave skip scope rest h sc room calls k exits = AtLeave leave h exits.0
-    before_stands Break false p q leave skip scope rest h sc room calls k exits = absurd cc
     before_stands Continue true p q leave skip scope rest h sc room calls k exits = AtSkip skip h exits.1
-    before_stands Continue false p q leave skip scope rest h sc room calls k exits = absurd cc
     before_stands (Return v) loop p q leave skip scope rest h sc room calls k exits = AtReturn q h sc room calls
+    before_stands _ false p q leave skip scope rest h sc room calls k exits = absurd cc
 
     pub all_before_stands : (ss : StmtTrees) (loop : Bool) (p q leave skip : ℕ) (scope : List ℕ) (rest : List Item) → StmtsAt fetch t p ss leave skip q → AreStmtsScoped c loop scope ss → stmts_temporaries ss ≤ temps → AllIn text (stmts_calls ss scope rest)
         → Stands rest q scope → Exits loop rest leave skip scope → Stands (all_before ss rest) p scope

@@ -1,7 +1,7 @@
 -- Each machine thread that rests stands for some source thread: its names are read from the frames' words, and what it has
 -- still to do from the text.
 use Rattle.std.proofs.Common.{◌≡◌, ℕ, zero, suc, ◌+◌, ◌*◌, ◌<◌, Bool, true, false, List, [], ◌∷◌, ◌++◌, length, map, drop, take, cond, Option, Some, None, refl, sym, ap, ◌∙◌, subst, arith, slice_get}
-use Rattle.std.specs.Prelude.{slice_index, sum, ◌||◌}
+use Rattle.std.specs.Prelude.{slice_index, sum}
 use Rattle.std.specs.List.{flat_map}
 use Rattle.std.proofs.lemmas.List.{length-map, length-take-le, length-drop, take-append-drop}
 use Rattle.std.proofs.lemmas.List.Sums.{sum_by-cons}
@@ -70,11 +70,7 @@ place_for ToCaller i = Returned
 place_target : (target : Target) (i : ℕ) → target_of (place_for target i) ≡ target
 unfolding place_for
 place_target ToNowhere i = refl
-place_target (ToLocal x) i = refl
-place_target (ToGlobal g) i = refl
-place_target (ToLocalElement a) i = refl
-place_target (ToGlobalElement a) i = refl
-place_target ToCaller i = refl
+place_target _ i = refl
 
 place_index : (c : Checked) (pool : Pool) (frame : Frame) (temporary : ℕ) (target : Target) → HoldsIndex c pool frame temporary (place_for target (variable_word c pool frame temporary 0))
 unfolding place_for
@@ -117,23 +113,7 @@ operation_some kind w (Op.Return None) e = ending_some (Rattle.std.specs.Prelude
 operation_some kind w (Op.Return (Some s)) e = ending_some (Rattle.std.specs.Prelude.nat_eq w 3) e
 operation_some kind w (Op.Call site d f args) e = transfer_some kind w (Some (length args)) e
 operation_some kind w (Op.CallTable site d t i s) e = transfer_some kind w (Some 13) e
-operation_some kind w (Op.Model site d n args) e = cc
-operation_some kind w (Op.Spawn site d f s) e = cc
-operation_some kind w (Op.Const d x) e = cc
-operation_some kind w (Op.Copy d x) e = cc
-operation_some kind w (Op.Neg d x) e = cc
-operation_some kind w (Op.Not d x) e = cc
-operation_some kind w (Op.Flip d x) e = cc
-operation_some kind w (Op.Bin o d x y) e = cc
-operation_some kind w (Op.Zero x) e = cc
-operation_some kind w (Op.LoadGlobal d g) e = cc
-operation_some kind w (Op.StoreGlobal g x) e = cc
-operation_some kind w (Op.LoadLocal d x y) e = cc
-operation_some kind w (Op.LoadArray d x y) e = cc
-operation_some kind w (Op.StoreLocal d x y) e = cc
-operation_some kind w (Op.StoreArray d x y) e = cc
-operation_some kind w (Op.Jump to) e = cc
-operation_some kind w (Op.JumpZero x to) e = cc
+operation_some kind w _ e = cc
 
 at_some : (certificate : Certificate) (w : ℕ) (op : Option Op) → row_at certificate w op ≡ NoFrame → ⊥
 at_some certificate w None e = cc
@@ -189,22 +169,7 @@ calls_site code (Op.Call site d g args) f h = (site, refl)
 calls_site code (Op.CallTable site d t i s) f h = (site, refl)
 calls_site code (Op.Model site d n args) f h = (site, refl)
 calls_site code (Op.Spawn site d g s) f h = (site, refl)
-calls_site code (Op.Return s) f h = absurd h
-calls_site code (Op.Const d x) f h = absurd h
-calls_site code (Op.Copy d x) f h = absurd h
-calls_site code (Op.Neg d x) f h = absurd h
-calls_site code (Op.Not d x) f h = absurd h
-calls_site code (Op.Flip d x) f h = absurd h
-calls_site code (Op.Bin o d x y) f h = absurd h
-calls_site code (Op.Zero x) f h = absurd h
-calls_site code (Op.LoadGlobal d g) f h = absurd h
-calls_site code (Op.StoreGlobal g x) f h = absurd h
-calls_site code (Op.LoadLocal d x y) f h = absurd h
-calls_site code (Op.LoadArray d x y) f h = absurd h
-calls_site code (Op.StoreLocal d x y) f h = absurd h
-calls_site code (Op.StoreArray d x y) f h = absurd h
-calls_site code (Op.Jump to) f h = absurd h
-calls_site code (Op.JumpZero x to) f h = absurd h
+calls_site code _ f h = absurd h
 
 returns_sited : (c : Checked) (frame below : Frame) (o : Option Op) → ReturnsInto c frame below o → IsSited o
 returns_sited c frame below None h = absurd h

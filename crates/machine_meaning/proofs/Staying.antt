@@ -5,7 +5,7 @@ use Rattle.chunk_pool.specs.Pool.{Pool}
 use Rattle.stack_certificate.specs.Registers.{a0}
 use Rattle.machine_world.specs.Local.{Core}
 use Rattle.machine_world.specs.Places.{Checked}
-use Rattle.machine_world.specs.Rests.{IsResting, AtStart, AtCall, PastCall}
+use Rattle.machine_world.specs.Rests.{IsResting, AtStart, PastCall}
 use Rattle.machine_world.specs.StandsForWorld.{IsPast}
 use Rattle.machine_world.specs.Threads.{Blocked, Thread}
 use Rattle.flat_code.specs.Codes.{result_place}
@@ -23,12 +23,9 @@ same_stack core = record { pc = refl; chain = refl; returns = refl; stack = refl
 
 settled_thread : (c : Checked) (pool after : Pool) (thread : Thread) (blocked : Option Blocked) (rests : IsResting c pool thread.core) → KeepsChunks pool after thread.core.chain → RestsSo c pool thread rests blocked → (now : IsResting c after thread.core) × RestsSo c after thread now blocked
 settled_thread c pool after thread None (AtStart f frames in_place) kept h = (AtStart f frames (frames_law c pool after thread.core thread.core _ frames kept (same_stack thread.core) in_place), h)
-settled_thread c pool after thread (Some blocked) (AtStart f frames in_place) kept h = absurd h
-settled_thread c pool after thread None (AtCall f i op word frames in_place) kept h = absurd h
-settled_thread c pool after thread (Some blocked) (AtCall f i op word frames in_place) kept h = absurd h
-settled_thread c pool after thread None (PastCall f i op word place frames in_place) kept h = absurd h
 settled_thread c pool after thread (Some blocked) (PastCall f i op word place frames in_place) kept h =
     (PastCall f i op word place frames (record { operation = in_place.operation; ecall = in_place.ecall; pc = in_place.pc; frames_are = frames_law c pool after thread.core thread.core place frames kept (same_stack thread.core) in_place.frames_are }), h)
+settled_thread c pool after thread _ _ kept h = absurd h
 
 pub settled_stays : (c : Checked) (pool after : Pool) (thread : Option Thread) → ((t : Thread) → thread ≡ Some t → KeepsChunks pool after t.core.chain) → IsSettledIf c pool thread → IsSettledIf c after thread
 settled_stays c pool after None kept h = tt
@@ -36,9 +33,8 @@ settled_stays c pool after (Some thread) kept h = settled_thread c pool after th
 
 -- a thread past its ECALL may run
 pub past_may : (c : Checked) (pool : Pool) (core : Core) (rests : IsResting c pool core) → IsPast c pool core rests → MayRun c pool core rests
-past_may c pool core (AtStart f frames in_place) past = absurd past
-past_may c pool core (AtCall f i op word frames in_place) past = absurd past
 past_may c pool core (PastCall f i op word place frames in_place) past = tt
+past_may c pool core _ past = absurd past
 
 wanted_by : (d : Option ℕ) (core : Core) (result : ℕ) → result ≡ read core.x a0 → HoldsWanted d core result
 wanted_by None core result e = tt
@@ -46,9 +42,8 @@ wanted_by (Some d) core result e = e
 
 -- what a0 holds is a result wherever one is wanted
 pub holds_by : (c : Checked) (pool : Pool) (core : Core) (rests : IsResting c pool core) (result : ℕ) → result ≡ read core.x a0 → HoldsResult c pool core rests result
-holds_by c pool core (AtStart f frames in_place) result e = tt
-holds_by c pool core (AtCall f i op word frames in_place) result e = tt
 holds_by c pool core (PastCall f i op word place frames in_place) result e = wanted_by (result_place op) core result e
+holds_by c pool core _ result e = tt
 
 -- ---- lists
 
@@ -58,17 +53,14 @@ get_set_same (x ∷ xs) zero a lt = refl
 get_set_same (x ∷ xs) (suc i) a lt = get_set_same xs i a (omega arith)
 
 pub get_set_other : {A : Type 0} (xs : List A) (i u : ℕ) (a : A) → u ≢ i → slice_get (slice_set xs i a) u ≡ slice_get xs u
-get_set_other [] i u a ne = refl
 get_set_other (x ∷ xs) zero zero a ne = absurd (ne refl)
-get_set_other (x ∷ xs) zero (suc u) a ne = refl
-get_set_other (x ∷ xs) (suc i) zero a ne = refl
 get_set_other (x ∷ xs) (suc i) (suc u) a ne = get_set_other xs i u a (λ e. ne (ap suc e))
+get_set_other _ _ _ a ne = refl
 
 pub get_append_other : {A : Type 0} (xs : List A) (a : A) (u : ℕ) → u ≢ length xs → slice_get (xs ++ a ∷ []) u ≡ slice_get xs u
 get_append_other [] a zero ne = absurd (ne refl)
-get_append_other [] a (suc u) ne = refl
-get_append_other (x ∷ xs) a zero ne = refl
 get_append_other (x ∷ xs) a (suc u) ne = get_append_other xs a u (λ e. ne (ap suc e))
+get_append_other _ a _ ne = refl
 
 pub get_append_last : {A : Type 0} (xs : List A) (a : A) → slice_get (xs ++ a ∷ []) (length xs) ≡ Some a
 get_append_last [] a = refl

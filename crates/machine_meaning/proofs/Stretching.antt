@@ -30,13 +30,12 @@ module _ (program : ProgramTree) (image : Image) (certificate : Certificate) (s 
       record { start = other.0; number = number; puts = []; reached = law.picks program image certificate s w after other.0 number scoped valid code_is formed (record { stands = other.1; settled = settled }) e }
 
   keeps_by : (start : source.World) (number : ℕ) (puts : List ℕ) (move : Move) → StepReaches checked program s start number puts move → KeepsRunning checked program s move
-  keeps_by start number puts (Goes after) h = record { start = start; number = number; puts = puts; reached = h }
   keeps_by start number puts (Puts value after) h = record { start = start; number = number; puts = _; reached = h }
-  keeps_by start number puts (Spawns started after) h = record { start = start; number = number; puts = puts; reached = h }
   keeps_by start number puts (Blocks after) h = h.2.settled
   keeps_by start number puts (Ends after) h = h.2.settled
   keeps_by start number puts (Stops stop) h = tt
   keeps_by start number puts Wrong h = h
+  keeps_by start number puts _ h = record { start = start; number = number; puts = puts; reached = h }
 
   pub steps : (w : World) → IsWellFormed checked s w → IsRunning checked program s w → KeepsRunning checked program s (step s w)
   steps w formed running = keeps_by running.start running.number running.puts (step s w) (law.steps program image certificate s w running.start running.number running.puts scoped valid code_is formed running.reached)
@@ -65,8 +64,7 @@ module _ (program : ProgramTree) (image : Image) (certificate : Certificate) (s 
   sound_after (Spawns started next) after h formed e = (now next formed h).0
   sound_after (Blocks next) after h formed e = settled_sound checked s next formed h
   sound_after (Ends next) after h formed e = settled_sound checked s next formed h
-  sound_after (Stops stop) after h formed e = absurd cc
-  sound_after Wrong after h formed e = absurd cc
+  sound_after _ after h formed e = absurd cc
 
   pub stretch_on : (n : ℕ) (w at after : World) → IsWellFormed checked s w → IsRunning checked program s w → GoesOn s n w at → world_of (step s at) ≡ Some after → IsGoodStretch checked s (n + 1) w
   stretch_on n w at after formed running h e = subst (λ (k : ℕ). IsGoodStretch checked s k w) (let same : suc n ≡ n + 1 = omega arith in same) (go n w formed running h)

@@ -4,8 +4,8 @@ use Rattle.std.specs.Prelude.{slice_index_or}
 use Rattle.std.specs.List.{Contains}
 use Rattle.c_tree.specs.Temporaries.{simple_temporaries, simples_temporaries, step_temporaries, returned_temporaries, stmt_temporaries, stmts_temporaries}
 use Rattle.c_tree.specs.TextOrder.{scalar, simple_names}
-use Rattle.c_tree.specs.Trees.{CallTree, CallFunction, CallTable, CallSpawn, CallModelled, RightTree, Computed, Called, SimpleTree, DeclareScalar, DeclareArray, DeclareWith, SetLocal, SetGlobal, SetLocalElement, SetGlobalElement, Calling, StmtTree, StmtTrees, Do, Empty, Block, If, IfElse, While, For, Break, Continue, Return, NoStmts, Then}
-use Rattle.c_tree.specs.WellScoped.{Context, with_names, scope_after, scope_after_all, IsRightScoped, IsSimpleScoped, AreSimplesScoped, IsReturnScoped, IsStmtScoped, AreStmtsScoped}
+use Rattle.c_tree.specs.Trees.{CallTree, CallTable, RightTree, Computed, Called, SimpleTree, DeclareWith, SetLocal, SetGlobal, SetLocalElement, SetGlobalElement, Calling, StmtTree, StmtTrees, Do, Block, If, IfElse, While, For, Return, NoStmts, Then}
+use Rattle.c_tree.specs.WellScoped.{Context, with_names, scope_after, scope_after_all, IsSimpleScoped, AreSimplesScoped, IsStmtScoped, AreStmtsScoped}
 use Rattle.c_mean.specs.Sites.{Target, ToNowhere, ToLocal, ToGlobal, ToLocalElement, ToGlobalElement, ToCaller, CallInText, right_calls, simple_calls, simples_calls, step_calls, returned_calls, stmt_calls, stmts_calls, site_of}
 use Rattle.c_mean.specs.ToDo.{Item, Simply, Back, WhileLoop, ForLoop, step_item, all_before, turn_before}
 use Rattle.c_mean.proofs.TextLemmas.{AllIn, loop_calls, all_in_parts}
@@ -23,12 +23,9 @@ module _ (fetch : ℕ → Option Op) (t : ℕ) (c : Context) (temps : ℕ) (text
 
   -- what follows a result, unless it goes back to the caller
   abbrev pub RestIs : Target → List Item → List ℕ → ℕ → Type 0
-  RestIs ToNowhere items scope q = Rests items q scope
   RestIs (ToLocal x) items scope q = Rests items q (x ∷ scope)
-  RestIs (ToGlobal g) items scope q = Rests items q scope
-  RestIs (ToLocalElement a) items scope q = Rests items q scope
-  RestIs (ToGlobalElement a) items scope q = Rests items q scope
   RestIs ToCaller items scope q = Unit {0}
+  RestIs _ items scope q = Rests items q scope
 
   pub record CallStands (call : CallInText) : Type 0 where
     pub place : ℕ
@@ -51,24 +48,21 @@ module _ (fetch : ℕ → Option Op) (t : ℕ) (c : Context) (temps : ℕ) (text
 
   call_stands : (call : CallTree) (target : Target) (scope : List ℕ) (rest : List Item) (p d m q : ℕ) (to : Option ℕ) → CallAt fetch p call d to m → ResultAt fetch t target to m q → TargetScoped c scope target → RestIs target rest scope q
       → HeldRoom t target (t + temps) → CallStands (record { call = call; target = target; scope = scope; rest = rest })
-  call_stands (CallFunction s f es) target scope rest p d m q to h r ts k room = record { place = m; q = q; to = to; site = ap site_in h.1; wants = ap place_in h.1; result = r; target = ts; rest = k; room = room }
   call_stands (CallTable s f i e) target scope rest p d m q to h r ts k room = record { place = m; q = q; to = to; site = ap site_in h.3; wants = ap place_in h.3; result = r; target = ts; rest = k; room = room }
-  call_stands (CallSpawn s f e) target scope rest p d m q to h r ts k room = record { place = m; q = q; to = to; site = ap site_in h.1; wants = ap place_in h.1; result = r; target = ts; rest = k; room = room }
-  call_stands (CallModelled s f es) target scope rest p d m q to h r ts k room = record { place = m; q = q; to = to; site = ap site_in h.1; wants = ap place_in h.1; result = r; target = ts; rest = k; room = room }
+  call_stands _ target scope rest p d m q to h r ts k room = record { place = m; q = q; to = to; site = ap site_in h.1; wants = ap place_in h.1; result = r; target = ts; rest = k; room = room }
 
   right_stands : (v : RightTree) (target : Target) (scope : List ℕ) (rest : List Item) (p q : ℕ) → RightAt fetch t p v target q → TargetScoped c scope target → RestIs target rest scope q → HeldRoom t target (t + temps) → AllStand (right_calls v target scope rest)
   right_stands (Computed e) target scope rest p q h ts k room = tt
   right_stands (Called call) target scope rest p q h ts k room = (call_stands call target scope rest p (held fetch t target) h.0 q h.1 h.2 h.3 ts k room, tt)
 
   simple_stands : (s : SimpleTree) (scope : List ℕ) (rest : List Item) (p q : ℕ) → SimpleAt fetch t p s q → IsSimpleScoped c scope s → simple_temporaries s ≤ temps → Rests rest q (with_names scope (simple_names s)) → AllStand (simple_calls s scope rest)
-  simple_stands (DeclareScalar x) scope rest p q h sc room k = tt
-  simple_stands (DeclareArray x n) scope rest p q h sc room k = tt
   simple_stands (DeclareWith x v) scope rest p q h sc room k = right_stands v (ToLocal x) scope rest p q h (sc.0, sc.1) k tt
   simple_stands (SetLocal x v) scope rest p q h sc room k = right_stands v (ToLocal x) scope rest p q h (sc.0, sc.1) (InFewer scope (within_names (scalar x ∷ []) scope) k) tt
   simple_stands (SetGlobal g v) scope rest p q h sc room k = let some = held_some v in right_stands v (ToGlobal g) scope rest p q h tt k (omega arith)
   simple_stands (SetLocalElement a i v) scope rest p q h sc room k = let some = held_some v in right_stands v (ToLocalElement a) scope rest h.0 q h.2 (sc.0, sc.1) k (omega arith)
   simple_stands (SetGlobalElement a i v) scope rest p q h sc room k = let some = held_some v in right_stands v (ToGlobalElement a) scope rest h.0 q h.2 tt k (omega arith)
   simple_stands (Calling call) scope rest p q h sc room k = (call_stands call ToNowhere scope rest p t h.0 q h.1 h.2 h.3 tt k tt, tt)
+  simple_stands _ scope rest p q h sc room k = tt
 
   simples_calls_stand : (ss : List SimpleTree) (scope : List ℕ) (rest : List Item) (p q : ℕ) → SimplesAt fetch t p ss q → AreSimplesScoped c scope ss → simples_temporaries ss ≤ temps → AllIn text (simples_calls ss scope rest) → Rests rest q (scope_after_all scope ss) → AllStand (simples_calls ss scope rest)
   simples_calls_stand [] scope rest p q h sc room calls k = tt
@@ -91,7 +85,6 @@ module _ (fetch : ℕ → Option Op) (t : ℕ) (c : Context) (temps : ℕ) (text
     stmt_calls_stand : (s : StmtTree) (loop : Bool) (p q leave skip : ℕ) (scope : List ℕ) (rest : List Item) → StmtAt fetch t p s leave skip q → IsStmtScoped c loop scope s → stmt_temporaries s ≤ temps → AllIn text (stmt_calls s scope rest)
         → Rests rest q (scope_after scope s) → Exits fetch t c temps text loop rest leave skip scope → AllStand (stmt_calls s scope rest)
     stmt_calls_stand (Do s) loop p q leave skip scope rest h sc room calls k exits = simple_stands s scope rest p q h sc room k
-    stmt_calls_stand Empty loop p q leave skip scope rest h sc room calls k exits = tt
     stmt_calls_stand (Block ss) loop p q leave skip scope rest h sc room calls k exits = stmts_calls_stand ss loop p q leave skip scope rest h sc room calls k exits
     stmt_calls_stand (If e s) loop p q leave skip scope rest h sc room calls k exits =
         stmt_calls_stand s loop (h.0 + 1) q leave skip scope rest h.3 sc.1 (omega arith) calls (InFewer scope (within_after s scope) k) exits
@@ -119,9 +112,8 @@ module _ (fetch : ℕ → Option Op) (t : ℕ) (c : Context) (temps : ℕ) (text
         (step_calls_stand step inner (Back l ∷ rest) h.2.1 h.2.2 h.2.5 sc.2 (omega arith) back)
         (stmt_calls_stand s true h.2.0 h.2.1 q h.2.1 inner (step_item step ++ Back l ∷ rest) h.2.4 sc.3 (omega arith) second.1 (InFewer inner (within_after s inner) after)
         (subst (λ items. Rests items q inner) (sym (leave_step fetch t c temps text step l rest)) then_, subst (λ items. Rests items h.2.1 inner) (sym (skip_step fetch t c temps text step l rest)) after)))
-    stmt_calls_stand Break loop p q leave skip scope rest h sc room calls k exits = tt
-    stmt_calls_stand Continue loop p q leave skip scope rest h sc room calls k exits = tt
     stmt_calls_stand (Return v) loop p q leave skip scope rest h sc room calls k exits = return_stands v scope rest p q h room
+    stmt_calls_stand _ loop p q leave skip scope rest h sc room calls k exits = tt
 
     pub stmts_calls_stand : (ss : StmtTrees) (loop : Bool) (p q leave skip : ℕ) (scope : List ℕ) (rest : List Item) → StmtsAt fetch t p ss leave skip q → AreStmtsScoped c loop scope ss → stmts_temporaries ss ≤ temps → AllIn text (stmts_calls ss scope rest)
         → Rests rest q scope → Exits fetch t c temps text loop rest leave skip scope → AllStand (stmts_calls ss scope rest)

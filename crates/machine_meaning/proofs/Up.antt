@@ -5,7 +5,7 @@ use Rattle.std.proofs.lemmas.Bool.{cases_lt, cases_eq, eq-eqb}
 use Rattle.cap_word.specs.Rows.{row, width}
 use Rattle.c_lower.specs.ProgramCode.{lowered}
 use Rattle.c_mean.specs.Frames as source
-use Rattle.c_mean.specs.Frames.{Place, Nowhere, InLocal, InGlobal, InLocalElement, InGlobalElement, Returned, WaitingFrame, function_at}
+use Rattle.c_mean.specs.Frames.{Place, InLocalElement, InGlobalElement, WaitingFrame, function_at}
 use Rattle.c_tree.specs.Sizes.{below, declared_words}
 use Rattle.c_tree.specs.Sizes as widths
 use Rattle.c_tree.specs.Trees.{FunctionTree, ProgramTree}
@@ -16,7 +16,7 @@ use Rattle.flat_code.specs.declared.operations.Op.{Op}
 use Rattle.flat_code.specs.Codes as codes
 use Rattle.flat_code.specs.Codes.{operation_at}
 use Rattle.flat_code.specs.Frames.{FlatFrame, variable, site_in}
-use Rattle.machine_meaning.proofs.Lowered.{function_is, lowers}
+use Rattle.machine_meaning.proofs.Lowered.{function_is, lowers, scalars_length}
 use Rattle.machine_meaning.specs.StandsFor.{FrameStandsFor, FrameStartsAs, FramesStandFor, IndexStands}
 use Rattle.machine_world.specs.InPlace.{Frame}
 use Rattle.machine_world.specs.Local.{Core}
@@ -46,10 +46,6 @@ below_seen (suc n) x lt = ⊎_elim
     or_second true b h = refl
     or_second false b h = h
 
-length_scalars : (n : ℕ) → length (widths.scalars n) ≡ n
-length_scalars zero = refl
-length_scalars (suc n) = ap suc (length_scalars n)
-
 length_both : (a b : List ℕ) → length a ≤ length (a ++ b)
 length_both [] b = omega arith
 length_both (x ∷ a) b = let rest = length_both a b in omega (arith, rest)
@@ -65,15 +61,12 @@ module _ (program : ProgramTree) (certificate : Certificate) (scoped : IsWellSco
       let is = ((lowers program scoped).functions f there).scoped.sizes in
       let many = length_both (widths.scalars tree.params) (declared_words tree) in
       let same : length tree.sizes ≡ length (widths.scalars tree.params ++ declared_words tree) = ap (λ (ns : List ℕ). length ns) is in
-      omega (arith, many, same, length_scalars tree.params)
+      omega (arith, many, same, scalars_length tree.params)
 
   index_up : (pool : Pool) (frame : Frame) (tree : FunctionTree) (place : Place) (flat : FlatFrame) → HoldsVariables checked pool frame flat → IndexStands tree place flat → HoldsIndex checked pool frame (length tree.sizes) place
-  index_up pool frame tree Nowhere flat holds h = tt
-  index_up pool frame tree (InLocal x) flat holds h = tt
-  index_up pool frame tree (InGlobal g) flat holds h = tt
   index_up pool frame tree (InLocalElement a i) flat holds h = holds (length tree.sizes) (i ∷ []) h 0 (omega arith)
   index_up pool frame tree (InGlobalElement a i) flat holds h = holds (length tree.sizes) (i ∷ []) h 0 (omega arith)
-  index_up pool frame tree Returned flat holds h = tt
+  index_up pool frame tree _ flat holds h = tt
 
   -- a frame that waits
   pub frame_up : (pool : Pool) (frame : Frame) (op : Option Op) (waiting : WaitingFrame) (flat : FlatFrame) → frame.function ≡ flat.function → site_in (operation_at (lowered program) flat.function flat.next) ≡ site_in op
@@ -95,15 +88,14 @@ module _ (program : ProgramTree) (certificate : Certificate) (scoped : IsWellSco
 
   pub frames_up : (pool : Pool) (frames : List Frame) (flats : List FlatFrame) (waitings : List WaitingFrame) → AreFlatFrames checked pool frames flats → FramesStandFor program waitings flats → AreWaitingFrames checked program pool frames waitings
   frames_up pool [] [] [] h k = tt
-  frames_up pool [] [] (waiting ∷ waitings) h k = absurd k
   frames_up pool [] (flat ∷ flats) waitings h k = absurd h
   frames_up pool (frame ∷ frames) [] waitings h k = absurd h
-  frames_up pool (frame ∷ frames) (flat ∷ flats) [] h k = absurd k
   frames_up pool (frame ∷ frames) (flat ∷ flats) (waiting ∷ waitings) h k = (
     frame_up pool frame (operation_at (lowered program) frame.function frame.operation) waiting flat h.0.function
         (λ i. site_in (operation_at (lowered program) (sym h.0.function i) (sym h.0.operation i))) h.0.variables k.0,
     frames_up pool frames flats waitings h.1 k.1,
   )
+  frames_up pool _ _ _ h k = absurd k
 
   -- a frame at its function's start
   pub start_up : (core : Core) (frame : Frame) (starting : source.Frame) (flat : FlatFrame) → IsFlatStart checked core frame flat → FrameStartsAs program starting flat → IsStartingFrame program core frame starting

@@ -16,12 +16,12 @@ use Rattle.flat_code.specs.declared.operations.Op.{Op}
 use Rattle.machine_world.specs.Globals.{AreGlobals}
 use Rattle.machine_world.specs.InPlace.{Frame}
 use Rattle.machine_world.specs.Local as local
-use Rattle.machine_world.specs.Local.{Local, LocalMove, Ended, Trapped, NoRoom, Wrong, local_step}
+use Rattle.machine_world.specs.Local.{LocalMove, Ended, Trapped, NoRoom, Wrong, local_step}
 use Rattle.machine_world.specs.Places.{Checked}
 use Rattle.machine_world.specs.Rests.{IsAtCall}
 use Rattle.machine_world.specs.StandsFor.{StandAtCall}
 use Rattle.machine_world.specs.Threads as machine
-use Rattle.machine_world.specs.Threads.{Thread, World, Setting, thread_of, Move, asked, moved, stopped, step_of, step_on, step}
+use Rattle.machine_world.specs.Threads.{Thread, World, Setting, thread_of, Move, asked, moved, step_of, step_on, step, local_in}
 use Rattle.machine_world.specs.WellFormed.{IsWellFormed, KeepsWellFormed}
 use Rattle.machine_world.proofs.FormWorlds.{KeepsWellFormed-step}
 use Rattle.machine_meaning.proofs.Formed.{formed}
@@ -32,7 +32,6 @@ use Rattle.stack_certificate.specs.Templates.{kind_of}
 use Rattle.stack_certificate.specs.declared.certificates.Certificate.{Certificate}
 use Rattle.stack_image.specs.declared.images.Image.{Image}
 use Rattle.machine_meaning.specs.Reached.{IsReached, StepReaches}
-use Rattle.machine_meaning.proofs.Forms.{local_in}
 use Rattle.machine_meaning.proofs.SegmentSteps.{along, goes_reach, ended_reach, trapped_reach, block_reach, ask_reach}
 use Rattle.machine_meaning.proofs.Spawns.{spawn_reach}
 
@@ -76,24 +75,7 @@ module _ (program : ProgramTree) (image : Image) (certificate : Certificate) (sc
             rests.frames_are.at.0 rests.operation,
       ))
       (subst (λ (c : Call). moves (segment_machine program s.caps) m segment ≡ source.calls s.caps segment globals waiting c) h.1 comes))
-  op_reach m waiting globals f i word (Op.Call site d g args) frames rests stands globals_are question call h comes = absurd h
-  op_reach m waiting globals f i word (Op.CallTable site d t k x) frames rests stands globals_are question call h comes = absurd h
-  op_reach m waiting globals f i word (Op.Return v) frames rests stands globals_are question call h comes = absurd h
-  op_reach m waiting globals f i word (Op.Const d x) frames rests stands globals_are question call h comes = absurd h
-  op_reach m waiting globals f i word (Op.Copy d x) frames rests stands globals_are question call h comes = absurd h
-  op_reach m waiting globals f i word (Op.Neg d x) frames rests stands globals_are question call h comes = absurd h
-  op_reach m waiting globals f i word (Op.Not d x) frames rests stands globals_are question call h comes = absurd h
-  op_reach m waiting globals f i word (Op.Flip d x) frames rests stands globals_are question call h comes = absurd h
-  op_reach m waiting globals f i word (Op.Bin o d x y) frames rests stands globals_are question call h comes = absurd h
-  op_reach m waiting globals f i word (Op.Zero x) frames rests stands globals_are question call h comes = absurd h
-  op_reach m waiting globals f i word (Op.LoadGlobal d g) frames rests stands globals_are question call h comes = absurd h
-  op_reach m waiting globals f i word (Op.StoreGlobal g x) frames rests stands globals_are question call h comes = absurd h
-  op_reach m waiting globals f i word (Op.LoadLocal d x y) frames rests stands globals_are question call h comes = absurd h
-  op_reach m waiting globals f i word (Op.LoadArray d x y) frames rests stands globals_are question call h comes = absurd h
-  op_reach m waiting globals f i word (Op.StoreLocal d x y) frames rests stands globals_are question call h comes = absurd h
-  op_reach m waiting globals f i word (Op.StoreArray d x y) frames rests stands globals_are question call h comes = absurd h
-  op_reach m waiting globals f i word (Op.Jump to) frames rests stands globals_are question call h comes = absurd h
-  op_reach m waiting globals f i word (Op.JumpZero x to) frames rests stands globals_are question call h comes = absurd h
+  op_reach m waiting globals f i word _ frames rests stands globals_are question call h comes = absurd h
 
   moved_reach : (move : LocalMove) → local_step s.code (local_in w thread) ≡ move → IsStepAsSource checked program segment.running (local_in w thread) move → Reaches (moved s w thread move)
   moved_reach (Goes next) e h keeps = goes_reach program image certificate scoped valid s code_is start number puts w formed_w r next e

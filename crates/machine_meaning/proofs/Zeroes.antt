@@ -6,7 +6,7 @@ use Rattle.std.proofs.Math.ListN.{get_or-append}
 use Rattle.c_tree.specs.Sizes.{scalars, below}
 use Rattle.c_tree.specs.Temporaries.{function_temporaries}
 use Rattle.c_tree.specs.TextOrder.{simple_names}
-use Rattle.c_tree.specs.Trees.{ExprTree, CallTree, CallFunction, CallTable, CallSpawn, CallModelled, RightTree, Computed, Called, SimpleTree, DeclareScalar, DeclareArray, DeclareWith, SetLocal, SetGlobal, SetLocalElement, SetGlobalElement, Calling, StmtTree, StmtTrees, Do, Empty, Block, If, IfElse, While, For, Break, Continue, Return, NoStmts, Then, FunctionTree, ProgramTree}
+use Rattle.c_tree.specs.Trees.{ExprTree, CallTree, CallFunction, CallTable, CallSpawn, CallModelled, RightTree, Computed, Called, SimpleTree, DeclareScalar, DeclareArray, DeclareWith, SetLocal, SetGlobal, SetLocalElement, SetGlobalElement, Calling, StmtTree, StmtTrees, Do, Empty, Block, If, IfElse, While, For, Return, NoStmts, Then, FunctionTree, ProgramTree}
 use Rattle.c_tree.specs.WellScoped.{Context, context_of, IsSimpleScoped, AreSimplesScoped, with_names, scope_after, scope_after_all, IsStepScoped, IsStmtScoped, AreStmtsScoped, IsFunctionScoped, AreFunctionsScoped, IsWellScoped}
 use Rattle.flat_code.specs.declared.operations.Op.{Op}
 use Rattle.segment_laws.specs.Zeroes.{ZeroesSome}
@@ -120,9 +120,8 @@ module _ (c : Context) (sizes : List ℕ) (words : (x w : ℕ) → x < length c.
         (stmt_all true (scope_after_all scope init) s body t end next h.3))
         (step_all (scope_after_all scope init) step next t h.2))
         (tt, tt)
-    stmt_all loop scope Break p t leave skip h = (tt, tt)
-    stmt_all loop scope Continue p t leave skip h = (tt, tt)
     stmt_all loop scope (Return v) p t leave skip h = return_all v p t
+    stmt_all loop scope _ p t leave skip h = (tt, tt)
 
     stmts_all : (loop : Bool) (scope : List ℕ) (ss : StmtTrees) (p t leave skip : ℕ) → AreStmtsScoped c loop scope ss → All (stmts_code ss p t leave skip)
     stmts_all loop scope NoStmts p t leave skip h = tt

@@ -48,9 +48,7 @@ at_model c code l question h = record { op = _; rests = h.rests }
 
 at_ask : (c : Checked) (code : List ℕ) (l : Local) (ask : Ask) → IsAtAsk c code l ask → AtSome c l
 at_ask c code l (Ask.Put value) h = record { op = _; rests = h.rests }
-at_ask c code l (Ask.Spawn function argument) h = record { op = _; rests = h.rests }
-at_ask c code l (Ask.Give resource count) h = record { op = _; rests = h.rests }
-at_ask c code l Ask.SelfNumber h = record { op = _; rests = h.rests }
+at_ask c code l _ h = record { op = _; rests = h.rests }
 
 -- what is known where a segment ended at a call
 pub record AtCallWithFuel (c : Checked) (l : Local) (left : ℕ) : Type 0 where

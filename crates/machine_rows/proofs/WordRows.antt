@@ -1,6 +1,6 @@
 -- Four words as sixteen bytes, of which the first eight are writable.
-use Rattle.std.proofs.Common.{◌≡◌, ◌≢◌, ℕ, zero, suc, ◌+◌, ◌*◌, ◌/◌, ◌%◌, ◌^◌, ◌<◌, ◌≤◌, Bool, true, false, eqb, ltb, List, length, get_or, Option, Some, None, refl, sym, ap, ◌∙◌, arith, cond, ⊎_elim}
-use Rattle.std.proofs.lemmas.Bool.{cases_eq, cond-true, cond-false, eq-eqb, ne_eqb, lt-ltb, ltb-true, ltb-false}
+use Rattle.std.proofs.Common.{◌≡◌, ◌≢◌, ℕ, suc, ◌+◌, ◌*◌, ◌/◌, ◌%◌, ◌^◌, ◌<◌, ◌≤◌, Bool, true, false, eqb, ltb, List, length, get_or, Option, Some, None, refl, sym, ap, ◌∙◌, arith, cond, ⊎_elim}
+use Rattle.std.proofs.lemmas.Bool.{cases_eq, cond-true, cond-false, eq-eqb, ne_eqb, lt-ltb, ltb-true}
 use Rattle.std.proofs.lemmas.List.{length-set}
 use Rattle.std.specs.Prelude.{◌&&◌}
 use Rattle.rv_machine.specs.Bytes.{half_at, word_at, joined, put_byte, replaced, half_is_writable, word_is_writable}
@@ -78,15 +78,9 @@ word_is_writable-past words a past =
 
 -- what a shift by whole bytes multiplies by
 pub scale_is : (k : ℕ) → k < 4 → 1 * 2 ^ (8 * k) % 4294967296 ≡ 2 ^ (8 * k)
-scale_is zero within = refl
-scale_is (suc zero) within = refl
-scale_is (suc (suc zero)) within = refl
-scale_is (suc (suc (suc zero))) within = refl
 scale_is (suc (suc (suc (suc k)))) within = absurd (omega arith)
+scale_is _ within = refl
 
 pub byte_below : (k byte : ℕ) → k < 4 → byte < 2 ^ 8 → byte * 2 ^ (8 * k) < 2 ^ 32
-byte_below zero byte within fits = omega arith
-byte_below (suc zero) byte within fits = omega arith
-byte_below (suc (suc zero)) byte within fits = omega arith
-byte_below (suc (suc (suc zero))) byte within fits = omega arith
 byte_below (suc (suc (suc (suc k)))) byte within fits = absurd (omega arith)
+byte_below _ byte within fits = omega arith

@@ -70,10 +70,9 @@ spot_of-pool areas chunk word value at =
     (payload_spot-with_word areas.pool chunk word value at (chunk_at areas.pool at))
 
 spot_of-with_byte_on : (areas : Areas) (spot : Option Spot) (b at : ℕ) → spot_of (with_byte_on areas spot b) at ≡ spot_of areas at
-spot_of-with_byte_on areas None b at = refl
 spot_of-with_byte_on areas (Some (InGlobals offset)) b at = spot_of-globals areas (words_with areas.globals offset b) at (length-set areas.globals (offset / 4) _)
-spot_of-with_byte_on areas (Some (InTables offset)) b at = refl
 spot_of-with_byte_on areas (Some (InPayload chunk offset)) b at = spot_of-pool areas chunk (offset / 4) _ at
+spot_of-with_byte_on areas _ b at = refl
 
 pub spot_of-with_byte : (areas : Areas) (a b at : ℕ) → spot_of (with_byte areas a b) at ≡ spot_of areas at
 spot_of-with_byte areas a b at = spot_of-with_byte_on areas (spot_of areas a) b at
@@ -90,26 +89,17 @@ chunk_of-with_word pool chunk word value sound below =
 
 -- the byte that is written is there
 byte_on-same : (areas : Areas) (a b : ℕ) (spot : Option Spot) → IsPool areas.pool → IsSpot areas a spot → is_writable_on spot ≡ true → b < 2 ^ 8 → byte_on (with_byte_on areas spot b) spot ≡ replaced (byte_on areas spot) b
-byte_on-same areas a b None sound is may fits = absurd (cc)
-byte_on-same areas a b (Some (InTables offset)) sound is may fits = absurd (cc)
 byte_on-same areas a b (Some (InGlobals offset)) sound is may fits = ap Some (byte_in-same areas.globals offset b (omega arith) fits)
 byte_on-same areas a b (Some (InPayload chunk offset)) sound is may fits =
     let inside : offset / 4 < length (chunk_of areas.pool chunk) = omega (arith, length-chunk areas.pool chunk sound is.2) in
     ap (λ (words : List ℕ). Some (byte_in words offset)) (chunk_of-with_word areas.pool chunk (offset / 4) _ sound is.2)
     ∙ ap Some (byte_in-same (chunk_of areas.pool chunk) offset b inside fits)
+byte_on-same areas a b _ sound is may fits = absurd (cc)
 
 -- every other byte stays
 byte_on-other : (areas : Areas) (a at b : ℕ) (spot other : Option Spot) → IsPool areas.pool → IsSpot areas a spot → IsSpot areas at other → at ≢ a → b < 2 ^ 8 → byte_on (with_byte_on areas spot b) other ≡ byte_on areas other
-byte_on-other areas a at b None other sound is is' apart fits = refl
-byte_on-other areas a at b (Some (InTables offset)) other sound is is' apart fits = refl
-byte_on-other areas a at b (Some (InGlobals offset)) None sound is is' apart fits = refl
-byte_on-other areas a at b (Some (InGlobals offset)) (Some (InTables offset')) sound is is' apart fits = refl
-byte_on-other areas a at b (Some (InGlobals offset)) (Some (InPayload chunk offset')) sound is is' apart fits = refl
 byte_on-other areas a at b (Some (InGlobals offset)) (Some (InGlobals offset')) sound is is' apart fits =
     ap Some (byte_in-other areas.globals offset offset' b (λ same. apart (omega arith)) fits)
-byte_on-other areas a at b (Some (InPayload chunk offset)) None sound is is' apart fits = refl
-byte_on-other areas a at b (Some (InPayload chunk offset)) (Some (InGlobals offset')) sound is is' apart fits = refl
-byte_on-other areas a at b (Some (InPayload chunk offset)) (Some (InTables offset')) sound is is' apart fits = refl
 byte_on-other areas a at b (Some (InPayload chunk offset)) (Some (InPayload chunk' offset')) sound is is' apart fits =
     ⊎_elim
     (λ (same : chunk' ≡ chunk).
@@ -121,6 +111,7 @@ byte_on-other areas a at b (Some (InPayload chunk offset)) (Some (InPayload chun
     ∙ ap (λ (c : ℕ). Some (byte_in (chunk_of areas.pool c) offset')) (sym same))
     (λ (away : chunk' ≢ chunk). ap (λ (words : List ℕ). Some (byte_in words offset')) (get_or-set_other areas.pool.contents chunk chunk' _ [] away))
     (cases_eq chunk' chunk)
+byte_on-other areas a at b _ _ sound is is' apart fits = refl
 
 pub byte_at-with_byte : (areas : Areas) (a b at : ℕ) → IsPool areas.pool → is_writable areas a ≡ true → b < 2 ^ 8 → byte_at (with_byte areas a b) at ≡ put_byte (byte_at areas) a b at
 unfolding put_byte
@@ -142,14 +133,12 @@ byte_at-with_byte areas a b at sound may fits =
 -- ---- the pool stays sound
 
 IsPool-with_byte_on : (areas : Areas) (a b : ℕ) (spot : Option Spot) → IsPool areas.pool → IsSpot areas a spot → b < 2 ^ 8 → IsPool (with_byte_on areas spot b).pool
-IsPool-with_byte_on areas a b None sound is fits = sound
-IsPool-with_byte_on areas a b (Some (InGlobals offset)) sound is fits = sound
-IsPool-with_byte_on areas a b (Some (InTables offset)) sound is fits = sound
 IsPool-with_byte_on areas a b (Some (InPayload chunk offset)) sound is fits =
     let chunk_is = IsChunk-chunk_of areas.pool chunk sound is.2 in
     let inside : offset / 4 < length (chunk_of areas.pool chunk) = omega (arith, chunk_is.length) in
     let old : word_of areas.pool chunk (offset / 4) < 2 ^ 32 = All-get_or (λ word. word < 2 ^ 32) (chunk_of areas.pool chunk) (offset / 4) 0 inside chunk_is.fits in
     IsPool-with_word areas.pool chunk (offset / 4) _ sound is.2 (word_with-below (word_of areas.pool chunk (offset / 4)) (offset % 4) b (omega arith) fits old) (inr (omega arith))
+IsPool-with_byte_on areas a b _ sound is fits = sound
 
 pub IsPool-with_byte : (areas : Areas) (a b : ℕ) → IsPool areas.pool → b < 2 ^ 8 → IsPool (with_byte areas a b).pool
 IsPool-with_byte areas a b sound fits = IsPool-with_byte_on areas a b (spot_of areas a) sound (IsSpot-spot_of areas a sound) fits

@@ -11,10 +11,8 @@ use Rattle.machine_world.specs.Keys.{standing, is_linked, stands_at_link, called
 
 -- the second call instruction stands at linked sites alone
 second_is_linked : (before : Option ℕ) (kind : LinkKind) (words : ℕ) → joined before (through_call kind true) ≡ Some words → is_linked kind ≡ true
-second_is_linked None kind words e = absurd (cc)
-second_is_linked (Some b) LinkKind.Plain words e = absurd (cc)
 second_is_linked (Some b) (LinkKind.Linked need) words e = refl
-second_is_linked (Some b) (LinkKind.Spawned need) words e = absurd (cc)
+second_is_linked _ _ words e = absurd (cc)
 
 first_is_linked : (c : Checked) (frame below : Frame) (op : Option Op) → frame.is_first ≡ true → ReturnsInto c frame below op → stands_at_link c op ≡ true
 first_is_linked c frame below None first returns = absurd returns
@@ -39,23 +37,17 @@ length-stack c pool chain frame (next ∷ below) stack =
     (length-stack c pool (chain_below frame.is_first chain) next below stack.2)
 
 length-frames : (c : Checked) (pool : Pool) (core : Core) (place : Place) (row : Row) (chain : List ℕ) (frames : List Frame) → FramesAt c pool core place row chain frames → length chain ≤ 1 + called_at_links c frames + chunk_ahead row
-length-frames c pool core place NoFrame [] frames placed = omega arith
-length-frames c pool core place NoFrame (chunk ∷ []) [] placed = omega arith
 length-frames c pool core place NoFrame (chunk ∷ []) (frame ∷ below) placed = absurd placed
 length-frames c pool core place NoFrame (a ∷ b ∷ chain) frames placed = absurd placed
-length-frames c pool core place Empty [] frames placed = omega arith
 length-frames c pool core place Empty (chunk ∷ chain) [] placed = absurd placed
 length-frames c pool core place Empty (chunk ∷ chain) (frame ∷ below) placed = omega (arith, length-stack c pool (chunk ∷ chain) frame below placed.1)
-length-frames c pool core place Fresh [] frames placed = omega arith
 length-frames c pool core place Fresh (chunk ∷ chain) [] placed = absurd placed
 length-frames c pool core place Fresh (chunk ∷ chain) (frame ∷ below) placed = omega (arith, length-stack c pool (chunk ∷ chain) frame below placed.1)
-length-frames c pool core place Whole [] frames placed = omega arith
 length-frames c pool core place Whole (chunk ∷ chain) [] placed = absurd placed
 length-frames c pool core place Whole (chunk ∷ chain) (frame ∷ below) placed = omega (arith, length-stack c pool (chunk ∷ chain) frame below placed.1)
-length-frames c pool core place Linking [] frames placed = omega arith
-length-frames c pool core place Linking (linked ∷ []) frames placed = omega arith
 length-frames c pool core place Linking (linked ∷ chunk ∷ chain) [] placed = absurd placed
 length-frames c pool core place Linking (linked ∷ chunk ∷ chain) (frame ∷ below) placed = omega (arith, length-stack c pool (chunk ∷ chain) frame below placed.3)
+length-frames c pool core place _ _ _ placed = omega arith
 
 pub length-chain : (c : Checked) (pool : Pool) (core : Core) (place : Place) (frames : List Frame) → HasFrames c pool core place frames → length core.chain ≤ 1 + called_at_links c frames + chunk_ahead (row_of c place)
 length-chain c pool core place frames has = length-frames c pool core place (row_of c place) core.chain frames has.frames_are

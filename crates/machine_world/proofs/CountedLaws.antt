@@ -1,26 +1,23 @@
 -- Each step of the world keeps it counted: numbers rise, and held and free chunks are exactly the pool.
-use Rattle.std.proofs.Common.{◌≡◌, ℕ, zero, suc, ◌+◌, ◌<◌, ◌≤◌, Bool, ltb, nat_eq, not, List, [], ◌∷◌, ◌++◌, length, Option, Some, None, refl, sym, ap, subst, ◌∙◌, arith, cond, ⊎_elim}
+use Rattle.std.proofs.Common.{◌≡◌, ℕ, zero, suc, ◌+◌, ◌<◌, ◌≤◌, Bool, ltb, nat_eq, not, List, [], ◌∷◌, ◌++◌, Option, Some, None, refl, sym, ap, subst, ◌∙◌, arith, cond, ⊎_elim}
 use Rattle.std.specs.List.{range_with_len}
 use Rattle.std.proofs.lemmas.Bool.{cond_both, cases_eq, cases_lt, lt-ltb, le-ltb, cond-true, cond-false, eq-eqb, ne_eqb, eqb-true}
 use Rattle.std.specs.Prelude.{nat_le, ◌&&◌}
-use Rattle.cap_word.specs.Calls.{Call, Blocking, Immediate, most_threads}
 use Rattle.cap_word.specs.Runs as runs
-use Rattle.cap_word.specs.declared.stops.Stop.{Stop}
-use Rattle.cap_word.specs.declared.traps.TrapKind.{TrapKind}
-use Rattle.c_mean.specs.ModelledCalls.{blocking_row, immediate_row, is_dropped, with_delivery}
+use Rattle.c_mean.specs.ModelledCalls.{blocking_row, is_dropped, with_delivery}
 use Rattle.chunk_pool.specs.declared.shape.Shape.{Shape}
 use Rattle.chunk_pool.specs.Pool.{Taken, taken_for, start_pool, shape_of, all_free}
 use Rattle.chunk_pool.proofs.NeedLaws.{taken_for-leaves, taken_for-shape}
 use Rattle.machine_world.specs.Areas.{Areas}
-use Rattle.machine_world.specs.Local as local
-use Rattle.machine_world.specs.Local.{Local, LocalMove, local_step, passed, with_result}
+use Rattle.machine_world.specs.Local.{local_step, with_result}
 use Rattle.machine_world.specs.Held.{copies, KeepsCopies, KeepsShape}
-use Rattle.machine_world.specs.Threads.{Blocked, Thread, World, Setting, first_with, thread_of, replaced, without, with_thread, start_core, Move, Goes, Puts, Spawns, Blocks, Ends, Stops, Wrong, retired, resumed, unless_trap, printed, result_of, package_call, spawned, asked, stopped, moved, step_of, step_on, step}
+use Rattle.machine_world.specs.Threads.{Blocked, Thread, World, Setting, first_with, thread_of, replaced, without, with_thread, start_core, retired, resumed, result_of, step, local_in}
 use Rattle.machine_world.specs.Threads.{result_on}
-use Rattle.machine_world.specs.Runs.{empty_world, started_on, start_world, Action, Deliver, Advance, Pick, Step, delivered, advanced, may_run, picked_at, picked, is_between, world_of, after_action, and_then, after_actions}
+use Rattle.machine_world.specs.Runs.{empty_world, started_on, start_world, Action, Deliver, Advance, Pick, Step, delivered, advanced, may_run, picked_at, picked, is_between, after_action, and_then, after_actions}
 use Rattle.machine_world.specs.Chains.{held_copies, AreAllFree}
 use Rattle.machine_world.specs.Numbered.{RiseBetween}
 use Rattle.machine_world.specs.Counted.{IsCounted, KeepsCounted, IsCountedIf}
+use Rattle.machine_world.proofs.StepCases.{Ways, blocked_at, row_for, answered_by, on_step, on_printed}
 use Rattle.machine_world.proofs.HeldLaws.{copies-cons, KeepsCopies-step, KeepsShape-step}
 use Rattle.machine_world.proofs.WorldLaws.{held_copies-replaced, held_copies-without, held_copies-append}
 
@@ -109,69 +106,35 @@ counted_started w taken need entry argument counted some = record {
 
 -- ---- moves
 
-counted_trap : (trap : Option TrapKind) (move : Move) → KeepsCounted move → KeepsCounted (unless_trap trap move)
-counted_trap (Some kind) move kept = tt
-counted_trap None move kept = kept
-
-counted_printed : (value : Option ℕ) (after : World) → IsCounted after → KeepsCounted (printed value after)
-counted_printed None after counted = counted
-counted_printed (Some value) after counted = counted
-
 -- a thread that only passes its ECALL
 counted_resumed : (w : World) (thread : Thread) (result : Option ℕ) → IsCounted w → IsLive w thread → IsCounted (retired w (resumed thread result) w.areas)
 counted_resumed w thread result counted live = counted_retired w thread (resumed thread result) w.areas counted live refl (λ chunk. refl) refl
 
-counted_call : (s : Setting) (w : World) (thread : Thread) (call : Call) → IsCounted w → IsLive w thread → KeepsCounted (package_call s w thread call)
-counted_call s w thread (Blocking block) counted live =
-    let after = counted_retired w thread (record thread { core = passed thread.core None; blocked = Some (record { block = block; since = w.clock + 1 }) }) w.areas counted live refl (λ chunk. refl) refl in
-    counted_trap (blocking_row s.caps w.exchange block).trap _ (record { numbered = after.numbered; partition = after.partition })
-counted_call s w thread (Immediate ask) counted live =
-    let row = immediate_row s.caps w.exchange thread.number w.next ask in
-    let after = counted_resumed w thread (result_of ask row.result) counted live in
-    counted_trap row.trap _ (counted_printed row.prints _ (record { numbered = after.numbered; partition = after.partition }))
-
-counted_spawned : (w : World) (thread : Thread) (entry argument need : ℕ) (found : Option Taken) → IsCounted w → IsLive w thread → taken_for w.areas.pool need ≡ found → KeepsCounted (spawned w thread entry argument found)
-counted_spawned w thread entry argument need None counted live e = tt
-counted_spawned w thread entry argument need (Some taken) counted live e =
-    counted_started (retired w (resumed thread (Some w.next)) w.areas) taken need entry argument (counted_resumed w thread (Some w.next) counted live) e
-
-counted_asked : (s : Setting) (w : World) (thread : Thread) (question : local.Question) → IsCounted w → IsLive w thread → KeepsCounted (asked s w thread question)
-counted_asked s w thread (local.Calls call) counted live = counted_call s w thread call counted live
-counted_asked s w thread (local.Starts entry argument need) counted live =
-    cond_both (nat_le most_threads (length w.threads)) (Stops Stop.Threads) (spawned w thread entry argument (taken_for w.areas.pool need)) KeepsCounted
-    (λ _. tt)
-    (λ _. counted_spawned w thread entry argument need (taken_for w.areas.pool need) counted live refl)
-
-abbrev local_of : World → Thread → Local
-local_of w thread = record { areas = w.areas; core = thread.core }
-
-counted_stopped : (w : World) (thread : Thread) (end : local.End) → IsCounted w → IsLive w thread → ((chunk : ℕ) → KeepsCopies chunk (local_of w thread) (runs.Stops end)) → KeepsShape (local_of w thread) (runs.Stops end) → KeepsCounted (stopped w thread end)
-counted_stopped w thread (local.Ended areas) counted live same size = counted_ended w thread areas (w.clock + 1) (w.cost + 1) counted live same size
-counted_stopped w thread (local.Trapped kind) counted live same size = tt
-counted_stopped w thread local.NoRoom counted live same size = tt
-counted_stopped w thread local.Wrong counted live same size = tt
-
-counted_moved : (s : Setting) (w : World) (thread : Thread) (move : LocalMove) → IsCounted w → IsLive w thread → ((chunk : ℕ) → KeepsCopies chunk (local_of w thread) move) → KeepsShape (local_of w thread) move → KeepsCounted (moved s w thread move)
-counted_moved s w thread (runs.Goes after) counted live same size = counted_retired w thread (record thread { core = after.core }) after.areas counted live refl same size
-counted_moved s w thread (runs.Asks question waiting) counted live same size = counted_asked s w thread question counted live
-counted_moved s w thread (runs.Stops end) counted live same size = counted_stopped w thread end counted live same size
-
-counted_step_of : (s : Setting) (w : World) (number : ℕ) (found : Option Thread) → IsCounted w → thread_of w number ≡ found → KeepsCounted (step_of s w found)
-counted_step_of s w number None counted e = tt
-counted_step_of s w number (Some thread) counted e =
-    let live : IsLive w thread = record { found = ap (λ (n : ℕ). first_with n w.threads) (first_with-number number w.threads thread e) ∙ e } in
-    let l = local_of w thread in
-    cond_both (nat_eq w.cost s.fuel) (Stops Stop.Fuel) (moved s w thread (local_step s.code l)) KeepsCounted
-    (λ _. tt)
-    (λ _. counted_moved s w thread (local_step s.code l) counted live (λ chunk. KeepsCopies-step s.code l chunk) (KeepsShape-step s.code l))
-
-counted_step_on : (s : Setting) (w : World) (running : Option ℕ) → IsCounted w → KeepsCounted (step_on s w running)
-counted_step_on s w None counted = tt
-counted_step_on s w (Some number) counted = counted_step_of s w number (thread_of w number) counted refl
+counted_ways : (s : Setting) (w : World) (thread : Thread) → IsCounted w → IsLive w thread → Ways s w KeepsCounted thread
+counted_ways s w thread counted live =
+    let l = local_in w thread in
+    let same : (chunk : ℕ) → KeepsCopies chunk l (local_step s.code l) = λ chunk. KeepsCopies-step s.code l chunk in
+    let size : KeepsShape l (local_step s.code l) = KeepsShape-step s.code l in
+    record {
+      goes = λ after e. counted_retired w thread (record thread { core = after.core }) after.areas counted live refl
+          (λ chunk. subst (KeepsCopies chunk l) e (same chunk)) (subst (KeepsShape l) e size);
+      answers = λ ask still e.
+          let after = counted_resumed w thread (result_of ask (row_for s w thread ask).result) counted live in
+          let is : IsCounted (answered_by w thread ask (row_for s w thread ask)) = record { numbered = after.numbered; partition = after.partition } in
+          on_printed KeepsCounted (row_for s w thread ask).prints _ is (λ word some. is);
+      blocks = λ block.
+          let after = counted_retired w thread (blocked_at w thread block) w.areas counted live refl (λ chunk. refl) refl in
+          record { numbered = after.numbered; partition = after.partition };
+      spawns = λ entry argument need still taken e few some.
+          counted_started (retired w (resumed thread (Some w.next)) w.areas) taken need entry argument (counted_resumed w thread (Some w.next) counted live) some;
+      ends = λ areas e. counted_ended w thread areas (w.clock + 1) (w.cost + 1) counted live
+          (λ chunk. subst (KeepsCopies chunk l) e (same chunk)) (subst (KeepsShape l) e size);
+    }
 
 pub counted_step : (s : Setting) (w : World) → IsCounted w → KeepsCounted (step s w)
-unfolding step
-counted_step s w counted = counted_step_on s w w.running counted
+counted_step s w counted =
+    on_step s w KeepsCounted (λ stop. tt) tt
+    (λ number thread runs there left. counted_ways s w thread counted (record { found = ap (λ (n : ℕ). first_with n w.threads) (first_with-number number w.threads thread there) ∙ there }))
 
 -- ---- the start
 
@@ -252,15 +215,6 @@ counted_picked s w number (Some thread) counted e =
     (record { found = ap (λ (n : ℕ). first_with n w.threads) (first_with-number number w.threads thread e) ∙ e }))
     (λ _. tt)
 
-counted_world_of : (move : Move) → KeepsCounted move → IsCountedIf (world_of move)
-counted_world_of (Goes after) kept = kept
-counted_world_of (Puts value after) kept = kept
-counted_world_of (Spawns number after) kept = kept
-counted_world_of (Blocks after) kept = kept
-counted_world_of (Ends after) kept = kept
-counted_world_of (Stops stop) kept = tt
-counted_world_of Wrong kept = tt
-
 pub counted_action : (s : Setting) (w : World) (action : Action) → IsCounted w → IsCountedIf (after_action s w action)
 counted_action s w (Deliver delivery) counted =
     cond_both (is_between w) (Some (delivered s w delivery)) None IsCountedIf
@@ -276,7 +230,7 @@ counted_action s w (Pick number) counted =
     cond_both (is_between w) (picked s w (thread_of w number)) None IsCountedIf
     (λ _. counted_picked s w number (thread_of w number) counted refl)
     (λ _. tt)
-counted_action s w Step counted = counted_world_of (step s w) (counted_step s w counted)
+counted_action s w Step counted = counted_step s w counted
 
 counted_then : (found : Option World) (rest : World → Option World) → IsCountedIf found → ((w : World) → IsCounted w → IsCountedIf (rest w)) → IsCountedIf (and_then found rest)
 counted_then None rest counted after = tt

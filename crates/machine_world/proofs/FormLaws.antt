@@ -1,11 +1,10 @@
 -- A step of one thread keeps the form of areas and thread: what is stored are words, chunks are taken free and given back
 -- held, and registers get words.
-use Rattle.std.proofs.Common.{◌≡◌, ℕ, ◌+◌, ◌/◌, ◌%◌, ◌^◌, ◌<◌, ◌≤◌, Bool, true, false, nat_eq, List, [], ◌∷◌, length, get_or, set, Option, Some, None, refl, ap, ◌∙◌, arith, cond, inl, ⊎_elim}
+use Rattle.std.proofs.Common.{◌≡◌, ℕ, ◌+◌, ◌/◌, ◌%◌, ◌^◌, ◌<◌, ◌≤◌, Bool, true, false, nat_eq, List, [], ◌∷◌, length, get_or, set, Option, Some, None, refl, ap, subst, ◌∙◌, arith, cond, inl, ⊎_elim}
 use Rattle.std.specs.Prelude.{IfSome, nat_lt}
-use Rattle.std.proofs.lemmas.Bool.{cond_both, cases_lt, lt-ltb, le-ltb, eq-eqb, eqb-true}
+use Rattle.std.proofs.lemmas.Bool.{cond_both, cases_lt, lt-ltb, le-ltb, eq-eqb}
 use Rattle.std.proofs.lemmas.List.{length-set, get_or_past}
 use Rattle.std.proofs.lemmas.List.Elements.{All-set, All-get_or}
-use Rattle.cap_word.specs.Calls.{Call}
 use Rattle.cap_word.specs.Runs as runs
 use Rattle.cap_word.proofs.WordRange.{add-below}
 use Rattle.chunk_pool.specs.Pool.{Pool, Taken, taken_for, after_give, chunk_of, word_of, IsPool, IsHeld, all_free, payload_place_of, end_of}
@@ -16,17 +15,18 @@ use Rattle.chunk_pool.proofs.PoolLaws.{IsPool-with_word, IsPool-after_give}
 use Rattle.rv_machine.specs.Bytes.{with_stored, with_half, with_word, Stored, Nothing, Byte, Half, Word}
 use Rattle.rv_machine.specs.Registers.{read, write}
 use Rattle.rv_machine.specs.Rows as rows
-use Rattle.rv_machine.specs.Step.{outcome, machine_after}
+use Rattle.rv_machine.specs.Step.{machine_after}
 use Rattle.rv_machine.specs.Words.{IsWords, TellsWords}
 use Rattle.rv_machine.proofs.WordBytes.{word_with-below}
 use Rattle.rv_machine.proofs.WordLaws.{read-below, IsWords-outcome, TellsWords-outcome}
 use Rattle.machine_world.specs.Areas.{Areas, Spot, InGlobals, InTables, InPayload, spot_of, byte_on, with_byte_on, with_byte}
 use Rattle.machine_world.specs.Held.{copies, copies_in}
 use Rattle.stack_certificate.specs.Registers.{sp, tp, t1, a0, a1}
-use Rattle.machine_world.specs.Local.{Core, Local, LocalMove, Calls, Starts, Ended, Trapped, NoRoom, Wrong, after_call, with_header, linked_on, unlinked_front, unlinked_on, chunk_with_payload, ended, trapped, asks_or_wrong, package_call, system_call, machine_of, local_move, local_step, with_result, passed}
+use Rattle.machine_world.specs.Local.{Core, Local, LocalMove, Starts, Ended, after_call, with_header, machine_of, local_step, with_result, passed}
 use Rattle.machine_world.specs.Places.{Checked}
 use Rattle.machine_world.specs.WellFormed.{AreWords, AreWellFormed, IsCore}
 use Rattle.machine_world.proofs.AreaLaws.{IsPool-with_byte}
+use Rattle.machine_world.proofs.LocalCases.{on_local}
 use Rattle.machine_world.proofs.HeldLaws.{copies-cons}
 use Rattle.chunk_pool.proofs.ShapeLaws.{IsChunk-chunk_of, words_of-payload, first_bytes-same}
 
@@ -49,8 +49,6 @@ AreWords-write x register value below words =
 -- ---- the areas under what is stored
 
 AreWellFormed-byte_on : (c : Checked) (areas : Areas) (spot : Option Spot) (b : ℕ) → AreWellFormed c areas → IsPool (with_byte_on areas spot b).pool → b < 2 ^ 8 → AreWellFormed c (with_byte_on areas spot b)
-AreWellFormed-byte_on c areas None b form pool below = form
-AreWellFormed-byte_on c areas (Some (InTables offset)) b form pool below = form
 AreWellFormed-byte_on c areas (Some (InGlobals offset)) b form pool below = record {
   pool = form.pool;
   chunk = form.chunk;
@@ -66,6 +64,7 @@ AreWellFormed-byte_on c areas (Some (InPayload chunk offset)) b form pool below 
   global_words = form.global_words;
   tables = form.tables;
 }
+AreWellFormed-byte_on c areas _ b form pool below = form
 
 AreWellFormed-byte : (c : Checked) (areas : Areas) (a b : ℕ) → AreWellFormed c areas → b < 2 ^ 8 → AreWellFormed c (with_byte areas a b)
 AreWellFormed-byte c areas a b form below = AreWellFormed-byte_on c areas (spot_of areas a) b form (IsPool-with_byte areas a b form.pool below) below
@@ -200,12 +199,9 @@ IsCore-with_result core (Some value) is below = record {
 -- what a move leads to has its form, and a new thread is asked for at words
 abbrev pub KeepsForm : Checked → LocalMove → Type 0
 KeepsForm c (runs.Goes after) = AreWellFormed c after.areas × IsCore after.core
-KeepsForm c (runs.Asks (Calls call) waiting) = Unit {0}
 KeepsForm c (runs.Asks (Starts entry argument need) waiting) = (entry < 2 ^ 32) × (argument < 2 ^ 32)
 KeepsForm c (runs.Stops (Ended areas)) = AreWellFormed c areas
-KeepsForm c (runs.Stops (Trapped kind)) = Unit {0}
-KeepsForm c (runs.Stops NoRoom) = Unit {0}
-KeepsForm c (runs.Stops Wrong) = Unit {0}
+KeepsForm c _ = Unit {0}
 
 -- areas and thread have their form
 pub record HasForm (c : Checked) (l : Local) : Type 0 where
@@ -213,63 +209,28 @@ pub record HasForm (c : Checked) (l : Local) : Type 0 where
   pub core : IsCore l.core
   pub owns : Owns l
 
-KeepsForm-linked : (c : Checked) (l : Local) (found : Option Taken) → HasForm c l → taken_for l.areas.pool (read l.core.x t1) ≡ found → KeepsForm c (linked_on l found)
-KeepsForm-linked c l None form e = tt
-KeepsForm-linked c l (Some taken) form e =
-    let addresses = AreAddresses-taken l.areas.pool (read l.core.x t1) taken form.areas.pool e in (
-      AreWellFormed-taken c l.areas (read l.core.x t1) taken (read l.core.x tp) (read l.core.x sp) form.areas e (read-below l.core.x tp form.core.registers) (read-below l.core.x sp form.core.registers),
-      IsCore-after_call l.core (taken.chunk ∷ l.core.chain) _ _ form.core addresses.payload addresses.end,
-    )
-
-KeepsForm-front : (c : Checked) (l : Local) (given : ℕ) (chain : List ℕ) → HasForm c l → l.core.chain ≡ chain → KeepsForm c (unlinked_front l given chain)
-KeepsForm-front c l given [] form e = tt
-KeepsForm-front c l given (front ∷ chain) form e =
-    cond_both (nat_eq front given) _ (runs.Stops Wrong) (KeepsForm c)
-    (λ same.
-    let is : l.core.chain ≡ given ∷ chain = e ∙ ap (λ (k : ℕ). k ∷ chain) (eqb-true front given same) in
-    let held = front_is_held l given chain form.owns is in (
-      AreWellFormed-given c l given chain form.areas form.owns is,
-      IsCore-after_call l.core chain _ _ form.core (chunk_word-below l.areas.pool given 0 form.areas.pool held.0) (chunk_word-below l.areas.pool given 1 form.areas.pool held.0),
-    ))
-    (λ _. tt)
-
-KeepsForm-unlinked : (c : Checked) (l : Local) (found : Option ℕ) → HasForm c l → KeepsForm c (unlinked_on l found)
-KeepsForm-unlinked c l None form = tt
-KeepsForm-unlinked c l (Some given) form = KeepsForm-front c l given l.core.chain form refl
-
-KeepsForm-ended : (c : Checked) (l : Local) (chain : List ℕ) → HasForm c l → l.core.chain ≡ chain → KeepsForm c (ended l chain)
-KeepsForm-ended c l [] form e = tt
-KeepsForm-ended c l (last ∷ []) form e = AreWellFormed-given c l last [] form.areas form.owns e
-KeepsForm-ended c l (a ∷ b ∷ chain) form e = tt
-
-KeepsForm-trapped : (c : Checked) (kind : ℕ) → KeepsForm c (trapped kind)
-KeepsForm-trapped c kind =
-    cond_both (nat_eq kind 1) _ _ (KeepsForm c) (λ _. tt) (λ _. cond_both (nat_eq kind 2) _ _ (KeepsForm c) (λ _. tt) (λ _. tt))
-
-KeepsForm-asks : (c : Checked) (l : Local) (call : Option Call) → KeepsForm c (asks_or_wrong l call)
-KeepsForm-asks c l (Some call) = tt
-KeepsForm-asks c l None = tt
-
-KeepsForm-call : (c : Checked) (l : Local) (number : ℕ) → HasForm c l → KeepsForm c (system_call l number)
-KeepsForm-call c l number form =
-    let P = KeepsForm c in
-    cond_both (nat_eq number 1) _ _ P (λ _. KeepsForm-linked c l (taken_for l.areas.pool (read l.core.x t1)) form refl)
-    (λ _. cond_both (nat_eq number 2) _ _ P (λ _. KeepsForm-unlinked c l (chunk_with_payload l.areas.pool (read l.core.x tp)) form)
-    (λ _. cond_both (nat_eq number 4) _ _ P (λ _. (read-below l.core.x a0 form.core.registers, read-below l.core.x a1 form.core.registers))
-    (λ _. cond_both (nat_eq number 30) _ _ P (λ _. KeepsForm-ended c l l.core.chain form refl)
-    (λ _. cond_both (nat_eq number 31) _ _ P (λ _. KeepsForm-trapped c (read l.core.x a0))
-    (λ _. KeepsForm-asks c l (package_call number l.core.x))))))
-
-KeepsForm-move : (c : Checked) (l : Local) (o : rows.Outcome) → HasForm c l → IsWords (machine_after o (machine_of l)) → TellsWords o → KeepsForm c (local_move l o)
-KeepsForm-move c l (rows.Goes pc x stored) form words told = (
-  AreWellFormed-stored c l.areas pc x stored form.areas told,
-  record { pc = words.pc; count = words.count; registers = words.registers },
-)
-KeepsForm-move c l (rows.Asks number) form words told = KeepsForm-call c l number form
-KeepsForm-move c l (rows.Fails kind) form words told = tt
-
 pub KeepsForm-step : (c : Checked) (code : List ℕ) (l : Local) → HasForm c l → KeepsForm c (local_step code l)
-unfolding local_step
 KeepsForm-step c code l form =
-    let words = IsWords-machine_of l form.core in
-    KeepsForm-move c l (outcome code (machine_of l)) form (IsWords-outcome code (machine_of l) words) (TellsWords-outcome code (machine_of l) words)
+    let is = IsWords-machine_of l form.core in
+    on_local code l (KeepsForm c) (record {
+      goes = λ pc x stored e.
+          let words = subst (λ (o : rows.Outcome). IsWords (machine_after o (machine_of l))) e (IsWords-outcome code (machine_of l) is) in
+          let told = subst TellsWords e (TellsWords-outcome code (machine_of l) is) in
+          (AreWellFormed-stored c l.areas pc x stored form.areas told, record { pc = words.pc; count = words.count; registers = words.registers });
+      links = λ taken some.
+          let addresses = AreAddresses-taken l.areas.pool (read l.core.x t1) taken form.areas.pool some in (
+            AreWellFormed-taken c l.areas (read l.core.x t1) taken (read l.core.x tp) (read l.core.x sp) form.areas some (read-below l.core.x tp form.core.registers) (read-below l.core.x sp form.core.registers),
+            IsCore-after_call l.core (taken.chunk ∷ l.core.chain) _ _ form.core addresses.payload addresses.end,
+          );
+      unlinks = λ given chain front.
+          let held = front_is_held l given chain form.owns front in (
+            AreWellFormed-given c l given chain form.areas form.owns front,
+            IsCore-after_call l.core chain _ _ form.core (chunk_word-below l.areas.pool given 0 form.areas.pool held.0) (chunk_word-below l.areas.pool given 1 form.areas.pool held.0),
+          );
+      starts = (read-below l.core.x a0 form.core.registers, read-below l.core.x a1 form.core.registers);
+      calls = λ number call some. tt;
+      ends = λ last only. AreWellFormed-given c l last [] form.areas form.owns only;
+      traps = λ kind. tt;
+      no_room = tt;
+      wrong = tt;
+    })

@@ -5,12 +5,9 @@ use Rattle.std.specs.List.{AllByRecursion}
 use Rattle.std.proofs.lemmas.Bool.{cond_both, cases_eq, cases_lt, cond-true, cond-false, eq-eqb, ne_eqb, eqb-false}
 use Rattle.std.proofs.lemmas.List.{length-set, get_or_past}
 use Rattle.std.proofs.lemmas.List.Elements.{All-set, All-get_or, All-append, All-drop, All-replicate, All-from_recursion}
-use Rattle.cap_word.specs.Calls.{Call, Blocking, Immediate, most_threads}
 use Rattle.cap_word.specs.Runs as runs
 use Rattle.cap_word.specs.declared.calls.Ask.{Ask}
 use Rattle.cap_word.specs.declared.calls.Block.{Block}
-use Rattle.cap_word.specs.declared.stops.Stop.{Stop}
-use Rattle.cap_word.specs.declared.traps.TrapKind.{TrapKind}
 use Rattle.c_mean.specs.ModelledCalls.{Exchange, channel_of, holds_some, blocking_row, immediate_row, Delivery, Arrival, Message, is_dropped, with_delivery}
 use Rattle.c_mean.specs.World.{empty_exchange}
 use Rattle.chunk_pool.specs.Pool.{Pool, Taken, taken_for, end_of, payload_place_of, IsPool}
@@ -18,13 +15,13 @@ use Rattle.machine_world.specs.Areas.{Areas}
 use Rattle.machine_world.specs.Chains.{held_copies, AreAllFree}
 use Rattle.machine_world.specs.Counted.{IsCounted, KeepsCounted, IsCountedIf}
 use Rattle.machine_world.specs.Held.{copies}
-use Rattle.machine_world.specs.Local as local
-use Rattle.machine_world.specs.Local.{Local, LocalMove, local_step, passed}
+use Rattle.machine_world.specs.Local.{local_step}
 use Rattle.machine_world.specs.Numbered.{RiseBetween}
 use Rattle.machine_world.specs.Places.{Checked}
 use Rattle.machine_world.specs.Runs.{empty_world, started_on, start_world, Action, Deliver, Advance, Pick, Step, delivered, advanced, may_run, picked_at, picked, is_between, world_of, after_action}
-use Rattle.machine_world.specs.Threads.{Blocked, Thread, World, Setting, first_with, thread_of, replaced, without, with_thread, start_core, start_registers, Move, Goes, Puts, Spawns, Blocks, Ends, Stops, Wrong, retired, resumed, unless_trap, printed, result_of, result_on, package_call, spawned, asked, stopped, moved, step_of, step_on, step}
+use Rattle.machine_world.specs.Threads.{Blocked, Thread, World, Setting, first_with, thread_of, replaced, without, with_thread, start_core, start_registers, Move, Goes, Puts, Spawns, Blocks, Ends, retired, resumed, result_of, result_on, step, local_in}
 use Rattle.machine_world.specs.WellFormed.{AreWords, AreWellFormed, IsCore, IsExchange, most_fuel, IsWellFormed, KeepsWellFormed, IsWellFormedIf, DeliversWords}
+use Rattle.machine_world.proofs.StepCases.{Ways, blocked_at, row_for, on_step, on_printed}
 use Rattle.machine_world.proofs.CountedLaws.{counted_start, counted_step, counted_action}
 use Rattle.machine_world.proofs.FormLaws.{word-below, HasForm, KeepsForm, KeepsForm-step, AreWellFormed-taken, AreAddresses-taken, IsCore-passed, IsCore-with_result}
 
@@ -127,10 +124,9 @@ IsResumed-blocking caps x (Block.Wait channel) is = record {
   exchange = IsExchange-channel x channel _ is (All-drop (λ (v : ℕ). v < 2 ^ 32) 1 (channel_of x channel) (AreWords-channel x channel is));
   result_below = word-below (channel_of x channel) 0 (AreWords-channel x channel is);
 }
-IsResumed-blocking caps x (Block.Sleep ticks) is = record { exchange = is; result_below = tt }
-IsResumed-blocking caps x Block.Yield is = record { exchange = is; result_below = tt }
 IsResumed-blocking caps x (Block.Take resource amount) is = record { exchange = IsExchange-use x resource _ is; result_below = tt }
 IsResumed-blocking caps x (Block.WaitFor channel ticks) is = record { exchange = is; result_below = one_or_none-below (holds_some (channel_of x channel)) }
+IsResumed-blocking caps x _ is = record { exchange = is; result_below = tt }
 
 IsResumed-immediate : (caps : List ℕ) (x : Exchange) (number next : ℕ) (ask : Ask) → IsExchange x → number < 2 ^ 32 → next < 2 ^ 32 → IsResumed (immediate_row caps x number next ask).after (result_of ask (immediate_row caps x number next ask).result)
 IsResumed-immediate caps x number next (Ask.Put value) is n m = record { exchange = is; result_below = tt }
@@ -148,18 +144,11 @@ record HasRest (c : Checked) (s : Setting) (w : World) : Type 0 where
   cost : w.cost ≤ s.fuel
   next : w.next ≤ w.cost + 1
 
-abbrev KeepsRest : Checked → Setting → Move → Type 0
-KeepsRest c s (Goes after) = HasRest c s after
-KeepsRest c s (Puts value after) = HasRest c s after
-KeepsRest c s (Spawns number after) = HasRest c s after
-KeepsRest c s (Blocks after) = HasRest c s after
-KeepsRest c s (Ends after) = HasRest c s after
-KeepsRest c s (Stops stop) = Unit {0}
-KeepsRest c s Wrong = Unit {0}
-
 abbrev HasRestIf : Checked → Setting → Option World → Type 0
-HasRestIf c s None = Unit {0}
-HasRestIf c s (Some w) = HasRest c s w
+HasRestIf c s found = IfSome found (HasRest c s)
+
+abbrev KeepsRest : Checked → Setting → Move → Type 0
+KeepsRest c s move = HasRestIf c s (world_of move)
 
 HasRest-retired : (c : Checked) (s : Setting) (w : World) (new : Thread) (areas : Areas) → HasRest c s w → w.cost < s.fuel → AreWellFormed c areas → IsCore new.core → HasRest c s (retired w new areas)
 HasRest-retired c s w new areas rest left form is = record {
@@ -176,29 +165,6 @@ HasRest-exchange c s w x rest is = record { areas = rest.areas; cores = rest.cor
 
 HasRest-running : (c : Checked) (s : Setting) (w : World) (running : Option ℕ) → HasRest c s w → HasRest c s (record w { running = running })
 HasRest-running c s w running rest = record { areas = rest.areas; cores = rest.cores; exchange = rest.exchange; fuel = rest.fuel; cost = rest.cost; next = rest.next }
-
-rest_trap : (c : Checked) (s : Setting) (trap : Option TrapKind) (move : Move) → KeepsRest c s move → KeepsRest c s (unless_trap trap move)
-rest_trap c s (Some kind) move kept = tt
-rest_trap c s None move kept = kept
-
-rest_printed : (c : Checked) (s : Setting) (value : Option ℕ) (after : World) → HasRest c s after → KeepsRest c s (printed value after)
-rest_printed c s None after rest = rest
-rest_printed c s (Some value) after rest = rest
-
-rest_call : (c : Checked) (s : Setting) (w : World) (thread : Thread) (call : Call) → HasRest c s w → w.cost < s.fuel → IsFound w.threads w.next thread → KeepsRest c s (package_call s w thread call)
-rest_call c s w thread (Blocking block) rest left found =
-    let new : Thread = record thread { core = passed thread.core None; blocked = Some (record { block = block; since = w.clock + 1 }) } in
-    rest_trap c s (blocking_row s.caps w.exchange block).trap _
-    (HasRest-running c s _ None (HasRest-retired c s w new w.areas rest left rest.areas (IsCore-passed thread.core None found.core tt)))
-rest_call c s w thread (Immediate ask) rest left found =
-    let row = immediate_row s.caps w.exchange thread.number w.next ask in
-    let next : w.next < 2 ^ 32 = omega (arith, rest.next, rest.fuel) in
-    let number : thread.number < 2 ^ 32 = omega (arith, found.below) in
-    let resumes = IsResumed-immediate s.caps w.exchange thread.number w.next ask rest.exchange number next in
-    rest_trap c s row.trap _ (rest_printed c s row.prints _
-    (HasRest-exchange c s _ row.after
-    (HasRest-retired c s w (resumed thread (result_of ask row.result)) w.areas rest left rest.areas (IsCore-passed thread.core (result_of ask row.result) found.core resumes.result_below))
-    resumes.exchange))
 
 -- the registers of a new thread
 IsCore-start : (taken : Taken) (pool : Pool) (need entry argument : ℕ) → IsPool pool → taken_for pool need ≡ Some taken → entry < 2 ^ 32 → argument < 2 ^ 32 → IsCore (start_core taken entry argument)
@@ -221,67 +187,47 @@ HasRest-started c s w taken need entry argument rest room some entry_below argum
   next = omega arith;
 }
 
-rest_spawned : (c : Checked) (s : Setting) (w : World) (thread : Thread) (entry argument need : ℕ) (taken : Option Taken) → HasRest c s w → w.cost < s.fuel → IsFound w.threads w.next thread → entry < 2 ^ 32 → argument < 2 ^ 32 → taken_for w.areas.pool need ≡ taken → KeepsRest c s (spawned w thread entry argument taken)
-rest_spawned c s w thread entry argument need None rest left found entry_below argument_below e = tt
-rest_spawned c s w thread entry argument need (Some taken) rest left found entry_below argument_below e =
-    let next : w.next < 2 ^ 32 = omega (arith, rest.next, rest.fuel) in
-    let after = HasRest-retired c s w (resumed thread (Some w.next)) w.areas rest left rest.areas (IsCore-passed thread.core (Some w.next) found.core next) in
-    HasRest-started c s (retired w (resumed thread (Some w.next)) w.areas) taken need entry argument after rest.next e entry_below argument_below
-
-rest_asked : (c : Checked) (s : Setting) (w : World) (thread : Thread) (question : local.Question) (waiting : Local) → HasRest c s w → w.cost < s.fuel → IsFound w.threads w.next thread → KeepsForm c (runs.Asks question waiting) → KeepsRest c s (asked s w thread question)
-rest_asked c s w thread (local.Calls call) waiting rest left found form = rest_call c s w thread call rest left found
-rest_asked c s w thread (local.Starts entry argument need) waiting rest left found form =
-    cond_both (nat_le most_threads (length w.threads)) (Stops Stop.Threads) (spawned w thread entry argument (taken_for w.areas.pool need)) (KeepsRest c s)
-    (λ _. tt)
-    (λ _. rest_spawned c s w thread entry argument need (taken_for w.areas.pool need) rest left found form.0 form.1 refl)
-
-rest_stopped : (c : Checked) (s : Setting) (w : World) (thread : Thread) (end : local.End) → HasRest c s w → w.cost < s.fuel → KeepsForm c (runs.Stops end) → KeepsRest c s (stopped w thread end)
-rest_stopped c s w thread (local.Ended areas) rest left form = record {
-  areas = form;
-  cores = AreCores-without thread.number w.threads rest.cores;
-  exchange = rest.exchange;
-  fuel = rest.fuel;
-  cost = omega arith;
-  next = omega (arith, rest.next);
-}
-rest_stopped c s w thread (local.Trapped kind) rest left form = tt
-rest_stopped c s w thread local.NoRoom rest left form = tt
-rest_stopped c s w thread local.Wrong rest left form = tt
-
-rest_moved : (c : Checked) (s : Setting) (w : World) (thread : Thread) (move : LocalMove) → HasRest c s w → w.cost < s.fuel → IsFound w.threads w.next thread → KeepsForm c move → KeepsRest c s (moved s w thread move)
-rest_moved c s w thread (runs.Goes after) rest left found form = HasRest-retired c s w (record thread { core = after.core }) after.areas rest left form.0 form.1
-rest_moved c s w thread (runs.Asks question waiting) rest left found form = rest_asked c s w thread question waiting rest left found form
-rest_moved c s w thread (runs.Stops end) rest left found form = rest_stopped c s w thread end rest left form
-
-abbrev local_of : World → Thread → Local
-local_of w thread = record { areas = w.areas; core = thread.core }
-
-HasForm-local_of : (c : Checked) (w : World) (thread : Thread) → AreWellFormed c w.areas → IsCounted w → IsFound w.threads w.next thread → HasForm c (local_of w thread)
-HasForm-local_of c w thread form counted found = record {
+HasForm-local_in : (c : Checked) (w : World) (thread : Thread) → AreWellFormed c w.areas → IsCounted w → IsFound w.threads w.next thread → HasForm c (local_in w thread)
+HasForm-local_in c w thread form counted found = record {
   areas = form;
   core = found.core;
   owns = record { once = λ chunk. omega (arith, counted.partition chunk, found.held chunk) };
 }
 
-rest_step_of : (c : Checked) (s : Setting) (w : World) (number : ℕ) (found : Option Thread) → IsCounted w → HasRest c s w → thread_of w number ≡ found → KeepsRest c s (step_of s w found)
-rest_step_of c s w number None counted rest e = tt
-rest_step_of c s w number (Some thread) counted rest e =
-    let is = IsFound-first_with number 0 w.next w.threads thread rest.cores counted.numbered e in
-    let l = local_of w thread in
-    cond_both (nat_eq w.cost s.fuel) (Stops Stop.Fuel) (moved s w thread (local_step s.code l)) (KeepsRest c s)
-    (λ _. tt)
-    (λ apart.
-    let differ = eqb-false w.cost s.fuel apart in
-    let left : w.cost < s.fuel = omega (arith, rest.cost, differ) in
-    rest_moved c s w thread (local_step s.code l) rest left is (KeepsForm-step c s.code l (HasForm-local_of c w thread rest.areas counted is)))
-
-rest_step_on : (c : Checked) (s : Setting) (w : World) (running : Option ℕ) → IsCounted w → HasRest c s w → KeepsRest c s (step_on s w running)
-rest_step_on c s w None counted rest = tt
-rest_step_on c s w (Some number) counted rest = rest_step_of c s w number (thread_of w number) counted rest refl
+-- each way in which a step of a thread can go, before the fuel is used up
+rest_ways : (c : Checked) (s : Setting) (w : World) (thread : Thread) → HasRest c s w → w.cost < s.fuel → IsFound w.threads w.next thread → KeepsForm c (local_step s.code (local_in w thread)) → Ways s w (KeepsRest c s) thread
+rest_ways c s w thread rest left found form =
+    let next : w.next < 2 ^ 32 = omega (arith, rest.next, rest.fuel) in
+    let number : thread.number < 2 ^ 32 = omega (arith, found.below) in
+    record {
+      goes = λ after e. let now = subst (KeepsForm c) e form in HasRest-retired c s w (record thread { core = after.core }) after.areas rest left now.0 now.1;
+      answers = λ ask still e.
+          let row = row_for s w thread ask in
+          let resumes = IsResumed-immediate s.caps w.exchange thread.number w.next ask rest.exchange number next in
+          let after = HasRest-exchange c s _ row.after (HasRest-retired c s w (resumed thread (result_of ask row.result)) w.areas rest left rest.areas (IsCore-passed thread.core (result_of ask row.result) found.core resumes.result_below)) resumes.exchange in
+          on_printed (KeepsRest c s) row.prints _ after (λ word some. after);
+      blocks = λ block. HasRest-running c s _ None (HasRest-retired c s w (blocked_at w thread block) w.areas rest left rest.areas (IsCore-passed thread.core None found.core tt));
+      spawns = λ entry argument need still taken e few some.
+          let below = subst (KeepsForm c) e form in
+          let after = HasRest-retired c s w (resumed thread (Some w.next)) w.areas rest left rest.areas (IsCore-passed thread.core (Some w.next) found.core next) in
+          HasRest-started c s (retired w (resumed thread (Some w.next)) w.areas) taken need entry argument after rest.next some below.0 below.1;
+      ends = λ areas e. record {
+        areas = subst (KeepsForm c) e form;
+        cores = AreCores-without thread.number w.threads rest.cores;
+        exchange = rest.exchange;
+        fuel = rest.fuel;
+        cost = omega arith;
+        next = omega (arith, rest.next);
+      };
+    }
 
 rest_step : (c : Checked) (s : Setting) (w : World) → IsCounted w → HasRest c s w → KeepsRest c s (step s w)
-unfolding step
-rest_step c s w counted rest = rest_step_on c s w w.running counted rest
+rest_step c s w counted rest =
+    on_step s w (KeepsRest c s) (λ stop. tt) tt
+    (λ number thread runs there left.
+    let is = IsFound-first_with number 0 w.next w.threads thread rest.cores counted.numbered there in
+    let differ = eqb-false w.cost s.fuel left in
+    rest_ways c s w thread rest (omega (arith, rest.cost, differ)) is (KeepsForm-step c s.code (local_in w thread) (HasForm-local_in c w thread rest.areas counted is)))
 
 -- ---- actions
 
@@ -306,15 +252,6 @@ rest_picked c s w number (Some thread) counted rest e =
     (λ _. rest_picked_at c s w thread thread.blocked rest (IsFound-first_with number 0 w.next w.threads thread rest.cores counted.numbered e).core)
     (λ _. tt)
 
-rest_world_of : (c : Checked) (s : Setting) (move : Move) → KeepsRest c s move → HasRestIf c s (world_of move)
-rest_world_of c s (Goes after) kept = kept
-rest_world_of c s (Puts value after) kept = kept
-rest_world_of c s (Spawns number after) kept = kept
-rest_world_of c s (Blocks after) kept = kept
-rest_world_of c s (Ends after) kept = kept
-rest_world_of c s (Stops stop) kept = tt
-rest_world_of c s Wrong kept = tt
-
 rest_action : (c : Checked) (s : Setting) (w : World) (action : Action) → DeliversWords action → IsCounted w → HasRest c s w → HasRestIf c s (after_action s w action)
 rest_action c s w (Deliver delivery) words counted rest =
     cond_both (is_between w) (Some (delivered s w delivery)) None (HasRestIf c s)
@@ -330,7 +267,7 @@ rest_action c s w (Pick number) words counted rest =
     cond_both (is_between w) (picked s w (thread_of w number)) None (HasRestIf c s)
     (λ _. rest_picked c s w number (thread_of w number) counted rest refl)
     (λ _. tt)
-rest_action c s w Step words counted rest = rest_world_of c s (step s w) (rest_step c s w counted rest)
+rest_action c s w Step words counted rest = rest_step c s w counted rest
 
 -- ---- all of it
 
@@ -346,8 +283,7 @@ whole_move c s (Puts value after) counted rest = whole c s after counted rest
 whole_move c s (Spawns number after) counted rest = whole c s after counted rest
 whole_move c s (Blocks after) counted rest = whole c s after counted rest
 whole_move c s (Ends after) counted rest = whole c s after counted rest
-whole_move c s (Stops stop) counted rest = tt
-whole_move c s Wrong counted rest = tt
+whole_move c s _ counted rest = tt
 
 whole_if : (c : Checked) (s : Setting) (found : Option World) → IsCountedIf found → HasRestIf c s found → IsWellFormedIf c s found
 whole_if c s None counted rest = tt

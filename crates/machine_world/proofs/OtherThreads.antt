@@ -1,21 +1,15 @@
 -- A step of the world leaves every thread but the running one.
-use Rattle.std.proofs.Common.{◌≡◌, ◌≢◌, ℕ, Bool, nat_eq, not, List, [], ◌∷◌, ◌++◌, length, Option, Some, None, refl, sym, ap, ◌∙◌, cond, ⊎_elim}
-use Rattle.std.specs.Prelude.{nat_le}
-use Rattle.std.proofs.lemmas.Bool.{cond_both, cases_eq, cond-true, cond-false, eq-eqb, ne_eqb, eqb-true}
-use Rattle.cap_word.specs.Calls.{Call, Blocking, Immediate, most_threads}
+use Rattle.std.proofs.Common.{◌≡◌, ◌≢◌, ℕ, Bool, nat_eq, not, List, [], ◌∷◌, ◌++◌, Some, None, refl, sym, ap, ◌∙◌, cond, ⊎_elim}
+use Rattle.std.proofs.lemmas.Bool.{cond_both, cases_eq, cond-false, eq-eqb, ne_eqb, eqb-true}
 use Rattle.cap_word.specs.Runs as runs
-use Rattle.cap_word.specs.declared.stops.Stop.{Stop}
-use Rattle.cap_word.specs.declared.traps.TrapKind.{TrapKind}
-use Rattle.c_mean.specs.ModelledCalls.{blocking_row, immediate_row}
-use Rattle.chunk_pool.specs.Pool.{Taken, taken_for}
 use Rattle.machine_world.specs.Alone.{KeepsThread}
-use Rattle.machine_world.specs.Local as local
-use Rattle.machine_world.specs.Local.{LocalMove, local_step}
-use Rattle.machine_world.specs.Threads.{Thread, World, Setting, first_with, thread_of, replaced, without, Move, Stops, resumed, unless_trap, printed, package_call, spawned, asked, stopped, moved, step_of, step_on, step}
+use Rattle.machine_world.specs.Threads.{Thread, World, Setting, first_with, replaced, without, resumed, step}
+use Rattle.machine_world.proofs.StepCases.{Ways, row_for, on_step, on_printed}
+use Rattle.machine_world.proofs.CountedLaws.{first_with-number}
 
 -- ---- threads by number
 
-first_with-replaced : (number : ℕ) (new : Thread) (threads : List Thread) → number ≢ new.number → first_with number (replaced new threads) ≡ first_with number threads
+pub first_with-replaced : (number : ℕ) (new : Thread) (threads : List Thread) → number ≢ new.number → first_with number (replaced new threads) ≡ first_with number threads
 first_with-replaced number new [] apart = refl
 first_with-replaced number new (t ∷ ts) apart =
     let rest = first_with-replaced number new ts apart in
@@ -47,65 +41,17 @@ first_with-append number new (t ∷ ts) apart = ap (cond (nat_eq t.number number
 
 -- ---- moves
 
-kept_trap : (number : ℕ) (w : World) (trap : Option TrapKind) (move : Move) → KeepsThread number w move → KeepsThread number w (unless_trap trap move)
-kept_trap number w (Some kind) move kept = tt
-kept_trap number w None move kept = kept
-
-kept_printed : (number : ℕ) (w : World) (value : Option ℕ) (after : World) → thread_of after number ≡ thread_of w number → KeepsThread number w (printed value after)
-kept_printed number w None after kept = kept
-kept_printed number w (Some value) after kept = kept
-
-kept_call : (s : Setting) (number : ℕ) (w : World) (thread : Thread) (call : Call) → number ≢ thread.number → KeepsThread number w (package_call s w thread call)
-kept_call s number w thread (Blocking block) apart = kept_trap number w (blocking_row s.caps w.exchange block).trap _ (first_with-replaced number _ w.threads apart)
-kept_call s number w thread (Immediate ask) apart =
-    let row = immediate_row s.caps w.exchange thread.number w.next ask in
-    kept_trap number w row.trap _ (kept_printed number w row.prints _ (first_with-replaced number _ w.threads apart))
-
-kept_spawned : (number : ℕ) (w : World) (thread : Thread) (entry argument : ℕ) (found : Option Taken) → number ≢ thread.number → number ≢ w.next → KeepsThread number w (spawned w thread entry argument found)
-kept_spawned number w thread entry argument None apart old = tt
-kept_spawned number w thread entry argument (Some taken) apart old =
-    first_with-append number _ (replaced (resumed thread (Some w.next)) w.threads) old ∙ first_with-replaced number _ w.threads apart
-
-kept_asked : (s : Setting) (number : ℕ) (w : World) (thread : Thread) (question : local.Question) → number ≢ thread.number → number ≢ w.next → KeepsThread number w (asked s w thread question)
-kept_asked s number w thread (local.Calls call) apart old = kept_call s number w thread call apart
-kept_asked s number w thread (local.Starts entry argument need) apart old =
-    cond_both (nat_le most_threads (length w.threads)) (Stops Stop.Threads) (spawned w thread entry argument (taken_for w.areas.pool need)) (KeepsThread number w)
-    (λ _. tt)
-    (λ _. kept_spawned number w thread entry argument (taken_for w.areas.pool need) apart old)
-
-kept_stopped : (number : ℕ) (w : World) (thread : Thread) (end : local.End) → number ≢ thread.number → KeepsThread number w (stopped w thread end)
-kept_stopped number w thread (local.Ended areas) apart = first_with-without number thread.number w.threads apart
-kept_stopped number w thread (local.Trapped kind) apart = tt
-kept_stopped number w thread local.NoRoom apart = tt
-kept_stopped number w thread local.Wrong apart = tt
-
-kept_moved : (s : Setting) (number : ℕ) (w : World) (thread : Thread) (move : LocalMove) → number ≢ thread.number → number ≢ w.next → KeepsThread number w (moved s w thread move)
-kept_moved s number w thread (runs.Goes after) apart old = first_with-replaced number _ w.threads apart
-kept_moved s number w thread (runs.Asks question waiting) apart old = kept_asked s number w thread question apart old
-kept_moved s number w thread (runs.Stops end) apart old = kept_stopped number w thread end apart
-
-first_with-number : (number : ℕ) (threads : List Thread) (t : Thread) → first_with number threads ≡ Some t → t.number ≡ number
-first_with-number number [] t found = absurd (cc)
-first_with-number number (u ∷ us) t found = ⊎_elim
-    (λ (same : u.number ≡ number).
-    let here : Some u ≡ Some t = sym (cond-true (nat_eq u.number number) (Some u) (first_with number us) (eq-eqb u.number number same)) ∙ found in
-    let equal : u ≡ t = cc in
-    ap (λ (v : Thread). v.number) (sym equal) ∙ same)
-    (λ apart. first_with-number number us t (sym (cond-false (nat_eq u.number number) (Some u) (first_with number us) (ne_eqb u.number number apart)) ∙ found))
-    (cases_eq u.number number)
-
-kept_step_of : (s : Setting) (number running : ℕ) (w : World) (found : Option Thread) → thread_of w running ≡ found → number ≢ running → number ≢ w.next → KeepsThread number w (step_of s w found)
-kept_step_of s number running w None e apart old = tt
-kept_step_of s number running w (Some thread) e apart old =
-    let own = first_with-number running w.threads thread e in
-    cond_both (nat_eq w.cost s.fuel) (Stops Stop.Fuel) (moved s w thread (local_step s.code (record { areas = w.areas; core = thread.core }))) (KeepsThread number w)
-    (λ _. tt)
-    (λ _. kept_moved s number w thread (local_step s.code (record { areas = w.areas; core = thread.core })) (λ same. apart (same ∙ own)) old)
-
-kept_step_on : (s : Setting) (number : ℕ) (w : World) (running : Option ℕ) → running ≢ Some number → number ≢ w.next → KeepsThread number w (step_on s w running)
-kept_step_on s number w None apart old = tt
-kept_step_on s number w (Some running) apart old = kept_step_of s number running w (thread_of w running) refl (λ same. apart (ap Some (sym same))) old
+module _ (s : Setting) (number : ℕ) (w : World) (old : number ≢ w.next) where
+  kept_ways : (thread : Thread) → number ≢ thread.number → Ways s w (KeepsThread number w) thread
+  kept_ways thread apart = record {
+    goes = λ after e. first_with-replaced number _ w.threads apart;
+    answers = λ ask still e. on_printed (KeepsThread number w) (row_for s w thread ask).prints _ (first_with-replaced number _ w.threads apart) (λ word some. first_with-replaced number _ w.threads apart);
+    blocks = λ block. first_with-replaced number _ w.threads apart;
+    spawns = λ entry argument need still taken e few some. first_with-append number _ (replaced (resumed thread (Some w.next)) w.threads) old ∙ first_with-replaced number _ w.threads apart;
+    ends = λ areas e. first_with-without number thread.number w.threads apart;
+  }
 
 pub KeepsThread-step : (s : Setting) (number : ℕ) (w : World) → w.running ≢ Some number → number ≢ w.next → KeepsThread number w (step s w)
-unfolding step
-KeepsThread-step s number w apart old = kept_step_on s number w w.running apart old
+KeepsThread-step s number w apart old =
+    on_step s w (KeepsThread number w) (λ stop. tt) tt
+    (λ running thread runs there left. kept_ways s number w old thread (λ same. apart (runs ∙ ap Some (sym (same ∙ first_with-number running w.threads thread there)))))

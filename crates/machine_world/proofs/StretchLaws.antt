@@ -4,7 +4,7 @@ use Rattle.machine_world.specs.GoodRuns.{Entry, Comes, Waits, Turn, all_actions,
 use Rattle.machine_world.specs.Places.{Checked}
 use Rattle.machine_world.specs.Runs.{Deliver, Advance, Pick, Step, after_action, after_actions, and_then, after_steps, world_of}
 use Rattle.machine_world.specs.Stretches.{OnWorld, IsGoodStretch}
-use Rattle.machine_world.specs.Threads.{World, Setting, Move, Goes, Puts, Spawns, Blocks, Ends, Stops, Wrong, step}
+use Rattle.machine_world.specs.Threads.{World, Setting, Move, Goes, Puts, Spawns, Blocks, Ends, step}
 use Rattle.machine_world.proofs.ActionLaws.{after_actions-append}
 
 -- ---- stretches
@@ -18,8 +18,7 @@ on_world c s m n after (Puts value w) rest good e = rest w good e
 on_world c s m n after (Spawns number w) rest good e = rest w good e
 on_world c s m n after (Blocks w) rest good e = rest w good e
 on_world c s m n after (Ends w) rest good e = rest w good e
-on_world c s m n after (Stops stop) rest good e = good
-on_world c s m n after Wrong rest good e = good
+on_world c s m n after _ rest good e = good
 
 pub IsGoodStretch-add : (c : Checked) (s : Setting) (m n : ℕ) (w after : World) → IsGoodStretch c s m w → after_steps s m w ≡ Some after → IsGoodStretch c s n after → IsGoodStretch c s (m + n) w
 IsGoodStretch-add c s zero n w after first e second =

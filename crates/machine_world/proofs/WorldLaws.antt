@@ -9,7 +9,7 @@ use Rattle.machine_world.specs.Numbered.{RiseBetween}
 -- ---- threads by number
 
 -- no thread has a number below the first
-replaced_none : (new : Thread) (from next : ℕ) (threads : List Thread) → RiseBetween from next threads → new.number < from → replaced new threads ≡ threads
+pub replaced_none : (new : Thread) (from next : ℕ) (threads : List Thread) → RiseBetween from next threads → new.number < from → replaced new threads ≡ threads
 replaced_none new from next [] rise below = refl
 replaced_none new from next (t ∷ ts) rise below =
     let apart : nat_eq t.number new.number ≡ false = ne_eqb t.number new.number (λ same. omega (arith, rise.0)) in

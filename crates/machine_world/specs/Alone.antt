@@ -1,13 +1,13 @@
 -- What a step leaves unchanged: in a step of one thread, the chunks that are neither held by it, nor free, nor
 -- accessed; in a step of the world, the other threads.
-use Rattle.std.specs.Prelude.{◌≡◌, ◌≢◌, ℕ, List, Some}
+use Rattle.std.specs.Prelude.{◌≡◌, ◌≢◌, ℕ, List, Some, IfSome}
 use Rattle.cap_word.specs.Runs as runs
 use Rattle.chunk_pool.specs.Pool.{chunk_of}
 use Rattle.rv_machine.specs.Access.{IsAccessed}
 use Rattle.machine_world.specs.Areas.{InPayload, spot_of}
 use Rattle.machine_world.specs.Held.{copies_in}
 use Rattle.machine_world.specs.Local.{Local, LocalMove, Ended, Trapped, NoRoom, Wrong, access_at}
-use Rattle.machine_world.specs.Threads as world
+use Rattle.machine_world.specs.Runs.{world_of}
 use Rattle.machine_world.specs.Threads.{World, Move, thread_of}
 
 -- the chunk is neither in the thread's chain nor free, and no byte of the next access lies in it
@@ -26,10 +26,4 @@ KeepsChunk chunk l (runs.Stops Wrong) = Unit {0}
 
 -- the thread of that number is the same after the move
 abbrev pub KeepsThread : ℕ → World → Move → Type 0
-KeepsThread number w (world.Goes after) = thread_of after number ≡ thread_of w number
-KeepsThread number w (world.Puts value after) = thread_of after number ≡ thread_of w number
-KeepsThread number w (world.Spawns started after) = thread_of after number ≡ thread_of w number
-KeepsThread number w (world.Blocks after) = thread_of after number ≡ thread_of w number
-KeepsThread number w (world.Ends after) = thread_of after number ≡ thread_of w number
-KeepsThread number w (world.Stops stop) = Unit {0}
-KeepsThread number w world.Wrong = Unit {0}
+KeepsThread number w move = IfSome (world_of move) (λ after. thread_of after number ≡ thread_of w number)

@@ -12,7 +12,7 @@ use Rattle.chunk_pool.specs.Pool.{Taken, taken_for, end_of, payload_place_of}
 use Rattle.stack_image.specs.Addresses.{code_start}
 use Rattle.machine_world.specs.Areas.{Areas}
 use Rattle.machine_world.specs.Local as local
-use Rattle.machine_world.specs.Local.{Core, LocalMove, local_step, passed, with_header}
+use Rattle.machine_world.specs.Local.{Core, Local, LocalMove, local_step, passed, with_header}
 
 -- the call at which a thread is blocked, and the clock at which it blocked
 pub record Blocked : Type 0 where
@@ -194,12 +194,16 @@ moved s w thread (runs.Goes after) = Goes (retired w (record thread { core = aft
 moved s w thread (runs.Asks question waiting) = asked s w thread question
 moved s w thread (runs.Stops end) = stopped w thread end
 
+-- the thread over the areas of its world
+abbrev pub local_in : World → Thread → Local
+local_in w thread = record { areas = w.areas; core = thread.core }
+
 -- a step of the running thread; the fuel is tested first
 abbrev pub step_of : Setting → World → Option Thread → Move
 step_of s w None = Wrong
 step_of s w (Some thread) =
     if nat_eq w.cost s.fuel then Stops Stop.Fuel else
-    moved s w thread (local_step s.code (record { areas = w.areas; core = thread.core }))
+    moved s w thread (local_step s.code (local_in w thread))
 
 abbrev pub step_on : Setting → World → Option ℕ → Move
 step_on s w None = Wrong

@@ -37,8 +37,9 @@ use Rattle.codegen_link.specs.declared.options.Options.{Options}
 use Rattle.codegen_link.specs.Layout.{IsCertificateOf}
 use Rattle.codegen_link.specs.Links.{site_fact, site_facts}
 use Rattle.codegen_link.proofs.FactLemmas.{facts-count, fact-is}
+use Rattle.one_plan.proofs.LoweredGraph.{scalars-length}
 
-functions-count : (p : ProgramTree) → length (lowered p).functions ≡ length p.functions
+pub functions-count : (p : ProgramTree) → length (lowered p).functions ≡ length p.functions
 functions-count p = length-map p.functions lowered_function
 
 -- Images.
@@ -69,10 +70,6 @@ image-fits p i c scoped valid =
 
 -- Variables of a function that fits its frame.
 
-scalars-count : (n : ℕ) → length (scalars n) ≡ n
-scalars-count zero = refl
-scalars-count (suc n) = omega (arith, scalars-count n)
-
 scalars-words : (n : ℕ) → sum (scalars n) ≡ n
 scalars-words zero = refl
 scalars-words (suc n) = omega (arith, scalars-words n, sum_by-cons (λ (x : ℕ). x) 1 (scalars n))
@@ -84,9 +81,9 @@ each-has-words : (p : ProgramTree) (f : FunctionTree) → IsFunctionScoped p f �
 each-has-words p f h =
     let n = function_temporaries f in
     let names : length (declared_words f) ≤ sum (declared_words f) = few_names (stmts_names f.body) (stmts_have (context_of p f) false (below f.params) f.body h.body) in
-    let count : length f.sizes ≡ f.params + length (declared_words f) = ap length h.sizes ∙ (length-append (scalars f.params) (declared_words f) ∙ ap (λ x. x + length (declared_words f)) (scalars-count f.params)) in
+    let count : length f.sizes ≡ f.params + length (declared_words f) = ap length h.sizes ∙ (length-append (scalars f.params) (declared_words f) ∙ ap (λ x. x + length (declared_words f)) (scalars-length f.params)) in
     let words : sum f.sizes ≡ f.params + sum (declared_words f) = ap sum h.sizes ∙ (both (scalars f.params) (declared_words f) ∙ ap (λ x. x + sum (declared_words f)) (scalars-words f.params)) in
-    omega (arith, names, count, words, length-append f.sizes (scalars n), both f.sizes (scalars n), scalars-count n, scalars-words n)
+    omega (arith, names, count, words, length-append f.sizes (scalars n), both f.sizes (scalars n), scalars-length n, scalars-words n)
 
 all-have-words : (p : ProgramTree) (fs : List FunctionTree) → AreFunctionsScoped p fs → AllByRecursion (λ (f : FlatFunction). length f.sizes ≤ sum f.sizes) (map lowered_function fs)
 all-have-words p [] h = tt

@@ -41,16 +41,15 @@ body_context p f = record {
   ops = stmts_size f.body + 1;
 }
 
-scalars-length : (n : ℕ) → length (scalars n) ≡ n
+pub scalars-length : (n : ℕ) → length (scalars n) ≡ n
 scalars-length zero = refl
 scalars-length (suc n) = omega (arith, scalars-length n)
 
 one-word : (xs : List ℕ) (n k : ℕ) → length xs ≤ k → k < length xs + n → get_or (xs ++ scalars n) k 0 ≡ 1
-one-word [] zero k low high = absurd (omega arith)
 one-word [] (suc n) zero low high = refl
 one-word [] (suc n) (suc k) low high = one-word [] n k (omega arith) (omega arith)
-one-word (x ∷ xs) n zero low high = absurd (omega arith)
 one-word (x ∷ xs) n (suc k) low high = one-word xs n k (omega arith) (omega arith)
+one-word _ _ _ low high = absurd (omega arith)
 
 body-suits : (p : ProgramTree) (f : FunctionTree) → Suits (tree.context_of p f) (body_context p f) (first_temporary f) (function_temporaries f)
 body-suits p f =

@@ -20,6 +20,7 @@ use Rattle.checkpoint_place.specs.Placement.{callee_bound, is_within, is_checkpo
 use Rattle.stack_plan.specs.Plans.{IsGraphOf}
 use Rattle.stack_plan.proofs.SiteLemmas.{has-number}
 use Rattle.one_plan.proofs.RisingLists.{Rises, orders-are-one}
+use Rattle.checkpoint_place.proofs.BoundLemmas.{greatest-agree}
 
 -- Graphs.
 
@@ -50,10 +51,6 @@ graphs-are-one code a b p q =
     same-graph a b weights tables sites main
 
 -- Bounds.
-
-greatest-same : (f g : ℕ → ℕ) (xs : List ℕ) → AllByRecursion (λ x. f x ≡ g x) xs → greatest f xs ≡ greatest g xs
-greatest-same f g [] h = refl
-greatest-same f g (x ∷ xs) h = let rest = greatest-same f g xs h.1 in let here = h.0 in cc
 
 bound-same : (tables : List (List ℕ)) (f g : ℕ → ℕ) (path weight : ℕ) (sites : List GraphSite) → AllByRecursion (λ s. callee_bound tables f s ≡ callee_bound tables g s) sites →
     greatest (callee_bound tables f) (filter (is_within tables f path weight) sites) ≡ greatest (callee_bound tables g) (filter (is_within tables g path weight) sites)
@@ -93,7 +90,7 @@ module _ (graph : CallGraphState) (kept : IsCallGraph graph) (path : ℕ) (p q :
   bounds-below (suc n) f h within =
       let own = all-own graph.sites (back_edges graph) f in
       let same = all-map (IsOwn graph.sites (back_edges graph) f) (λ s. callee_bound graph.tables (slice_index p.bounds) s ≡ callee_bound graph.tables (slice_index q.bounds) s)
-      (λ s is. greatest-same (slice_index p.bounds) (slice_index q.bounds) (callees graph.tables s.target)
+      (λ s is. greatest-agree (slice_index p.bounds) (slice_index q.bounds) (callees graph.tables s.target)
       (all-from-has (λ c. slice_index p.bounds c ≡ slice_index q.bounds c) (callees graph.tables s.target)
       (λ c e. bounds-below n c (omega (arith, falls f s c is e)) (there f s c is e))))
       (sites_of graph.sites (back_edges graph) f) own in
@@ -105,12 +102,11 @@ module _ (graph : CallGraphState) (kept : IsCallGraph graph) (path : ℕ) (p q :
 
 same-lists : (xs ys : List ℕ) → length xs ≡ length ys → ((k : ℕ) → k < length xs → slice_index xs k ≡ slice_index ys k) → xs ≡ ys
 same-lists [] [] e h = refl
-same-lists [] (y ∷ ys) e h = absurd (omega arith)
-same-lists (x ∷ xs) [] e h = absurd (omega arith)
 same-lists (x ∷ xs) (y ∷ ys) e h =
     let here : x ≡ y = h 0 (omega arith) in
     let rest = same-lists xs ys (omega arith) (λ k lt. h (suc k) (omega arith)) in
     cc
+same-lists _ _ e h = absurd (omega arith)
 
 pub placements-are-one : (graph : CallGraphState) (path : ℕ) (p q : Plan) → IsCallGraph graph → IsPlacement graph (back_edges graph) path p → IsPlacement graph (back_edges graph) path q → p ≡ q
 placements-are-one graph path p q kept first second =

@@ -5,6 +5,7 @@ use Rattle.std.specs.List.{AllByRecursion}
 use Rattle.std.specs.List.Sorted.{IsPermutation}
 use Rattle.std.proofs.lemmas.List.Elements.{All-from_recursion, recursion_from_All}
 use Rattle.std.proofs.lemmas.List.Sorted.{All-permutation, IsPermutation-sym}
+use Rattle.c_lower.proofs.Lists.{all-weaker}
 
 abbrev pub Among : {X : Type 0} → List X → X → Type 0
 Among [] x = ⊥
@@ -14,17 +15,13 @@ abbrev pub Rises : {X : Type 0} → (X → ℕ) → List X → Type 0
 Rises key [] = Unit {0}
 Rises key (x ∷ xs) = AllByRecursion (λ y. key x < key y) xs × Rises key xs
 
-all-mapped : {X : Type 0} (P Q : X → Type 0) → ((x : X) → P x → Q x) → (xs : List X) → AllByRecursion P xs → AllByRecursion Q xs
-all-mapped P Q step [] h = tt
-all-mapped P Q step (x ∷ xs) h = (step x h.0, all-mapped P Q step xs h.1)
-
 all-both : {X : Type 0} (P Q R : X → Type 0) → ((x : X) → P x → Q x → R x) → (xs : List X) → AllByRecursion P xs → AllByRecursion Q xs → AllByRecursion R xs
 all-both P Q R step [] h k = tt
 all-both P Q R step (x ∷ xs) h k = (step x h.0 k.0, all-both P Q R step xs h.1 k.1)
 
 all-among : {X : Type 0} (xs : List X) → AllByRecursion (Among xs) xs
 all-among [] = tt
-all-among (x ∷ xs) = (inl refl, all-mapped (Among xs) (Among (x ∷ xs)) (λ y h. inr h) xs (all-among xs))
+all-among (x ∷ xs) = (inl refl, all-weaker (Among xs) (Among (x ∷ xs)) (λ y h. inr h) xs (all-among xs))
 
 among-all : {X : Type 0} (P : X → Type 0) (xs : List X) (x : X) → AllByRecursion P xs → Among xs x → P x
 among-all P [] x h a = absurd a

@@ -13,7 +13,6 @@ use Rattle.c_lower.specs.ProgramCode.{lowered, lowered_function}
 use Rattle.flat_code.specs.declared.operations.Op.{Op}
 use Rattle.flat_code.specs.declared.functions.FlatFunction.{FlatFunction}
 use Rattle.flat_code.specs.Codes.{FlatCode}
-use Rattle.flat_code.specs.Weight.{weight_of}
 use Rattle.call_graph.specs.declared.sites.GraphSite.{GraphSite}
 use Rattle.call_graph.specs.FlatCalls.{call_site, call_sites_from}
 use Rattle.call_graph.specs.Graph.{CallGraphState}
@@ -30,6 +29,7 @@ use Rattle.stack_build.specs.declared.refusals.BuildError.TheVariants.{FrameTooL
 use Rattle.analysis_lines.specs.Lines.{name_at}
 use Rattle.pair_commands.specs.Graphs.{names_of}
 use Rattle.stack_plan.proofs.SiteLemmas.{numbers-rise, site-caller}
+use Rattle.stack_build.proofs.Frames.{weights-count}
 
 -- Callers.
 
@@ -67,9 +67,6 @@ back-rises code graph is =
     numbers-rise (filter (λ x. has x.number (whole_walk graph []).back) graph.sites) (rising-filter (λ x. has x.number (whole_walk graph []).back) graph.sites is.rising)
 
 -- Frames.
-
-pub weights-count : (fs : List FlatFunction) → length (map (λ g. weight_of g.sizes) fs) ≡ length fs
-weights-count fs = length-map fs (λ g. weight_of g.sizes)
 
 -- a frame that is refused is that of a function
 refused-there : (max_path base : ℕ) (ws : List ℕ) (f bytes : ℕ) → option_map of_place (refusal_from max_path base ws) ≡ Some (FrameTooLarge f bytes) → f < base + length ws

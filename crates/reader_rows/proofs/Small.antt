@@ -12,8 +12,7 @@ operands_push sizes widths (q ∷ ps) p h k = (h.0, operands_push sizes widths p
 
 joined_in : (sizes widths : List ℕ) (l : ExprTree) (o : Infix) (r : ExprTree) → IsInRange sizes widths l → IsInRange sizes widths r → IsInRange sizes widths (joined l o r)
 joined_in sizes widths l (Infix.Binary operator) r h k = (h, k)
-joined_in sizes widths l Infix.LogicalAnd r h k = (h, k)
-joined_in sizes widths l Infix.LogicalOr r h k = (h, k)
+joined_in sizes widths l _ r h k = (h, k)
 
 pub chained_in : (sizes widths : List ℕ) (l : ExprTree) (ps : List (Infix × ExprTree)) → IsInRange sizes widths l → OperandsInRange sizes widths ps → IsInRange sizes widths (chained l ps)
 chained_in sizes widths l [] h k = h

@@ -107,12 +107,10 @@ eq_true : (a b : ℕ) → (a == b) ≡ true → a ≡ b
 eq_true a b e = grind (arith, nat_tests)
 
 pub same_need : (one other : Need) → is_same_need one other ≡ true → one ≡ other
-same_need Need.Nothing Need.Nothing e = refl
 same_need Need.Nothing Need.Arrival e = absurd (let f : false ≡ true = e in cc)
 same_need Need.Nothing (Need.Event c f) e = absurd (let f : false ≡ true = e in cc)
 same_need Need.Nothing (Need.Amount r a) e = absurd (let f : false ≡ true = e in cc)
 same_need Need.Arrival Need.Nothing e = absurd (let f : false ≡ true = e in cc)
-same_need Need.Arrival Need.Arrival e = refl
 same_need Need.Arrival (Need.Event c f) e = absurd (let f : false ≡ true = e in cc)
 same_need Need.Arrival (Need.Amount r a) e = absurd (let f : false ≡ true = e in cc)
 same_need (Need.Event c f) Need.Nothing e = absurd (let f : false ≡ true = e in cc)
@@ -127,15 +125,15 @@ same_need (Need.Amount r a) (Need.Event c f) e = absurd (let f : false ≡ true 
 same_need (Need.Amount r a) (Need.Amount s b) e =
     let both = both_true (r == s) (a == b) e in
     ap (λ (n : ℕ). Need.Amount n a) (eq_true r s both.0) ∙ ap (λ (n : ℕ). Need.Amount s n) (eq_true a b both.1)
+same_need _ _ e = refl
 
 eq_self : (a b : ℕ) → (a == a && b == b) ≡ true
 eq_self a b = grind (arith, nat_tests)
 
 pub need_self : (need : Need) → is_same_need need need ≡ true
-need_self Need.Nothing = refl
-need_self Need.Arrival = refl
 need_self (Need.Event c f) = eq_self c f
 need_self (Need.Amount r a) = eq_self r a
+need_self _ = refl
 
 -- ---- what code adds up
 

@@ -38,18 +38,16 @@ entries_take (Some entry ∷ places) (suc i) = let h : length (entries_of (take 
 
 -- how many are left when a place is emptied
 pub emptied_none : (places : List (Option Entry)) (place : ℕ) → place_at places place ≡ None → length (entries_of (slice_set places place None)) ≡ length (entries_of places)
-emptied_none [] place none = refl
-emptied_none (None ∷ places) zero none = refl
 emptied_none (Some entry ∷ places) zero none = absurd (cc)
 emptied_none (None ∷ places) (suc place) none = emptied_none places place none
 emptied_none (Some entry ∷ places) (suc place) none = ap suc (emptied_none places place none)
+emptied_none _ _ none = refl
 
 pub emptied_some : (places : List (Option Entry)) (place : ℕ) (entry : Entry) → place_at places place ≡ Some entry → suc (length (entries_of (slice_set places place None))) ≡ length (entries_of places)
-emptied_some [] place entry some = absurd (cc)
-emptied_some (None ∷ places) zero entry some = absurd (cc)
 emptied_some (Some other ∷ places) zero entry some = refl
 emptied_some (None ∷ places) (suc place) entry some = emptied_some places place entry some
 emptied_some (Some other ∷ places) (suc place) entry some = ap suc (emptied_some places place entry some)
+emptied_some _ _ entry some = absurd (cc)
 
 -- ---- gathering
 

@@ -17,32 +17,25 @@ pressures_from_each (s ∷ seen) (curve ∷ curves) (used ∷ uses) (cap ∷ cap
     let first : s ≡ pressure curve used cap = each 0 (omega arith) in
     let rest : seen ≡ pressures curves uses caps = pressures_from_each seen curves uses caps (omega arith) (omega arith) (omega arith) (λ k h. each (suc k) (omega arith)) in
     cc
-pressures_from_each (s ∷ seen) [] uses caps p q r each = absurd (omega arith)
-pressures_from_each [] (curve ∷ curves) uses caps p q r each = absurd (omega arith)
-pressures_from_each (s ∷ seen) (curve ∷ curves) [] caps p q r each = absurd (omega arith)
-pressures_from_each (s ∷ seen) (curve ∷ curves) (used ∷ uses) [] p q r each = absurd (omega arith)
+pressures_from_each _ _ _ _ p q r each = absurd (omega arith)
 
 -- no pressure is at the bound, of lists of uses and caps
 pub none_from_each : (high : ℕ) (curves : List Curve) (uses caps : List ℕ) →
     ((k : ℕ) → k < length curves → pressure (get_or curves k Linear) (get_or uses k 0) (get_or caps k 0) < high) →
     list_any (λ p. nat_le high p) (pressures curves uses caps) ≡ false
-none_from_each high [] uses caps each = refl
-none_from_each high (curve ∷ curves) [] caps each = refl
-none_from_each high (curve ∷ curves) (used ∷ uses) [] each = refl
 none_from_each high (curve ∷ curves) (used ∷ uses) (cap ∷ caps) each =
     let first : pressure curve used cap < high = each 0 (omega arith) in
     let rest : list_any (λ p. nat_le high p) (pressures curves uses caps) ≡ false = none_from_each high curves uses caps (λ k h. each (suc k) (omega arith)) in
     grind (arith, nat_tests)
+none_from_each high _ _ _ each = refl
 
 pub each_from_none : (high : ℕ) (curves : List Curve) (uses caps : List ℕ) → length uses ≡ length curves → length caps ≡ length curves →
     list_any (λ p. nat_le high p) (pressures curves uses caps) ≡ false →
     (k : ℕ) → k < length curves → pressure (get_or curves k Linear) (get_or uses k 0) (get_or caps k 0) < high
-each_from_none high [] uses caps p q none k h = absurd (omega arith)
-each_from_none high (curve ∷ curves) [] caps p q none k h = absurd (omega arith)
-each_from_none high (curve ∷ curves) (used ∷ uses) [] p q none k h = absurd (omega arith)
 each_from_none high (curve ∷ curves) (used ∷ uses) (cap ∷ caps) p q none zero h = grind (arith, nat_tests)
 each_from_none high (curve ∷ curves) (used ∷ uses) (cap ∷ caps) p q none (suc k) h =
     each_from_none high curves uses caps (omega arith) (omega arith) (grind (arith, nat_tests)) k (omega arith)
+each_from_none high _ _ _ p q none k h = absurd (omega arith)
 
 -- a gate that is open after these pressures were seen saw none at the bound
 pub none_where_open : (high low : ℕ) (was_open : Bool) (seen : List ℕ) → IsTrue (gate_after high low was_open seen) →

@@ -1,5 +1,5 @@
 -- What a monitor keeps when it takes new uses.
-use Rattle.std.proofs.Common.{◌≡◌, ℕ, zero, suc, ◌≤◌, ◌<◌, IsTrue, List, length, replicate, get_or, refl, arith}
+use Rattle.std.proofs.Common.{◌≡◌, ℕ, suc, ◌≤◌, ◌<◌, IsTrue, List, length, replicate, get_or, refl, arith}
 use Rattle.resource_monitor.specs.declared.curves.Curve.{Curve}
 use Rattle.resource_monitor.specs.declared.curves.Curve.TheVariants.{Linear}
 use Rattle.resource_monitor.specs.Pressure.{pressure, pressures}
@@ -11,9 +11,8 @@ use Rattle.resource_monitor.proofs.GateLemmas.{none_from_each, each_from_none, n
 -- ---- at first
 
 none-used : (n k : ℕ) → ◌≡◌ {A = ℕ} (get_or (replicate n 0) k 0) 0
-none-used zero k = refl
-none-used (suc n) zero = refl
 none-used (suc n) (suc k) = none-used n k
+none-used _ _ = refl
 
 pub IsMonitor-started : (curves : List Curve) (caps : List ℕ) (high low : ℕ) → length curves ≡ 8 → length caps ≡ 8 → AreInRange curves → SmallCaps caps →
     low < high → high ≤ 1000 → IsMonitor (started curves caps high low)

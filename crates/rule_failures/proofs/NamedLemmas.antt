@@ -105,23 +105,7 @@ site_is : (op : Op) (site : ℕ) → certified_site op ≡ Some site → site_of
 site_is (Op.Call s d f args) site e = e
 site_is (Op.CallTable s d t i x) site e = e
 site_is (Op.Spawn s d f x) site e = e
-site_is (Op.Model s d n args) site e = cc
-site_is (Op.Const d value) site e = cc
-site_is (Op.Copy d x) site e = cc
-site_is (Op.Neg d x) site e = cc
-site_is (Op.Not d x) site e = cc
-site_is (Op.Flip d x) site e = cc
-site_is (Op.Bin op d a b) site e = cc
-site_is (Op.Zero a) site e = cc
-site_is (Op.LoadGlobal d g) site e = cc
-site_is (Op.StoreGlobal g x) site e = cc
-site_is (Op.LoadLocal d a i) site e = cc
-site_is (Op.LoadArray d a i) site e = cc
-site_is (Op.StoreLocal a i x) site e = cc
-site_is (Op.StoreArray a i x) site e = cc
-site_is (Op.Jump to) site e = cc
-site_is (Op.JumpZero x to) site e = cc
-site_is (Op.Return x) site e = cc
+site_is _ site e = cc
 
 links_as : (certificate : Certificate) (op : Op) (site : ℕ) → certified_site op ≡ Some site → kind_of certificate op ≡ kind_in certificate.sites site
 links_as certificate op site e = ap (λ o. kind_at certificate o) (site_is op site e)

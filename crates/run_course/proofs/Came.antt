@@ -29,7 +29,7 @@ use Rattle.thread_core.specs.Worlds.{Held}
 use Rattle.run_course.specs.declared.looking.Next.{Next}
 use Rattle.run_course.specs.Kept.{Kept, known}
 use Rattle.run_course.specs.Stands.{IsTraceOf, FitsNext, HasPast, StandsBetween}
-use Rattle.run_course.specs.Rest.{Rest, HasBytes, Unasked, Told, Made}
+use Rattle.run_course.specs.Rest.{Rest, HasBytes, Unasked}
 use Rattle.run_course.proofs.Rules.{told_same}
 use Rattle.run_course.proofs.Times.{timely_delivered}
 use Rattle.chunk_pool.specs.Pool.{free_count}
@@ -96,13 +96,11 @@ module _ (g : Setup) (state : State) (k : Kept) (held : Held) (left : Rest) (sta
 
   trace_on : (left : Rest) → IsTraceOf state.trace k.reader (Next.Event event) left → IsTraceOf (behind state.trace event) k.reader Next.Unread left
   trace_on Unasked t = tt
-  trace_on (Told l) t = t.1
-  trace_on (Made l) t = t.1
+  trace_on _ t = t.1
 
   next_told : (left : Rest) → HasBytes left → IsTraceOf state.trace k.reader (Next.Event event) left → IsNext state.trace (Some event)
   next_told Unasked told t = absurd told
-  next_told (Told l) told t = t.0
-  next_told (Made l) told t = t.0
+  next_told _ told t = t.0
 
   pub came_allowed : held.machine.threads ≢ [] → event.time ≤ held.machine.clock → HasBytes left → IsComing g state held.machine.clock (item_of event.kind) (drops g state event held.machine between words) came_state
   came_allowed live due told =

@@ -5,7 +5,7 @@ use Rattle.machine_world.specs.Runs.{Step, world_of}
 use Rattle.machine_world.specs.Threads.{World, Setting, Move, Puts, Spawns, Blocks, Ends, Stops, step}
 use Rattle.machine_world.specs.WellFormed.{IsWellFormed, IsWellFormedIf}
 use Rattle.machine_world.proofs.FormWorlds.{IsWellFormedIf-action}
-use Rattle.lawful_log.proofs.Counts.{Counts, counts_step}
+use Rattle.machine_world.proofs.Counts.{Counts, counts_step}
 use Rattle.thread_core.specs.Turns.{Tells}
 use Rattle.thread_core.specs.Worlds.{Held}
 use Rattle.thread_core.specs.declared.turns.Turn.{Turn}
@@ -14,12 +14,9 @@ use Rattle.run_course.specs.Ranks.{turn_rank}
 
 -- the instructions of a turn's own step
 abbrev pub tick : Turn → ℕ
-tick (Turn.Out value) = 1
-tick (Turn.Spawned thread) = 1
-tick (Turn.Blocked key cost) = 1
-tick (Turn.Ended cost) = 1
 tick (Turn.Cut stop cost) = 0
 tick Turn.Memory = 0
+tick _ = 1
 
 -- ---- the cost
 
@@ -71,9 +68,6 @@ falls_none : (fuel old new r : ℕ) → old ≤ new → 1 ≤ r → 3 * (fuel - 
 falls_none fuel old new r more some = omega arith
 
 pub falls : (turn : Turn) (fuel old at new r : ℕ) → old ≤ at → new ≡ at + tick turn → new ≤ fuel → 1 ≤ r → 3 * (fuel - new) + turn_rank turn < 3 * (fuel - old) + r
-falls (Turn.Out value) fuel old at new r more is most some = falls_one fuel old new r (omega arith) most some
-falls (Turn.Spawned thread) fuel old at new r more is most some = falls_one fuel old new r (omega arith) most some
-falls (Turn.Blocked key cost) fuel old at new r more is most some = falls_one fuel old new r (omega arith) most some
-falls (Turn.Ended cost) fuel old at new r more is most some = falls_one fuel old new r (omega arith) most some
 falls (Turn.Cut stop cost) fuel old at new r more is most some = falls_none fuel old new r (omega arith) some
 falls Turn.Memory fuel old at new r more is most some = falls_none fuel old new r (omega arith) some
+falls _ fuel old at new r more is most some = falls_one fuel old new r (omega arith) most some

@@ -36,12 +36,11 @@ given_cons cap caps average averages = by_test (nat_eq cap 0) where
 
 given_at : (caps : List ℕ) (change : List ℤ) (r : ℕ) → r < length change →
     given (drop r caps) (drop r change) ≡ given_by (nat_eq (get_or caps r 0) 0) (get_or change r (pos 0)) (given (drop (suc r) caps) (drop (suc r) change))
-given_at [] [] r h = absurd (omega (arith, h))
 given_at [] (d ∷ ds) zero h = refl
 given_at [] (d ∷ ds) (suc r) h = refl
-given_at (c ∷ cs) [] r h = absurd (omega (arith, h))
 given_at (c ∷ cs) (d ∷ ds) zero h = given_cons c cs d ds
 given_at (c ∷ cs) (d ∷ ds) (suc r) h = given_at cs ds r (omega (arith, h))
+given_at _ [] r h = absurd (omega (arith, h))
 
 given_skip : (caps : List ℕ) (change : List ℤ) (r : ℕ) → r < length change → get_or caps r 0 ≡ 0 → given (drop r caps) (drop r change) ≡ given (drop (r + 1) caps) (drop (r + 1) change)
 given_skip caps change r h e =

@@ -18,7 +18,7 @@ use Rattle.lawful_log.specs.Within.{IsBetween}
 use Rattle.lawful_log.proofs.Between.{between_after}
 use Rattle.lawful_log.proofs.Own.{found_below}
 use Rattle.lawful_log.proofs.Within.{cost_of, cost_is, over_end, ended_state, end_allowed, threads_ended, formed_after_end}
-use Rattle.machine_world.specs.Threads.{World, thread_of, Move, Goes, Puts, Spawns, Blocks, Ends, Stops, Wrong, step}
+use Rattle.machine_world.specs.Threads.{World, thread_of, Move, Ends, step}
 use Rattle.resource_monitor.specs.Gate.{gate_after}
 use Rattle.resource_monitor.specs.Pressure.{pressures}
 use Rattle.thread_core.specs.Turns.{Tells}
@@ -55,12 +55,7 @@ pub record TellsEnd (move : Move) (cost : ℕ) (new : Held) : Type 0 where
 
 pub tells_end : (move : Move) (cost number : ℕ) (at : World) (new : Held) → Tells move (Turn.Ended cost) number at new → TellsEnd move cost new
 tells_end (Ends after) cost number at new t = record { after = after; step_is = refl; cost_is = t.0; machine = t.1; going = t.2 }
-tells_end (Blocks after) cost number at new t = absurd t
-tells_end (Puts word after) cost number at new t = absurd t
-tells_end (Goes after) cost number at new t = absurd t
-tells_end (Spawns started after) cost number at new t = absurd t
-tells_end (Stops stop) cost number at new t = absurd t
-tells_end Wrong cost number at new t = absurd t
+tells_end _ cost number at new t = absurd t
 
 module _ (g : Setup) (state : State) (k : Kept) (held : Held) (left : Rest) (under : Under) (stands : StandsWithin g state k held left under) (law : StepsAsSource g state stands.segment.thread)
     (cost : ℕ) (told : TellsEnd (step (setting_of g) stands.here) cost held) where

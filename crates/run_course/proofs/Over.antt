@@ -25,9 +25,9 @@ use Rattle.lawful_log.proofs.Between.{between_after, between_read}
 use Rattle.lawful_log.proofs.Within.{cost_of, cost_is, over_block, rests_blocked, RestsBlocked, blocked_state, block_allowed, threads_blocked, formed_after_block}
 use Rattle.machine_world.specs.Local.{Core}
 use Rattle.machine_world.specs.Places.{Checked}
-use Rattle.machine_world.specs.Rests.{IsResting, AtStart, AtCall, PastCall}
+use Rattle.machine_world.specs.Rests.{IsResting, PastCall}
 use Rattle.machine_world.specs.StandsForWorld.{IsPast}
-use Rattle.machine_world.specs.Threads.{Thread, World, thread_of, Move, Goes, Puts, Spawns, Blocks, Ends, Stops, Wrong, step}
+use Rattle.machine_world.specs.Threads.{Thread, World, thread_of, Move, Blocks, step}
 use Rattle.resource_monitor.specs.Gate.{gate, gate_after}
 use Rattle.resource_monitor.specs.Pressure.{pressures}
 use Rattle.rule_state.specs.Rules.{HasRejoined}
@@ -57,9 +57,8 @@ use Rattle.run_course.proofs.Turned.{some_live}
 -- ---- the key
 
 key_by : (c : Checked) (program : ProgramTree) (pool : Pool) (core : Core) (key : List ℕ) (waiting : Waiting) (rests : IsResting c pool core) → IsPast c pool core rests → HasKeyOf c pool core key → resting_key c pool core rests ≡ key_of waiting → key ≡ key_of waiting
-key_by c program pool core key waiting (AtStart f frames in_place) past has law = absurd past
-key_by c program pool core key waiting (AtCall f i op word frames in_place) past has law = absurd past
 key_by c program pool core key waiting (PastCall f i op word place frames in_place) past has law = has.is f i word op place frames in_place ∙ law
+key_by c program pool core key waiting _ past has law = absurd past
 
 pub record TellsBlock (move : Move) (key : List ℕ) (cost : ℕ) (number : ℕ) (new : Held) : Type 0 where
   pub after : World
@@ -71,12 +70,7 @@ pub record TellsBlock (move : Move) (key : List ℕ) (cost : ℕ) (number : ℕ)
 
 pub tells_block : (move : Move) (key : List ℕ) (cost number : ℕ) (at : World) (new : Held) → Tells move (Turn.Blocked key cost) number at new → TellsBlock move key cost number new
 tells_block (Blocks after) key cost number at new t = record { after = after; step_is = refl; key_is = t.0; cost_is = t.1; machine = t.2; going = t.3 }
-tells_block (Puts word after) key cost number at new t = absurd t
-tells_block (Goes after) key cost number at new t = absurd t
-tells_block (Spawns started after) key cost number at new t = absurd t
-tells_block (Ends after) key cost number at new t = absurd t
-tells_block (Stops stop) key cost number at new t = absurd t
-tells_block Wrong key cost number at new t = absurd t
+tells_block _ key cost number at new t = absurd t
 
 pub checked_same : (g : Setup) (held : Held) → IsOf g held → core.checked_of held.accepted ≡ checked_of g
 checked_same g held of =

@@ -29,9 +29,7 @@ part_ends g state before k held left taken written part step is ends =
 
 counts_on : (part : Result (Unit {0}) Failure) (writes writes' : ℕ) → CountsPart part writes writes' → CountsPart (going_on part) writes writes'
 counts_on (Ok _) writes writes' counts = counts
-counts_on (Err Failure.Read) writes writes' counts = counts
-counts_on (Err Failure.Write) writes writes' counts = counts
-counts_on (Err Failure.Memory) writes writes' counts = counts
+counts_on _ writes writes' counts = counts
 
 pub part_counts : (part : Result (Unit {0}) Failure) (step : Result (Option Halt) Failure) (writes writes' : ℕ) → step ≡ going_on part → CountsPart part writes writes'
     → CountsPart step writes writes'
@@ -75,8 +73,7 @@ stuck_small next held = by (due_at next held.machine.clock || any_ready_in held)
 
 next_small : (next : Next) → next_rank next ≤ 2
 next_small (Next.Event event) = omega arith
-next_small Next.Unread = omega arith
-next_small Next.Over = omega arith
+next_small _ = omega arith
 
 long_first : (old new : Kept) (before after : Held) → long_rank new after < long_rank old before → rank new after < rank old before
 long_first old new before after less =

@@ -7,10 +7,10 @@ use Rattle.lawful_log.specs.Lawful.{IsAllowed, nowhere, by_entry}
 use Rattle.lawful_log.specs.Segments.{quiet_world, after_quiet}
 use Rattle.lawful_log.specs.Setup.{Setup, setting_of}
 use Rattle.lawful_log.specs.State.{State}
-use Rattle.lawful_log.proofs.Counts.{Counts, counts_step}
+use Rattle.machine_world.proofs.Counts.{Counts, counts_step}
 use Rattle.machine_world.specs.Runs.{Action, Advance, Deliver, Pick, advanced, delivered, world_of, and_then, after_action, after_actions}
 use Rattle.machine_world.specs.Stretches.{IsSound}
-use Rattle.machine_world.specs.Threads.{World, Setting, Move, Goes, Puts as Puts_word, Spawns, Blocks, Ends, Stops, Wrong, step}
+use Rattle.machine_world.specs.Threads.{World, Setting, Move, Goes, Puts as Puts_word, Spawns, Blocks, Ends, Stops, step}
 use Rattle.c_mean.specs.ModelledCalls.{Delivery}
 use Rattle.run_course.specs.declared.course.Under.{Under}
 use Rattle.run_course.specs.declared.ends.Failure.{Failure}
@@ -58,11 +58,7 @@ pick_acts s w after number e = one_action s w after (Pick number) e
 quiet_step : (m : Move) (o : Option World) → quiet_world m ≡ o → (after : World) → o ≡ Some after → world_of m ≡ Some after
 quiet_step (Goes w) o e after f = e ∙ f
 quiet_step (Spawns number w) o e after f = e ∙ f
-quiet_step (Puts_word value w) o e after f = absurd (let no : None ≡ Some after = e ∙ f in cc)
-quiet_step (Blocks w) o e after f = absurd (let no : None ≡ Some after = e ∙ f in cc)
-quiet_step (Ends w) o e after f = absurd (let no : None ≡ Some after = e ∙ f in cc)
-quiet_step (Stops stop) o e after f = absurd (let no : None ≡ Some after = e ∙ f in cc)
-quiet_step Wrong o e after f = absurd (let no : None ≡ Some after = e ∙ f in cc)
+quiet_step _ o e after f = absurd (let no : None ≡ Some after = e ∙ f in cc)
 
 quiet_by : (s : Setting) (n : ℕ) (w at : World) → ((v : World) → after_quiet s n v ≡ Some at → ActsTo s v at) → (o : Option World) → quiet_world (step s w) ≡ o → and_then o (after_quiet s n) ≡ Some at → ActsTo s w at
 quiet_by s n w at rest None f e = absurd (let no : None ≡ Some at = e in cc)
@@ -94,11 +90,7 @@ one_tick from at after ticked clock cost = omega (arith, ticked, clock, cost)
 quiet_tick : (from w : World) (m : Move) (after : World) → HasTicked from w → Counts w m → quiet_world m ≡ Some after → HasTicked from after
 quiet_tick from w (Goes v) after ticked c e = let same : v ≡ after = cc in subst (λ (u : World). HasTicked from u) same (one_tick from w v ticked c.clock c.cost)
 quiet_tick from w (Spawns number v) after ticked c e = let same : v ≡ after = cc in subst (λ (u : World). HasTicked from u) same (one_tick from w v ticked c.clock c.cost)
-quiet_tick from w (Puts_word value v) after ticked c e = absurd (let no : None ≡ Some after = e in cc)
-quiet_tick from w (Blocks v) after ticked c e = absurd (let no : None ≡ Some after = e in cc)
-quiet_tick from w (Ends v) after ticked c e = absurd (let no : None ≡ Some after = e in cc)
-quiet_tick from w (Stops stop) after ticked c e = absurd (let no : None ≡ Some after = e in cc)
-quiet_tick from w Wrong after ticked c e = absurd (let no : None ≡ Some after = e in cc)
+quiet_tick from w _ after ticked c e = absurd (let no : None ≡ Some after = e in cc)
 
 ticks_by : (s : Setting) (n : ℕ) (from w at : World) → HasTicked from w → ((v : World) → HasTicked from v → after_quiet s n v ≡ Some at → HasTicked from at) → (o : Option World) → quiet_world (step s w) ≡ o →
     and_then o (after_quiet s n) ≡ Some at → HasTicked from at

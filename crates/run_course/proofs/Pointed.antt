@@ -18,9 +18,8 @@ use Rattle.thread_core.specs.Making.{after_event}
 use Rattle.thread_core.specs.Worlds.{Held}
 
 known_event : (n : Next) (event : Event) → known n ≡ Some (Some event) → n ≡ Next.Event event
-known_event Next.Unread event e = absurd (cc)
 known_event (Next.Event other) event e = let same : other ≡ event = cc in ap Next.Event same
-known_event Next.Over event e = absurd (cc)
+known_event _ event e = absurd (cc)
 
 module _ (g : Setup) (state : State) (k : Kept) (held : Held) (left : Rest) (next : Option Event) (at : IsAtPoint g state k held left next) where
   pub resting : held.machine.running ≡ None

@@ -97,30 +97,26 @@ told_picked g state segment begun picked waiting is places (Stride st) thread ke
 
 pub told_taken : (w : World) (places : List (Option ℕ)) (waiting : List Waiter) (rule new : RuleState) (eligible : ThreadId → Bool) (choice : Choice) → HasTaken rule new eligible choice → AreKept places rule waiting → AreTold w rule → AreTold w new
 told_taken w places waiting (Graph s) (Graph t) eligible choice taken kept told = needed_taken w s t choice taken.taken told
-told_taken w places waiting (Graph s) (Stride t) eligible choice taken kept told = absurd taken
-told_taken w places waiting (Stride s) (Graph t) eligible choice taken kept told = absurd taken
 told_taken w places waiting (Stride s) (Stride t) eligible choice taken kept told =
     subst (λ (st : StridesState). AreNeededByStrides w st.rule) (sym taken) (strides_taken w s.rule (stride_choice s.rule eligible choice.thread) kept.1 told)
+told_taken w places waiting _ _ eligible choice taken kept told = absurd taken
 
 pub told_started : (w : World) (rule new : RuleState) (thread : ThreadId) → HasStarted rule new thread → MayStart rule thread → IsNeeded w (record { thread = thread; need = Need.Nothing }) → AreTold w rule → AreTold w new
 told_started w (Graph s) (Graph t) thread starts may own told = needed_told w s t 0 (record { thread = thread; need = Need.Nothing }) starts.told own told
-told_started w (Graph s) (Stride t) thread starts may own told = absurd starts
-told_started w (Stride s) (Graph t) thread starts may own told = absurd starts
 told_started w (Stride s) (Stride t) thread starts may own told = subst (λ (r : StrideState). AreNeededByStrides w r) (sym starts.rule) (strides_started w s.rule thread may own told)
+told_started w _ _ thread starts may own told = absurd starts
 
 pub told_rejoined : (w : World) (places : List (Option ℕ)) (waiting : List Waiter) (rule new : RuleState) (thread : ThreadId) (node : ℕ) (need : Need) → HasRejoined rule new thread node need → AreKeptBeside places rule waiting thread → IsNeeded w (record { thread = thread; need = need }) → AreTold w rule → AreTold w new
 told_rejoined w places waiting (Graph s) (Graph t) thread node need joins kept own told = needed_told w s t node (record { thread = thread; need = need }) joins.told own told
-told_rejoined w places waiting (Graph s) (Stride t) thread node need joins kept own told = absurd joins
-told_rejoined w places waiting (Stride s) (Graph t) thread node need joins kept own told = absurd joins
 told_rejoined w places waiting (Stride s) (Stride t) thread node need joins kept own told =
     subst (λ (r : StrideState). AreNeededByStrides w r) (sym joins.rule) (strides_rejoined w s.rule thread need kept.1.running.running own told)
+told_rejoined w places waiting _ _ thread node need joins kept own told = absurd joins
 
 pub told_left : (w : World) (places : List (Option ℕ)) (waiting : List Waiter) (rule new : RuleState) (thread : ThreadId) → HasLeft rule new thread → AreKeptBeside places rule waiting thread → AreTold w rule → AreTold w new
 told_left w places waiting (Graph s) (Graph t) thread leaves kept told = subst (λ (v : SchedulerState). AreNeeded w v) (sym leaves) told
-told_left w places waiting (Graph s) (Stride t) thread leaves kept told = absurd leaves
-told_left w places waiting (Stride s) (Graph t) thread leaves kept told = absurd leaves
 told_left w places waiting (Stride s) (Stride t) thread leaves kept told =
     subst (λ (st : StridesState). AreNeededByStrides w st.rule) (sym leaves) (strides_left w s.rule thread.number kept.1.running.running kept.0.once told)
+told_left w places waiting _ _ thread leaves kept told = absurd leaves
 
 pub all_told : (held : Held) (rule : RuleState) (waiting : List Waiter) → held.machine.running ≡ None → AreKept held.places rule waiting → AreTold held.machine rule → AreKnownTo (Vouches held) rule
 all_told held (Graph s) waiting rests kept told = all_known held s waiting rests kept told
@@ -130,27 +126,23 @@ all_told held (Stride st) waiting rests kept told = strides_known held st waitin
 
 pub noted_taken : (rule new : RuleState) (eligible : ThreadId → Bool) (choice : Choice) → HasTaken rule new eligible choice → noted_of new ≡ noted_of rule + 1
 noted_taken (Graph s) (Graph t) eligible choice taken = taken.noted.noted
-noted_taken (Graph s) (Stride t) eligible choice taken = absurd taken
-noted_taken (Stride s) (Graph t) eligible choice taken = absurd taken
 noted_taken (Stride s) (Stride t) eligible choice taken = ap (λ (st : StridesState). st.rule.noted) taken
+noted_taken _ _ eligible choice taken = absurd taken
 
 pub noted_started : (rule new : RuleState) (thread : ThreadId) → HasStarted rule new thread → noted_of new ≡ noted_of rule
 noted_started (Graph s) (Graph t) thread starts = starts.joined.noted
-noted_started (Graph s) (Stride t) thread starts = absurd starts
-noted_started (Stride s) (Graph t) thread starts = absurd starts
 noted_started (Stride s) (Stride t) thread starts = ap (λ (r : StrideState). r.noted) starts.rule
+noted_started _ _ thread starts = absurd starts
 
 pub noted_rejoined : (rule new : RuleState) (thread : ThreadId) (node : ℕ) (need : Need) → HasRejoined rule new thread node need → noted_of new ≡ noted_of rule
 noted_rejoined (Graph s) (Graph t) thread node need joins = joins.joined.noted
-noted_rejoined (Graph s) (Stride t) thread node need joins = absurd joins
-noted_rejoined (Stride s) (Graph t) thread node need joins = absurd joins
 noted_rejoined (Stride s) (Stride t) thread node need joins = ap (λ (r : StrideState). r.noted) joins.rule
+noted_rejoined _ _ thread node need joins = absurd joins
 
 pub noted_left : (rule new : RuleState) (thread : ThreadId) → HasLeft rule new thread → noted_of new ≡ noted_of rule
 noted_left (Graph s) (Graph t) thread leaves = ap (λ (v : SchedulerState). v.noted) leaves
-noted_left (Graph s) (Stride t) thread leaves = absurd leaves
-noted_left (Stride s) (Graph t) thread leaves = absurd leaves
 noted_left (Stride s) (Stride t) thread leaves = ap (λ (st : StridesState). st.rule.noted) leaves
+noted_left _ _ thread leaves = absurd leaves
 
 -- ---- the choice
 
@@ -163,10 +155,9 @@ module _ (g : Setup) (state : State) (clock : ℕ) (places : List (Option ℕ)) 
       IsLawfulOf rule (is_eligible ready accept (any_elsewhere g.policy (seen_of state) clock) monitor.is_open) (score monitor (edges_of state.past.records)) choice → IsChosen g state clock places choice
   told_by by_graph e (Graph s) ready accept monitor accounts kept ready_is accept_is monitor_is some choice is =
       choice_told g state clock places s ready accept monitor e numbered stands are kept accounts ready_is accept_is monitor_is some choice is
-  told_by by_graph e (Stride st) ready accept monitor accounts kept ready_is accept_is monitor_is some choice is = absurd accounts
-  told_by (by_stride tickets) e (Graph s) ready accept monitor accounts kept ready_is accept_is monitor_is some choice is = absurd accounts
   told_by (by_stride tickets) e (Stride st) ready accept monitor accounts kept ready_is accept_is monitor_is some choice is =
       stride_choice_told g state clock places st tickets ready accept monitor.is_open e stands are kept.0 accounts kept.1 ready_is accept_is (ap (λ (m : MonitorState). m.is_open) monitor_is) some choice is
+  told_by _ e _ ready accept monitor accounts kept ready_is accept_is monitor_is some choice is = absurd accounts
 
   -- the choice of the rule is the lawful one, and there is one where a thread is ready
   pub rule_choice_told : (rule : RuleState) (ready accept : ThreadId → Bool) (monitor : MonitorState) → HasAccounts g.policy.rule rule state.past → AreKept places rule state.waiting →
@@ -192,10 +183,9 @@ module _ (g : Setup) (state : State) (clock : ℕ) (places : List (Option ℕ)) 
               (clients_taken places s state.waiting (stride_choice s.rule eligible choice.thread) kept.1 kept.0),
           runner_taken s eligible choice kept.1 lawful (subst (λ (st : StridesState). choice.thread.slot < length st.nodes) taken under.place),
         )
-    kept_by by_graph e (Graph s) (Stride t) accounts kept lawful taken under = absurd taken
     kept_by by_graph e (Stride s) new accounts kept lawful taken under = absurd accounts
     kept_by (by_stride tickets) e (Graph s) new accounts kept lawful taken under = absurd accounts
-    kept_by (by_stride tickets) e (Stride s) (Graph t) accounts kept lawful taken under = absurd taken
+    kept_by _ e _ _ accounts kept lawful taken under = absurd taken
 
     pub kept_taken : (rule new : RuleState) → HasAccounts g.policy.rule rule state.past → AreKept places rule state.waiting → IsLawfulOf rule eligible score_of (Some choice) → HasTaken rule new eligible choice →
         IsUnderWay new choice.thread → AreKeptBeside places new (others_waiting state.waiting chosen.waiter) choice.thread
@@ -221,10 +211,9 @@ module _ (g : Setup) (state : State) (clock : ℕ) (places : List (Option ℕ)) 
         (subst (λ (n : ℕ). HasPasses tickets (after_choice s.rule (stride_choice s.rule eligible choice.thread)) (made n ∷ state.past.taken)) chosen.thread_is
         (passes_taken tickets s.rule state.past.taken (stride_choice s.rule eligible choice.thread) chosen.waiter.node begun lawful.first.client (chosen_client s eligible choice kept.1 lawful) kept.0.once
         (clients_below places s state.waiting (IsWaiting state.machine) begun kept.1 waits_below are.each kept.0) accounts))
-    accounts_by by_graph (Graph s) (Stride t) count accounts kept lawful taken = absurd taken
     accounts_by by_graph (Stride s) new count accounts kept lawful taken = absurd accounts
     accounts_by (by_stride tickets) (Graph s) new count accounts kept lawful taken = absurd accounts
-    accounts_by (by_stride tickets) (Stride s) (Graph t) count accounts kept lawful taken = absurd taken
+    accounts_by _ _ _ count accounts kept lawful taken = absurd taken
 
     pub accounts_taken : (rule new : RuleState) → noted_of rule ≡ length state.past.taken → HasAccounts g.policy.rule rule state.past → AreKept places rule state.waiting → IsLawfulOf rule eligible score_of (Some choice) →
         HasTaken rule new eligible choice → HasAccounts g.policy.rule new (with_choice state.past chosen.waiter (length state.source.threads))
@@ -259,59 +248,53 @@ may_start_within places (Stride st) waiting thread new kept apart none =
 pub kept_started : (places : List (Option ℕ)) (rule new : RuleState) (waiting : List Waiter) (thread fresh : ThreadId) → AreKeptBeside places rule waiting thread → HasStarted rule new fresh → IsPlaced places fresh →
     fresh.number ≢ thread.number → waiter_of fresh.number waiting ≡ None → AreKeptBeside places new (waiting ++ record { thread = fresh.number; node = 0; since = 0 } ∷ []) thread
 kept_started places (Graph s) (Graph t) waiting thread fresh kept starts placed apart none = queued_more places s t 0 fresh waiting 0 placed starts.joined kept
-kept_started places (Graph s) (Stride t) waiting thread fresh kept starts placed apart none = absurd starts
-kept_started places (Stride s) (Graph t) waiting thread fresh kept starts placed apart none = absurd starts
 kept_started places (Stride s) (Stride t) waiting thread fresh kept starts placed apart none = (
   clients_started places s t waiting fresh (λ e. let both : Some thread.number ≡ Some fresh.number = sym kept.1.running.running ∙ e in let same : thread.number ≡ fresh.number = cc in apart (sym same)) none placed starts kept.0,
   runner_started s t thread fresh starts kept.1,
 )
+kept_started places _ _ waiting thread fresh kept starts placed apart none = absurd starts
 
 pub accounts_started : (r : Rule) (rule new : RuleState) (past : Past) (fresh : ThreadId) (begun : ℕ) → HasAccounts r rule past → HasStarted rule new fresh → StartedBy past.taken begun → begun ≤ fresh.number → HasAccounts r new past
 accounts_started by_graph (Graph s) (Graph t) past fresh begun accounts starts by later = λ node. starts.joined.lasts node ∙ accounts node
-accounts_started by_graph (Graph s) (Stride t) past fresh begun accounts starts by later = absurd starts
 accounts_started by_graph (Stride s) new past fresh begun accounts starts by later = absurd accounts
 accounts_started (by_stride tickets) (Graph s) new past fresh begun accounts starts by later = absurd accounts
-accounts_started (by_stride tickets) (Stride s) (Graph t) past fresh begun accounts starts by later = absurd starts
 accounts_started (by_stride tickets) (Stride s) (Stride t) past fresh begun accounts starts by later =
     subst (λ (x : StrideState). HasPasses tickets x past.taken) (sym starts.rule) (passes_started tickets s.rule past.taken fresh begun by later accounts)
+accounts_started _ _ _ past fresh begun accounts starts by later = absurd starts
 
 -- ---- the end of a segment
 
 pub kept_rejoined : (places : List (Option ℕ)) (rule new : RuleState) (waiting : List Waiter) (thread : ThreadId) (node since : ℕ) (need : Need) → AreKeptBeside places rule waiting thread → HasRejoined rule new thread node need →
     IsPlaced places thread → waiter_of thread.number waiting ≡ None → AreKept places new (waiting ++ record { thread = thread.number; node = node; since = since } ∷ [])
 kept_rejoined places (Graph s) (Graph t) waiting thread node since need kept joins placed none = queued_more places s t node thread waiting since placed joins.joined kept
-kept_rejoined places (Graph s) (Stride t) waiting thread node since need kept joins placed none = absurd joins
-kept_rejoined places (Stride s) (Graph t) waiting thread node since need kept joins placed none = absurd joins
 kept_rejoined places (Stride s) (Stride t) waiting thread node since need kept joins placed none =
     (clients_rejoined places s t waiting thread node since need kept.1 none placed joins kept.0, ap (λ (x : StrideState). x.running) joins.rule)
+kept_rejoined places _ _ waiting thread node since need kept joins placed none = absurd joins
 
 pub accounts_rejoined : (r : Rule) (rule new : RuleState) (past after : Past) (thread : ThreadId) (node : ℕ) (need : Need) → after.taken ≡ past.taken → HasAccounts r rule past → HasRejoined rule new thread node need → HasAccounts r new after
 accounts_rejoined by_graph (Graph s) (Graph t) past after thread node need same accounts joins = λ n. joins.joined.lasts n ∙ accounts n ∙ ap (λ (l : List PastChoice). last_choice l n) (sym same)
-accounts_rejoined by_graph (Graph s) (Stride t) past after thread node need same accounts joins = absurd joins
 accounts_rejoined by_graph (Stride s) new past after thread node need same accounts joins = absurd accounts
 accounts_rejoined (by_stride tickets) (Graph s) new past after thread node need same accounts joins = absurd accounts
-accounts_rejoined (by_stride tickets) (Stride s) (Graph t) past after thread node need same accounts joins = absurd joins
 accounts_rejoined (by_stride tickets) (Stride s) (Stride t) past after thread node need same accounts joins =
     subst (λ (x : StrideState). HasPasses tickets x after.taken) (sym joins.rule)
     (passes_rejoined tickets s.rule after.taken thread.number need (subst (λ (l : List PastChoice). HasPasses tickets s.rule l) (sym same) accounts))
+accounts_rejoined _ _ _ past after thread node need same accounts joins = absurd joins
 
 pub kept_left : (places : List (Option ℕ)) (rule new : RuleState) (waiting : List Waiter) (thread : ThreadId) → AreKeptBeside places rule waiting thread → HasLeft rule new thread → waiter_of thread.number waiting ≡ None →
     AreKept places new waiting
 kept_left places (Graph s) (Graph t) waiting thread kept leaves none = subst (λ (v : SchedulerState). AreQueued places v waiting) (sym leaves) kept
-kept_left places (Graph s) (Stride t) waiting thread kept leaves none = absurd leaves
-kept_left places (Stride s) (Graph t) waiting thread kept leaves none = absurd leaves
 kept_left places (Stride s) (Stride t) waiting thread kept leaves none =
     subst (λ (st : StridesState). AreKept places (Stride st) waiting) (sym leaves) (clients_left places s waiting thread kept.1 none kept.0, refl)
+kept_left places _ _ waiting thread kept leaves none = absurd leaves
 
 pub accounts_left : (r : Rule) (rule new : RuleState) (past after : Past) (thread : ThreadId) → after.taken ≡ past.taken → HasAccounts r rule past → HasLeft rule new thread → HasAccounts r new after
 accounts_left by_graph (Graph s) (Graph t) past after thread same accounts leaves = λ n. ap (λ (v : SchedulerState). last_of v n) leaves ∙ accounts n ∙ ap (λ (l : List PastChoice). last_choice l n) (sym same)
-accounts_left by_graph (Graph s) (Stride t) past after thread same accounts leaves = absurd leaves
 accounts_left by_graph (Stride s) new past after thread same accounts leaves = absurd accounts
 accounts_left (by_stride tickets) (Graph s) new past after thread same accounts leaves = absurd accounts
-accounts_left (by_stride tickets) (Stride s) (Graph t) past after thread same accounts leaves = absurd leaves
 accounts_left (by_stride tickets) (Stride s) (Stride t) past after thread same accounts leaves =
     subst (λ (st : StridesState). HasPasses tickets st.rule after.taken) (sym leaves)
     (passes_left tickets s.rule after.taken thread.number (subst (λ (l : List PastChoice). HasPasses tickets s.rule l) (sym same) accounts))
+accounts_left _ _ _ past after thread same accounts leaves = absurd leaves
 
 -- ---- the start of a run
 
@@ -325,35 +308,31 @@ none_queued places = record { queue = λ node. tt }
 pub kept_first : (places : List (Option ℕ)) (rule new : RuleState) (thread : ThreadId) → HasNothing rule → HasStarted rule new thread → IsPlaced places thread → AreKept places new (record { thread = thread.number; node = 0; since = 0 } ∷ [])
 kept_first places (Graph s) (Graph t) thread nothing starts placed =
     queued_more places s t 0 thread [] 0 placed starts.joined (subst (λ (v : SchedulerState). AreQueued places v []) (sym nothing) (none_queued places))
-kept_first places (Graph s) (Stride t) thread nothing starts placed = absurd starts
-kept_first places (Stride s) (Graph t) thread nothing starts placed = absurd starts
 kept_first places (Stride s) (Stride t) thread nothing starts placed =
     let rests : s.rule.running ≡ None = ap (λ (v : StridesState). v.rule.running) nothing in (
       clients_started places s t [] thread (λ e. let no : None ≡ Some thread.number = sym rests ∙ e in absurd (cc)) refl placed starts
           (subst (λ (v : StridesState). AreClients places v []) (sym nothing) (clients_first places s.rule.tickets)),
       ap (λ (x : StrideState). x.running) starts.rule ∙ rests,
     )
+kept_first places _ _ thread nothing starts placed = absurd starts
 
 pub accounts_first : (rule new : RuleState) (thread : ThreadId) (uses : List ℕ) → HasNothing rule → HasStarted rule new thread → HasAccounts (rule_of rule) new (no_past uses)
 accounts_first (Graph s) (Graph t) thread uses nothing starts = λ node. starts.joined.lasts node ∙ ap (λ (v : SchedulerState). last_of v node) nothing
-accounts_first (Graph s) (Stride t) thread uses nothing starts = absurd starts
-accounts_first (Stride s) (Graph t) thread uses nothing starts = absurd starts
 accounts_first (Stride s) (Stride t) thread uses nothing starts =
     let rule_is : s.rule ≡ new_rule s.rule.tickets = ap (λ (v : StridesState). v.rule) nothing in
     subst (λ (x : StrideState). HasPasses s.rule.tickets x []) (sym starts.rule)
     (passes_started s.rule.tickets s.rule [] thread 0 tt (omega arith) (subst (λ (x : StrideState). HasPasses s.rule.tickets x []) (sym rule_is) (passes_first s.rule.tickets)))
+accounts_first _ _ thread uses nothing starts = absurd starts
 
 pub told_first : (w : World) (rule new : RuleState) (thread : ThreadId) → HasNothing rule → HasStarted rule new thread → IsNeeded w (record { thread = thread; need = Need.Nothing }) → AreTold w new
 told_first w (Graph s) (Graph t) thread nothing starts own =
     needed_told w s t 0 (record { thread = thread; need = Need.Nothing }) starts.told own (subst (λ (v : SchedulerState). AreNeeded w v) (sym nothing) (record { each = λ node. tt }))
-told_first w (Graph s) (Stride t) thread nothing starts own = absurd starts
-told_first w (Stride s) (Graph t) thread nothing starts own = absurd starts
 told_first w (Stride s) (Stride t) thread nothing starts own =
     subst (λ (r : StrideState). AreNeededByStrides w r) (sym starts.rule)
     (strides_started w s.rule thread (may_start_first (Stride s) thread nothing) own (subst (λ (v : StridesState). AreNeededByStrides w v.rule) (sym nothing) tt))
+told_first w _ _ thread nothing starts own = absurd starts
 
 pub noted_first : (rule new : RuleState) (thread : ThreadId) → HasNothing rule → HasStarted rule new thread → noted_of new ≡ 0
 noted_first (Graph s) (Graph t) thread nothing starts = starts.joined.noted ∙ ap (λ (v : SchedulerState). v.noted) nothing
-noted_first (Graph s) (Stride t) thread nothing starts = absurd starts
-noted_first (Stride s) (Graph t) thread nothing starts = absurd starts
 noted_first (Stride s) (Stride t) thread nothing starts = ap (λ (r : StrideState). r.noted) starts.rule ∙ ap (λ (v : StridesState). v.rule.noted) nothing
+noted_first _ _ thread nothing starts = absurd starts

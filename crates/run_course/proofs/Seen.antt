@@ -42,8 +42,7 @@ made_by (Some left) bytes = Told left
 
 abbrev pub back : Rest → Option (List ℕ) → List ℕ → Rest
 back Unasked told bytes = Unasked
-back (Told left) told bytes = made_by told bytes
-back (Made rest) told bytes = made_by told bytes
+back _ told bytes = made_by told bytes
 
 knows_made : (told : Option (List ℕ)) (bytes : List ℕ) → Knows (made_by told bytes) told
 knows_made None bytes = refl
@@ -51,8 +50,7 @@ knows_made (Some left) bytes = refl
 
 pub knows_back : (after : Rest) (told : Option (List ℕ)) (bytes : List ℕ) → Knows (back after told bytes) told
 knows_back Unasked told bytes = tt
-knows_back (Told left) told bytes = knows_made told bytes
-knows_back (Made rest) told bytes = knows_made told bytes
+knows_back _ told bytes = knows_made told bytes
 
 has_made : (told : Option (List ℕ)) (bytes : List ℕ) → HasBytes (made_by told bytes)
 has_made None bytes = tt
@@ -60,21 +58,18 @@ has_made (Some left) bytes = tt
 
 pub has_back : (after : Rest) (told : Option (List ℕ)) (bytes : List ℕ) → HasBytes after → HasBytes (back after told bytes)
 has_back Unasked told bytes has = has
-has_back (Told left) told bytes has = has_made told bytes
-has_back (Made rest) told bytes has = has_made told bytes
+has_back _ told bytes has = has_made told bytes
 
 pub had_back : (after : Rest) (told : Option (List ℕ)) (bytes : List ℕ) → HasBytes (back after told bytes) → HasBytes after
 had_back Unasked told bytes has = has
-had_back (Told left) told bytes has = tt
-had_back (Made rest) told bytes has = tt
+had_back _ told bytes has = tt
 
 -- ---- the next line of the trace
 
 -- it is refused
 abbrev pub IsRefusal : TraceError → Type 0
-IsRefusal (TraceError.Line number) = Unit {0}
-IsRefusal (TraceError.Order number time earlier) = Unit {0}
 IsRefusal TraceError.ReadFault = ⊥
+IsRefusal _ = Unit {0}
 
 module _ (trace : Trace) (old reader : ReaderState) where
   over_made : (told told' : Option (List ℕ)) → IsTraceOf trace old Next.Unread (made_by told []) → NextTold old reader told told' (Ok None) → trace.bytes ≡ []
@@ -84,8 +79,7 @@ module _ (trace : Trace) (old reader : ReaderState) where
 
   over_known : (after : Rest) (told told' : Option (List ℕ)) → IsTraceOf trace old Next.Unread (back after told []) → NextTold old reader told told' (Ok None) → IsTraceOf trace reader Next.Over after
   over_known Unasked told told' is next = tt
-  over_known (Told left) told told' is next = over_made told told' is next
-  over_known (Made bytes) told told' is next = over_made told told' is next
+  over_known _ told told' is next = over_made told told' is next
 
   module _ (event : Event) (fits : FitsEvent event) (rises : old.last ≤ event.time) (counted : reader.lines ≤ 1000000) (lines : reader.lines ≡ old.lines + 1) (last : reader.last ≡ event.time) where
     -- the line of the event comes first, and then these
@@ -103,12 +97,11 @@ module _ (trace : Trace) (old reader : ReaderState) where
         IsTraceOf trace reader (Next.Event event) after
     event_known Unasked told told' knows is next = tt
     event_known (Told left) None told' knows is next = event_line (reader.held ++ left) is
-    event_known (Told left) (Some b) None knows is next = absurd next
     event_known (Told left) (Some b) (Some a) knows is next =
         event_in (old.held ++ b) (reader.held ++ left) is next.0 (ap (λ (l : List ℕ). reader.held ++ l) (sym (some_same a left knows)) ∙ next.1)
     event_known (Made bytes) None told' knows is next = event_line bytes is
-    event_known (Made bytes) (Some b) None knows is next = absurd next
     event_known (Made bytes) (Some b) (Some a) knows is next = absurd (cc)
+    event_known _ (Some b) None knows is next = absurd next
 
   -- a line is refused, of this number
   module _ (number : ℕ) (number_is : number ≡ old.lines + 1) where
@@ -132,8 +125,7 @@ module _ (trace : Trace) (old reader : ReaderState) where
     refused_known : (error : TraceError) (after : Rest) (told told' : Option (List ℕ)) → IsTraceOf trace old Next.Unread (back after told bad_line) → IsRefusal error → NextTold old reader told told' (Err error) →
         HasBytes (back after told bad_line) → IsRefused trace number
     refused_known error Unasked told told' here is next has = absurd has
-    refused_known error (Told left) told told' here is next has = refused_made error told told' here is next
-    refused_known error (Made bytes) told told' here is next has = refused_made error told told' here is next
+    refused_known error _ told told' here is next has = refused_made error told told' here is next
 
 module _ (g : Setup) (state : State) (k : Kept) (held : Held) (left : Rest) (stands : StandsBetween g state k held left) (unread : k.next ≡ Next.Unread) where
   between_unread : IsBetween g state None held.machine

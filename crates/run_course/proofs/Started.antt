@@ -1,5 +1,5 @@
 -- The start of a run.
-use Rattle.std.proofs.Common.{◌≡◌, ℕ, zero, suc, ◌+◌, ◌*◌, ◌/◌, ◌%◌, ◌<◌, ◌≤◌, ◌||◌, Bool, true, false, [], ◌∷◌, Option, Some, None, if◌then◌else◌, refl, sym, ap, ◌∙◌, subst, arith}
+use Rattle.std.proofs.Common.{◌≡◌, ℕ, zero, suc, ◌+◌, ◌*◌, ◌/◌, ◌%◌, ◌<◌, ◌≤◌, Bool, true, false, [], ◌∷◌, Option, Some, None, if◌then◌else◌, refl, sym, ap, ◌∙◌, subst, arith}
 use Rattle.std.specs.Prelude.{IsTrue, slice_index}
 use Rattle.blocking_graph.specs.Graph.{empty_graph}
 use Rattle.c_lower.specs.ProgramCode.{lowered}
@@ -39,7 +39,7 @@ use Rattle.run_course.specs.Needs.{IsNeeded}
 use Rattle.rule_state.specs.Rules.{HasStarted}
 use Rattle.rule_state.specs.declared.rules.RuleState.{RuleState}
 use Rattle.run_course.specs.Rules.{HasAccounts, HasNothing, rule_of}
-use Rattle.run_course.specs.Rest.{Rest, bytes_of, Unasked, Told, Made}
+use Rattle.run_course.specs.Rest.{Rest, bytes_of, Unasked}
 use Rattle.run_course.proofs.Rules.{accounts_first, kept_first, noted_first, told_first}
 use Rattle.segment_run.proofs.Forming.{areas_formed}
 use Rattle.stack_certificate.specs.Certificates.{fact_at}
@@ -171,8 +171,7 @@ module _ (g : Setup) (held : Held) {rule : Rule} (monitor : MonitorState) (at : 
 
   read_by : (left : Rest) → IsTraceOf (record { bytes = bytes_of left; lines = 0; last = 0 }) (record { held = []; lines = 0; last = 0; refused = None }) Next.Unread left
   read_by Unasked = tt
-  read_by (Told bytes) = refl
-  read_by (Made bytes) = refl
+  read_by _ = refl
 
   module _ (left : Rest) (before after : RuleState) (rule_is : rule ≡ rule_of before) (nothing : HasNothing before) (starts : HasStarted before after (record { slot = 0; number = 0 })) where
     abbrev start_state : State

@@ -17,7 +17,7 @@ use Rattle.machine_world.specs.Areas.{Areas}
 use Rattle.machine_world.specs.Local as local
 use Rattle.machine_world.specs.Local.{LocalMove, local_step}
 use Rattle.machine_world.specs.Runs.{empty_world, started_on, start_world, Pick, delivered, advanced, may_run, picked_at, picked, is_between, after_action}
-use Rattle.machine_world.specs.Threads.{Blocked, Thread, World, Setting, thread_of, first_with, replaced, without, with_thread, Move, Goes, Puts, Spawns, Blocks, Ends, Stops, Wrong, retired, resumed, unless_trap, printed, result_of, package_call, spawned, asked, stopped, moved, step_of, step_on, step}
+use Rattle.machine_world.specs.Threads.{Blocked, Thread, World, Setting, thread_of, first_with, replaced, without, with_thread, Move, Goes, Puts, Spawns, Blocks, Ends, Stops, retired, resumed, unless_trap, printed, result_of, package_call, spawned, asked, stopped, moved, step_of, step_on, step}
 use Rattle.thread_core.specs.Turns.{Tells, IsTurn}
 use Rattle.thread_core.specs.Worlds.{Held}
 use Rattle.thread_core.specs.declared.turns.Turn.{Turn}
@@ -70,8 +70,7 @@ KeepsTimes (Puts value after) = IsTimely after
 KeepsTimes (Spawns number after) = IsTimely after
 KeepsTimes (Blocks after) = IsTimely after
 KeepsTimes (Ends after) = IsTimely after
-KeepsTimes (Stops stop) = Unit {0}
-KeepsTimes Wrong = Unit {0}
+KeepsTimes _ = Unit {0}
 
 clock_later : (clock cost : ℕ) → clock ≤ latest cost → clock + 1 ≤ latest (cost + 1)
 clock_later clock cost h = omega (arith, h)
@@ -104,12 +103,9 @@ few_ticks ticks = by_test (nat_le (2 ^ 31) ticks) refl where
   by_test false e = grind (arith, nat_tests, e)
 
 wakes_soon : (clock cost : ℕ) (block : Block) → clock ≤ latest cost → IfSome (wakes_at (clock + 1) block) (λ time. time ≤ latest (cost + 1))
-wakes_soon clock cost Block.Accept h = tt
-wakes_soon clock cost (Block.Wait channel) h = tt
 wakes_soon clock cost (Block.Sleep ticks) h = let few = few_ticks ticks in omega (arith, h, few)
-wakes_soon clock cost Block.Yield h = tt
-wakes_soon clock cost (Block.Take resource amount) h = tt
 wakes_soon clock cost (Block.WaitFor channel ticks) h = let few = few_ticks ticks in omega (arith, h, few)
+wakes_soon clock cost _ h = tt
 
 times_call : (s : Setting) (w : World) (thread : Thread) (call : Call) → IsTimely w → KeepsTimes (package_call s w thread call)
 times_call s w thread (Blocking block) is =
@@ -140,9 +136,7 @@ times_stopped w thread (local.Ended areas) is = record {
   clock = clock_later w.clock w.cost is.clock;
   sleepers = all_without (w.cost + 1) thread.number w.threads (all_later w.cost w.threads is.sleepers);
 }
-times_stopped w thread (local.Trapped kind) is = tt
-times_stopped w thread local.NoRoom is = tt
-times_stopped w thread local.Wrong is = tt
+times_stopped w thread _ is = tt
 
 times_moved : (s : Setting) (w : World) (thread : Thread) (move : LocalMove) → IsTimely w → Wakes w.cost thread → KeepsTimes (moved s w thread move)
 times_moved s w thread (runs.Goes after) is own = times_retired w (record thread { core = after.core }) after.areas is (later_some w.cost (waking_time thread.blocked) own)

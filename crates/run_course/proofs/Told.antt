@@ -11,11 +11,11 @@ use Rattle.lawful_log.specs.State.{State}
 use Rattle.lawful_log.specs.Stops.{IsStopped, IsCutBy}
 use Rattle.lawful_log.specs.Within.{IsWithin}
 use Rattle.lawful_log.proofs.Entries.{stops_here}
-use Rattle.lawful_log.proofs.Counts.{Counts, StartsOne, counts_step}
+use Rattle.machine_world.proofs.Counts.{Counts, StartsOne, counts_step}
 use Rattle.lawful_log.proofs.Within.{within_spawns, put_segment, put_state, out_allowed, within_puts}
 use Rattle.machine_world.specs.Alone.{KeepsThread}
 use Rattle.machine_world.proofs.OtherThreads.{KeepsThread-step}
-use Rattle.machine_world.specs.Threads.{World, thread_of, Move, Goes, Puts, Spawns, Blocks, Ends, Stops, Wrong, step}
+use Rattle.machine_world.specs.Threads.{World, thread_of, Move, Puts, Spawns, Stops, step}
 use Rattle.rule_state.specs.Rules.{HasStarted, MayStart}
 use Rattle.rule_state.specs.declared.rules.RuleState.{RuleState}
 use Rattle.lawful_log.specs.Clients.{waiter_of}
@@ -43,12 +43,7 @@ pub record TellsPut (move : Move) (value : ℕ) (new : Held) : Type 0 where
 
 pub tells_put : (move : Move) (value number : ℕ) (at : World) (new : Held) → Tells move (Turn.Out value) number at new → TellsPut move value new
 tells_put (Puts word after) value number at new t = record { after = after; step_is = ap (λ (v : ℕ). Puts v after) (sym t.0); machine = t.1; going = t.2 }
-tells_put (Goes after) value number at new t = absurd t
-tells_put (Spawns started after) value number at new t = absurd t
-tells_put (Blocks after) value number at new t = absurd t
-tells_put (Ends after) value number at new t = absurd t
-tells_put (Stops stop) value number at new t = absurd t
-tells_put Wrong value number at new t = absurd t
+tells_put _ value number at new t = absurd t
 
 record TellsSpawn (move : Move) (thread : ThreadId) (new : Held) : Type 0 where
   pub after : World
@@ -60,12 +55,7 @@ record TellsSpawn (move : Move) (thread : ThreadId) (new : Held) : Type 0 where
 tells_spawn : (move : Move) (thread : ThreadId) (number : ℕ) (at : World) (new : Held) → Tells move (Turn.Spawned thread) number at new → TellsSpawn move thread new
 tells_spawn (Spawns started after) thread number at new t =
     record { after = after; step_is = ap (λ (n : ℕ). Spawns n after) (sym t.0); machine = t.2; placed = t.1; going = t.3 }
-tells_spawn (Puts word after) thread number at new t = absurd t
-tells_spawn (Goes after) thread number at new t = absurd t
-tells_spawn (Blocks after) thread number at new t = absurd t
-tells_spawn (Ends after) thread number at new t = absurd t
-tells_spawn (Stops stop) thread number at new t = absurd t
-tells_spawn Wrong thread number at new t = absurd t
+tells_spawn _ thread number at new t = absurd t
 
 pub record TellsCut (move : Move) (stop : Stop) (cost : ℕ) (at : World) (new : Held) : Type 0 where
   pub step_is : move ≡ Stops stop
@@ -74,12 +64,7 @@ pub record TellsCut (move : Move) (stop : Stop) (cost : ℕ) (at : World) (new :
 
 tells_cut : (move : Move) (stop : Stop) (cost number : ℕ) (at : World) (new : Held) → Tells move (Turn.Cut stop cost) number at new → TellsCut move stop cost at new
 tells_cut (Stops told) stop cost number at new t = record { step_is = ap (λ (s : Stop). Stops s) (sym t.0); cost_is = t.1; machine = t.2 }
-tells_cut (Puts word after) stop cost number at new t = absurd t
-tells_cut (Goes after) stop cost number at new t = absurd t
-tells_cut (Spawns started after) stop cost number at new t = absurd t
-tells_cut (Blocks after) stop cost number at new t = absurd t
-tells_cut (Ends after) stop cost number at new t = absurd t
-tells_cut Wrong stop cost number at new t = absurd t
+tells_cut _ stop cost number at new t = absurd t
 
 module _ (g : Setup) (state : State) (k : Kept) (held : Held) (left : Rest) (under : Under) (stands : StandsWithin g state k held left under) (law : StepsAsSource g state stands.segment.thread) where
   -- ---- a value
@@ -202,9 +187,7 @@ module _ (g : Setup) (state : State) (k : Kept) (held : Held) (left : Rest) (und
 
     cut_by : (s : Stop) → StepReaches (checked_of g) g.program (setting_of g) state.source stands.segment.thread stands.segment.puts (Stops s) → IsCutBy g state stands.segment s
     cut_by (Stop.Trap kind) r = (r.0, record { runs = r.1.runs; puts = r.1.outputs })
-    cut_by Stop.NoChunk r = cut_here
-    cut_by Stop.Fuel r = cut_here
-    cut_by Stop.Threads r = cut_here
+    cut_by _ r = cut_here
 
     pub cut_is : IsStopped g state under.choice.thread.number stop cost (free_count held.machine.areas.pool) held.machine
     cut_is =

@@ -11,12 +11,12 @@ use Rattle.run_history.specs.declared.answering.Answering.TheVariants.{ByThread,
 use Rattle.run_history.specs.declared.followed.Followed.{Followed}
 use Rattle.run_history.specs.declared.happenings.Happening.{Happening}
 use Rattle.run_history.specs.declared.numbers.Numbers.{Numbers}
-use Rattle.run_history.specs.declared.pairs.Pairing.TheVariants.{First, Value}
 use Rattle.run_history.specs.declared.pairs.Pairs.{Pairs}
 use Rattle.run_history.specs.AnsweredBy.{answers_by}
 use Rattle.run_history.specs.Answering.{Keeps}
 use Rattle.run_history.specs.Answers.{answers_at}
 use Rattle.run_history.specs.Numbers.{IsNumbersOf, KeepsOthers}
+use Rattle.run_history.specs.declared.pairs.Pairing.TheVariants.{First, Value}
 
 abbrev pub ShowAnswers : Answering → List Happening → Numbers → Type 0
 ShowAnswers answering told numbers = (request : ℕ) → answers_at numbers.answers request ≡ answers_by answering told request

@@ -4,7 +4,7 @@ use Rattle.std.specs.BTreeMap.{get}
 use Rattle.std.specs.Ordering.{nat_cmp}
 use Rattle.run_history.specs.declared.answers.Answers.{Answers}
 use Rattle.run_history.specs.declared.happenings.Happening.{Happening}
-use Rattle.run_history.specs.declared.happenings.Happening.TheVariants.{Came, Lost, Started, Waited, Put, Ran, Nothing}
+use Rattle.run_history.specs.declared.happenings.Happening.TheVariants.{Ran}
 use Rattle.run_history.specs.declared.followed.Spawned.{Spawned}
 use Rattle.run_history.specs.declared.followed.Followed.{Followed}
 use Rattle.run_history.specs.Answers.{answers_at, answers_from}
@@ -32,24 +32,14 @@ answers-one request number left started before (x ∷ told) one =
 
 -- what was started counts thread by thread
 started_with-same : (one : Happening) (number : ℕ) (left : List Spawned) (started other : ℕ → Option ℕ) (thread : ℕ) → ((t : ℕ) → started t ≡ other t) → started_with one number left started thread ≡ started_with one number left other thread
-started_with-same (Came clock item) number left started other thread same = same thread
-started_with-same (Lost clock item) number left started other thread same = same thread
-started_with-same (Started n clock) number left started other thread same = same thread
-started_with-same (Waited wait) number left started other thread same = same thread
-started_with-same (Put n value) number left started other thread same = same thread
 started_with-same (Ran segment free) number left started other thread same =
     ap (λ s. inherits number (works_for segment.request s) thread left (started thread)) (same segment.thread)
     ∙ ap (λ s. inherits number (works_for segment.request (other segment.thread)) thread left s) (same thread)
-started_with-same Nothing number left started other thread same = same thread
+started_with-same _ number left started other thread same = same thread
 
 followed_with-same : (request : ℕ) (one : Happening) (started other : ℕ → Option ℕ) (before : Option Answers) → ((t : ℕ) → started t ≡ other t) → followed_with request one started before ≡ followed_with request one other before
-followed_with-same request (Came clock item) started other before same = refl
-followed_with-same request (Lost clock item) started other before same = refl
-followed_with-same request (Started n clock) started other before same = refl
-followed_with-same request (Waited wait) started other before same = refl
-followed_with-same request (Put n value) started other before same = refl
 followed_with-same request (Ran segment free) started other before same = ap (λ s. answers_from before (clocks_by request (works_for segment.request s) segment)) (same segment.thread)
-followed_with-same request Nothing started other before same = refl
+followed_with-same request _ started other before same = refl
 
 pub followed_more : (spawned : List Spawned) (before : List Happening) (one : Happening) (old new : Followed) → IsFollowed spawned before old →
     new.segments ≡ segments_with one old.segments → new.left.now ≡ left_with one old.segments old.left.now →

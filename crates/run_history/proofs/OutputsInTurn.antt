@@ -1,5 +1,5 @@
 -- A request that comes finds those of its value that wait.
-use Rattle.std.proofs.Common.{◌≡◌, ◌∙◌, ℕ, ◌+◌, ◌-◌, ◌≤◌, ℤ, Bool, List, [], ◌∷◌, ◌++◌, None, false, true, take, drop, length, if◌then◌else◌, ap, refl, arith}
+use Rattle.std.proofs.Common.{◌≡◌, ◌∙◌, ℕ, ◌+◌, ◌-◌, ◌≤◌, ℤ, Bool, List, [], ◌∷◌, ◌++◌, None, true, take, drop, length, if◌then◌else◌, ap, refl, arith}
 use Rattle.std.specs.Ordering.{int_eq}
 use Rattle.schedule_log.specs.declared.entries.Item.TheVariants.{Arrive, Data}
 use Rattle.run_history.specs.declared.happenings.Happening.{Happening}
@@ -23,14 +23,12 @@ more-came came (Ran segment free ∷ told) = more-came came told
 more-came came (Nothing ∷ told) = more-came came told
 
 count-joined : (t : Bool) (some : List ℕ) (came : ℕ) → length (if t then some ++ came ∷ [] else some) ≡ (if t then length some + 1 else length some)
-count-joined true [] came = refl
 count-joined true (x ∷ some) came = omega (arith, count-joined true some came)
-count-joined false some came = refl
+count-joined _ _ came = refl
 
 count-left : (t : Bool) (some : List ℕ) → length (if t then drop 1 some else some) ≡ (if t then length some - 1 else length some)
-count-left true [] = refl
 count-left true (x ∷ some) = omega arith
-count-left false some = refl
+count-left _ _ = refl
 
 -- none that is still to come waits or is answered
 record AreThere (came : ℕ) (waiting : ℤ → List ℕ) (under_way : List ℕ) : Type 0 where

@@ -2,7 +2,7 @@
 use Rattle.std.proofs.Common.{◌≡◌, ◌∙◌, ℕ, ℤ, List, [], ◌∷◌, ◌++◌, Option, None, take, sym, ap, refl}
 use Rattle.run_history.specs.declared.answers.Answers.{Answers}
 use Rattle.run_history.specs.declared.happenings.Happening.{Happening}
-use Rattle.run_history.specs.declared.happenings.Happening.TheVariants.{Came, Lost, Started, Waited, Put, Ran, Nothing}
+use Rattle.run_history.specs.declared.happenings.Happening.TheVariants.{Put}
 use Rattle.run_history.specs.declared.pairs.Pairs.{Pairs}
 use Rattle.run_history.specs.Answers.{answers_at}
 use Rattle.run_history.specs.Pairs.{answers_with, came_with, first_with, puts_with, value_with, waiting_in, waiting_with}
@@ -43,13 +43,8 @@ value_answers-one request came waiting under_way before (x ∷ told) one =
 
 -- only the requests of the value that is put count
 value_with-same : (one : Happening) (waiting other : ℤ → List ℕ) (under_way : List ℕ) → ((value : ℤ) → waiting value ≡ other value) → value_with one waiting under_way ≡ value_with one other under_way
-value_with-same (Came clock item) waiting other under_way same = refl
-value_with-same (Lost clock item) waiting other under_way same = refl
-value_with-same (Started thread clock) waiting other under_way same = refl
-value_with-same (Waited wait) waiting other under_way same = refl
 value_with-same (Put thread value) waiting other under_way same = ap (λ l. under_way ++ take 1 l) (same value)
-value_with-same (Ran segment free) waiting other under_way same = refl
-value_with-same Nothing waiting other under_way same = refl
+value_with-same _ waiting other under_way same = refl
 
 -- one entry more, by order
 pub by_order : (before : List Happening) (one : Happening) (old new : Pairs) → ArePairsByOrder before old →

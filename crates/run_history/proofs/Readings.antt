@@ -1,8 +1,7 @@
 -- What is gathered from the lines of a log so far is gathered from its entries so far.
-use Rattle.std.proofs.Common.{◌≡◌, ◌∙◌, ℕ, Bool, List, [], ◌∷◌, ◌++◌, map, ap, sym, refl, subst, append_assoc}
+use Rattle.std.proofs.Common.{◌≡◌, ◌∙◌, ℕ, List, [], ◌∷◌, ◌++◌, map, ap, sym, refl, subst, append_assoc}
 use Rattle.std.proofs.lemmas.List.{append-nil, map-append}
 use Rattle.std.specs.List.{AllByRecursion}
-use Rattle.std.specs.Prelude.{Result, Ok}
 use Rattle.cap_text.specs.TextLines.{lines_of}
 use Rattle.schedule_log.specs.declared.entries.Entry.{Entry}
 use Rattle.schedule_log.specs.EntryRanges.{FitsEntry, IsLogLine}
@@ -34,14 +33,13 @@ reading-goes-on log line left left' holds holds' entry h goes fits text add =
 
 same-entries : (xs ys : List Entry) → AllByRecursion FitsEntry xs → AllByRecursion FitsEntry ys → map entry_text xs ≡ map entry_text ys → xs ≡ ys
 same-entries [] [] p q e = refl
-same-entries [] (y ∷ ys) p q e = absurd (cc)
-same-entries (x ∷ xs) [] p q e = absurd (cc)
 same-entries (x ∷ xs) (y ∷ ys) p q e =
     let first : entry_text x ≡ entry_text y = cc in
     let others : map entry_text xs ≡ map entry_text ys = cc in
     let one = text_unique x y p.0 q.0 first in
     let rest = same-entries xs ys p.1 q.1 others in
     (λ i. one i ∷ rest i)
+same-entries _ _ p q e = absurd (cc)
 
 -- the entries that were read
 pub reading-log : (log : List ℕ) (left : List (List ℕ)) (holds : List Entry → Type 0) → IsReading log left holds → left ≡ [] →

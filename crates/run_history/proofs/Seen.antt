@@ -10,8 +10,7 @@ use Rattle.run_history.specs.declared.answering.Answerer.TheVariants.{OfThreads,
 use Rattle.run_history.specs.declared.answering.Answering.{Answering}
 use Rattle.run_history.specs.declared.answering.Answering.TheVariants.{ByThread, ByPairing, BySpawn}
 use Rattle.run_history.specs.declared.happenings.Happening.{Happening}
-use Rattle.run_history.specs.declared.happenings.Happening.TheVariants.{Came, Lost, Started, Waited, Put, Ran, Nothing}
-use Rattle.run_history.specs.declared.happenings.Segment.{Segment}
+use Rattle.run_history.specs.declared.happenings.Happening.TheVariants.{Ran}
 use Rattle.run_history.specs.declared.numbers.Numbers.{Numbers}
 use Rattle.run_history.specs.declared.pairs.Pairing.TheVariants.{First, Value}
 use Rattle.run_history.specs.Answering.{Keeps, named_for}
@@ -54,28 +53,16 @@ sights-more answering accepts entries entry = sights_from-more answering accepts
 named_by-same : (started started' : ℕ → Option ℕ) (told : Happening) → ((thread : ℕ) → started thread ≡ started' thread) → named_by started told ≡ named_by started' told
 named_by-same started started' (Ran segment free) same =
     ap (λ (one : Option ℕ). Ran (record { thread = segment.thread; began = segment.began; ended = segment.ended; puts = segment.puts; request = works_for segment.request one }) free) (same segment.thread)
-named_by-same started started' (Came clock item) same = refl
-named_by-same started started' (Lost clock item) same = refl
-named_by-same started started' (Started thread clock) same = refl
-named_by-same started started' (Waited wait) same = refl
-named_by-same started started' (Put thread value) same = refl
-named_by-same started started' Nothing same = refl
+named_by-same started started' _ same = refl
 
 -- what is kept for the answers names the request that a segment's thread works for
 pub names : (answering : Answering) (before : List Happening) (answerer : Answerer) (told : Happening) → Keeps answering before answerer → named_for answerer told ≡ named_in answering before told
 names ByThread before OfThreads told kept = refl
-names ByThread before (OfPairs pairs) told kept = absurd kept
-names ByThread before (OfSpawned followed) told kept = absurd kept
-names (ByPairing First) before OfThreads told kept = absurd kept
 names (ByPairing First) before (OfPairs pairs) told kept = refl
-names (ByPairing First) before (OfSpawned followed) told kept = absurd kept
-names (ByPairing Value) before OfThreads told kept = absurd kept
 names (ByPairing Value) before (OfPairs pairs) told kept = refl
-names (ByPairing Value) before (OfSpawned followed) told kept = absurd kept
-names (BySpawn spawned) before OfThreads told kept = absurd kept
-names (BySpawn spawned) before (OfPairs pairs) told kept = absurd kept
 names (BySpawn spawned) before (OfSpawned followed) told kept =
     named_by-same (λ one. get nat_cmp followed.started one) (started_after 0 spawned.now none_started before) told kept.started
+names _ before _ told kept = absurd kept
 
 -- what is gathered while a log is read is of these entries: what is known, the numbers, what is kept for the answers, and what was seen
 pub record Reads {W : Type 0} (has_seen : List Sight → W → Type 0) (answering : Answering) (accepts : List Bool) (window : Option Window) (chunks : ℕ) (start now : W) (history : Known) (numbers : Numbers) (answerer : Answerer) (before : List Entry) : Type 0 where

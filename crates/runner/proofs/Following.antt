@@ -66,36 +66,27 @@ end_same g state k held halt taken written before is stop =
 
 end_at_cut : (thread : ThreadId) (stop : Stop) (cost free : ℕ) → IsEndAt (stop_line (Halt.Cut thread stop cost) free) (halt_end (Halt.Cut thread stop cost))
 end_at_cut thread (Stop.Trap kind) cost free = (thread, refl, refl)
-end_at_cut thread Stop.NoChunk cost free = (thread, refl, refl)
-end_at_cut thread Stop.Fuel cost free = (thread, refl, refl)
-end_at_cut thread Stop.Threads cost free = (thread, refl, refl)
+end_at_cut thread _ cost free = (thread, refl, refl)
 
 end_at : (halt : Halt) (free : ℕ) → IsEndAt (stop_line halt free) (halt_end halt)
-end_at Halt.Done free = refl
-end_at Halt.Idle free = refl
-end_at (Halt.BadTrace line) free = refl
 end_at (Halt.Cut thread stop cost) free = end_at_cut thread stop cost free
+end_at _ free = refl
 
 thread_cut : (held : Held) (thread : ThreadId) (stop : Stop) (cost : ℕ) → IsThread held thread → IsOfThread held (halt_end (Halt.Cut thread stop cost))
 thread_cut held thread (Stop.Trap kind) cost is = is
-thread_cut held thread Stop.NoChunk cost is = is
-thread_cut held thread Stop.Fuel cost is = is
-thread_cut held thread Stop.Threads cost is = is
+thread_cut held thread _ cost is = is
 
 thread_at : (held : Held) (halt : Halt) → HasThread held halt → IsOfThread held (halt_end halt)
-thread_at held Halt.Done is = tt
-thread_at held Halt.Idle is = tt
-thread_at held (Halt.BadTrace line) is = tt
 thread_at held (Halt.Cut thread stop cost) is = thread_cut held thread stop cost is
+thread_at held _ is = tt
 
 -- ---- what a trace tells, where it tells its bytes
 
 told_bytes : (left : Rest) (told : Option (List ℕ)) → Knows left told → HasBytes left → IfSome told (λ its. its ≡ bytes_of left)
 told_bytes Unasked told knows has = absurd has
-told_bytes (Told left) None knows has = tt
 told_bytes (Told left) (Some its) knows has = cc
-told_bytes (Made bytes) None knows has = tt
 told_bytes (Made bytes) (Some its) knows has = absurd (cc)
+told_bytes _ None knows has = tt
 
 -- ---- a run that fell short
 

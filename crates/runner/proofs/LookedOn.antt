@@ -22,7 +22,7 @@ use Rattle.run_course.specs.Looks.{Sees, Refuses, Nears}
 use Rattle.run_course.specs.Ranks.{long_rank, lines_rank, stuck_rank, rank, FallsTo}
 use Rattle.run_course.specs.Stands.{StandsBetween, StandsSomehow, IsAtPoint}
 use Rattle.run_course.specs.Steps.{HaltsAt, FailsIn, StepEnds}
-use Rattle.run_course.specs.Rest.{Rest, HasBytes, Unasked, Told, Made}
+use Rattle.run_course.specs.Rest.{Rest, HasBytes, Unasked}
 use Rattle.run_course.proofs.Parts.{acts_between, way_between, same_ticks, onward_between, no_part, to_between}
 use Rattle.run_course.proofs.Soundness.{sound_between}
 use Rattle.run_course.proofs.Clocks.{clock_same}
@@ -94,8 +94,7 @@ at_point g state left k held event sees under live = record { stands = sees.stan
 -- nothing is said of what was left, where nothing is said of what is left
 pub unasked : (before : Rest) → (HasBytes before → ⊥) → before ≡ Unasked
 unasked Unasked none = refl
-unasked (Told left) none = absurd (none tt)
-unasked (Made bytes) none = absurd (none tt)
+unasked _ none = absurd (none tt)
 
 -- the step behind a look, from where it was looked
 pub from_before : (g : Setup) (state : State) (before here : Rest) (k : Kept) (held : Held) (left : Rest) (taken written : Output) (result : Result (Option Halt) Failure) → (HasBytes before → HasBytes here) →
@@ -126,14 +125,11 @@ from_before g state before here k held left taken written (Err failure) told is 
 
 pub look_failed : (failure : Failure) (reads reads' writes : ℕ) → CountsLook {V = Looked} (Err failure) reads reads' → CountsStep {V = Option Halt} (Err failure) reads reads' writes writes
 look_failed Failure.Read reads reads' writes is = (is, refl)
-look_failed Failure.Write reads reads' writes is = absurd is
-look_failed Failure.Memory reads reads' writes is = absurd is
+look_failed _ reads reads' writes is = absurd is
 
 pub part_counts : (result : Result (Option Halt) Failure) (reads reads' writes writes' : ℕ) → reads' ≡ reads → CountsPart result writes writes' → CountsStep result reads reads' writes writes'
-part_counts (Ok v) reads reads' writes writes' e is = (e, is)
 part_counts (Err Failure.Read) reads reads' writes writes' e is = absurd is
-part_counts (Err Failure.Write) reads reads' writes writes' e is = (e, is)
-part_counts (Err Failure.Memory) reads reads' writes writes' e is = (e, is)
+part_counts _ reads reads' writes writes' e is = (e, is)
 
 -- ---- the measure
 
@@ -150,5 +146,4 @@ look_falls old new held event under near = ⊎_elim
 
 pub falls_from : (old here new : ℕ) (result : Result (Option Halt) Failure) → here ≤ old → FallsTo here result new → FallsTo old result new
 falls_from old here new (Ok None) h falls = let less : new < here = falls in omega (arith, h, less)
-falls_from old here new (Ok (Some halt)) h falls = tt
-falls_from old here new (Err failure) h falls = tt
+falls_from old here new _ h falls = tt

@@ -130,15 +130,11 @@ module _ (first : Held) (rule : Rule) (monitor : MonitorState) (left_first taken
       came_cut : (thread : ThreadId) (stop : Stop) (cost : ℕ) (g : Setup) → CameTo g after left_first taken_first last (halt_end (Halt.Cut thread stop cost)) → writes_last ≡ writes_first →
           IsRunEnd g after left_first taken_first last reads_first reads_after writes_first writes_last (halt_end (Halt.Cut thread stop cost))
       came_cut thread (Stop.Trap kind) cost g came same = (came, counts.0 ∙ runs.same_reads, same)
-      came_cut thread Stop.NoChunk cost g came same = (came, counts.0 ∙ runs.same_reads, same)
-      came_cut thread Stop.Fuel cost g came same = (came, counts.0 ∙ runs.same_reads, same)
-      came_cut thread Stop.Threads cost g came same = (came, counts.0 ∙ runs.same_reads, same)
+      came_cut thread _ cost g came same = (came, counts.0 ∙ runs.same_reads, same)
 
       came_by : (h : Halt) (g : Setup) → CameTo g after left_first taken_first last (halt_end h) → writes_last ≡ writes_first → IsRunEnd g after left_first taken_first last reads_first reads_after writes_first writes_last (halt_end h)
-      came_by Halt.Done g came same = (came, counts.0 ∙ runs.same_reads, same)
-      came_by Halt.Idle g came same = (came, counts.0 ∙ runs.same_reads, same)
-      came_by (Halt.BadTrace line) g came same = (came, counts.0 ∙ runs.same_reads, same)
       came_by (Halt.Cut thread stop cost) g came same = came_cut thread stop cost g came same
+      came_by _ g came same = (came, counts.0 ∙ runs.same_reads, same)
 
       pub run_comes : Appends then_.taken last (then_.held ++ log_text (end_lines after.setting.caps new.graph.edges (stop_line halt (free_count after.machine.areas.pool)))) → IsFitText (log_text (end_lines after.setting.caps new.graph.edges (stop_line halt (free_count after.machine.areas.pool)))) → CountsPart {V = Unit {0}} (Ok tt) writes_after writes_last → (g : Setup) → IsAtStartBy rule g first monitor →
           IsRunEnd g after left_first taken_first last reads_first reads_after writes_first writes_last (halt_end halt)

@@ -155,9 +155,8 @@ module _ (g : Setup) (state : State) (k : Kept) (held : Held) (left : Rest) (sta
       machine_is = machine_same;
     } where
       over_in : (n : Next) (bytes : List ℕ) → known n ≡ Some None → IsTraceIn state.trace k.reader n bytes → IsNext state.trace None
-      over_in Next.Unread bytes f is = absurd (cc)
-      over_in (Next.Event event) bytes f is = absurd (cc)
       over_in Next.Over bytes f is = is
+      over_in _ bytes f is = absurd (cc)
 
       over_at : (n : Next) (l : Rest) → HasBytes l → known n ≡ Some None → IsTraceOf state.trace k.reader n l → IsNext state.trace None
       over_at n Unasked told f is = absurd told

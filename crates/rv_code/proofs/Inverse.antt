@@ -167,8 +167,6 @@ encoding-lt (Sra rd rs1 rs2) h = layout.r_type-lt 0b0100000 rs2 rs1 0b101 rd 0b0
 encoding-lt (Or rd rs1 rs2) h = layout.r_type-lt 0b0000000 rs2 rs1 0b110 rd 0b0110011 (lit< tt) h.2 h.1 (lit< tt) h.0 (lit< tt)
 encoding-lt (And rd rs1 rs2) h = layout.r_type-lt 0b0000000 rs2 rs1 0b111 rd 0b0110011 (lit< tt) h.2 h.1 (lit< tt) h.0 (lit< tt)
 encoding-lt (Fence rd rs1 imm) h = layout.i_type-lt imm h.2 rs1 0b000 rd 0b0001111 h.1 (lit< tt) h.0 (lit< tt)
-encoding-lt Ecall h = lit< tt
-encoding-lt Ebreak h = lit< tt
 encoding-lt (Mul rd rs1 rs2) h = layout.r_type-lt 0b0000001 rs2 rs1 0b000 rd 0b0110011 (lit< tt) h.2 h.1 (lit< tt) h.0 (lit< tt)
 encoding-lt (Mulh rd rs1 rs2) h = layout.r_type-lt 0b0000001 rs2 rs1 0b001 rd 0b0110011 (lit< tt) h.2 h.1 (lit< tt) h.0 (lit< tt)
 encoding-lt (Mulhsu rd rs1 rs2) h = layout.r_type-lt 0b0000001 rs2 rs1 0b010 rd 0b0110011 (lit< tt) h.2 h.1 (lit< tt) h.0 (lit< tt)
@@ -177,6 +175,7 @@ encoding-lt (Div rd rs1 rs2) h = layout.r_type-lt 0b0000001 rs2 rs1 0b100 rd 0b0
 encoding-lt (Divu rd rs1 rs2) h = layout.r_type-lt 0b0000001 rs2 rs1 0b101 rd 0b0110011 (lit< tt) h.2 h.1 (lit< tt) h.0 (lit< tt)
 encoding-lt (Rem rd rs1 rs2) h = layout.r_type-lt 0b0000001 rs2 rs1 0b110 rd 0b0110011 (lit< tt) h.2 h.1 (lit< tt) h.0 (lit< tt)
 encoding-lt (Remu rd rs1 rs2) h = layout.r_type-lt 0b0000001 rs2 rs1 0b111 rd 0b0110011 (lit< tt) h.2 h.1 (lit< tt) h.0 (lit< tt)
+encoding-lt _ h = lit< tt
 
 -- distinct instructions have distinct words
 pub same_instruction : (i j : Instr) → IsInRange i → IsInRange j → encoding i ≡ encoding j → i ≡ j

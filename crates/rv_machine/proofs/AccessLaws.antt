@@ -1,5 +1,5 @@
 -- A step changes no byte outside its access, depends on no other byte, and stores the whole access.
-use Rattle.std.proofs.Common.{◌≡◌, ◌≢◌, ℕ, ◌+◌, ◌%◌, ◌/◌, ◌^◌, ◌<◌, ◌≤◌, Bool, true, false, eqb, List, ℤ, Option, Some, None, Result, Ok, Err, refl, sym, ap, subst, ◌∙◌, arith}
+use Rattle.std.proofs.Common.{◌≡◌, ◌≢◌, ℕ, ◌+◌, ◌%◌, ◌/◌, ◌^◌, Bool, true, false, eqb, List, ℤ, Option, Result, Ok, Err, refl, ap, subst, ◌∙◌, arith}
 use Rattle.std.proofs.lemmas.Bool.{cond_both, cond-false, eqb-true, ne_eqb}
 use Rattle.std.specs.Prelude.{◌&&◌}
 use Rattle.cap_word.specs.declared.faults.FaultKind.{FaultKind}
@@ -10,7 +10,7 @@ use Rattle.rv_machine.specs.Access.{Access, access, accessed, access_of, next_ac
 use Rattle.rv_machine.specs.Bytes.{half_at, word_at, joined, put_byte, replaced, with_half, with_word, half_is_writable, word_is_writable, Nothing, Byte, Half, Word}
 use Rattle.rv_machine.specs.Effect.{effect}
 use Rattle.rv_machine.specs.Registers.{read, write}
-use Rattle.rv_machine.specs.Rows.{Machine, Outcome, Goes, Asks, Fails, next, address, relative, passes, sets, jumps, branches, loads, found, byte_loaded, half_loaded, word_loaded, extended, stores, byte_stored, half_stored, word_stored}
+use Rattle.rv_machine.specs.Rows.{Machine, Outcome, Goes, Fails, next, address, relative, passes, sets, jumps, branches, loads, found, byte_loaded, half_loaded, word_loaded, extended, stores, byte_stored, half_stored, word_stored}
 use Rattle.rv_machine.specs.Step.{instruction_at, started, outcome, bytes_after}
 
 -- ---- what is stored is the whole access
@@ -106,7 +106,6 @@ with_word-other bytes address value at out =
     ∙ with_half-other bytes address (value % 2 ^ 16) at (λ within. out (omega arith, omega arith))
 
 stays : (a : Option Access) (writable : ℕ → Bool) (bytes : ℕ → Option ℕ) (at : ℕ) (o : Outcome) → Fills a writable o → ¬ IsAccessed a at → bytes_after o bytes at ≡ bytes at
-stays a writable bytes at (Goes pc x Nothing) fills out = refl
 stays a writable bytes at (Goes pc x (Byte place value)) fills out =
     let other : ¬ IsAccessed (access place 1) at = subst (λ a. ¬ IsAccessed a at) fills.0 out in
     put_byte-other bytes place value at (λ same. other (omega arith, omega arith))
@@ -114,8 +113,7 @@ stays a writable bytes at (Goes pc x (Half place value)) fills out =
     with_half-other bytes place value at (subst (λ a. ¬ IsAccessed a at) fills.0 out)
 stays a writable bytes at (Goes pc x (Word place value)) fills out =
     with_word-other bytes place value at (subst (λ a. ¬ IsAccessed a at) fills.0 out)
-stays a writable bytes at (Asks number) fills out = refl
-stays a writable bytes at (Fails kind) fills out = refl
+stays a writable bytes at _ fills out = refl
 
 pub bytes_after-outcome : (code : List ℕ) (m : Machine) (at : ℕ) → ¬ IsAccessed (next_access code m) at → bytes_after (outcome code m) m.bytes at ≡ m.bytes at
 bytes_after-outcome code m at out = stays (next_access code m) m.writable m.bytes at (outcome code m) (Fills-outcome code m) out

@@ -6,41 +6,24 @@ use Rattle.rv_machine.specs.Bytes.{half_at, word_at, joined, with_half, with_wor
 use Rattle.rv_machine.specs.WordBytes.{byte_of, word_with, byte_in, words_with, HoldsWord}
 
 pub byte_of-same : (word k byte : ℕ) → k < 4 → byte < 2 ^ 8 → byte_of (word_with word k byte) k ≡ byte
-byte_of-same word zero byte within fits = omega arith
-byte_of-same word (suc zero) byte within fits = omega arith
-byte_of-same word (suc (suc zero)) byte within fits = omega arith
-byte_of-same word (suc (suc (suc zero))) byte within fits = omega arith
 byte_of-same word (suc (suc (suc (suc k)))) byte within fits = absurd (omega arith)
+byte_of-same word _ byte within fits = omega arith
 
 pub byte_of-other : (word k j byte : ℕ) → k < 4 → j < 4 → j ≢ k → byte < 2 ^ 8 → byte_of (word_with word k byte) j ≡ byte_of word j
 byte_of-other word zero zero byte within within' apart fits = absurd (apart refl)
-byte_of-other word zero (suc zero) byte within within' apart fits = omega arith
-byte_of-other word zero (suc (suc zero)) byte within within' apart fits = omega arith
-byte_of-other word zero (suc (suc (suc zero))) byte within within' apart fits = omega arith
 byte_of-other word zero (suc (suc (suc (suc j)))) byte within within' apart fits = absurd (omega arith)
-byte_of-other word (suc zero) zero byte within within' apart fits = omega arith
 byte_of-other word (suc zero) (suc zero) byte within within' apart fits = absurd (apart refl)
-byte_of-other word (suc zero) (suc (suc zero)) byte within within' apart fits = omega arith
-byte_of-other word (suc zero) (suc (suc (suc zero))) byte within within' apart fits = omega arith
 byte_of-other word (suc zero) (suc (suc (suc (suc j)))) byte within within' apart fits = absurd (omega arith)
-byte_of-other word (suc (suc zero)) zero byte within within' apart fits = omega arith
-byte_of-other word (suc (suc zero)) (suc zero) byte within within' apart fits = omega arith
 byte_of-other word (suc (suc zero)) (suc (suc zero)) byte within within' apart fits = absurd (apart refl)
-byte_of-other word (suc (suc zero)) (suc (suc (suc zero))) byte within within' apart fits = omega arith
 byte_of-other word (suc (suc zero)) (suc (suc (suc (suc j)))) byte within within' apart fits = absurd (omega arith)
-byte_of-other word (suc (suc (suc zero))) zero byte within within' apart fits = omega arith
-byte_of-other word (suc (suc (suc zero))) (suc zero) byte within within' apart fits = omega arith
-byte_of-other word (suc (suc (suc zero))) (suc (suc zero)) byte within within' apart fits = omega arith
 byte_of-other word (suc (suc (suc zero))) (suc (suc (suc zero))) byte within within' apart fits = absurd (apart refl)
 byte_of-other word (suc (suc (suc zero))) (suc (suc (suc (suc j)))) byte within within' apart fits = absurd (omega arith)
 byte_of-other word (suc (suc (suc (suc k)))) j byte within within' apart fits = absurd (omega arith)
+byte_of-other word _ _ byte within within' apart fits = omega arith
 
 pub word_with-below : (word k byte : ℕ) → k < 4 → byte < 2 ^ 8 → word < 2 ^ 32 → word_with word k byte < 2 ^ 32
-word_with-below word zero byte within fits below = omega arith
-word_with-below word (suc zero) byte within fits below = omega arith
-word_with-below word (suc (suc zero)) byte within fits below = omega arith
-word_with-below word (suc (suc (suc zero))) byte within fits below = omega arith
 word_with-below word (suc (suc (suc (suc k)))) byte within fits below = absurd (omega arith)
+word_with-below word _ byte within fits below = omega arith
 
 -- four bytes in their places make the word
 bytes_make : (w : ℕ) → w < 2 ^ 32 → (byte_of w 0 + 2 ^ 8 * byte_of w 1) + 2 ^ 16 * (byte_of w 2 + 2 ^ 8 * byte_of w 3) ≡ w

@@ -71,8 +71,7 @@ AreBytes-word bytes address value below old =
 joined-below : (size bound : ℕ) (low high : Option ℕ) → size * size ≡ bound → IfSome low (λ v. v < size) → IfSome high (λ v. v < size) → IfSome (joined size low high) (λ v. v < bound)
 joined-below size bound (Some low) (Some high) square below below' =
     omega (arith, row_fits high size size size below' (omega arith))
-joined-below size bound (Some low) None square below below' = tt
-joined-below size bound None high square below below' = tt
+joined-below size bound _ _ square below below' = tt
 
 half_at-below : (bytes : ℕ → Option ℕ) (at : ℕ) → AreBytes bytes → IfSome (half_at bytes at) (λ half. half < 2 ^ 16)
 unfolding half_at

@@ -74,8 +74,7 @@ module _ (g : Given) (state : State) (segment : Segment) (under_way : state.segm
   point_in_segment (Entry.Out thread value) line out block ends = absurd (out thread value refl)
   point_in_segment (Entry.Block thread node key cost free) line out block ends = absurd (block thread node key cost free refl)
   point_in_segment (Entry.End thread cost free) line out block ends = absurd (ends thread cost free refl)
-  point_in_segment (Entry.Edge from to count cost changes) line out block ends = absurd line
-  point_in_segment (Entry.Stop stop) line out block ends = absurd line
+  point_in_segment _ line out block ends = absurd line
 
 -- ---- a line of a choice point
 
@@ -91,14 +90,12 @@ module _ (g : Given) (state : State) (none : state.segment ≡ None) where
   no_segment (Entry.Out thread value) line never = record { refused = λ after p. none_some state.segment p.segment none p.under_way; enough = not_beyond g state (Entry.Out thread value) none }
   no_segment (Entry.Block thread node key cost free) line never = record { refused = λ after p. none_some state.segment p.segment none p.closed.under_way; enough = not_beyond g state (Entry.Block thread node key cost free) none }
   no_segment (Entry.End thread cost free) line never = record { refused = λ after p. none_some state.segment p.segment none p.closed.under_way; enough = not_beyond g state (Entry.End thread cost free) none }
-  no_segment (Entry.Edge from to count cost changes) line never = absurd line
-  no_segment (Entry.Stop stop) line never = absurd line
+  no_segment _ line never = absurd line
 
 -- ---- the bytes of a line
 
 pub line_rules : (g : Given) (state : State) (old : Kept) (line : List ℕ) (told : Option (List ℕ)) (new : Kept) (told' : Option (List ℕ)) (entry : Entry) (result : Result Ruling Failure) → IsLine line entry → ((other : Entry) → IsLine line other → other ≡ entry) →
     Rules g state old entry told new told' result → RulesLine g state old line told new told' result
-line_rules g state old line told new told' entry (Ok ruling.Allowed) is one r = (entry, is, r)
 line_rules g state old line told new told' entry (Ok ruling.Refused) is one r = λ t other l. subst (λ (e : Entry). Refuses g state e) (sym (one other l)) (r t)
-line_rules g state old line told new told' entry (Ok ruling.OutOfSteps) is one r = (entry, is, r)
 line_rules g state old line told new told' entry (Err failure) is one r = tt
+line_rules g state old line told new told' entry (Ok _) is one r = (entry, is, r)

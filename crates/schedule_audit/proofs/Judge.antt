@@ -1,5 +1,5 @@
 -- The lines of a log, one after another.
-use Rattle.std.proofs.Common.{◌≡◌, ℕ, suc, ◌+◌, ◌<◌, ◌≤◌, Bool, true, false, ◌==◌, not, List, [], ◌∷◌, ◌++◌, length, take, drop, Option, Some, None, Ok, refl, sym, ap, ◌∙◌, subst, arith, cond, append_assoc, append-nil}
+use Rattle.std.proofs.Common.{◌≡◌, ℕ, suc, ◌+◌, ◌<◌, ◌≤◌, Bool, true, false, ◌==◌, not, List, [], ◌∷◌, ◌++◌, length, take, drop, Option, Some, None, Ok, refl, sym, ap, ◌∙◌, subst, arith, cond, append-nil}
 use Rattle.std.specs.Prelude.{IfSome, nat_lt, position}
 use Rattle.std.specs.List.{position_or_len}
 use Rattle.std.proofs.lemmas.Bool.{eqb-true}
@@ -25,7 +25,8 @@ use Rattle.schedule_reading.specs.Kept.{Kept}
 use Rattle.schedule_reading.specs.Rulings.{Allows}
 use Rattle.schedule_reading.specs.Stands.{IsEnd, IsTold, IsTraceOf, Stands}
 use Rattle.lawful_reading.specs.Verdicts.{IsVerdictOf}
-use Rattle.lawful_reading.proofs.Verdicts.{cut_lines}
+use Rattle.lawful_reading.proofs.Verdicts.{cut_lines, no_lines}
+use Rattle.lawful_reading.proofs.Found.{last_line}
 
 -- ---- the first line feed
 
@@ -94,18 +95,6 @@ pub leads_more : (g : Given) (a b c : State) (entries : List Entry) (entry : Ent
 leads_more g a b c _ entry nowhere fits allowed within = by_line fits allowed within nowhere
 leads_more g a b c _ entry (by_line {between = m} {entry = e} {entries = es} f p w rest) fits allowed within = by_line f p w (leads_more g m b c es entry rest fits allowed within)
 
-text_more : (entries : List Entry) (entry : Entry) (rest : List ℕ) → log_text (entries ++ entry ∷ []) ++ rest ≡ log_text entries ++ (entry_text entry ++ 10 ∷ rest)
-unfolding log_text
-text_more [] entry rest = append_assoc (entry_text entry ++ 10 ∷ []) [] rest ∙ append_assoc (entry_text entry) (10 ∷ []) rest
-text_more (e ∷ entries) entry rest =
-    append_assoc (entry_text e ++ 10 ∷ []) (log_text (entries ++ entry ∷ [])) rest
-    ∙ ap (λ (l : List ℕ). (entry_text e ++ 10 ∷ []) ++ l) (text_more entries entry rest)
-    ∙ sym (append_assoc (entry_text e ++ 10 ∷ []) (log_text entries) (entry_text entry ++ 10 ∷ rest))
-
-no_text : (rest : List ℕ) → log_text [] ++ rest ≡ rest
-unfolding log_text
-no_text rest = refl
-
 long_more : (entries : List Entry) (entry : Entry) → length (entries ++ entry ∷ []) ≡ suc (length entries)
 long_more [] entry = refl
 long_more (e ∷ entries) entry = ap suc (long_more entries entry)
@@ -136,7 +125,7 @@ read_start g left log k stands told = record {
   state = start_of g (trace_in left);
   stands = stands;
   leads = start_leads g left;
-  log_is = sym (no_text log);
+  log_is = sym (no_lines log);
   line_is = refl;
   told = some_told g left k told;
 }
@@ -169,7 +158,7 @@ module _ (g : Given) (left : Option (List ℕ)) (log rest : List ℕ) (line : �
       state = r.2.after;
       stands = r.2.stands;
       leads = goes left r.0 r.1 r.2 is.leads is.told;
-      log_is = is.log_is ∙ ap (λ (l : List ℕ). log_text is.entries ++ l) (split r.0 r.1.text) ∙ sym (text_more is.entries r.0 more);
+      log_is = is.log_is ∙ ap (λ (l : List ℕ). log_text is.entries ++ l) (split r.0 r.1.text) ∙ sym (last_line is.entries r.0 more);
       line_is = (let long = long_more is.entries r.0 in let this = is.line_is in omega (arith, long, this));
       told = tells left r.0 r.2 is.told;
     }

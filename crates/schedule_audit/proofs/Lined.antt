@@ -62,14 +62,9 @@ steps_within g state k under w = let left = w.counted.left in omega (arith, left
 -- ---- what a line isn't
 
 pub no_end : (entry : Entry) → ((from to count : ℕ) (cost : ℤ) (changes : List ℤ) → entry ≡ Entry.Edge from to count cost changes → ⊥) → ((line : StopLine) → entry ≡ Entry.Stop line → ⊥) → IsNoEnd entry
-no_end (Entry.Event clock item) edge stop = tt
-no_end (Entry.Dropped clock item) edge stop = tt
-no_end (Entry.Run clock thread node) edge stop = tt
-no_end (Entry.Out thread value) edge stop = tt
-no_end (Entry.Block thread node key cost free) edge stop = tt
-no_end (Entry.End thread cost free) edge stop = tt
 no_end (Entry.Edge from to count cost changes) edge stop = absurd (edge from to count cost changes refl)
 no_end (Entry.Stop line) edge stop = absurd (stop line refl)
+no_end _ edge stop = tt
 
 -- ---- a line of a choice point that isn't allowed
 

@@ -30,15 +30,13 @@ head (word ∷ _) = word
 
 integers_unique : (xs ys : List ℤ) → map canonical_integer xs ≡ map canonical_integer ys → xs ≡ ys
 integers_unique [] [] e = refl
-integers_unique [] (y ∷ ys) e = absurd (cc)
-integers_unique (x ∷ xs) [] e = absurd (cc)
 integers_unique (x ∷ xs) (y ∷ ys) e = let first = integer_unique x y (cc) in let rest = integers_unique xs ys (cc) in (λ i. first i ∷ rest i)
+integers_unique _ _ e = absurd (cc)
 
 decimals_unique : (xs ys : List ℕ) → map canonical_decimal xs ≡ map canonical_decimal ys → xs ≡ ys
 decimals_unique [] [] e = refl
-decimals_unique [] (y ∷ ys) e = absurd (cc)
-decimals_unique (x ∷ xs) [] e = absurd (cc)
 decimals_unique (x ∷ xs) (y ∷ ys) e = let first = decimal_unique x y (cc) in let rest = decimals_unique xs ys (cc) in (λ i. first i ∷ rest i)
+decimals_unique _ _ e = absurd (cc)
 
 key_unique : (xs ys : List ℕ) → 1 ≤ length xs → 1 ≤ length ys → key_field xs ≡ key_field ys → xs ≡ ys
 key_unique xs ys h g e = decimals_unique xs ys (sym (key_pieces xs h) ∙ ap (pieces 60) e ∙ key_pieces ys g)
@@ -61,21 +59,15 @@ cut s t x y c d f g cause thread cost free =
 
 done_or_cut : (s : Cause) (t c f : ℕ) → codes "done" ≡ head (stop_fields (Cut t s c f)) → ⊥
 done_or_cut (Trap k) t c f e = omega (arith, ap sign e)
-done_or_cut NoChunk t c f e = omega (arith, ap sign e)
-done_or_cut Fuel t c f e = omega (arith, ap sign e)
-done_or_cut Threads t c f e = omega (arith, ap sign e)
+done_or_cut _ t c f e = omega (arith, ap sign e)
 
 idle_or_cut : (s : Cause) (t c f : ℕ) → codes "idle" ≡ head (stop_fields (Cut t s c f)) → ⊥
 idle_or_cut (Trap k) t c f e = omega (arith, ap sign e)
-idle_or_cut NoChunk t c f e = omega (arith, ap sign e)
-idle_or_cut Fuel t c f e = omega (arith, ap sign e)
-idle_or_cut Threads t c f e = omega (arith, ap sign e)
+idle_or_cut _ t c f e = omega (arith, ap sign e)
 
 trace_or_cut : (s : Cause) (t c f : ℕ) → codes "trace" ≡ head (stop_fields (Cut t s c f)) → ⊥
 trace_or_cut (Trap k) t c f e = omega (arith, ap sign e)
-trace_or_cut NoChunk t c f e = omega (arith, ap sign e)
-trace_or_cut Fuel t c f e = omega (arith, ap sign e)
-trace_or_cut Threads t c f e = omega (arith, ap sign e)
+trace_or_cut _ t c f e = omega (arith, ap sign e)
 
 cut_unique : (s t : Cause) (x y c d f g : ℕ) → stop_fields (Cut x s c f) ≡ stop_fields (Cut y t d g) → Cut x s c f ≡ Cut y t d g
 cut_unique (Trap k) (Trap l) x y c d f g e = cut (Trap k) (Trap l) x y c d f g (ap Trap (trap_unique k l (cc))) (cc) (cc) (cc)

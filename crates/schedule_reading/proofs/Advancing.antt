@@ -1,7 +1,7 @@
 -- What one run of the interpreter, and the answer to what it asks, come to.
 use Rattle.std.proofs.Common.{◌≡◌, ℕ, suc, ◌+◌, ◌-◌, Bool, List, length, Option, Some, None, Result, Ok, Err, refl, sym, ap, ◌∙◌, subst, arith, append-nil}
 use Rattle.cap_word.specs.Calls.{Immediate}
-use Rattle.cap_word.specs.Runs.{Goes, Asks, Stops, and_then, moves}
+use Rattle.cap_word.specs.Runs.{Goes, Stops, and_then, moves}
 use Rattle.cap_word.proofs.RunLemmas.{moves_add}
 use Rattle.cap_word.specs.declared.calls.Ask.{Ask}
 use Rattle.c_tree.specs.Trees.{ProgramTree}
@@ -33,16 +33,14 @@ record Part (program : ProgramTree) (m n : ℕ) (start end : Running) : Type 0 w
 
 part_by : (program : ProgramTree) (m n : ℕ) (start end : Running) (move : SourceMove) → moves (source_machine program) m start ≡ move → and_then move (moves (source_machine program) n) ≡ Goes end → Part program m n start end
 part_by program m n start end (Goes middle) e h = record { middle = middle; first = e; second = h }
-part_by program m n start end (Asks question waiting) e h = absurd (cc)
-part_by program m n start end (Stops finish) e h = absurd (cc)
+part_by program m n start end _ e h = absurd (cc)
 
 part : (program : ProgramTree) (m n : ℕ) (start end : Running) → moves (source_machine program) (m + n) start ≡ Goes end → Part program m n start end
 part program m n start end e = part_by program m n start end (moves (source_machine program) m start) refl (sym (moves_add (source_machine program) m n start) ∙ e)
 
 goes_first : (program : ProgramTree) (n : ℕ) (start end : Running) (move : SourceMove) → source_step program start ≡ move → and_then move (moves (source_machine program) n) ≡ Goes end → (next : Running) × (source_step program start ≡ Goes next)
 goes_first program n start end (Goes next) e h = (next, e)
-goes_first program n start end (Asks question waiting) e h = absurd (cc)
-goes_first program n start end (Stops finish) e h = absurd (cc)
+goes_first program n start end _ e h = absurd (cc)
 
 module _ (g : Given) where
   -- a step of the thread alone starts none
@@ -129,7 +127,5 @@ module _ (g : Given) where
       },
       asked,
     )
-    advanced (Ok (Some (happening.Blocks block))) never = absurd never
-    advanced (Ok (Some happening.Ends)) never = absurd never
-    advanced (Ok (Some happening.OutOfSteps)) never = absurd never
     advanced (Err failure) is = is
+    advanced (Ok (Some _)) never = absurd never

@@ -35,9 +35,8 @@ module _ (caps : List ℕ) (change : List ℤ) (caps_eight : length caps ≡ 8) 
 
   none_past : (n : ℕ) (cs : List ℕ) → length cs ≡ n → drop n cs ≡ []
   none_past zero [] e = refl
-  none_past zero (c ∷ cs) e = absurd (omega (arith, e))
-  none_past (suc n) [] e = absurd (omega (arith, e))
   none_past (suc n) (c ∷ cs) e = none_past n cs (omega (arith, e))
+  none_past _ _ e = absurd (omega (arith, e))
 
   -- and then none is left
   pub last_shown : left_at caps change 8 ≡ []
@@ -117,9 +116,8 @@ module _ (caps : List ℕ) (change values : List ℤ) (caps_eight : length caps 
 
   none_over : (n : ℕ) (xs : List ℤ) → n ≡ length xs → drop n xs ≡ []
   none_over zero [] e = refl
-  none_over zero (x ∷ xs) e = absurd (omega (arith, e))
-  none_over (suc n) [] e = absurd (omega (arith, e))
   none_over (suc n) (x ∷ xs) e = none_over n xs (omega (arith, e))
+  none_over _ _ e = absurd (omega (arith, e))
 
   -- all are shown
   pub turn_end : (r read : ℕ) → r ≡ 8 → read ≤ length values → ShownFrom caps change values r read → (nat_eq read (length values) ≡ true) ↔ (shown caps change ≡ values)

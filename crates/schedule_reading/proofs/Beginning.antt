@@ -35,9 +35,8 @@ none_new old =
 
 -- a thread that rests lives
 pub rest_lives : (tree : ProgramTree) (r : Rest) (there : source.Rest) → RestsAs tree r there → IsTrue (lives there)
-rest_lives tree (rest.Fresh function argument) there e = subst (λ (x : source.Rest). IsTrue (lives x)) (sym e) refl
-rest_lives tree (rest.Blocked block thread) there e = subst (λ (x : source.Rest). IsTrue (lives x)) (sym e) refl
 rest_lives tree rest.Away there e = e
+rest_lives tree _ there e = subst (λ (x : source.Rest). IsTrue (lives x)) (sym e) refl
 
 module _ (tree : ProgramTree) (old new : ThreadsState) (rests : List source.Rest) (waiting : List Waiter) (chosen : ThreadId) (slot : Slot)
     (are : AreThreads tree old.slots old.waits.places rests waiting) (was : get old.slots chosen.slot ≡ Some slot) (number_is : slot.number ≡ chosen.number)

@@ -1,5 +1,5 @@
 -- Stops that cut the segment under way.
-use Rattle.std.proofs.Common.{◌≡◌, ℕ, ◌+◌, ◌-◌, ◌<◌, ◌≤◌, inl, inr, Bool, true, false, Option, Some, None, Result, Ok, Err, refl, sym, ap, ◌∙◌, subst, arith, ⊎_elim}
+use Rattle.std.proofs.Common.{◌≡◌, ℕ, ◌+◌, ◌-◌, ◌<◌, ◌≤◌, inl, inr, Bool, true, false, Option, Some, None, Result, Ok, refl, sym, ap, ◌∙◌, subst, arith, ⊎_elim}
 use Rattle.std.proofs.lemmas.Bool.{cases_lt}
 use Rattle.cap_word.specs.declared.calls.Block.{Block}
 use Rattle.cap_word.specs.declared.stops.Stop.{Stop}
@@ -174,11 +174,10 @@ module _ (g : Given) (state : State) (old : Core) (old_under : Under) (stands : 
 
       by : (came : Happening) → HasHappened g state here (old.left + 1) left k under (Ok came) → CrowdsFirst g here true taken (Ok came) → (came ≡ happening.IsCrowded → ⊥) → RulesCrowd g state (Ok ruling.Refused)
       by (happening.Puts word) h first no_crowd = crowd_not (inl (word, h.after, h.next)) (first refl) few more
-      by (happening.Blocks block) h first no_crowd = crowd_not (inr (_, h.rests.next)) (first refl) few more
-      by happening.Ends h first no_crowd = crowd_not (inr (_, h.rests.next)) (first refl) few more
       by (happening.Traps other) h first no_crowd = crowd_not (inr (_, h.next)) (first refl) few more
       by happening.IsCrowded h first no_crowd = absurd (no_crowd refl)
       by happening.OutOfSteps h first no_crowd = absurd (some h.0)
+      by _ h first no_crowd = crowd_not (inr (_, h.rests.next)) (first refl) few more
 
 -- ---- the line of the stop
 
@@ -271,16 +270,12 @@ module _ (g : Given) (state : State) (old : Core) (old_under : Under) (stands : 
 
 module _ (g : Given) (state : State) (cost : ℕ) where
   pub cause_trap : (kind : TrapKind) (result : Result Ruling Failure) → RulesTrap g state kind result → RulesCause g state (Stop.Trap kind) cost result
-  cause_trap kind (Ok ruling.Allowed) r = r
   cause_trap kind (Ok ruling.Refused) r = (r.0, r.1, r.5, λ far. let beyond = far r.2 r.3 in let near = r.4 in omega (arith, beyond, near))
-  cause_trap kind (Ok ruling.OutOfSteps) r = r
-  cause_trap kind (Err failure) r = r
+  cause_trap kind _ r = r
 
   pub cause_crowd : (result : Result Ruling Failure) → RulesCrowd g state result → RulesCause g state Stop.Threads cost result
-  cause_crowd (Ok ruling.Allowed) r = r
   cause_crowd (Ok ruling.Refused) r = (r.0, r.1, r.5, λ far. let beyond = far r.2 (inr r.3) in let near = r.4 in omega (arith, beyond, near))
-  cause_crowd (Ok ruling.OutOfSteps) r = r
-  cause_crowd (Err failure) r = r
+  cause_crowd _ r = r
 
   module _ (segment : Segment) (under_way : state.segment ≡ Some segment) (within : state.steps ≤ g.most_steps) where
     none_within : state.steps + 0 ≤ g.most_steps

@@ -26,11 +26,9 @@ module _ (g : Given) (state : State) (old k : Kept) (told told' : Option (List �
   goes_from known new h = record { stands = h.stands; looked = h.looked; known_is = h.known_is; point = λ is. h.point (on is); trace = λ is. h.trace (on is) }
 
   pub point_from : (new : Kept) (p : Point) → IsPoint g state k told' new told' p → IsPoint g state old told new told' p
-  point_from new point.Done h = halts_from new _ h
-  point_from new point.Idle h = halts_from new _ h
-  point_from new (point.BadTrace line) h = halts_from new _ h
   point_from new (point.Comes event) h = record { goes = goes_from (Some event) new h.goes; due = h.due }
   point_from new point.Choice h = record { known = h.known; goes = goes_from h.known new h.goes; not_due = h.not_due; ready = h.ready }
+  point_from new _ h = halts_from new _ h
 
   -- it is refused
   pub bad_from : (line : ℕ) → StandsAt g state state.clock k.core → IsLooked k.reader k.next → 0 < k.core.threads.live → k.next ≡ next.Refused line → IsPoint g state old told k told' (point.BadTrace line)

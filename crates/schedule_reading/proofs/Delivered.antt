@@ -52,11 +52,7 @@ differs false false dropped is e = absurd (cc)
 
 pub agrees_not : (queued drops dropped : Bool) → queued ≡ not dropped → not (beq queued drops) ≡ false → drops ≡ dropped → ⊥
 agrees_not true true true is e d = absurd (cc)
-agrees_not true true false is e d = absurd (cc)
-agrees_not true false dropped is e d = absurd (cc)
-agrees_not false true dropped is e d = absurd (cc)
-agrees_not false false true is e d = absurd (cc)
-agrees_not false false false is e d = absurd (cc)
+agrees_not _ _ _ is e d = absurd (cc)
 
 module _ (g : Given) (state : State) (old k : Kept) (told told' : Option (List ℕ)) (event : Event) (comes : Comes g state old told event k told') (clock : ℕ) (item : Item) (drops : Bool) where
   abbrev dropped : Bool

@@ -102,15 +102,11 @@ stands_with g state k clock trace x y s e caps backlog uses = record {
 trace_behind : (trace : Trace) (reader : ReaderState) (n : Next) (event : Event) (told : Option (List ℕ)) → Knows n (Some event) → IsTraceOf trace reader n told → IsTraceOf (behind trace event) reader next.Unread told
 trace_behind trace reader n event None knows is = absurd is
 trace_behind trace reader (next.Event other) event (Some left) knows is = subst (λ (e : Event). behind trace e ≡ record { bytes = reader.held ++ left; lines = reader.lines; last = reader.last }) knows is.1
-trace_behind trace reader next.Unread event (Some left) knows is = absurd knows
-trace_behind trace reader next.Over event (Some left) knows is = absurd knows
-trace_behind trace reader (next.Refused line) event (Some left) knows is = absurd knows
+trace_behind trace reader _ event (Some left) knows is = absurd knows
 
 refused_none : (reader : ReaderState) (n : Next) (event : Event) → Knows n (Some event) → IsLooked reader n → IsLooked reader next.Unread
 refused_none reader (next.Event other) event knows looked = looked.1
-refused_none reader next.Unread event knows looked = absurd knows
-refused_none reader next.Over event knows looked = absurd knows
-refused_none reader (next.Refused line) event knows looked = absurd knows
+refused_none reader _ event knows looked = absurd knows
 
 module _ (g : Given) (state : State) (old k : Kept) (told told' : Option (List ℕ)) (event : Event) (comes : Comes g state old told event k told') (between : state.end ≡ reading.NotYet) (item : Item) (drops : Bool)
     (item_is : item ≡ item_of event.kind) (drops_is : drops ≡ is_dropped k.core.threads.exchange.backlog k.core.threads.exchange.exchange (delivery_of event.kind)) where

@@ -152,11 +152,9 @@ module _ (g : Given) (state : State) (old : Kept) (told : Option (List ℕ)) (li
 
 module _ (g : Given) (state : State) where
   stops_need : (line : StopLine) (steps : ℕ) (segment : Segment) → state.segment ≡ Some segment → StopsBy g state line steps → Needs g segment (Entry.Stop line) steps
-  stops_need StopLine.Done steps segment under_way s = s.1
-  stops_need StopLine.Idle steps segment under_way s = s.1
-  stops_need (StopLine.Trace line) steps segment under_way s = s.1
   stops_need (StopLine.Cut thread stop cost free) steps segment under_way s =
       subst (λ (x : Segment). StopNeeds g x stop steps) (same_segment state s.segment segment s.under_way under_way) (cause_needs g state s.segment stop cost steps s.cause)
+  stops_need _ steps segment under_way s = s.1
 
   pub going_on : (e : End) → IsEnd g state e → (e ≡ end.Stopped → ⊥) → state.end ≡ reading.Stopped → ⊥
   going_on end.NotYet is going same = absurd (let no : reading.NotYet ≡ reading.Stopped = sym is ∙ same in cc)
@@ -282,14 +280,12 @@ cut_stop g state old told line (Err failure) r = tt
 -- no read has failed
 module _ (g : Given) (state : State) where
   pub cut_counts : (line : StopLine) (result : Result Ruling Failure) (faults : ℕ) → RulesCut g state line result → CountsReads result faults faults
-  cut_counts line (Ok x) faults r = refl
-  cut_counts line (Err Failure.Memory) faults r = refl
   cut_counts line (Err Failure.Read) faults r = absurd (let no : Failure.Read ≡ Failure.Memory = r in cc)
+  cut_counts line _ faults r = refl
 
   pub edge_counts : (old : Kept) (line : Shown) (new : Kept) (result : Result Ruling Failure) (before after : ℕ) → RulesEdge g state old line new result → after ≡ before → CountsReads result before after
-  edge_counts old line new (Ok x) before after r same = same
-  edge_counts old line new (Err Failure.Memory) before after r same = same
   edge_counts old line new (Err Failure.Read) before after r same = absurd (let no : Failure.Read ≡ Failure.Memory = r in cc)
+  edge_counts old line new _ before after r same = same
 
 -- the edges that are over, or not
 module _ (g : Given) (state : State) (k : Kept) (stands : Stands g state k) (going : k.end ≡ end.Stopped → ⊥) where

@@ -67,9 +67,7 @@ some_not_due known clock event is later = ap (λ (o : Option Event). is_due o cl
 
 pub fits_known : (reader : ReaderState) (n : Next) (event : Event) → Knows n (Some event) → IsLooked reader n → FitsEvent event
 fits_known reader (next.Event other) event knows looked = subst FitsEvent knows looked.0
-fits_known reader next.Unread event knows looked = absurd knows
-fits_known reader next.Over event knows looked = absurd knows
-fits_known reader (next.Refused line) event knows looked = absurd knows
+fits_known reader _ event knows looked = absurd knows
 
 -- ---- where no thread is ready
 

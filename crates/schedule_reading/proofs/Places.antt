@@ -1,5 +1,5 @@
 -- One place changes: what stands and waits at the others stays.
-use Rattle.std.proofs.Common.{◌≡◌, ◌≢◌, ℕ, zero, suc, List, [], ◌∷◌, Option, Some, None, option_map, refl, sym, ap, ◌∙◌, subst, arith, if◌then◌else◌, nat_eq}
+use Rattle.std.proofs.Common.{◌≡◌, ◌≢◌, ℕ, suc, List, [], ◌∷◌, Option, Some, None, option_map, refl, sym, ap, ◌∙◌, subst, arith, if◌then◌else◌, nat_eq}
 use Rattle.std.specs.Prelude.{map, slice_get, slice_index_or}
 use Rattle.std.specs.List.{AllByRecursion}
 use Rattle.cap_word.specs.declared.threads.ThreadId.{ThreadId}
@@ -22,9 +22,8 @@ use Rattle.schedule_reading.specs.Told.{ThreadsState, VouchesIn, WaitsAs, at_pla
 -- ---- what stands at a place, and its number
 
 numbers_at : (slots : List (Option Slot)) (k : ℕ) → slice_index_or (map (option_map (λ (slot : Slot). slot.number)) slots) k None ≡ option_map (λ (slot : Slot). slot.number) (slice_index_or slots k None)
-numbers_at [] k = refl
-numbers_at (x ∷ xs) zero = refl
 numbers_at (x ∷ xs) (suc k) = numbers_at xs k
+numbers_at _ _ = refl
 
 pub number_at : (slots : Slab Slot) (k : ℕ) → slice_index_or (numbers_of slots) k None ≡ option_map (λ (slot : Slot). slot.number) (get slots k)
 number_at slots k = numbers_at slots.slots k

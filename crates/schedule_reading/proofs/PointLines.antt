@@ -88,14 +88,10 @@ module _ (g : Given) (state : State) (old k : Kept) (told told' : Option (List �
         no_stop e = absurd (cc)
 
       pub run_ruled : (core : Core) (under : Option Under) (result : Result Ruling Failure) → RulesChoice g state k.core number node core under result → Rules g state old (run_at now) told (record k { core = core; under = under }) told' result
-      run_ruled core None (Ok ruling.Allowed) r = absurd r
       run_ruled core (Some under) (Ok ruling.Allowed) r = run_allows core under r
-      run_ruled core None (Ok ruling.Refused) r = run_other r
-      run_ruled core (Some under) (Ok ruling.Refused) r = run_other r
-      run_ruled core None (Ok ruling.OutOfSteps) r = absurd r
-      run_ruled core (Some under) (Ok ruling.OutOfSteps) r = absurd r
-      run_ruled core None (Err failure) r = tt
-      run_ruled core (Some under) (Err failure) r = tt
+      run_ruled core _ (Ok ruling.Refused) r = run_other r
+      run_ruled core _ (Err failure) r = tt
+      run_ruled core _ (Ok _) r = absurd r
 
 -- another line than that of the choice, whatever was under way
 pub other_ruled : (g : Given) (state : State) (old : Core) (thread node : ℕ) (core : Core) (under : Option Under) → ChosenOther g state old thread node → RulesChoice g state old thread node core under (Ok ruling.Refused)

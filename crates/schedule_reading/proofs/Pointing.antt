@@ -26,10 +26,7 @@ use Rattle.schedule_reading.proofs.Any.{any_ready_same}
 next_in : (trace : Trace) (reader : ReaderState) (n : Next) (known : Option Event) (bytes : List ℕ) → Knows n known → IsTraceIn trace reader n bytes → IsNext trace known
 next_in trace reader (next.Event event) (Some other) bytes e is = subst (λ (v : Event). IsNext trace (Some v)) e is.0
 next_in trace reader next.Over None bytes e is = is
-next_in trace reader (next.Event event) None bytes e is = absurd e
-next_in trace reader next.Over (Some other) bytes e is = absurd e
-next_in trace reader next.Unread known bytes e is = absurd e
-next_in trace reader (next.Refused line) known bytes e is = absurd e
+next_in trace reader _ _ bytes e is = absurd e
 
 pub next_of : (trace : Trace) (reader : ReaderState) (n : Next) (known : Option Event) (left : Option (List ℕ)) → Knows n known → IsTraceOf trace reader n left → IsNext trace known
 next_of trace reader n known None e is = absurd is

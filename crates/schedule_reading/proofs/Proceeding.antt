@@ -1,5 +1,5 @@
 -- The thread under way goes on: what is kept then, and how many steps it took.
-use Rattle.std.proofs.Common.{◌≡◌, ℕ, ◌+◌, ◌-◌, ◌<◌, ◌≤◌, inl, inr, List, length, Option, Some, Result, Ok, Err, refl, sym, ap, ◌∙◌, subst, arith}
+use Rattle.std.proofs.Common.{◌≡◌, ℕ, ◌+◌, ◌-◌, ◌<◌, ◌≤◌, inl, inr, List, length, Option, Some, Result, Ok, refl, sym, ap, ◌∙◌, subst, arith}
 use Rattle.std.specs.Prelude.{ℤ, drop, map}
 use Rattle.cap_word.specs.Word.{signed}
 use Rattle.cap_word.specs.declared.calls.Block.{Block}
@@ -42,9 +42,8 @@ yet_not g state e is same = subst (IsEnd g state) same is
 
 -- an end is that of another state with the same one
 pub end_as : (g : Given) (state other : State) (e : End) → other.end ≡ state.end → IsEnd g state e → IsEnd g other e
-end_as g state other end.NotYet same is = same ∙ is
 end_as g state other (end.Edges edges read) same is = (same ∙ is.0, is.1)
-end_as g state other end.Stopped same is = same ∙ is
+end_as g state other _ same is = same ∙ is
 
 -- ---- what a run keeps
 
@@ -93,10 +92,7 @@ happened_left : (g : Given) (state : State) (here : source.Segment) (a b : ℕ) 
 happened_left g state here a b k under n (Ok (happening.Puts word)) h = record { after = h.after; next = h.next; runs = runs_left g state h.after k under n h.runs }
 happened_left g state here a b k under n (Ok (happening.Blocks block)) h = record { rests = rests_left g state here (a - b) _ k under n h.rests; thread = h.thread; untrapped = h.untrapped }
 happened_left g state here a b k under n (Ok happening.Ends) h = record { rests = rests_left g state here (a - b) source.Ended k under n h.rests; full = h.full }
-happened_left g state here a b k under n (Ok (happening.Traps kind)) h = h
-happened_left g state here a b k under n (Ok happening.IsCrowded) h = h
-happened_left g state here a b k under n (Ok happening.OutOfSteps) h = h
-happened_left g state here a b k under n (Err failure) h = h
+happened_left g state here a b k under n _ h = h
 
 -- ---- the thread of a segment may run
 

@@ -1,5 +1,5 @@
 -- The thread under way rests, and its segment is taken in: what is kept stands beside the state after it.
-use Rattle.std.proofs.Common.{◌≡◌, ℕ, ◌+◌, ◌-◌, ◌^◌, ◌≤◌, Bool, true, false, List, [], ◌∷◌, ◌++◌, length, Option, Some, None, IsSome, refl, sym, ap, ◌∙◌, arith, if◌then◌else◌}
+use Rattle.std.proofs.Common.{◌≡◌, ℕ, ◌+◌, ◌-◌, ◌^◌, ◌≤◌, Bool, true, false, List, [], length, Option, Some, None, IsSome, refl, sym, ap, ◌∙◌, arith, if◌then◌else◌}
 use Rattle.std.specs.Prelude.{IfSome, slice_set, nat_le}
 use Rattle.std.specs.List.{list_all, list_any}
 use Rattle.blocking_graph.specs.Edges.{count_of, edges_of, edges_with}
@@ -54,12 +54,9 @@ later None a b h is = tt
 later (Some time) a b h is = omega (arith, h, is)
 
 wakes_soon : (since : ℕ) (block : Block) (most : ℕ) → since + 2 ^ 31 ≤ most + 1 → IfSome (wakes_at since block) (λ time. time ≤ most)
-wakes_soon since Block.Accept most h = tt
-wakes_soon since (Block.Wait channel) most h = tt
 wakes_soon since (Block.Sleep ticks) most h = let few = few_ticks ticks in omega (arith, few, h)
-wakes_soon since Block.Yield most h = tt
-wakes_soon since (Block.Take resource amount) most h = tt
 wakes_soon since (Block.WaitFor channel ticks) most h = let few = few_ticks ticks in omega (arith, few, h)
+wakes_soon since _ most h = tt
 
 -- a thread that blocks at the end of a segment wakes in time
 pub wakes_in_time : (clock cost more : ℕ) (block : Block) → clock ≤ latest cost → 1 ≤ more → IfSome (wakes_at (clock + more) block) (λ time. time ≤ latest (cost + more))

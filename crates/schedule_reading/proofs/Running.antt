@@ -113,11 +113,7 @@ module _ (old : Core) (old_under : Under) (old_left : ℕ) (crowds : Bool) (k : 
 
       pub first_on : (came : Happening) → CrowdsFirst g gone.after crowds (left - left') (Ok came) → CrowdsFirst g here crowds (old_left - left') (Ok came)
       first_on happening.IsCrowded first = first
-      first_on (happening.Puts word) first = none_then first
-      first_on (happening.Blocks block) first = none_then first
-      first_on happening.Ends first = none_then first
-      first_on (happening.Traps kind) first = none_then first
-      first_on happening.OutOfSteps first = none_then first
+      first_on _ first = none_then first
 
       pub happened_on : gone.after.number ≡ here.number → (came : Happening) → HasHappened g state gone.after left left' new new_under (Ok came) → HasHappened g state here old_left left' new new_under (Ok came)
       happened_on number (happening.Puts word) h = record {

@@ -1,5 +1,5 @@
 -- Threads where one place changes: a thread comes to wait there, or leaves it.
-use Rattle.std.proofs.Common.{◌≡◌, ◌≢◌, ℕ, zero, suc, ◌+◌, ◌≤◌, Bool, true, false, List, [], ◌∷◌, ◌++◌, length, Option, Some, None, IsSome, refl, sym, ap, ◌∙◌, subst, arith, ⊎_elim, cond}
+use Rattle.std.proofs.Common.{◌≡◌, ◌≢◌, ℕ, zero, suc, ◌+◌, Bool, true, false, List, [], ◌∷◌, ◌++◌, length, Option, Some, None, IsSome, refl, sym, ap, ◌∙◌, subst, arith, ⊎_elim, cond}
 use Rattle.std.specs.Prelude.{IsTrue, count_by, slice_get, slice_set}
 use Rattle.std.specs.List.{AllByRecursion}
 use Rattle.std.proofs.lemmas.List.Recursion.{is_count_by}
@@ -31,9 +31,8 @@ more_long (y ∷ xs) x = let rest = more_long xs x in omega (arith, rest)
 
 pub more_other : {X : Type 0} (xs : List X) (x : X) (k : ℕ) → k ≢ length xs → slice_get (xs ++ x ∷ []) k ≡ slice_get xs k
 more_other [] x zero apart = absurd (apart refl)
-more_other [] x (suc k) apart = refl
-more_other (y ∷ xs) x zero apart = refl
 more_other (y ∷ xs) x (suc k) apart = more_other xs x k (λ e. apart (ap suc e))
+more_other _ x _ apart = refl
 
 pub set_here : {X : Type 0} (xs : List X) (k : ℕ) (x y : X) → slice_get xs k ≡ Some y → slice_get (slice_set xs k x) k ≡ Some x
 set_here [] k x y e = absurd (cc)
@@ -41,11 +40,9 @@ set_here (z ∷ xs) zero x y e = refl
 set_here (z ∷ xs) (suc k) x y e = set_here xs k x y e
 
 pub set_other : {X : Type 0} (xs : List X) (k : ℕ) (x : X) (j : ℕ) → j ≢ k → slice_get (slice_set xs k x) j ≡ slice_get xs j
-set_other [] k x j apart = refl
 set_other (z ∷ xs) zero x zero apart = absurd (apart refl)
-set_other (z ∷ xs) zero x (suc j) apart = refl
-set_other (z ∷ xs) (suc k) x zero apart = refl
 set_other (z ∷ xs) (suc k) x (suc j) apart = set_other xs k x j (λ e. apart (ap suc e))
+set_other _ _ x _ apart = refl
 
 -- how many live
 abbrev live_count : List source.Rest → ℕ
@@ -84,8 +81,7 @@ one_less false m n e = e
 
 dies : (b c : Bool) (n : ℕ) → b ≡ true → c ≡ false → cond c (1 + n) n + 1 ≡ cond b (1 + n) n
 dies true false n p q = omega arith
-dies false c n p q = absurd (cc)
-dies true true n p q = absurd (cc)
+dies _ _ n p q = absurd (cc)
 
 living_less : (rests : List source.Rest) (k : ℕ) (x y : source.Rest) → slice_get rests k ≡ Some y → lives y ≡ true → lives x ≡ false → live_count (slice_set rests k x) + 1 ≡ live_count rests
 living_less [] k x y e p q = absurd (cc)

@@ -43,18 +43,7 @@ module _ (g : Given) (state : State) (old : Kept) (told : Option (List ℕ)) (wi
     stop_allowed point.Done stops.Done fit h = stop_now StopLine.Done (λ t. (h.stops t, refl))
     stop_allowed point.Idle stops.Idle fit h = stop_now StopLine.Idle (λ t. (h.stops t, refl))
     stop_allowed (point.BadTrace line) (stops.Trace number) fit h = stop_now (StopLine.Trace number) (λ t. (subst (λ (n : ℕ). IsBadTrace (seen_of state) n) fit (h.stops t), refl))
-    stop_allowed point.Done stops.Idle fit h = absurd fit
-    stop_allowed point.Done (stops.Trace number) fit h = absurd fit
-    stop_allowed point.Idle stops.Done fit h = absurd fit
-    stop_allowed point.Idle (stops.Trace number) fit h = absurd fit
-    stop_allowed (point.BadTrace line) stops.Done fit h = absurd fit
-    stop_allowed (point.BadTrace line) stops.Idle fit h = absurd fit
-    stop_allowed (point.Comes event) stops.Done fit h = absurd fit
-    stop_allowed (point.Comes event) stops.Idle fit h = absurd fit
-    stop_allowed (point.Comes event) (stops.Trace number) fit h = absurd fit
-    stop_allowed point.Choice stops.Done fit h = absurd fit
-    stop_allowed point.Choice stops.Idle fit h = absurd fit
-    stop_allowed point.Choice (stops.Trace number) fit h = absurd fit
+    stop_allowed _ _ fit h = absurd fit
 
     -- two stops
     idle_done : IsIdle g.policy (seen_of state) → IsDone (seen_of state) → ⊥
@@ -72,17 +61,16 @@ module _ (g : Given) (state : State) (old : Kept) (told : Option (List ℕ)) (wi
     at_point next clock (stops.Trace number) steps p s = not_bad g.policy (seen_of state) next clock number p s.0
 
     never_stops : (p : Point) (stop : Between) (steps : ℕ) → (Fits p stop → ⊥) → IsPoint g state old told new told' p → IsTold state old told → StopsBy g state (stop_line stop) steps → ⊥
-    never_stops point.Done stops.Done steps nofit h t s = nofit tt
     never_stops point.Done stops.Idle steps nofit h t s = idle_done s.0 (h.stops t)
     never_stops point.Done (stops.Trace number) steps nofit h t s = bad_done number s.0 (h.stops t)
     never_stops point.Idle stops.Done steps nofit h t s = idle_done (h.stops t) s.0
-    never_stops point.Idle stops.Idle steps nofit h t s = nofit tt
     never_stops point.Idle (stops.Trace number) steps nofit h t s = bad_idle number s.0 (h.stops t)
     never_stops (point.BadTrace line) stops.Done steps nofit h t s = bad_done line (h.stops t) s.0
     never_stops (point.BadTrace line) stops.Idle steps nofit h t s = bad_idle line (h.stops t) s.0
     never_stops (point.BadTrace line) (stops.Trace number) steps nofit h t s = nofit (one_refusal state.trace line number (h.stops t).refused s.0.refused)
     never_stops (point.Comes event) stop steps nofit h t s = at_point (Some event) new.core.threads.waits.clock stop steps (h.goes.point t) s
     never_stops point.Choice stop steps nofit h t s = at_point h.known new.core.threads.waits.clock stop steps (h.goes.point t) s
+    never_stops _ _ steps nofit h t s = nofit tt
 
     pub stop_refused : (p : Point) (stop : Between) → (Fits p stop → ⊥) → IsPoint g state old told new told' p → RulesStop g state old told (stop_line stop) (Ok ruling.Refused)
     stop_refused p stop nofit h t = none_of (stop_line stop) none (λ steps s. never_stops p stop steps nofit h t s) t
@@ -97,8 +85,7 @@ stop_within g state old told stop under_way within t = ((λ steps s. no stop ste
 
   enough : (stop : Between) → IsBeyond g state (Entry.Stop (stop_line stop)) → ⊥
   enough stops.Done b = let far = b.beyond 0 refl in omega (arith, far, within)
-  enough stops.Idle b = let far = b.beyond 0 refl in omega (arith, far, within)
-  enough (stops.Trace number) b = let far = b.beyond 0 refl in omega (arith, far, within)
+  enough _ b = let far = b.beyond 0 refl in omega (arith, far, within)
 
 -- ---- edges
 

@@ -82,21 +82,16 @@ find_passes test (x ∷ xs) t e = find_on (test x) test x xs t refl e (λ e'. fi
 
 -- a call is ready now, or after some time
 ready_by : (ready : Bool) (wait : Option ℕ) (since clock : ℕ) → (ready || is_past clock (wake_of since wait)) ≡ true → IsTrue (ready || is_some wait)
-ready_by true wait since clock e = refl
 ready_by false None since clock e = absurd (cc)
-ready_by false (Some ticks) since clock e = refl
+ready_by _ _ since clock e = refl
 
 ready_or_wait : (row : BlockingRow) (since clock : ℕ) → (row.ready || is_past clock (wake_of since row.wait)) ≡ true → IsTrue (row.ready || is_some row.wait)
 ready_or_wait row since clock e = ready_by row.ready row.wait since clock e
 
 -- the uses of the eight resources
 row_uses : (caps : List ℕ) (x : Exchange) (block : Block) → length (blocking_row caps x block).after.uses ≡ length x.uses
-row_uses caps x Block.Accept = refl
-row_uses caps x (Block.Wait channel) = refl
-row_uses caps x (Block.Sleep ticks) = refl
-row_uses caps x Block.Yield = refl
 row_uses caps x (Block.Take resource amount) = length-set x.uses resource (use_of x resource + amount)
-row_uses caps x (Block.WaitFor channel ticks) = refl
+row_uses caps x _ = refl
 
 pub uses_are : (g : Given) (k : Core) (uses : List ℕ) → length uses ≡ 8 → length k.threads.exchange.exchange.uses ≡ 8 → ((r : ℕ) → r < 8 → slice_index uses r ≡ used_in k r) → uses ≡ uses_in (k.policy.chunks - k.free) k.threads.exchange.exchange
 uses_are g k uses eight there same =

@@ -46,9 +46,8 @@ block_sleeps caps x clock since block time false ready e = record {
 }
 
 sleeps_is : (caps : List ℕ) (x : Exchange) (clock : ℕ) (o : Option Wait) (time : ℕ) → sleeps_in caps x clock o ≡ Some time → Sleeps caps x clock o time
-sleeps_is caps x clock None time e = absurd (cc)
-sleeps_is caps x clock (Some Wait.Fresh) time e = absurd (cc)
 sleeps_is caps x clock (Some (Wait.At block since)) time e = block_sleeps caps x clock since block time (table.is_ready caps x clock since block) refl e
+sleeps_is caps x clock _ time e = absurd (cc)
 
 -- ---- nobody is ready
 

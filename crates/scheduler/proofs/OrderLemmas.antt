@@ -9,15 +9,11 @@ irrefl (negsuc s) l n = grind (arith, nat_tests)
 
 asym : (s : ℤ) (l n : ℕ) (s' : ℤ) (l' n' : ℕ) → ranks_below s l n s' l' n' ≡ true → ranks_below s' l' n' s l n ≡ false
 asym (pos s) l n (pos s') l' n' h = grind (arith, nat_tests)
-asym (pos s) l n (negsuc s') l' n' h = grind (arith, nat_tests)
-asym (negsuc s) l n (pos s') l' n' h = grind (arith, nat_tests)
-asym (negsuc s) l n (negsuc s') l' n' h = grind (arith, nat_tests)
+asym _ l n _ l' n' h = grind (arith, nat_tests)
 
 total : (s : ℤ) (l n : ℕ) (s' : ℤ) (l' n' : ℕ) → n ≢ n' → ranks_below s l n s' l' n' ≡ false → ranks_below s' l' n' s l n ≡ true
 total (pos s) l n (pos s') l' n' ne h = grind (arith, nat_tests)
-total (pos s) l n (negsuc s') l' n' ne h = grind (arith, nat_tests)
-total (negsuc s) l n (pos s') l' n' ne h = grind (arith, nat_tests)
-total (negsuc s) l n (negsuc s') l' n' ne h = grind (arith, nat_tests)
+total _ l n _ l' n' ne h = grind (arith, nat_tests)
 
 cotrans : (a : ℤ) (la na : ℕ) (b : ℤ) (lb nb : ℕ) (c : ℤ) (lc nc : ℕ) → ranks_below a la na b lb nb ≡ false → ranks_below b lb nb c lc nc ≡ false →
     ranks_below a la na c lc nc ≡ false

@@ -41,13 +41,12 @@ place_below test xs d place first = (position-Some test xs place d first).0
 
 emptied_at : (thread : ThreadId) (places : List (Option Entry)) (place : ℕ) → is_of thread (place_at places place) ≡ true → ((k : ℕ) → k < place → is_of thread (place_at places k) ≡ false) →
     entries_of (slice_set places place None) ≡ without_entry thread (entries_of places)
-emptied_at thread [] place here before = absurd (cc)
-emptied_at thread (None ∷ places) zero here before = absurd (cc)
 emptied_at thread (Some entry ∷ places) zero here before = let same : is_same entry.thread thread ≡ true = here in rw same refl
 emptied_at thread (None ∷ places) (suc place) here before = emptied_at thread places place here (λ k h. before (suc k) (omega arith))
 emptied_at thread (Some entry ∷ places) (suc place) here before =
     let other : is_same entry.thread thread ≡ false = before 0 (omega arith) in
     rw other (ap (λ (l : List Entry). entry ∷ l) (emptied_at thread places place here (λ k h. before (suc k) (omega arith))))
+emptied_at thread _ _ here before = absurd (cc)
 
 absent_at : (thread : ThreadId) (places : List (Option Entry)) → ((k : ℕ) → k < length places → is_of thread (place_at places k) ≡ false) → entries_of places ≡ without_entry thread (entries_of places)
 absent_at thread [] none = refl
@@ -76,8 +75,6 @@ without_threads thread (first ∷ queue) = without_on (is_same first.thread thre
 
 found_at : (test : ThreadId → Bool) (places : List (Option Entry)) (place : ℕ) (entry : Entry) → place_at places place ≡ Some entry → test entry.thread ≡ true →
     ((k : ℕ) → k < place → passes_at test (place_at places k) ≡ false) → find test (threads_of (entries_of places)) ≡ Some entry.thread
-found_at test [] place entry at here before = absurd (cc)
-found_at test (None ∷ places) zero entry at here before = absurd (cc)
 found_at test (Some first ∷ places) zero entry at here before =
     let same : first ≡ entry = cc in
     let passes : test first.thread ≡ true = ap (λ (e : Entry). test e.thread) same ∙ here in
@@ -86,6 +83,7 @@ found_at test (None ∷ places) (suc place) entry at here before = found_at test
 found_at test (Some first ∷ places) (suc place) entry at here before =
     let fails : test first.thread ≡ false = before 0 (omega arith) in
     rw fails (found_at test places place entry at here (λ k h. before (suc k) (omega arith)))
+found_at test _ _ entry at here before = absurd (cc)
 
 none_at : (test : ThreadId → Bool) (places : List (Option Entry)) → ((k : ℕ) → k < length places → passes_at test (place_at places k) ≡ false) → find test (threads_of (entries_of places)) ≡ None
 none_at test [] none = refl

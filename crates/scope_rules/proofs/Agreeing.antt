@@ -17,16 +17,13 @@ few_sites all read = let n = (items_numbered (definitions all) at_start read (re
 
 -- a body is within the limit of calls only if the items before it are
 pub fewer_before : (defs : List Binding) (w : Sofar) (i : RawItemTree) → w.spot.site ≤ 65537 → (item_after defs w i).spot.site ≤ 65535 → w.spot.site ≤ 65535
-fewer_before defs w (RawGlobal n start) f h = h
-fewer_before defs w (RawGlobalArray n size) f h = h
-fewer_before defs w (RawTableItem n size members) f h = h
-fewer_before defs w (RawPrototypeItem gives n params) f h = h
 fewer_before defs w (RawFunctionItem gives n params body) f h =
     let b = body_spot defs w.spot gives n params in
     let same : b.site ≡ w.spot.site = body_site defs w.spot gives n params in
     let few : b.site ≤ 65537 = omega (arith, same, f) in
     let grown = (stmts_grown b body).site few in
     omega (arith, same, grown, h)
+fewer_before defs w _ f h = h
 
 pub agrees : (w : Sofar) → Agrees w w
 agrees w = record { spot = refl; globals = refl; tables = refl; count = refl; functions = λ h. refl }

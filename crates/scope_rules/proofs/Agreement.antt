@@ -18,12 +18,8 @@ use Rattle.scope_rules.proofs.Links.{same_text, same_itself}
 
 -- a name is a function with this result and so many parameters
 abbrev pub IsSignedIn : Bool → ℕ → Meaning → Type 0
-IsSignedIn g k (Meaning.Local x array) = ⊥
-IsSignedIn g k (Meaning.Global x array) = ⊥
-IsSignedIn g k (Meaning.Table t) = ⊥
 IsSignedIn g k (Meaning.Function f gives params defined) = (gives ≡ g) × (params ≡ k)
-IsSignedIn g k (Meaning.Modelled m) = ⊥
-IsSignedIn g k Meaning.Spawn = ⊥
+IsSignedIn g k _ = ⊥
 
 abbrev pub IsSigned : Bool → ℕ → Option Found → Type 0
 IsSigned g k None = ⊥
@@ -44,12 +40,8 @@ pub bound_signed : (t n : List ℕ) (names : List Binding) (m : Meaning) (g : Bo
 bound_signed t n names m g k h same = bound_at t n names m g k (is_fixed (find n names)) (bytes_eq n t) refl h same
 
 outer_signed_meaning : (m : Meaning) (at : ℕ) (g : Bool) (k : ℕ) → outer_in at m ≡ [] → IsSignedIn g k m → ⊥
-outer_signed_meaning (Meaning.Local x array) at g k h s = s
-outer_signed_meaning (Meaning.Global x array) at g k h s = s
-outer_signed_meaning (Meaning.Table t) at g k h s = s
 outer_signed_meaning (Meaning.Function f gives params defined) at g k h s = cc
-outer_signed_meaning (Meaning.Modelled m) at g k h s = s
-outer_signed_meaning Meaning.Spawn at g k h s = s
+outer_signed_meaning _ at g k h s = s
 
 outer_signed_in : (o : Option Found) (at : ℕ) (g : Bool) (k : ℕ) → outer_faults o at ≡ [] → IsSigned g k o → ⊥
 outer_signed_in None at g k h s = s
@@ -60,15 +52,11 @@ same_results true b h = not_false b h
 same_results false b h = h
 
 repeated_signed : (d g' : Bool) (k' at : ℕ) (m : Meaning) (g : Bool) (k : ℕ) → repeated_faults d g' k' at m ≡ [] → IsSignedIn g k m → (g' ≡ g) × (k' ≡ k)
-repeated_signed d g' k' at (Meaning.Local x array) g k h s = absurd s
-repeated_signed d g' k' at (Meaning.Global x array) g k h s = absurd s
-repeated_signed d g' k' at (Meaning.Table t) g k h s = absurd s
 repeated_signed d g' k' at (Meaning.Function f gives params defined) g k h s =
     let j = both_none (broken (d && defined) at Rule.Twice) (broken (differ gives g' || not (nat_eq params k')) at Rule.Arity) h in
     let b = neither (differ gives g') (not (nat_eq params k')) (not_broken (differ gives g' || not (nat_eq params k')) at Rule.Arity j.1) in
     (same_results gives g' b.0 ∙ s.0, sym (same_number params k' (not_false (nat_eq params k') b.1)) ∙ s.1)
-repeated_signed d g' k' at (Meaning.Modelled m) g k h s = absurd s
-repeated_signed d g' k' at Meaning.Spawn g k h s = absurd s
+repeated_signed d g' k' at _ g k h s = absurd s
 
 function_signed : (d g' : Bool) (k' at : ℕ) (o : Option Found) (g : Bool) (k : ℕ) → function_faults d g' k' at o ≡ [] → IsSigned g k o → (g' ≡ g) × (k' ≡ k)
 function_signed d g' k' at None g k h s = absurd s
@@ -169,12 +157,8 @@ all_backed defs w ds (i ∷ is) h b =
 
 -- one name is one function
 one_signature_in : (g g' : Bool) (k k' : ℕ) (m : Meaning) → IsSignedIn g k m → IsSignedIn g' k' m → (g ≡ g') × (k ≡ k')
-one_signature_in g g' k k' (Meaning.Local x array) s r = absurd s
-one_signature_in g g' k k' (Meaning.Global x array) s r = absurd s
-one_signature_in g g' k k' (Meaning.Table t) s r = absurd s
 one_signature_in g g' k k' (Meaning.Function f gives params defined) s r = (sym s.0 ∙ r.0, sym s.1 ∙ r.1)
-one_signature_in g g' k k' (Meaning.Modelled m) s r = absurd s
-one_signature_in g g' k k' Meaning.Spawn s r = absurd s
+one_signature_in g g' k k' _ s r = absurd s
 
 pub one_signature : (g g' : Bool) (k k' : ℕ) (o : Option Found) → IsSigned g k o → IsSigned g' k' o → (g ≡ g') × (k ≡ k')
 one_signature g g' k k' None s r = absurd s

@@ -27,13 +27,11 @@ operand_trees_push (p ∷ ps) o e = ap (λ qs. (p.0, expr_tree p.1) ∷ qs) (ope
 
 joined_of : (names : List Binding) (l : RawExprTree) (o : Infix) (r : RawExprTree) → expr_of names (raw_joined l o r) ≡ joined (expr_of names l) o (expr_of names r)
 joined_of names l (Infix.Binary op) r = refl
-joined_of names l Infix.LogicalAnd r = refl
-joined_of names l Infix.LogicalOr r = refl
+joined_of names l _ r = refl
 
 joined_faults : (names : List Binding) (l : RawExprTree) (o : Infix) (r : RawExprTree) → expr_faults names (raw_joined l o r) ≡ expr_faults names l ++ expr_faults names r
 joined_faults names l (Infix.Binary op) r = refl
-joined_faults names l Infix.LogicalAnd r = refl
-joined_faults names l Infix.LogicalOr r = refl
+joined_faults names l _ r = refl
 
 pub chain_of : (names : List Binding) (l : RawExprTree) (ps : List (Infix × RawExpr)) → expr_of names (raw_chained l (map raw_operand_tree ps)) ≡ chained (expr_of names l) (operands_of names ps)
 chain_of names l [] = refl

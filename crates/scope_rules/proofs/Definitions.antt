@@ -4,7 +4,7 @@ use Rattle.std.specs.Prelude.{if◌then◌else◌}
 use Rattle.std.specs.Str.{bytes_eq}
 use Rattle.std.proofs.lemmas.List.{map-append}
 use Rattle.std.proofs.Math.ListN.{get_or-append}
-use Rattle.c_tree.specs.RawTrees.{RawItemTree, RawGlobal, RawGlobalArray, RawTableItem, RawPrototypeItem, RawFunctionItem}
+use Rattle.c_tree.specs.RawTrees.{RawItemTree, RawFunctionItem}
 use Rattle.c_tree.specs.Temporaries.{capped}
 use Rattle.c_tree.specs.WellScoped.{signature_of}
 use Rattle.cap_word.specs.Signatures.{Signature, signature_at}
@@ -15,12 +15,8 @@ use Rattle.scope_rules.specs.Meanings.{function_in}
 use Rattle.scope_rules.specs.Items.{Sofar, with_definition, with_definitions, item_after, items_after}
 
 abbrev pub signature_in : Meaning → Signature
-signature_in (Meaning.Local x array) = record { params = 0; gives = false }
-signature_in (Meaning.Global g array) = record { params = 0; gives = false }
-signature_in (Meaning.Table t) = record { params = 0; gives = false }
 signature_in (Meaning.Function f gives params defined) = record { params = capped params; gives = gives }
-signature_in (Meaning.Modelled m) = record { params = 0; gives = false }
-signature_in Meaning.Spawn = record { params = 0; gives = false }
+signature_in _ = record { params = 0; gives = false }
 
 -- the signatures of the definitions, the first first
 abbrev pub signatures_of : List Binding → List Signature
@@ -29,23 +25,16 @@ signatures_of (b ∷ bs) = signatures_of bs ++ signature_in b.meaning ∷ []
 
 -- a definition is a function with the number of definitions before it
 abbrev pub IsDefinition : ℕ → Meaning → Type 0
-IsDefinition k (Meaning.Local x array) = ⊥
-IsDefinition k (Meaning.Global g array) = ⊥
-IsDefinition k (Meaning.Table t) = ⊥
 IsDefinition k (Meaning.Function f gives params defined) = f ≡ capped k
-IsDefinition k (Meaning.Modelled m) = ⊥
-IsDefinition k Meaning.Spawn = ⊥
+IsDefinition k _ = ⊥
 
 abbrev pub AreDefinitions : List Binding → Type 0
 AreDefinitions [] = Unit {0}
 AreDefinitions (b ∷ bs) = IsDefinition (length bs) b.meaning × AreDefinitions bs
 
 with_definition_are : (ds : List Binding) (i : RawItemTree) → AreDefinitions ds → AreDefinitions (with_definition ds i)
-with_definition_are ds (RawGlobal n start) h = h
-with_definition_are ds (RawGlobalArray n size) h = h
-with_definition_are ds (RawTableItem n size members) h = h
-with_definition_are ds (RawPrototypeItem gives n params) h = h
 with_definition_are ds (RawFunctionItem gives n params body) h = (refl, h)
+with_definition_are ds _ h = h
 
 pub definitions_are : (ds : List Binding) (is : List RawItemTree) → AreDefinitions ds → AreDefinitions (with_definitions ds is)
 definitions_are ds [] h = h
@@ -56,12 +45,8 @@ signatures_length [] = refl
 signatures_length (b ∷ bs) = let h = signatures_length bs in let k = length-append (signatures_of bs) (signature_in b.meaning ∷ []) in omega arith
 
 definition_number : (k : ℕ) (m : Meaning) → IsDefinition k m → function_in m ≡ capped k
-definition_number k (Meaning.Local x array) h = absurd h
-definition_number k (Meaning.Global g array) h = absurd h
-definition_number k (Meaning.Table t) h = absurd h
 definition_number k (Meaning.Function f gives params defined) h = h
-definition_number k (Meaning.Modelled m) h = absurd h
-definition_number k Meaning.Spawn h = absurd h
+definition_number k _ h = absurd h
 
 at_end : {A : Type 0} (xs : List A) (y d : A) → get_or (xs ++ y ∷ []) (length xs) d ≡ y
 at_end [] y d = refl
@@ -91,11 +76,8 @@ find_definition t (b ∷ bs) f h l e = at_head (bytes_eq b.text t) e (find_defin
 
 -- the functions that are made have these signatures
 item_signatures : (defs : List Binding) (w : Sofar) (ds : List Binding) (i : RawItemTree) → map signature_of w.functions ≡ signatures_of ds → map signature_of (item_after defs w i).functions ≡ signatures_of (with_definition ds i)
-item_signatures defs w ds (RawGlobal n start) h = h
-item_signatures defs w ds (RawGlobalArray n size) h = h
-item_signatures defs w ds (RawTableItem n size members) h = h
-item_signatures defs w ds (RawPrototypeItem gives n params) h = h
 item_signatures defs w ds (RawFunctionItem gives n params body) h = map-append signature_of w.functions _ ∙ ap (λ x. x ++ record { params = capped (length params); gives = gives } ∷ []) h
+item_signatures defs w ds _ h = h
 
 pub items_signatures : (defs : List Binding) (w : Sofar) (ds : List Binding) (is : List RawItemTree) → map signature_of w.functions ≡ signatures_of ds → map signature_of (items_after defs w is).functions ≡ signatures_of (with_definitions ds is)
 items_signatures defs w ds [] h = h

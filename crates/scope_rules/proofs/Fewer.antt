@@ -25,12 +25,8 @@ use Rattle.scope_rules.proofs.ScopedCalls.{Known, known_call, right_count}
 
 -- every function in scope has at most six parameters
 abbrev pub IsSix : Meaning → Type 0
-IsSix (Meaning.Local x array) = Unit {0}
-IsSix (Meaning.Global g array) = Unit {0}
-IsSix (Meaning.Table t) = Unit {0}
 IsSix (Meaning.Function f gives params defined) = params ≤ 6
-IsSix (Meaning.Modelled m) = Unit {0}
-IsSix Meaning.Spawn = Unit {0}
+IsSix _ = Unit {0}
 
 abbrev pub AreSix : List Binding → Type 0
 AreSix [] = Unit {0}
@@ -55,10 +51,7 @@ simple_six : (s : Spot) (p : RawSimpleTree) → AreSix s.names → AreSix (simpl
 simple_six s (RawDeclareScalar n) k = bound_six s.names n.text _ tt k
 simple_six s (RawDeclareArray n size) k = bound_six s.names n.text _ tt k
 simple_six s (RawDeclareWith n v) k = bound_six s.names n.text _ tt k
-simple_six s (RawSet n v) k = k
-simple_six s (RawSetElement n i v) k = k
-simple_six s (RawCalling n es) k = k
-simple_six s (RawTableCalling n i e) k = k
+simple_six s _ k = k
 
 simples_six : (s : Spot) (ps : List RawSimpleTree) → AreSix s.names → AreSix (simples_after s ps).names
 simples_six s [] k = k
@@ -93,7 +86,6 @@ larger_both : (a b x y : ℕ) → a ≤ x → b ≤ y → max a b ≤ max x y
 larger_both a b x y h k = omega arith
 
 expr_fewer : (names : List Binding) (e : RawExprTree) → expr_temporaries (expr_of names e) ≤ raw_temporaries e
-expr_fewer names (RawNumber v) = omega arith
 expr_fewer names (RawName n) = rw (scalar_one (variable_of (find n.text names))) (omega arith)
 expr_fewer names (RawElement n i) = rw (element_same (variable_of (find n.text names)) (expr_of names i)) (expr_fewer names i)
 expr_fewer names (RawUnary op e) = expr_fewer names e
@@ -102,8 +94,7 @@ expr_fewer names (RawBinary op l r) = let a = expr_fewer names l in let b = expr
 expr_fewer names (RawLogicalAnd l r) = let a = expr_fewer names l in let b = expr_fewer names r in omega arith
 expr_fewer names (RawLogicalOr l r) = let a = expr_fewer names l in let b = expr_fewer names r in omega arith
 expr_fewer names (RawConditional c l r) = let d = expr_fewer names c in let a = expr_fewer names l in let b = expr_fewer names r in omega arith
-expr_fewer names (RawCall n es) = omega arith
-expr_fewer names (RawTableCall n i e) = omega arith
+expr_fewer names _ = omega arith
 
 arguments_fewer : (names : List Binding) (k : ℕ) (es : RawExprTrees) → k + length (listed es) ≤ 6 → arguments_temporaries k (exprs_of names (listed es)) ≤ raw_arguments_temporaries k es
 arguments_fewer names k NoExprs h = omega arith
@@ -114,29 +105,18 @@ arguments_fewer names k (And e es) h =
 
 few_parameters : (m : ModelledCall) → parameters_of m ≤ 6
 few_parameters ModelledCall.Accept = omega arith
-few_parameters ModelledCall.Wait = omega arith
-few_parameters ModelledCall.Sleep = omega arith
-few_parameters ModelledCall.Yield = omega arith
-few_parameters ModelledCall.Take = omega arith
-few_parameters ModelledCall.WaitFor = omega arith
-few_parameters ModelledCall.Put = omega arith
-few_parameters ModelledCall.Give = omega arith
-few_parameters ModelledCall.SelfNumber = omega arith
+few_parameters _ = omega arith
 
 spawn_fewer : (names : List Binding) (k : ℕ) (es : RawExprTrees) → length (listed es) ≡ 2 → call_temporaries (spawn_of names k (listed es)) ≤ raw_arguments_temporaries 0 es
-spawn_fewer names k NoExprs h = absurd (omega arith)
-spawn_fewer names k (And a NoExprs) h = absurd (omega arith)
 spawn_fewer names k (And a (And b NoExprs)) h = let d = expr_fewer names b in omega arith
-spawn_fewer names k (And a (And b (And d es))) h = absurd (omega arith)
+spawn_fewer names k _ h = absurd (omega arith)
 
 call_fewer_by : (names : List Binding) (u : Bool) (m : Meaning) (k : ℕ) (es : RawExprTrees) → IsSix m → is_wrong_count (takes m) (length (listed es)) ≡ false → (not (is_callable m) || (u && is_void m)) ≡ false
     → call_temporaries (call_by (callee_in m) names k (listed es)) ≤ raw_arguments_temporaries 0 es
-call_fewer_by names u (Meaning.Local x array) k es s w v = cc
-call_fewer_by names u (Meaning.Global g array) k es s w v = cc
-call_fewer_by names u (Meaning.Table t) k es s w v = cc
 call_fewer_by names u (Meaning.Function f gives params defined) k es s w v = let e = right_count params (length (listed es)) w in arguments_fewer names 0 es (omega arith)
 call_fewer_by names u (Meaning.Modelled m) k es s w v = let e = right_count (parameters_of m) (length (listed es)) w in let f = few_parameters m in arguments_fewer names 0 es (omega arith)
 call_fewer_by names u Meaning.Spawn k es s w v = spawn_fewer names k es (sym (right_count 2 (length (listed es)) w))
+call_fewer_by names u _ k es s w v = cc
 
 call_fewer : (names : List Binding) (u : Bool) (k : ℕ) (n : NameTree) (es : RawExprTrees) → AreSix names → call_faults u names n (listed es) ≡ [] → call_temporaries (call_of names k n (listed es)) ≤ raw_arguments_temporaries 0 es
 call_fewer names u k n es six h =
@@ -175,8 +155,6 @@ element_set_fewer (Variable.Local x) i v a b h k = omega arith
 element_set_fewer (Variable.Global g) i v a b h k = omega arith
 
 simple_fewer : (s : Spot) (p : RawSimpleTree) → AreSix s.names → simple_faults s p ≡ [] → simple_temporaries (simple_of s p) ≤ raw_simple_temporaries p
-simple_fewer s (RawDeclareScalar n) six h = omega arith
-simple_fewer s (RawDeclareArray n size) six h = omega arith
 simple_fewer s (RawDeclareWith n v) six h =
     let k = both_none (declare_faults s n) (right_faults s.names v) h in
     let a = held_fewer s.names s.site v six k.1 in let b = right_held (right_of s.names s.site v) in omega arith
@@ -189,6 +167,7 @@ simple_fewer s (RawSetElement n i v) six h =
     element_set_fewer (variable_of (find n.text s.names)) (expr_of s.names i) (right_of s.names s.site v) (raw_temporaries i) (raw_temporaries v) (expr_fewer s.names i) (held_fewer s.names s.site v six j.1)
 simple_fewer s (RawCalling n es) six h = call_fewer s.names false s.site n es six h
 simple_fewer s (RawTableCalling n i e) six h = let a = expr_fewer s.names i in let b = expr_fewer s.names e in omega arith
+simple_fewer s _ six h = omega arith
 
 simples_fewer : (s : Spot) (ps : List RawSimpleTree) → AreSix s.names → simples_faults s ps ≡ [] → simples_temporaries (simples_of s ps) ≤ raw_simples_temporaries ps
 simples_fewer s [] six h = omega arith
@@ -211,7 +190,6 @@ returned_fewer gives s at (Some v) six h = let k = both_none (broken (not gives)
 mutual
   pub stmt_fewer : (gives loop : Bool) (s : Spot) (p : RawStmtTree) → AreSix s.names → stmt_faults gives loop s p ≡ [] → stmt_temporaries (stmt_of s p) ≤ raw_stmt_temporaries p
   stmt_fewer gives loop s (RawDo p) six h = simple_fewer s p six h
-  stmt_fewer gives loop s RawEmpty six h = omega arith
   stmt_fewer gives loop s (RawBlock ps) six h = stmts_fewer gives loop (inside s) ps six h
   stmt_fewer gives loop s (RawIf c p) six h =
       let k = both_none (expr_faults s.names c) (stmt_faults gives loop (inside s) p) h in
@@ -238,9 +216,8 @@ mutual
       let six_b : AreSix b.names = simples_six a init six in
       let six_d : AreSix d.names = step_six b step six_b in
       larger_both _ _ _ _ (simples_fewer a init six k.0) (larger_both _ _ _ _ (condition_fewer b.names c) (larger_both _ _ _ _ (step_fewer b step six_b i.0) (stmt_fewer gives true (inside d) p six_d i.1)))
-  stmt_fewer gives loop s (RawBreak at) six h = omega arith
-  stmt_fewer gives loop s (RawContinue at) six h = omega arith
   stmt_fewer gives loop s (RawReturn at v) six h = returned_fewer gives s at v six h
+  stmt_fewer gives loop s _ six h = omega arith
 
   pub stmts_fewer : (gives loop : Bool) (s : Spot) (ps : RawStmtTrees) → AreSix s.names → stmts_faults gives loop s ps ≡ [] → stmts_temporaries (stmts_of s ps) ≤ raw_stmts_temporaries ps
   stmts_fewer gives loop s NoRawStmts six h = omega arith

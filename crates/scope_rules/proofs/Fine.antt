@@ -43,12 +43,8 @@ pub record HasSignature (m : Meaning) : Type 0 where
   pub signature : signature_in m ≡ record { params = capped count; gives = result }
 
 definition_signature : (k : ℕ) (m : Meaning) → IsDefinition k m → HasSignature m
-definition_signature k (Meaning.Local x array) h = absurd h
-definition_signature k (Meaning.Global g array) h = absurd h
-definition_signature k (Meaning.Table t) h = absurd h
 definition_signature k (Meaning.Function f gives params defined) h = record { result = gives; count = params; signed = (refl, refl); signature = refl }
-definition_signature k (Meaning.Modelled m) h = absurd h
-definition_signature k Meaning.Spawn h = absurd h
+definition_signature k _ h = absurd h
 
 pub found_signature : (t : List ℕ) (ds : List Binding) (f : Found) → AreDefinitions ds → find t ds ≡ Some f → HasSignature f.meaning
 found_signature t [] f h e = cc
@@ -73,12 +69,8 @@ both_true true b h = (refl, h)
 both_true false b h = cc
 
 member_in : (c : Context) (m : Meaning) → MeaningFits c [] m → is_member m ≡ true → IsMember c.signatures (function_in m)
-member_in c (Meaning.Local x array) h e = cc
-member_in c (Meaning.Global g array) h e = cc
-member_in c (Meaning.Table t) h e = cc
 member_in c (Meaning.Function f gives params defined) h e = let b = both_true gives (nat_eq params 1) e in (h.0, h.1 ∙ same_number params 1 b.1, h.2 ∙ b.0)
-member_in c (Meaning.Modelled m) h e = cc
-member_in c Meaning.Spawn h e = cc
+member_in c _ h e = cc
 
 members_scoped : (c : Context) (names : List Binding) (ns : List NameTree) → AllFit c [] names → members_faults names ns ≡ [] → AllByRecursion (IsMember c.signatures) (members_of names ns)
 members_scoped c names [] fit h = tt
@@ -100,11 +92,8 @@ not_missing_bound t b ds true h = refl
 not_missing_bound t b ds false h = h
 
 not_missing_step : (t : List ℕ) (ds : List Binding) (i : RawItemTree) → is_missing (find t ds) ≡ false → is_missing (find t (with_definition ds i)) ≡ false
-not_missing_step t ds (RawGlobal n start) h = h
-not_missing_step t ds (RawGlobalArray n size) h = h
-not_missing_step t ds (RawTableItem n size members) h = h
-not_missing_step t ds (RawPrototypeItem gives n params) h = h
 not_missing_step t ds (RawFunctionItem gives n params body) h = not_missing_bound t (record { text = n.text; meaning = Meaning.Function (capped (length ds)) gives (length params) true }) ds (bytes_eq n.text t) h
+not_missing_step t ds _ h = h
 
 not_missing : (t : List ℕ) (ds : List Binding) (is : List RawItemTree) → is_missing (find t ds) ≡ false → is_missing (find t (with_definitions ds is)) ≡ false
 not_missing t ds [] h = h

@@ -13,8 +13,7 @@ MeaningFits c scope (Meaning.Local x array) = (x < length c.sizes) × IsTrue (vi
 MeaningFits c scope (Meaning.Global g array) = (g < length c.globals) × (array ≡ false → slice_index c.globals g ≡ 1)
 MeaningFits c scope (Meaning.Table t) = t < c.tables
 MeaningFits c scope (Meaning.Function f gives params defined) = (f < length c.signatures) × ((signature_at c.signatures f).params ≡ params) × ((signature_at c.signatures f).gives ≡ gives)
-MeaningFits c scope (Meaning.Modelled m) = Unit {0}
-MeaningFits c scope Meaning.Spawn = Unit {0}
+MeaningFits c scope _ = Unit {0}
 
 abbrev pub AllFit : Context → List ℕ → List Binding → Type 0
 AllFit c scope [] = Unit {0}
@@ -34,11 +33,7 @@ or_true false b h = h
 
 pub fits_more : (c : Context) (x : ℕ) (scope : List ℕ) (m : Meaning) → MeaningFits c scope m → MeaningFits c (x ∷ scope) m
 fits_more c x scope (Meaning.Local y array) h = (h.0, or_true (eqb y x) (visible y scope) h.1, h.2)
-fits_more c x scope (Meaning.Global g array) h = h
-fits_more c x scope (Meaning.Table t) h = h
-fits_more c x scope (Meaning.Function f gives params defined) h = h
-fits_more c x scope (Meaning.Modelled m) h = h
-fits_more c x scope Meaning.Spawn h = h
+fits_more c x scope _ h = h
 
 pub all_fit_more : (c : Context) (x : ℕ) (scope : List ℕ) (names : List Binding) → AllFit c scope names → AllFit c (x ∷ scope) names
 all_fit_more c x scope [] h = tt

@@ -2,7 +2,7 @@
 use Rattle.std.proofs.Common.{ℕ, ◌≡◌, ◌≤◌, ◌+◌, refl, sym, ap, ◌∙◌, List, [], ◌∷◌, ◌++◌, length, map, length-append, append_assoc, add-zero, arith, Bool, true, false, Option, Some, None, subst}
 use Rattle.std.proofs.lemmas.List.{map-append, length-map, append-nil}
 use Rattle.c_tree.specs.declared.facts.Site.{Site}
-use Rattle.c_tree.specs.RawTrees.{RawExprTree, RawNumber, RawName, RawElement, RawUnary, RawParenthesized, RawBinary, RawLogicalAnd, RawLogicalOr, RawConditional, RawCall, RawTableCall, RawSimpleTree, RawDeclareScalar, RawDeclareArray, RawDeclareWith, RawSet, RawSetElement, RawCalling, RawTableCalling, RawStmtTree, RawStmtTrees, RawDo, RawEmpty, RawBlock, RawIf, RawIfElse, RawWhile, RawFor, RawBreak, RawContinue, RawReturn, NoRawStmts, RawThen}
+use Rattle.c_tree.specs.RawTrees.{RawExprTree, RawCall, RawTableCall, RawSimpleTree, RawDeclareScalar, RawDeclareArray, RawDeclareWith, RawSet, RawSetElement, RawCalling, RawTableCalling, RawStmtTree, RawStmtTrees, RawDo, RawBlock, RawIf, RawIfElse, RawWhile, RawFor, RawReturn, NoRawStmts, RawThen}
 use Rattle.c_tree.specs.Trees.{CallTree}
 use Rattle.c_tree.specs.TextOrder.{Declared, simple_names, simples_names, step_names, stmt_names, stmts_names, call_site, right_sites, returned_sites, simple_sites, simples_sites, step_sites, stmt_sites, stmts_sites, counting}
 use Rattle.c_tree.specs.Temporaries.{capped}
@@ -93,9 +93,8 @@ spawn_number names k [] = refl
 spawn_number names k (e ∷ es) = refl
 
 call_number : (o : Callee) (names : List Binding) (k : ℕ) (es : List RawExprTree) → (call_site (call_by o names k es)).number ≡ k
-call_number (Callee.Function f) names k es = refl
-call_number (Callee.Modelled m) names k es = refl
 call_number Callee.Spawn names k es = spawn_number names k es
+call_number _ names k es = refl
 
 pub grown_call : (s : Spot) (c : CallTree) → (call_site c).number ≡ s.site → Grown s [] (call_site c ∷ []) (called s)
 grown_call s c e = record {
@@ -106,17 +105,9 @@ grown_call s c e = record {
 }
 
 pub grown_right : (s : Spot) (v : RawExprTree) → Grown s [] (right_sites (right_of s.names s.site v)) (record s { site = right_after s.site v })
-grown_right s (RawNumber v) = grown_none s
-grown_right s (RawName n) = grown_none s
-grown_right s (RawElement n i) = grown_none s
-grown_right s (RawUnary op e) = grown_none s
-grown_right s (RawParenthesized e) = grown_none s
-grown_right s (RawBinary op l r) = grown_none s
-grown_right s (RawLogicalAnd l r) = grown_none s
-grown_right s (RawLogicalOr l r) = grown_none s
-grown_right s (RawConditional c a b) = grown_none s
 grown_right s (RawCall n es) = grown_call s (call_of s.names s.site n (listed es)) (call_number (callee_of (find n.text s.names)) s.names s.site (listed es))
 grown_right s (RawTableCall n i e) = grown_call s (table_call_of s.names s.site n i e) refl
+grown_right s _ = grown_none s
 
 pub set_scalar_names : (x : Variable) (v : Rattle.c_tree.specs.Trees.RightTree) → simple_names (set_scalar x v) ≡ []
 set_scalar_names (Variable.Local x) v = refl
@@ -160,7 +151,6 @@ returned_grown s (Some v) = grown_right s v
 mutual
   pub stmt_grown : (s : Spot) (p : RawStmtTree) → Grown s (stmt_names (stmt_of s p)) (stmt_sites (stmt_of s p)) (stmt_after s p)
   stmt_grown s (RawDo p) = simple_grown s p
-  stmt_grown s RawEmpty = grown_none s
   stmt_grown s (RawBlock ps) = grown_between s (left s (stmts_after (inside s) ps)) (stmts_grown (inside s) ps) refl refl refl refl
   stmt_grown s (RawIf c p) = grown_between s (left s (stmt_after (inside s) p)) (stmt_grown (inside s) p) refl refl refl refl
   stmt_grown s (RawIfElse c p r) =
@@ -175,9 +165,8 @@ mutual
       let e = left s (stmt_after (inside d) p) in
       grown_then (grown_between s b (simples_grown a init) refl refl refl refl)
       (grown_then (step_grown b step) (grown_between d e (stmt_grown (inside d) p) refl refl refl refl))
-  stmt_grown s (RawBreak at) = grown_none s
-  stmt_grown s (RawContinue at) = grown_none s
   stmt_grown s (RawReturn at v) = returned_grown s v
+  stmt_grown s _ = grown_none s
 
   pub stmts_grown : (s : Spot) (ps : RawStmtTrees) → Grown s (stmts_names (stmts_of s ps)) (stmts_sites (stmts_of s ps)) (stmts_after s ps)
   stmts_grown s NoRawStmts = grown_none s

@@ -17,9 +17,7 @@ key f = 4 * f.at + rank f.rule
 
 pub rank_small : (r : Rule) → rank r < 4
 rank_small Rule.Unknown = omega arith
-rank_small Rule.Twice = omega arith
-rank_small Rule.Arity = omega arith
-rank_small Rule.Kind = omega arith
+rank_small _ = omega arith
 
 pub less : (a b : ℕ) → nat_lt a b ≡ true → a < b
 less a b h = grind (arith, nat_tests)
@@ -92,9 +90,7 @@ none_is_none (g ∷ fs) h = absurd (lost g fs h)
 
 refused_by : (is : List RawItemTree) (r : Rule) (at : ℕ) → IsLeast (fault at r) (faults_of is) → IsRefused is (refusal_by r at)
 refused_by is Rule.Unknown at h = h
-refused_by is Rule.Twice at h = h
-refused_by is Rule.Arity at h = h
-refused_by is Rule.Kind at h = h
+refused_by is _ at h = h
 
 pub refused : (is : List RawItemTree) (f : Fault) → least_of None (faults_of is) ≡ Some f → IsRefused is (refusal_by f.rule f.at)
 refused is f h = refused_by is f.rule f.at (least_is_least (faults_of is) f h)

@@ -80,8 +80,7 @@ item_positive defs w (RawTableItem n size members) h k =
     let i = both_none fa (members_faults w.spot.names members) j.1 in
     let o : 1 ≤ length members = one_member size (length members) n.at i.0 in
     (k.0, all_then HasMember w.tables (members_of w.spot.names members) k.1 (rw (members_length w.spot.names members) o))
-item_positive defs w (RawPrototypeItem gives n params) h k = k
-item_positive defs w (RawFunctionItem gives n params body) h k = k
+item_positive defs w _ h k = k
 
 pub items_positive : (defs : List Binding) (w : Sofar) (is : List RawItemTree) → items_faults defs w is ≡ [] → AllByRecursion HasWord w.globals × AllByRecursion HasMember w.tables
     → AllByRecursion HasWord (items_after defs w is).globals × AllByRecursion HasMember (items_after defs w is).tables

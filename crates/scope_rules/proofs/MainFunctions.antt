@@ -2,7 +2,7 @@
 use Rattle.std.proofs.Common.{ℕ, ◌≡◌, refl, sym, subst, ◌∙◌, Bool, true, false, not, List, [], ◌∷◌, length, Some}
 use Rattle.std.specs.Prelude.{nat_eq, ◌&&◌, if◌then◌else◌, codes}
 use Rattle.std.specs.Str.{bytes_eq}
-use Rattle.c_tree.specs.RawTrees.{NameTree, RawItemTree, RawGlobal, RawGlobalArray, RawTableItem, RawPrototypeItem, RawFunctionItem}
+use Rattle.c_tree.specs.RawTrees.{NameTree, RawItemTree, RawFunctionItem}
 use Rattle.c_tree.specs.Temporaries.{capped}
 use Rattle.scope_rules.specs.declared.faults.Rule.{Rule}
 use Rattle.scope_rules.specs.declared.meanings.Meaning.{Meaning}
@@ -26,13 +26,10 @@ main_function n gives count ds g k true e h m s = sym s.1 ∙ no_parameters n co
 main_function n gives count ds g k false e h m s = m g k s
 
 main_step : (defs : List Binding) (w : Sofar) (ds : List Binding) (i : RawItemTree) → item_faults defs w i ≡ [] → MainHasNone ds → MainHasNone (with_definition ds i)
-main_step defs w ds (RawGlobal n start) h m = m
-main_step defs w ds (RawGlobalArray n size) h m = m
-main_step defs w ds (RawTableItem n size members) h m = m
-main_step defs w ds (RawPrototypeItem gives n params) h m = m
 main_step defs w ds (RawFunctionItem gives n params body) h m =
     let j = definition_parts defs w gives n params body h in
     λ g k s. main_function n gives (length params) ds g k (bytes_eq n.text (codes "main")) refl j.1 m s
+main_step defs w ds _ h m = m
 
 pub mains : (defs : List Binding) (w : Sofar) (ds : List Binding) (is : List RawItemTree) → items_faults defs w is ≡ [] → MainHasNone ds → MainHasNone (with_definitions ds is)
 mains defs w ds [] h m = m

@@ -8,8 +8,7 @@ use Rattle.scope_rules.specs.Expressions.{listed}
 
 joined_neither : (l : RawExprTree) (o : Infix) (r : RawExprTree) → IsNeither (raw_joined l o r)
 joined_neither l (Infix.Binary op) r = tt
-joined_neither l Infix.LogicalAnd r = tt
-joined_neither l Infix.LogicalOr r = tt
+joined_neither l _ r = tt
 
 more_neither : (l : RawExprTree) (ps : List (Infix × RawExprTree)) → IsNeither l → IsNeither (raw_chained l ps)
 more_neither l [] h = h

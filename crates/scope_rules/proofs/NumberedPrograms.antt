@@ -5,7 +5,7 @@ use Rattle.std.specs.List.{AllByRecursion}
 use Rattle.std.specs.Prelude.{if◌then◌else◌, option_map, sum, slice_index_or}
 use Rattle.std.proofs.lemmas.List.{map-append, length-map}
 use Rattle.c_tree.specs.declared.facts.Site.{Site}
-use Rattle.c_tree.specs.Trees.{CallTree, CallFunction, CallTable, CallSpawn, CallModelled, RightTree, Computed, Called, SimpleTree, DeclareScalar, DeclareArray, DeclareWith, SetLocal, SetGlobal, SetLocalElement, SetGlobalElement, Calling, StmtTree, StmtTrees, Do, Empty, Block, If, IfElse, While, For, Break, Continue, Return, NoStmts, Then, FunctionTree, ProgramTree}
+use Rattle.c_tree.specs.Trees.{CallTree, CallFunction, RightTree, Computed, Called, SimpleTree, DeclareScalar, DeclareWith, SetLocal, SetGlobal, SetLocalElement, SetGlobalElement, Calling, StmtTree, StmtTrees, Do, Empty, Block, If, IfElse, While, For, Return, NoStmts, Then, FunctionTree, ProgramTree}
 use Rattle.c_tree.specs.TextOrder.{Declared, simple_names, simples_names, step_names, stmt_names, stmts_names, call_site, right_sites, returned_sites, simple_sites, simples_sites, step_sites, stmt_sites, stmts_sites, functions_sites, program_sites, counting}
 use Rattle.c_tree.specs.Sizes.{scalars, below}
 use Rattle.c_tree.specs.Temporaries.{call_temporaries, right_temporaries, held_temporaries, simple_temporaries, simples_temporaries, step_temporaries, returned_temporaries, stmt_temporaries, stmts_temporaries}
@@ -19,13 +19,7 @@ module _ (ns : List ℕ) where
 
   simple_named : (s : SimpleTree) → simple_names (simple_numbered ns s) ≡ simple_names s
   simple_named (DeclareScalar x) = refl
-  simple_named (DeclareArray x n) = refl
-  simple_named (DeclareWith x v) = refl
-  simple_named (SetLocal x v) = refl
-  simple_named (SetGlobal g v) = refl
-  simple_named (SetLocalElement a i v) = refl
-  simple_named (SetGlobalElement a i v) = refl
-  simple_named (Calling k) = refl
+  simple_named _ = refl
 
   simples_named : (ss : List SimpleTree) → simples_names (map (simple_numbered ns) ss) ≡ simples_names ss
   simples_named [] = refl
@@ -38,15 +32,12 @@ module _ (ns : List ℕ) where
   mutual
     stmt_named : (s : StmtTree) → stmt_names (stmt_numbered ns s) ≡ stmt_names s
     stmt_named (Do s) = simple_named s
-    stmt_named Empty = refl
     stmt_named (Block ss) = stmts_named ss
     stmt_named (If c s) = stmt_named s
     stmt_named (IfElse c s r) = rw (stmt_named s, stmt_named r) refl
     stmt_named (While c s) = stmt_named s
     stmt_named (For init c step s) = rw (simples_named init, step_named step, stmt_named s) refl
-    stmt_named Break = refl
-    stmt_named Continue = refl
-    stmt_named (Return v) = refl
+    stmt_named _ = refl
 
     stmts_named : (ss : StmtTrees) → stmts_names (stmts_numbered ns ss) ≡ stmts_names ss
     stmts_named NoStmts = refl
@@ -59,9 +50,7 @@ module _ (ns : List ℕ) where
 
   call_renumbered : (k : CallTree) → call_site (call_numbered ns k) ≡ site_numbered (call_site k)
   call_renumbered (CallFunction s f es) = refl
-  call_renumbered (CallTable s t i e) = refl
-  call_renumbered (CallSpawn s f e) = refl
-  call_renumbered (CallModelled s m es) = refl
+  call_renumbered _ = refl
 
   right_renumbered : (v : RightTree) → right_sites (right_numbered ns v) ≡ map site_numbered (right_sites v)
   right_renumbered (Computed e) = refl
@@ -72,14 +61,13 @@ module _ (ns : List ℕ) where
   returned_renumbered (Some v) = right_renumbered v
 
   simple_renumbered : (s : SimpleTree) → simple_sites (simple_numbered ns s) ≡ map site_numbered (simple_sites s)
-  simple_renumbered (DeclareScalar x) = refl
-  simple_renumbered (DeclareArray x n) = refl
   simple_renumbered (DeclareWith x v) = right_renumbered v
   simple_renumbered (SetLocal x v) = right_renumbered v
   simple_renumbered (SetGlobal g v) = right_renumbered v
   simple_renumbered (SetLocalElement a i v) = right_renumbered v
   simple_renumbered (SetGlobalElement a i v) = right_renumbered v
   simple_renumbered (Calling k) = ap (λ x. x ∷ []) (call_renumbered k)
+  simple_renumbered _ = refl
 
   simples_renumbered : (ss : List SimpleTree) → simples_sites (map (simple_numbered ns) ss) ≡ map site_numbered (simples_sites ss)
   simples_renumbered [] = refl
@@ -92,7 +80,6 @@ module _ (ns : List ℕ) where
   mutual
     stmt_renumbered : (s : StmtTree) → stmt_sites (stmt_numbered ns s) ≡ map site_numbered (stmt_sites s)
     stmt_renumbered (Do s) = simple_renumbered s
-    stmt_renumbered Empty = refl
     stmt_renumbered (Block ss) = stmts_renumbered ss
     stmt_renumbered (If c s) = stmt_renumbered s
     stmt_renumbered (IfElse c s r) = (λ i. stmt_renumbered s i ++ stmt_renumbered r i) ∙ sym (map-append site_numbered (stmt_sites s) (stmt_sites r))
@@ -101,9 +88,8 @@ module _ (ns : List ℕ) where
         (λ i. simples_renumbered init i ++ (step_renumbered step i ++ stmt_renumbered s i))
         ∙ ap (λ x. map site_numbered (simples_sites init) ++ x) (sym (map-append site_numbered (step_sites step) (stmt_sites s)))
         ∙ sym (map-append site_numbered (simples_sites init) (step_sites step ++ stmt_sites s))
-    stmt_renumbered Break = refl
-    stmt_renumbered Continue = refl
     stmt_renumbered (Return v) = returned_renumbered v
+    stmt_renumbered _ = refl
 
     stmts_renumbered : (ss : StmtTrees) → stmts_sites (stmts_numbered ns ss) ≡ map site_numbered (stmts_sites ss)
     stmts_renumbered NoStmts = refl
@@ -117,9 +103,7 @@ module _ (ns : List ℕ) where
 
   call_taken : (k : CallTree) → call_temporaries (call_numbered ns k) ≡ call_temporaries k
   call_taken (CallFunction s f es) = refl
-  call_taken (CallTable s t i e) = refl
-  call_taken (CallSpawn s f e) = refl
-  call_taken (CallModelled s m es) = refl
+  call_taken _ = refl
 
   right_taken : (v : RightTree) → right_temporaries (right_numbered ns v) ≡ right_temporaries v
   right_taken (Computed e) = refl
@@ -130,14 +114,13 @@ module _ (ns : List ℕ) where
   held_taken (Called k) = rw (call_taken k) refl
 
   simple_taken : (s : SimpleTree) → simple_temporaries (simple_numbered ns s) ≡ simple_temporaries s
-  simple_taken (DeclareScalar x) = refl
-  simple_taken (DeclareArray x n) = refl
   simple_taken (DeclareWith x v) = right_taken v
   simple_taken (SetLocal x v) = right_taken v
   simple_taken (SetGlobal g v) = held_taken v
   simple_taken (SetLocalElement a i v) = rw (held_taken v) refl
   simple_taken (SetGlobalElement a i v) = rw (held_taken v) refl
   simple_taken (Calling k) = call_taken k
+  simple_taken _ = refl
 
   simples_taken : (ss : List SimpleTree) → simples_temporaries (map (simple_numbered ns) ss) ≡ simples_temporaries ss
   simples_taken [] = refl
@@ -154,15 +137,13 @@ module _ (ns : List ℕ) where
   mutual
     stmt_taken : (s : StmtTree) → stmt_temporaries (stmt_numbered ns s) ≡ stmt_temporaries s
     stmt_taken (Do s) = simple_taken s
-    stmt_taken Empty = refl
     stmt_taken (Block ss) = stmts_taken ss
     stmt_taken (If c s) = rw (stmt_taken s) refl
     stmt_taken (IfElse c s r) = rw (stmt_taken s, stmt_taken r) refl
     stmt_taken (While c s) = rw (stmt_taken s) refl
     stmt_taken (For init c step s) = rw (simples_taken init, step_taken step, stmt_taken s) refl
-    stmt_taken Break = refl
-    stmt_taken Continue = refl
     stmt_taken (Return v) = returned_taken v
+    stmt_taken _ = refl
 
     stmts_taken : (ss : StmtTrees) → stmts_temporaries (stmts_numbered ns ss) ≡ stmts_temporaries ss
     stmts_taken NoStmts = refl
@@ -172,29 +153,24 @@ module _ (ns : List ℕ) where
 
   call_scoped : (c : Context) (scope : List ℕ) (k : CallTree) → IsCallScoped c scope k → IsCallScoped c scope (call_numbered ns k)
   call_scoped c scope (CallFunction s f es) h = h
-  call_scoped c scope (CallTable s t i e) h = h
-  call_scoped c scope (CallSpawn s f e) h = h
-  call_scoped c scope (CallModelled s m es) h = h
+  call_scoped c scope _ h = h
 
   call_given : (c : Context) (k : CallTree) → call_gives c (call_numbered ns k) ≡ call_gives c k
   call_given c (CallFunction s f es) = refl
-  call_given c (CallTable s t i e) = refl
-  call_given c (CallSpawn s f e) = refl
-  call_given c (CallModelled s m es) = refl
+  call_given c _ = refl
 
   right_scoped : (c : Context) (scope : List ℕ) (v : RightTree) → IsRightScoped c scope v → IsRightScoped c scope (right_numbered ns v)
   right_scoped c scope (Computed e) h = h
   right_scoped c scope (Called k) h = (call_scoped c scope k h.0, rw (call_given c k) h.1)
 
   simple_scoped : (c : Context) (scope : List ℕ) (s : SimpleTree) → IsSimpleScoped c scope s → IsSimpleScoped c scope (simple_numbered ns s)
-  simple_scoped c scope (DeclareScalar x) h = h
-  simple_scoped c scope (DeclareArray x n) h = h
   simple_scoped c scope (DeclareWith x v) h = (h.0, h.1, right_scoped c scope v h.2)
   simple_scoped c scope (SetLocal x v) h = (h.0, h.1, h.2, right_scoped c scope v h.3)
   simple_scoped c scope (SetGlobal g v) h = (h.0, h.1, right_scoped c scope v h.2)
   simple_scoped c scope (SetLocalElement a i v) h = (h.0, h.1, h.2, right_scoped c scope v h.3)
   simple_scoped c scope (SetGlobalElement a i v) h = (h.0, h.1, right_scoped c scope v h.2)
   simple_scoped c scope (Calling k) h = call_scoped c scope k h
+  simple_scoped c scope _ h = h
 
   simples_scoped : (c : Context) (scope : List ℕ) (ss : List SimpleTree) → AreSimplesScoped c scope ss → AreSimplesScoped c scope (map (simple_numbered ns) ss)
   simples_scoped c scope [] h = tt
@@ -214,15 +190,7 @@ module _ (ns : List ℕ) where
 
   scope_kept : (scope : List ℕ) (s : StmtTree) → scope_after scope (stmt_numbered ns s) ≡ scope_after scope s
   scope_kept scope (Do s) = ap (with_names scope) (simple_named s)
-  scope_kept scope Empty = refl
-  scope_kept scope (Block ss) = refl
-  scope_kept scope (If c s) = refl
-  scope_kept scope (IfElse c s r) = refl
-  scope_kept scope (While c s) = refl
-  scope_kept scope (For init c step s) = refl
-  scope_kept scope Break = refl
-  scope_kept scope Continue = refl
-  scope_kept scope (Return v) = refl
+  scope_kept scope _ = refl
 
   mutual
     stmt_scoped : (c : Context) (loop : Bool) (scope : List ℕ) (s : StmtTree) → IsStmtScoped c loop scope s → IsStmtScoped c loop scope (stmt_numbered ns s)
@@ -240,9 +208,8 @@ module _ (ns : List ℕ) where
           subst (λ x. IsStepScoped c x (option_map (simple_numbered ns) step)) same (step_scoped c inner step h.2),
           subst (λ x. IsStmtScoped c true x (stmt_numbered ns s)) same (stmt_scoped c true inner s h.3),
         )
-    stmt_scoped c loop scope Break h = h
-    stmt_scoped c loop scope Continue h = h
     stmt_scoped c loop scope (Return v) h = return_scoped c scope v h
+    stmt_scoped c loop scope _ h = h
 
     stmts_scoped : (c : Context) (loop : Bool) (scope : List ℕ) (ss : StmtTrees) → AreStmtsScoped c loop scope ss → AreStmtsScoped c loop scope (stmts_numbered ns ss)
     stmts_scoped c loop scope NoStmts h = tt
@@ -279,8 +246,6 @@ at_length (m ∷ before) n ns d = at_length before n ns d
 
 looked_up : (before ns : List ℕ) (ks : List Site) → counting (length before) (numbers ks) → length ns ≡ length ks → numbers (map (site_numbered (before ++ ns)) ks) ≡ ns
 looked_up before [] [] c e = refl
-looked_up before [] (k ∷ ks) c e = cc
-looked_up before (n ∷ ns) [] c e = cc
 looked_up before (n ∷ ns) (k ∷ ks) c e =
     let longer : length (before ++ n ∷ []) ≡ 1 + length before = let l = length-append before (n ∷ []) in omega (arith, l) in
     let first : number_at (before ++ n ∷ ns) k.number ≡ n = ap (λ m. slice_index_or (before ++ n ∷ ns) m m) c.0 ∙ at_length before n ns (length before) in
@@ -288,6 +253,7 @@ looked_up before (n ∷ ns) (k ∷ ks) c e =
     let rest : numbers (map (site_numbered ((before ++ n ∷ []) ++ ns)) ks) ≡ ns = looked_up (before ++ n ∷ []) ns ks (subst (λ m. counting m (numbers ks)) (sym longer) c.1) (omega (arith, e)) in
     let there : numbers (map (site_numbered (before ++ n ∷ ns)) ks) ≡ ns = subst (λ xs. numbers (map (site_numbered xs) ks) ≡ ns) same rest in
     (λ i. first i ∷ there i)
+looked_up before _ _ c e = cc
 
 pub renumbered : (ns : List ℕ) (p : ProgramTree) → counting 0 (numbers (program_sites p)) → length ns ≡ length (program_sites p) → numbers (program_sites (numbered ns p)) ≡ ns
 renumbered ns p c e = ap numbers (functions_renumbered ns p.functions) ∙ looked_up [] ns (program_sites p) c e

@@ -22,8 +22,7 @@ all_at P f (g ∷ fs) h (further o) = all_at P f fs h.1 o
 
 none_of_none : (f : Fault) (fs : List Fault) → fs ≡ [] → IsOneOf f fs → ⊥
 none_of_none f [] e o = elim o [ ]
-none_of_none f (g ∷ fs) e here = cc
-none_of_none f (g ∷ fs) e (further o) = cc
+none_of_none f (g ∷ fs) e _ = cc
 
 same_rank : (r s : Rule) → rank r ≡ rank s → r ≡ s
 same_rank Rule.Unknown Rule.Unknown h = refl

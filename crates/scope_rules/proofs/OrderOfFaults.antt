@@ -16,9 +16,7 @@ rule_of (suc (suc (suc n))) = Rule.Kind
 
 rule_of_rank : (r : Rule) → rule_of (rank r) ≡ r
 rule_of_rank Rule.Unknown = refl
-rule_of_rank Rule.Twice = refl
-rule_of_rank Rule.Arity = refl
-rule_of_rank Rule.Kind = refl
+rule_of_rank _ = refl
 
 same_fault : (f g : Fault) → key f ≡ key g → f ≡ g
 same_fault f g h =
@@ -34,12 +32,11 @@ of_two f g true true p q =
     let l = less (key g) (key f) (sym (before g f) ∙ sym p) in
     let m = less (key f) (key g) (sym (before f g) ∙ sym q) in
     absurd (omega (arith, l, m))
-of_two f g true false p q = refl
-of_two f g false true p q = refl
 of_two f g false false p q =
     let l = not_less (key g) (key f) (sym (before g f) ∙ sym p) in
     let m = not_less (key f) (key g) (sym (before f g) ∙ sym q) in
     ap Some (same_fault f g (omega (arith, l, m)))
+of_two f g _ _ p q = refl
 
 of_three : (e f g : Fault) (b c : Bool) → b ≡ is_before f e → c ≡ is_before g e → lesser (if b then Some f else Some e) g ≡ lesser (if c then Some g else Some e) f
 of_three e f g true true p q = of_two f g (is_before g f) (is_before f g) refl refl

@@ -1,8 +1,7 @@
 -- Beyond the limit of calls no later site is within it.
-use Rattle.std.proofs.Common.{ℕ, ◌≡◌, ◌≤◌, refl, sym, ap, subst, ◌∙◌, Bool, true, false, List, [], ◌∷◌, ◌++◌, append_assoc, Option, Some, None, arith}
+use Rattle.std.proofs.Common.{ℕ, ◌≡◌, ◌≤◌, refl, sym, Bool, true, false, List, [], ◌∷◌, Option, Some, None, arith}
 use Rattle.std.specs.Prelude.{nat_lt}
-use Rattle.std.proofs.lemmas.Bool.Decides.{nat_tests}
-use Rattle.c_tree.specs.RawTrees.{RawExprTree, RawNumber, RawName, RawElement, RawUnary, RawParenthesized, RawBinary, RawLogicalAnd, RawLogicalOr, RawConditional, RawCall, RawTableCall, RawSimpleTree, RawDeclareScalar, RawDeclareArray, RawDeclareWith, RawSet, RawSetElement, RawCalling, RawTableCalling, RawStmtTree, RawStmtTrees, RawDo, RawEmpty, RawBlock, RawIf, RawIfElse, RawWhile, RawFor, RawBreak, RawContinue, RawReturn, NoRawStmts, RawThen}
+use Rattle.c_tree.specs.RawTrees.{RawExprTree, RawNumber, RawName, RawElement, RawUnary, RawParenthesized, RawBinary, RawLogicalAnd, RawLogicalOr, RawConditional, RawCall, RawTableCall, RawSimpleTree, RawDeclareWith, RawSet, RawSetElement, RawCalling, RawTableCalling, RawStmtTree, RawStmtTrees, RawDo, RawBlock, RawIf, RawIfElse, RawWhile, RawFor, RawReturn, NoRawStmts, RawThen}
 use Rattle.scope_rules.specs.Calls.{right_after}
 use Rattle.scope_rules.specs.Places.{Spot}
 use Rattle.scope_rules.specs.Simples.{simple_after, simples_after}
@@ -24,13 +23,12 @@ past_right k (RawCall n es) h = omega (arith, h)
 past_right k (RawTableCall n i e) h = omega (arith, h)
 
 past_simple : (s : Spot) (p : RawSimpleTree) → 65536 ≤ s.site → 65536 ≤ (simple_after s p).site
-past_simple s (RawDeclareScalar n) h = h
-past_simple s (RawDeclareArray n size) h = h
 past_simple s (RawDeclareWith n v) h = past_right s.site v h
 past_simple s (RawSet n v) h = past_right s.site v h
 past_simple s (RawSetElement n i v) h = past_right s.site v h
 past_simple s (RawCalling n es) h = omega (arith, h)
 past_simple s (RawTableCalling n i e) h = omega (arith, h)
+past_simple s _ h = h
 
 past_simples : (s : Spot) (ps : List RawSimpleTree) → 65536 ≤ s.site → 65536 ≤ (simples_after s ps).site
 past_simples s [] h = h
@@ -47,16 +45,14 @@ past_returned s (Some v) h = past_right s.site v h
 mutual
   past_stmt : (s : Spot) (p : RawStmtTree) → 65536 ≤ s.site → 65536 ≤ (stmt_after s p).site
   past_stmt s (RawDo p) h = past_simple s p h
-  past_stmt s RawEmpty h = h
   past_stmt s (RawBlock ps) h = past_stmts (inside s) ps h
   past_stmt s (RawIf c p) h = past_stmt (inside s) p h
   past_stmt s (RawIfElse c p r) h = past_stmt (inside (left s (stmt_after (inside s) p))) r (past_stmt (inside s) p h)
   past_stmt s (RawWhile c p) h = past_stmt (inside s) p h
   past_stmt s (RawFor init c step p) h =
       past_stmt (inside (step_after (simples_after (inside s) init) step)) p (past_step (simples_after (inside s) init) step (past_simples (inside s) init h))
-  past_stmt s (RawBreak at) h = h
-  past_stmt s (RawContinue at) h = h
   past_stmt s (RawReturn at v) h = past_returned s v h
+  past_stmt s _ h = h
 
   past_stmts : (s : Spot) (ps : RawStmtTrees) → 65536 ≤ s.site → 65536 ≤ (stmts_after s ps).site
   past_stmts s NoRawStmts h = h

@@ -1,7 +1,7 @@
 -- Each name that is declared where no rule is broken has a word.
 use Rattle.std.proofs.Common.{ℕ, ◌≡◌, ◌≤◌, Bool, true, List, [], ◌∷◌, ◌++◌, length, sum, Option, Some, None, arith}
 use Rattle.std.specs.Prelude.{nat_lt, ◌||◌, option_map}
-use Rattle.c_tree.specs.RawTrees.{RawSimpleTree, RawDeclareScalar, RawDeclareArray, RawDeclareWith, RawSet, RawSetElement, RawCalling, RawTableCalling, RawStmtTree, RawStmtTrees, RawDo, RawEmpty, RawBlock, RawIf, RawIfElse, RawWhile, RawFor, RawBreak, RawContinue, RawReturn, NoRawStmts, RawThen}
+use Rattle.c_tree.specs.RawTrees.{RawSimpleTree, RawDeclareArray, RawSet, RawSetElement, RawCalling, RawTableCalling, RawStmtTree, RawStmtTrees, RawDo, RawBlock, RawIf, RawIfElse, RawWhile, RawFor, NoRawStmts, RawThen}
 use Rattle.std.proofs.lemmas.List.Sums.{sum_by-cons}
 use Rattle.c_tree.specs.TextOrder.{Declared, simple_names, simples_names, step_names, stmt_names, stmts_names}
 use Rattle.scope_rules.specs.declared.faults.Rule.{Rule}
@@ -28,16 +28,15 @@ no_more_than_words [] h = omega arith
 no_more_than_words (d ∷ ds) h = let k = no_more_than_words ds h.1 in omega (arith, h.0, sum_by-cons (λ (x : ℕ). x) d.words (words ds))
 
 simple_positive : (s : Spot) (p : RawSimpleTree) → simple_faults s p ≡ [] → ArePositive (simple_names (simple_of s p))
-simple_positive s (RawDeclareScalar n) h = (omega arith, tt)
 simple_positive s (RawDeclareArray n size) h =
     let k = both_none (declare_faults s n) (size_faults n size) h in
     let b = neither (nat_lt size 1) (nat_lt 65536 size) (not_broken (nat_lt size 1 || nat_lt 65536 size) n.at Rule.Kind k.1) in
     (not_less size 1 b.0, tt)
-simple_positive s (RawDeclareWith n v) h = (omega arith, tt)
 simple_positive s (RawSet n v) h = rw (set_scalar_names (variable_of (find n.text s.names)) (right_of s.names s.site v)) tt
 simple_positive s (RawSetElement n i v) h = rw (set_element_names (variable_of (find n.text s.names)) (expr_of s.names i) (right_of s.names s.site v)) tt
 simple_positive s (RawCalling n es) h = tt
 simple_positive s (RawTableCalling n i e) h = tt
+simple_positive s _ h = (omega arith, tt)
 
 simples_positive : (s : Spot) (ps : List RawSimpleTree) → simples_faults s ps ≡ [] → ArePositive (simples_names (simples_of s ps))
 simples_positive s [] h = tt
@@ -52,7 +51,6 @@ step_positive s (Some p) h = let k = both_none (step_kind p) (simple_faults s p)
 mutual
   pub stmt_positive : (gives loop : Bool) (s : Spot) (p : RawStmtTree) → stmt_faults gives loop s p ≡ [] → ArePositive (stmt_names (stmt_of s p))
   stmt_positive gives loop s (RawDo p) h = simple_positive s p h
-  stmt_positive gives loop s RawEmpty h = tt
   stmt_positive gives loop s (RawBlock ps) h = stmts_positive gives loop (inside s) ps h
   stmt_positive gives loop s (RawIf c p) h =
       let k = both_none (expr_faults s.names c) (stmt_faults gives loop (inside s) p) h in stmt_positive gives loop (inside s) p k.1
@@ -76,9 +74,7 @@ mutual
       let i = both_none fs fp j.1 in
       both_positive (simples_names (simples_of a init)) (step_names (option_map (simple_of b) step) ++ stmt_names (stmt_of (inside d) p)) (simples_positive a init k.0)
       (both_positive (step_names (option_map (simple_of b) step)) (stmt_names (stmt_of (inside d) p)) (step_positive b step i.0) (stmt_positive gives true (inside d) p i.1))
-  stmt_positive gives loop s (RawBreak at) h = tt
-  stmt_positive gives loop s (RawContinue at) h = tt
-  stmt_positive gives loop s (RawReturn at v) h = tt
+  stmt_positive gives loop s _ h = tt
 
   pub stmts_positive : (gives loop : Bool) (s : Spot) (ps : RawStmtTrees) → stmts_faults gives loop s ps ≡ [] → ArePositive (stmts_names (stmts_of s ps))
   stmts_positive gives loop s NoRawStmts h = tt

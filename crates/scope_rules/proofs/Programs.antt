@@ -27,8 +27,7 @@ rebased_in c d scope (Meaning.Local x array) z s g t h = let e = ap length z in 
 rebased_in c d scope (Meaning.Global x array) z s g t h = rw g h
 rebased_in c d scope (Meaning.Table x) z s g t h = rw t h
 rebased_in c d scope (Meaning.Function f gives params defined) z s g t h = rw s h
-rebased_in c d scope (Meaning.Modelled m) z s g t h = tt
-rebased_in c d scope Meaning.Spawn z s g t h = tt
+rebased_in c d scope _ z s g t h = tt
 
 pub rebased : (c d : Context) (scope : List ℕ) (names : List Binding) → c.sizes ≡ [] → d.signatures ≡ c.signatures → d.globals ≡ c.globals → d.tables ≡ c.tables → AllFit c [] names → AllFit d scope names
 rebased c d scope [] z s g t h = tt

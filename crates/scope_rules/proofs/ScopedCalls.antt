@@ -40,20 +40,12 @@ used_gives false g h e = cc
 
 spawnable_in : (c : Context) (scope : List ℕ) (m : Meaning) → MeaningFits c scope m → is_spawnable m ≡ true
     → (function_in m < length c.signatures) × ((signature_at c.signatures (function_in m)).params ≡ 1)
-spawnable_in c scope (Meaning.Local x array) h e = cc
-spawnable_in c scope (Meaning.Global g array) h e = cc
-spawnable_in c scope (Meaning.Table t) h e = cc
 spawnable_in c scope (Meaning.Function f gives params defined) h e = (h.0, h.1 ∙ same_number params 1 e)
-spawnable_in c scope (Meaning.Modelled m) h e = cc
-spawnable_in c scope Meaning.Spawn h e = cc
+spawnable_in c scope _ h e = cc
 
 table_scoped_in : (c : Context) (scope : List ℕ) (m : Meaning) → MeaningFits c scope m → is_table m ≡ true → table_in m < c.tables
-table_scoped_in c scope (Meaning.Local x array) h e = cc
-table_scoped_in c scope (Meaning.Global g array) h e = cc
 table_scoped_in c scope (Meaning.Table t) h e = h
-table_scoped_in c scope (Meaning.Function f gives params defined) h e = cc
-table_scoped_in c scope (Meaning.Modelled m) h e = cc
-table_scoped_in c scope Meaning.Spawn h e = cc
+table_scoped_in c scope _ h e = cc
 
 spawn_gives : (c : Context) (names : List Binding) (k : ℕ) (es : List RawExprTree) → call_gives c (spawn_of names k es) ≡ true
 spawn_gives c names k [] = refl
@@ -65,34 +57,20 @@ module _ (c : Context) (scope : List ℕ) (names : List Binding) (fit : AllFit c
   spawned_scoped at (RawName g) h =
       let u : Used is_spawnable (find g.text names) = used is_spawnable (find g.text names) g.at h in
       rw u.is (spawnable_in c scope u.found.meaning (find_fits c scope g.text names u.found fit u.is) u.may_be)
-  spawned_scoped at (RawNumber v) h = cc
-  spawned_scoped at (RawElement n i) h = cc
-  spawned_scoped at (RawUnary op e) h = cc
-  spawned_scoped at (RawParenthesized e) h = cc
-  spawned_scoped at (RawBinary op l r) h = cc
-  spawned_scoped at (RawLogicalAnd l r) h = cc
-  spawned_scoped at (RawLogicalOr l r) h = cc
-  spawned_scoped at (RawConditional e a b) h = cc
-  spawned_scoped at (RawCall n es) h = cc
-  spawned_scoped at (RawTableCall n i e) h = cc
+  spawned_scoped at _ h = cc
 
   spawn_scoped : (k at : ℕ) (es : List RawExprTree) → length es ≡ 2 → spawn_faults names at es ≡ [] → IsCallScoped c scope (spawn_of names k es)
-  spawn_scoped k at [] l h = absurd (omega arith)
-  spawn_scoped k at (a ∷ []) l h = absurd (omega arith)
   spawn_scoped k at (a ∷ b ∷ []) l h =
       let j = both_none (spawned_faults names at a) (exprs_faults names (b ∷ [])) h in
       let s = spawned_scoped at a j.0 in
       let i = both_none (expr_faults names b) [] j.1 in
       (s.0, s.1, expr_scoped c scope names fit b i.0)
-  spawn_scoped k at (a ∷ b ∷ d ∷ es) l h = absurd (omega arith)
+  spawn_scoped k at _ l h = absurd (omega arith)
 
   call_scoped_by : (u : Bool) (m : Meaning) (k at : ℕ) (es : List RawExprTree) → MeaningFits c scope m
       → is_wrong_count (takes m) (length es) ≡ false → (not (is_callable m) || (u && is_void m)) ≡ false
       → arguments_faults (callee_in m) names at es ≡ []
       → IsCallScoped c scope (call_by (callee_in m) names k es) × (u ≡ true → call_gives c (call_by (callee_in m) names k es) ≡ true)
-  call_scoped_by u (Meaning.Local x array) k at es f w v h = cc
-  call_scoped_by u (Meaning.Global g array) k at es f w v h = cc
-  call_scoped_by u (Meaning.Table t) k at es f w v h = cc
   call_scoped_by u (Meaning.Function fn gives params defined) k at es f w v h = (
     (f.0, length-map es (expr_of names) ∙ (sym (right_count params (length es) w) ∙ sym f.1), exprs_scoped c scope names fit es h),
     λ e. f.2 ∙ used_gives u gives v e,
@@ -103,6 +81,7 @@ module _ (c : Context) (scope : List ℕ) (names : List Binding) (fit : AllFit c
   )
   call_scoped_by u Meaning.Spawn k at es f w v h =
       (spawn_scoped k at es (sym (right_count 2 (length es) w)) h, λ e. spawn_gives c names k es)
+  call_scoped_by u _ k at es f w v h = cc
 
   pub call_scoped : (u : Bool) (k : ℕ) (n : NameTree) (es : List RawExprTree) → call_faults u names n es ≡ []
       → IsCallScoped c scope (call_of names k n es) × (u ≡ true → call_gives c (call_of names k n es) ≡ true)

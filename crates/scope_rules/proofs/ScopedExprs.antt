@@ -1,6 +1,6 @@
 -- An expression that breaks no rule is well scoped, with numbers for names.
 use Rattle.std.proofs.Common.{ℕ, ◌≡◌, ◌<◌, ◌%◌, ◌^◌, refl, true, false, List, [], ◌∷◌, ◌++◌, arith}
-use Rattle.c_tree.specs.RawTrees.{NameTree, RawExprTree, RawNumber, RawName, RawElement, RawUnary, RawParenthesized, RawBinary, RawLogicalAnd, RawLogicalOr, RawConditional, RawCall, RawTableCall}
+use Rattle.c_tree.specs.RawTrees.{NameTree, RawExprTree, RawNumber, RawName, RawElement, RawUnary, RawParenthesized, RawBinary, RawLogicalAnd, RawLogicalOr, RawConditional}
 use Rattle.c_tree.specs.Trees.{ExprTree}
 use Rattle.c_tree.specs.WellScoped.{Context, IsExprScoped, AreExprsScoped}
 use Rattle.scope_rules.specs.declared.meanings.Meaning.{Meaning}
@@ -11,24 +11,14 @@ use Rattle.scope_rules.proofs.NoFaults.{both_none, Used, used}
 use Rattle.scope_rules.proofs.Fits.{MeaningFits, AllFit, find_fits}
 
 scalar_fits : (c : Context) (scope : List ℕ) (m : Meaning) → MeaningFits c scope m → is_scalar m ≡ true → IsExprScoped c scope (scalar_value (variable_in m))
-scalar_fits c scope (Meaning.Local x true) h e = cc
 scalar_fits c scope (Meaning.Local x false) h e = (h.0, h.2 refl, h.1)
-scalar_fits c scope (Meaning.Global g true) h e = cc
 scalar_fits c scope (Meaning.Global g false) h e = (h.0, h.1 refl)
-scalar_fits c scope (Meaning.Table t) h e = cc
-scalar_fits c scope (Meaning.Function f gives params defined) h e = cc
-scalar_fits c scope (Meaning.Modelled m) h e = cc
-scalar_fits c scope Meaning.Spawn h e = cc
+scalar_fits c scope _ h e = cc
 
 element_fits : (c : Context) (scope : List ℕ) (m : Meaning) (i : ExprTree) → MeaningFits c scope m → is_array m ≡ true → IsExprScoped c scope i → IsExprScoped c scope (element_value (variable_in m) i)
 element_fits c scope (Meaning.Local x true) i h e k = (h.0, h.1, k)
-element_fits c scope (Meaning.Local x false) i h e k = cc
 element_fits c scope (Meaning.Global g true) i h e k = (h.0, k)
-element_fits c scope (Meaning.Global g false) i h e k = cc
-element_fits c scope (Meaning.Table t) i h e k = cc
-element_fits c scope (Meaning.Function f gives params defined) i h e k = cc
-element_fits c scope (Meaning.Modelled m) i h e k = cc
-element_fits c scope Meaning.Spawn i h e k = cc
+element_fits c scope _ i h e k = cc
 
 word_fits : (v : ℕ) → v % 2 ^ 32 < 2 ^ 32
 word_fits v = omega arith
@@ -62,8 +52,7 @@ module _ (c : Context) (scope : List ℕ) (names : List Binding) (fit : AllFit c
       let k = both_none (expr_faults names e ++ expr_faults names a) (expr_faults names b) h in
       let j = both_none (expr_faults names e) (expr_faults names a) k.0 in
       (expr_scoped e j.0, expr_scoped a j.1, expr_scoped b k.1)
-  expr_scoped (RawCall n es) h = word_fits 0
-  expr_scoped (RawTableCall n i e) h = word_fits 0
+  expr_scoped _ h = word_fits 0
 
   pub exprs_scoped : (es : List RawExprTree) → exprs_faults names es ≡ [] → AreExprsScoped c scope (exprs_of names es)
   exprs_scoped [] h = tt

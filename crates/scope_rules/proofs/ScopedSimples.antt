@@ -48,24 +48,14 @@ same_visible x scope = seen (eqb x x) refl
     seen false e = let t : eqb x x ≡ true = grind (arith, nat_tests) in cc
 
 scalar_set : (c : Context) (scope : List ℕ) (m : Meaning) (v : RightTree) → MeaningFits c scope m → is_scalar m ≡ true → IsRightScoped c scope v → IsSimpleScoped c scope (set_scalar (variable_in m) v)
-scalar_set c scope (Meaning.Local x true) v h e k = cc
 scalar_set c scope (Meaning.Local x false) v h e k = (h.0, h.2 refl, h.1, k)
-scalar_set c scope (Meaning.Global g true) v h e k = cc
 scalar_set c scope (Meaning.Global g false) v h e k = (h.0, h.1 refl, k)
-scalar_set c scope (Meaning.Table t) v h e k = cc
-scalar_set c scope (Meaning.Function f gives params defined) v h e k = cc
-scalar_set c scope (Meaning.Modelled m) v h e k = cc
-scalar_set c scope Meaning.Spawn v h e k = cc
+scalar_set c scope _ v h e k = cc
 
 element_set : (c : Context) (scope : List ℕ) (m : Meaning) (i : ExprTree) (v : RightTree) → MeaningFits c scope m → is_array m ≡ true → IsExprScoped c scope i → IsRightScoped c scope v → IsSimpleScoped c scope (set_element (variable_in m) i v)
 element_set c scope (Meaning.Local x true) i v h e j k = (h.0, h.1, j, k)
-element_set c scope (Meaning.Local x false) i v h e j k = cc
 element_set c scope (Meaning.Global g true) i v h e j k = (h.0, j, k)
-element_set c scope (Meaning.Global g false) i v h e j k = cc
-element_set c scope (Meaning.Table t) i v h e j k = cc
-element_set c scope (Meaning.Function f gives params defined) i v h e j k = cc
-element_set c scope (Meaning.Modelled m) i v h e j k = cc
-element_set c scope Meaning.Spawn i v h e j k = cc
+element_set c scope _ i v h e j k = cc
 
 set_scalar_adds : (scope : List ℕ) (x : Variable) (v : RightTree) → with_names scope (simple_names (set_scalar x v)) ≡ scope
 set_scalar_adds scope (Variable.Local x) v = refl
@@ -112,8 +102,7 @@ module _ (c : Context) (small : length c.sizes ≤ 65536) where
   simple_fits scope s (RawDeclareWith n v) fit p = variable_fits scope (record s { site = right_after s.site v }) n false 1 (λ e. refl) fit p
   simple_fits scope s (RawSet n v) fit p = rw (set_scalar_adds scope (variable_of (find n.text s.names)) (right_of s.names s.site v)) fit
   simple_fits scope s (RawSetElement n i v) fit p = rw (set_element_adds scope (variable_of (find n.text s.names)) (expr_of s.names i) (right_of s.names s.site v)) fit
-  simple_fits scope s (RawCalling n es) fit p = fit
-  simple_fits scope s (RawTableCalling n i e) fit p = fit
+  simple_fits scope s _ fit p = fit
 
   pub simples_scoped : (scope : List ℕ) (s : Spot) (ps : List RawSimpleTree) → AllFit c scope s.names → simples_faults s ps ≡ [] → IsPrefix (simples_after s ps).sizes c.sizes → AreSimplesScoped c scope (simples_of s ps)
   simples_scoped scope s [] fit h p = tt

@@ -1,7 +1,7 @@
 -- Statements that break no rule are well scoped, with numbers for names.
 use Rattle.std.proofs.Common.{ℕ, ◌≡◌, ◌≤◌, refl, ap, Bool, true, false, not, List, [], ◌++◌, length, Option, Some, None}
 use Rattle.std.specs.Prelude.{IsTrue, option_map}
-use Rattle.c_tree.specs.RawTrees.{RawExprTree, RawSimpleTree, RawDeclareScalar, RawDeclareArray, RawDeclareWith, RawSet, RawSetElement, RawCalling, RawTableCalling, RawStmtTree, RawStmtTrees, RawDo, RawEmpty, RawBlock, RawIf, RawIfElse, RawWhile, RawFor, RawBreak, RawContinue, RawReturn, NoRawStmts, RawThen}
+use Rattle.c_tree.specs.RawTrees.{RawExprTree, RawSimpleTree, RawSet, RawSetElement, RawCalling, RawTableCalling, RawStmtTree, RawStmtTrees, RawDo, RawEmpty, RawBlock, RawIf, RawIfElse, RawWhile, RawFor, RawBreak, RawContinue, RawReturn, NoRawStmts, RawThen}
 use Rattle.c_tree.specs.TextOrder.{simple_names}
 use Rattle.c_tree.specs.WellScoped.{Context, with_names, scope_after, scope_after_all, IsConditionScoped, IsStepScoped, IsReturnScoped, IsStmtScoped, AreStmtsScoped}
 use Rattle.scope_rules.specs.declared.faults.Rule.{Rule}
@@ -26,13 +26,11 @@ loop_true false at h = cc
 
 -- a step that breaks no rule declares nothing
 step_declares : (s : Spot) (p : RawSimpleTree) → step_kind p ≡ [] → simple_names (simple_of s p) ≡ []
-step_declares s (RawDeclareScalar n) h = cc
-step_declares s (RawDeclareArray n size) h = cc
-step_declares s (RawDeclareWith n v) h = cc
 step_declares s (RawSet n v) h = set_scalar_names (variable_of (find n.text s.names)) (right_of s.names s.site v)
 step_declares s (RawSetElement n i v) h = set_element_names (variable_of (find n.text s.names)) (expr_of s.names i) (right_of s.names s.site v)
 step_declares s (RawCalling n es) h = refl
 step_declares s (RawTableCalling n i e) h = refl
+step_declares s _ h = cc
 
 module _ (c : Context) (small : length c.sizes ≤ 65536) where
   condition_scoped : (scope : List ℕ) (names : List Binding) (e : Option RawExprTree) → AllFit c scope names → condition_faults names e ≡ [] → IsConditionScoped c scope (option_map (expr_of names) e)

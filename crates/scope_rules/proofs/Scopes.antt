@@ -2,7 +2,7 @@
 use Rattle.std.proofs.Common.{◌≡◌, ◌-◌, ℕ, refl, sym, ap, ◌∙◌, Bool, true, false, List, [], ◌∷◌, ◌++◌, length, drop, length-append, append_assoc, arith, Option, Some, None}
 use Rattle.std.specs.Prelude.{if◌then◌else◌}
 use Rattle.scope_rules.specs.Items.{param_bound}
-use Rattle.c_tree.specs.RawTrees.{NameTree, RawExprTree, RawSimpleTree, RawDeclareScalar, RawDeclareArray, RawDeclareWith, RawSet, RawSetElement, RawCalling, RawTableCalling, RawStmtTree, RawStmtTrees, RawDo, RawEmpty, RawBlock, RawIf, RawIfElse, RawWhile, RawFor, RawBreak, RawContinue, RawReturn, NoRawStmts, RawThen}
+use Rattle.c_tree.specs.RawTrees.{NameTree, RawExprTree, RawSimpleTree, RawDeclareScalar, RawDeclareArray, RawDeclareWith, RawStmtTree, RawStmtTrees, RawDo, RawReturn, NoRawStmts, RawThen}
 use Rattle.scope_rules.specs.declared.meanings.Meaning.{Meaning}
 use Rattle.scope_rules.specs.Names.{Binding, find, is_fixed, bound}
 use Rattle.scope_rules.specs.Places.{Spot}
@@ -29,10 +29,7 @@ pub simple_extends : (s : Spot) (p : RawSimpleTree) → Extends (simple_after s 
 simple_extends s (RawDeclareScalar n) = bound_extends s.names n.text _
 simple_extends s (RawDeclareArray n size) = bound_extends s.names n.text _
 simple_extends s (RawDeclareWith n v) = bound_extends s.names n.text _
-simple_extends s (RawSet n v) = same_names s.names
-simple_extends s (RawSetElement n i v) = same_names s.names
-simple_extends s (RawCalling n es) = same_names s.names
-simple_extends s (RawTableCalling n i e) = same_names s.names
+simple_extends s _ = same_names s.names
 
 pub simples_extends : (s : Spot) (ps : List RawSimpleTree) → Extends (simples_after s ps).names s.names
 simples_extends s [] = same_names s.names
@@ -48,15 +45,8 @@ returned_extends s (Some v) = same_names s.names
 
 pub stmt_extends : (s : Spot) (p : RawStmtTree) → Extends (stmt_after s p).names s.names
 stmt_extends s (RawDo p) = simple_extends s p
-stmt_extends s RawEmpty = same_names s.names
-stmt_extends s (RawBlock ps) = same_names s.names
-stmt_extends s (RawIf c p) = same_names s.names
-stmt_extends s (RawIfElse c p r) = same_names s.names
-stmt_extends s (RawWhile c p) = same_names s.names
-stmt_extends s (RawFor init c step p) = same_names s.names
-stmt_extends s (RawBreak at) = same_names s.names
-stmt_extends s (RawContinue at) = same_names s.names
 stmt_extends s (RawReturn at v) = returned_extends s v
+stmt_extends s _ = same_names s.names
 
 pub stmts_extends : (s : Spot) (ps : RawStmtTrees) → Extends (stmts_after s ps).names s.names
 stmts_extends s NoRawStmts = same_names s.names

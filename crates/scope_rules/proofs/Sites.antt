@@ -2,7 +2,7 @@
 use Rattle.std.proofs.Common.{ℕ, ◌≡◌, ◌≤◌, ◌+◌, refl, sym, ap, subst, ◌∙◌, List, [], ◌∷◌, ◌++◌, append_assoc, length, length-append, arith}
 use Rattle.std.proofs.lemmas.List.{map-append, length-map, append-nil}
 use Rattle.c_tree.specs.declared.facts.Site.{Site}
-use Rattle.c_tree.specs.RawTrees.{RawItemTree, RawGlobal, RawGlobalArray, RawTableItem, RawPrototypeItem, RawFunctionItem}
+use Rattle.c_tree.specs.RawTrees.{RawItemTree, RawFunctionItem}
 use Rattle.c_tree.specs.Trees.{FunctionTree}
 use Rattle.c_tree.specs.TextOrder.{stmts_names, stmts_sites, functions_sites, counting}
 use Rattle.c_tree.specs.Temporaries.{capped}
@@ -39,15 +39,12 @@ more_numbered ks b ds js e h g =
     }
 
 item_numbered : (defs : List Binding) (w : Sofar) (i : RawItemTree) → AreNumbered (functions_sites w.functions) w.spot.site → AreNumbered (functions_sites (item_after defs w i).functions) (item_after defs w i).spot.site
-item_numbered defs w (RawGlobal n start) h = h
-item_numbered defs w (RawGlobalArray n size) h = h
-item_numbered defs w (RawTableItem n size members) h = h
-item_numbered defs w (RawPrototypeItem gives n params) h = h
 item_numbered defs w (RawFunctionItem gives n params body) h =
     let b = body_spot defs w.spot gives n params in
     let g : Grown b (stmts_names (stmts_of b body)) (stmts_sites (stmts_of b body)) (stmts_after b body) = stmts_grown b body in
     rw (functions_sites-append w.functions (function_tree_of b gives n params body))
     (more_numbered (functions_sites w.functions) b (stmts_names (stmts_of b body)) (stmts_sites (stmts_of b body)) (stmts_after b body) (rw (body_site defs w.spot gives n params) h) g)
+item_numbered defs w _ h = h
 
 pub items_numbered : (defs : List Binding) (w : Sofar) (is : List RawItemTree) → AreNumbered (functions_sites w.functions) w.spot.site → AreNumbered (functions_sites (items_after defs w is).functions) (items_after defs w is).spot.site
 items_numbered defs w [] h = h

@@ -66,14 +66,12 @@ body_left s x (t ∷ []) = refl
 body_left s x (t ∷ u ∷ ss) = refl
 
 body_faults : (gives loops : Bool) (x : Spot) (ss : List RawStmtTree) → stmts_faults gives loops (inside x) (raw_in_order ss) ≡ stmt_faults gives loops (inside x) (as_body ss)
-body_faults gives loops x [] = refl
 body_faults gives loops x (t ∷ []) = append-nil (stmt_faults gives loops (inside x) t)
-body_faults gives loops x (t ∷ u ∷ ss) = refl
+body_faults gives loops x _ = refl
 
 body_tree : (x : Spot) (ss : List RawStmtTree) → body (stmts_list (inside x) ss) ≡ stmt_of (inside x) (as_body ss)
-body_tree x [] = refl
-body_tree x (t ∷ []) = refl
 body_tree x (t ∷ u ∷ ss) = ap Block (stmts_listed (inside x) (t ∷ u ∷ ss))
+body_tree x _ = refl
 
 back_left : (s e : Spot) (count outer : ℕ) → count ≡ length s.names → outer ≡ s.outer → Extends e.names s.names → back (record { outer = outer; count = count }) e ≡ left s e
 back_left s e count outer c o h = let n = names_left s.names e.names count c h in λ k. record e { names = n k; outer = o k }
@@ -81,18 +79,15 @@ back_left s e count outer c o h = let n = names_left s.names e.names count c h i
 -- ---- a block, or a statement with one body
 
 start_extends : (o : OpeningTree) (s : Spot) → Extends (body_start o s).names s.names
-start_extends OpenBlock s = same_names s.names
-start_extends (OpenIf c) s = same_names s.names
-start_extends (OpenWhile c) s = same_names s.names
 start_extends (OpenFor init c step) s =
     then_extends s.names (simples_after (inside s) init).names (step_after (simples_after (inside s) init) step).names (simples_extends (inside s) init) (step_extends (simples_after (inside s) init) step)
+start_extends _ s = same_names s.names
 
 module _ (s : Spot) (ss : List RawStmtTree) where
   whole_left : (o : OpeningTree) → left s (stmts_after (body_start o s) (raw_in_order ss)) ≡ stmt_after s (whole o ss)
   whole_left OpenBlock = refl
-  whole_left (OpenIf c) = sym (body_left s s ss)
-  whole_left (OpenWhile c) = sym (body_left s s ss)
   whole_left (OpenFor init c step) = sym (body_left s (step_after (simples_after (inside s) init) step) ss)
+  whole_left _ = sym (body_left s s ss)
 
   whole_faults : (o : OpeningTree) (gives loops : Bool)
       → opening_faults o s ++ stmts_faults gives (is_in_loop o loops) (body_start o s) (raw_in_order ss) ≡ stmt_faults gives loops s (whole o ss)

@@ -1,5 +1,5 @@
 -- What the limits say of each part of a program.
-use Rattle.std.proofs.Common.{ℕ, zero, suc, ◌≡◌, ◌≤◌, refl, Bool, true, false, List, [], ◌∷◌, ◌++◌, length, map, sum, Option, Some, None, arith}
+use Rattle.std.proofs.Common.{ℕ, suc, ◌≡◌, ◌≤◌, refl, Bool, true, false, List, [], ◌∷◌, ◌++◌, length, map, sum, Option, Some, None, arith}
 use Rattle.std.specs.Prelude.{nat_lt, if◌then◌else◌}
 use Rattle.cap_word.specs.declared.limits.Which.{Which}
 use Rattle.c_tree.specs.Trees.{FunctionTree, ProgramTree}
@@ -44,6 +44,5 @@ one_of_locals [] f gs = omega arith
 one_of_locals (h ∷ fs) f gs = let k = one_of_locals fs f gs in omega arith
 
 pub signature_small : (fs : List FunctionTree) (i : ℕ) → (signature_at (map signature_of fs) i).params ≤ most_params fs
-signature_small [] i = omega arith
-signature_small (f ∷ fs) zero = omega arith
 signature_small (f ∷ fs) (suc i) = let k = signature_small fs i in omega arith
+signature_small _ _ = omega arith

@@ -1,7 +1,6 @@
 -- Two pools that agree in the chunks of a chain: what holds of a thread's frames in the one holds in the other.
-use Rattle.std.proofs.Common.{◌≡◌, ℕ, ◌+◌, ◌-◌, ◌*◌, ◌/◌, ◌<◌, ◌≤◌, Bool, true, false, cond, List, [], ◌∷◌, get_or, Some, slice_get, refl, sym, ap, subst, ◌∙◌, arith}
+use Rattle.std.proofs.Common.{◌≡◌, ℕ, ◌+◌, ◌-◌, ◌*◌, ◌/◌, ◌<◌, ◌≤◌, Bool, true, false, List, [], ◌∷◌, get_or, Some, slice_get, refl, sym, ap, subst, ◌∙◌, arith}
 use Rattle.std.specs.Prelude.{nat_eq}
-use Rattle.std.proofs.lemmas.Bool.{eq-eqb}
 use Rattle.chunk_pool.specs.Pool.{Pool, word_of, place_of, shape_of}
 use Rattle.flat_code.specs.Frames.{FlatFrame}
 use Rattle.stack_certificate.specs.Certificates.{fact_at}
@@ -10,7 +9,7 @@ use Rattle.machine_world.specs.InPlace.{Frame, word_in, IsFrame, chain_below, lo
 use Rattle.machine_world.specs.Places.{Checked}
 use Rattle.machine_world.specs.Rests.{HoldsVariables, AreFlatFrames}
 use Rattle.machine_world.proofs.HeldLaws.{copies-cons}
-use Rattle.segment_laws.proofs.Stacks.{IsFront}
+use Rattle.segment_laws.proofs.Stacks.{IsFront, copies-front}
 use Rattle.chunk_pool.proofs.ShapeLaws.{count-same, place_of-same, payload_place_of-same, end_of-same}
 
 -- the same shape, and the same words in the chunks of a chain
@@ -18,11 +17,8 @@ pub record Agrees (p q : Pool) (chain : List ℕ) : Type 0 where
   pub shape : shape_of q ≡ shape_of p
   pub same : (chunk : ℕ) → 1 ≤ copies chunk chain → (j : ℕ) → word_of q chunk j ≡ word_of p chunk j
 
-copies_front : (chunk : ℕ) (chain : List ℕ) → copies chunk (chunk ∷ chain) ≡ 1 + copies chunk chain
-copies_front chunk chain = copies-cons chunk chunk chain ∙ ap (λ (b : Bool). cond b 1 0 + copies chunk chain) (eq-eqb chunk chunk refl)
-
 pub in_front : (chain : List ℕ) (chunk : ℕ) → IsFront chain chunk → 1 ≤ copies chunk chain
-in_front chain chunk front = omega (arith, ap (copies chunk) front.is, copies_front chunk front.rest)
+in_front chain chunk front = omega (arith, ap (copies chunk) front.is, copies-front chunk front.rest)
 
 pub front_at : (chain : List ℕ) (chunk : ℕ) → slice_get chain 0 ≡ Some chunk → IsFront chain chunk
 front_at [] chunk e = absurd cc
@@ -36,9 +32,8 @@ pub agrees_later : (p q : Pool) (chunk : ℕ) (chain : List ℕ) → Agrees p q 
 agrees_later p q chunk chain h = record { shape = h.shape; same = λ other there j. h.same other (later_copies other chunk chain there) j }
 
 agrees_below : (p q : Pool) (first : Bool) (chain : List ℕ) → Agrees p q chain → Agrees p q (chain_below first chain)
-agrees_below p q true [] h = h
 agrees_below p q true (chunk ∷ chain) h = agrees_later p q chunk chain h
-agrees_below p q false chain h = h
+agrees_below p q _ _ h = h
 
 pub word_in_same : (p q : Pool) (chain : List ℕ) (chunk address : ℕ) → Agrees p q chain → 1 ≤ copies chunk chain → word_in q chunk address ≡ word_in p chunk address
 word_in_same p q chain chunk address h there =
@@ -83,9 +78,9 @@ stack_agrees c p q chain frame (b ∷ bs) h front stack =
 pub headers_agree : (p q : Pool) (chain : List ℕ) → Agrees p q chain → HeadersName p chain → HeadersName q chain
 headers_agree p q [] h named = named
 headers_agree p q (x ∷ []) h named =
-    let there : 1 ≤ copies x (x ∷ []) = omega (arith, copies_front x []) in (h.same x there 0 ∙ named.0, h.same x there 1 ∙ named.1)
+    let there : 1 ≤ copies x (x ∷ []) = omega (arith, copies-front x []) in (h.same x there 0 ∙ named.0, h.same x there 1 ∙ named.1)
 headers_agree p q (x ∷ y ∷ chain) h named =
-    let there : 1 ≤ copies x (x ∷ y ∷ chain) = omega (arith, copies_front x (y ∷ chain)) in
+    let there : 1 ≤ copies x (x ∷ y ∷ chain) = omega (arith, copies-front x (y ∷ chain)) in
     (h.same x there 0 ∙ named.0 ∙ sym (payload_place_of-same p q y h.shape), headers_agree p q (y ∷ chain) (agrees_later p q x (y ∷ chain) h) named.1)
 
 pub variables_agree : (c : Checked) (p q : Pool) (chain : List ℕ) (frame : Frame) (flat : FlatFrame) → Agrees p q chain → 1 ≤ copies frame.chunk chain → HoldsVariables c p frame flat → HoldsVariables c q frame flat
@@ -101,9 +96,8 @@ in_more other chain [] h = tt
 in_more other chain (frame ∷ frames) h = (later_copies frame.chunk other chain h.0, in_more other chain frames h.1)
 
 in_below : (first : Bool) (chain : List ℕ) (frames : List Frame) → AreIn (chain_below first chain) frames → AreIn chain frames
-in_below true [] frames h = h
 in_below true (chunk ∷ chain) frames h = in_more chunk chain frames h
-in_below false chain frames h = h
+in_below _ _ frames h = h
 
 pub stack_in : (c : Checked) (p : Pool) (chain : List ℕ) (frame : Frame) (below : List Frame) → IsStack c p chain frame below → IsFront chain frame.chunk → AreIn chain (frame ∷ below)
 stack_in c p chain frame [] stack front = (in_front chain frame.chunk front, tt)
@@ -112,7 +106,6 @@ stack_in c p chain frame (b ∷ bs) stack front =
 
 pub flats_agree : (c : Checked) (p q : Pool) (chain : List ℕ) (frames : List Frame) (flats : List FlatFrame) → Agrees p q chain → AreIn chain frames → AreFlatFrames c p frames flats → AreFlatFrames c q frames flats
 flats_agree c p q chain [] [] h there are = are
-flats_agree c p q chain [] (flat ∷ flats) h there are = absurd are
-flats_agree c p q chain (frame ∷ frames) [] h there are = absurd are
 flats_agree c p q chain (frame ∷ frames) (flat ∷ flats) h there are =
     (record { function = are.0.function; operation = are.0.operation; shape = are.0.shape; variables = variables_agree c p q chain frame flat h there.0 are.0.variables }, flats_agree c p q chain frames flats h there.1 are.1)
+flats_agree c p q chain _ _ h there are = absurd are

@@ -33,8 +33,7 @@ never_later c t after step never n e = never (suc n) (flat_later c n t after ste
 -- a step that asks or stops is all that more steps come to
 pub flat_over : (c : Checked) (n : ℕ) (t : FlatThread) (move : FlatMove) → flat_step c.flat t ≡ move → ((next : FlatThread) → move ≡ Goes next → ⊥) → moves (flat_machine c.flat) (suc n) t ≡ move
 flat_over c n t (Goes next) step over = absurd (over next refl)
-flat_over c n t (Asks question waiting) step over = ap (λ (m : FlatMove). and_then m (moves (flat_machine c.flat) n)) step
-flat_over c n t (Stops end) step over = ap (λ (m : FlatMove). and_then m (moves (flat_machine c.flat) n)) step
+flat_over c n t _ step over = ap (λ (m : FlatMove). and_then m (moves (flat_machine c.flat) n)) step
 
 -- ---- from a later flat thread
 
@@ -45,18 +44,15 @@ stop_step c t at NoRoom n finish e stops = absurd stops
 stop_step c t at Wrong n finish e stops = absurd stops
 
 stop_cut : (c : Checked) (started : ℕ) (at : Local) (end : local.End) (finish : Finish) → StopsAlike c at end finish → IsCutMove c started at (Stops end)
-stop_cut c started at (Ended areas) finish stops = tt
-stop_cut c started at (Trapped kind) finish stops = tt
 stop_cut c started at NoRoom finish stops = absurd stops
-stop_cut c started at Wrong finish stops = tt
+stop_cut c started at _ finish stops = tt
 
 step_before : (c : Checked) (j : ℕ) (t after : FlatThread) (at : Local) (move : LocalMove) → moves (flat_machine c.flat) j t ≡ Goes after → IsStepAlike c after at move → IsStepAlike c t at move
 step_before c j t after at (Goes next) first is = tt
 step_before c j t after at (Asks question still) first is = (is.0, (j + is.1.0, is.1.1, is.1.2, goes_on (flat_machine c.flat) j is.1.0 t after first ∙ is.1.3, is.1.4))
-step_before c j t after at (Stops (Ended areas)) first is = (j + is.0, is.1, goes_on (flat_machine c.flat) j is.0 t after first ∙ is.2, is.3)
-step_before c j t after at (Stops (Trapped kind)) first is = (j + is.0, is.1, goes_on (flat_machine c.flat) j is.0 t after first ∙ is.2, is.3)
 step_before c j t after at (Stops NoRoom) first is = is
 step_before c j t after at (Stops Wrong) first is = absurd is.3
+step_before c j t after at (Stops _) first is = (j + is.0, is.1, goes_on (flat_machine c.flat) j is.0 t after first ∙ is.2, is.3)
 
 along_before : (c : Checked) (code : List ℕ) (j : ℕ) (t after : FlatThread) (at : Local) → moves (flat_machine c.flat) j t ≡ Goes after → IsAlong c code after at → IsAlong c code t at
 along_before c code j t after at first is = record {

@@ -1,5 +1,5 @@
 -- Arguments are loaded into the argument registers, one an instruction.
-use Rattle.std.proofs.Common.{◌≡◌, ℕ, zero, suc, ◌+◌, ◌<◌, ◌≤◌, List, [], ◌∷◌, ◌++◌, length, get_or, pos, Option, Some, None, refl, sym, ap, subst, ◌∙◌, arith}
+use Rattle.std.proofs.Common.{◌≡◌, ℕ, zero, suc, ◌+◌, ◌<◌, ◌≤◌, List, [], ◌∷◌, ◌++◌, length, get_or, pos, Option, Some, refl, sym, ap, subst, ◌∙◌, arith}
 use Rattle.std.specs.Prelude.{slice_get}
 use Rattle.std.specs.List.{AllByRecursion}
 use Rattle.rv_code.specs.declared.instructions.Instr.{Instr}
@@ -40,9 +40,8 @@ is_argument r low high = record { some = omega arith; there = omega arith; not_s
 
 -- the values of the first scalar and of the others
 pub both_values : (first : Option ℕ) (rest : Option (List ℕ)) (vs : List ℕ) → both first rest ≡ Some vs → (v : ℕ) × (ws : List ℕ) × (first ≡ Some v) × (rest ≡ Some ws) × (vs ≡ v ∷ ws)
-both_values None rest vs e = absurd (cc)
-both_values (Some v) None vs e = absurd (cc)
 both_values (Some v) (Some ws) vs e = (v, ws, refl, refl, (cc))
+both_values _ _ vs e = absurd (cc)
 
 -- the arguments are in their registers, and nothing else changed
 pub record AreLoaded (c : Checked) (code : List ℕ) (l : Local) (t : FlatThread) (w n r : ℕ) (vs : List ℕ) (frame : Frame) (below : List Frame) : Type 0 where

@@ -22,19 +22,17 @@ use Rattle.segment_laws.proofs.Simulation.{IsOneWord}
 
 pub transfer_length : (kind : LinkKind) (callee : Option ℕ) (here : ℕ) → length (transfer kind callee here) ≡ transfer_size kind
 transfer_length LinkKind.Plain callee here = refl
-transfer_length (LinkKind.Linked need) callee here = refl
-transfer_length (LinkKind.Spawned need) callee here = refl
+transfer_length _ callee here = refl
 
 -- the word of the result is one of the caller's frame
 row_result : (kind : LinkKind) (n : ℕ) → transfer_row kind (n + transfer_size kind) (Some n) ≡ Whole
-row_result LinkKind.Plain n = refl
-row_result (LinkKind.Spawned need) n = refl
 row_result (LinkKind.Linked need) n =
     let a : nat_eq (n + 11) (n + 8) ≡ false = ne_eqb (n + 11) (n + 8) (λ e. omega arith) in
     let b : nat_eq (n + 11) (n + 9) ≡ false = ne_eqb (n + 11) (n + 9) (λ e. omega arith) in
     let d : nat_eq (n + 11) (n + 10) ≡ false = ne_eqb (n + 11) (n + 10) (λ e. omega arith) in
     ap (λ (x : Bool). cond (x || nat_eq (n + 11) (n + 9) || nat_eq (n + 11) (n + 10)) Linking Whole) a
     ∙ ap (λ (x : Bool). cond (x || nat_eq (n + 11) (n + 10)) Linking Whole) b ∙ ap (λ (x : Bool). cond x Linking Whole) d
+row_result _ n = refl
 
 -- an operation that calls: so many words, the transfer of a call of this entry or through a register, and the result
 pub record CallShape (c : Checked) (f i : ℕ) (op : Op) : Type 0 where
@@ -91,24 +89,7 @@ call_shape c code f i g (Op.CallTable site d t k x) there calls =
       row_is = λ w. refl;
       scalar = λ e is. result_scalar c f true d e there.formed.3 is;
     }
-call_shape c code f i g (Op.Const d v) there calls = absurd calls
-call_shape c code f i g (Op.Copy d s) there calls = absurd calls
-call_shape c code f i g (Op.Neg d s) there calls = absurd calls
-call_shape c code f i g (Op.Not d s) there calls = absurd calls
-call_shape c code f i g (Op.Flip d s) there calls = absurd calls
-call_shape c code f i g (Op.Bin b d x y) there calls = absurd calls
-call_shape c code f i g (Op.Zero a) there calls = absurd calls
-call_shape c code f i g (Op.LoadGlobal d h) there calls = absurd calls
-call_shape c code f i g (Op.StoreGlobal h s) there calls = absurd calls
-call_shape c code f i g (Op.LoadLocal d a k) there calls = absurd calls
-call_shape c code f i g (Op.LoadArray d a k) there calls = absurd calls
-call_shape c code f i g (Op.StoreLocal a k s) there calls = absurd calls
-call_shape c code f i g (Op.StoreArray a k s) there calls = absurd calls
-call_shape c code f i g (Op.Jump to) there calls = absurd calls
-call_shape c code f i g (Op.JumpZero s to) there calls = absurd calls
-call_shape c code f i g (Op.Model site d n args) there calls = absurd calls
-call_shape c code f i g (Op.Spawn site d h s) there calls = absurd calls
-call_shape c code f i g (Op.Return s) there calls = absurd calls
+call_shape c code f i g _ there calls = absurd calls
 
 -- a word of the transfer
 pub transfer_slice : (c : Checked) (f i k : ℕ) (op : Op) (instr : Instr) → (s : CallShape c f i op) → slice_get (transfer (kind_of c.certificate op) s.callee (begin c.flat c.certificate f i + 4 * s.before)) k ≡ Some instr →

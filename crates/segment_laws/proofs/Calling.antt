@@ -1,7 +1,6 @@
 -- A call at a plain site: its arguments are loaded, and the call instruction leads to the function's first word.
-use Rattle.std.proofs.Common.{◌≡◌, ℕ, zero, suc, ◌+◌, ◌-◌, ◌*◌, ◌/◌, ◌%◌, ◌^◌, ◌<◌, ◌≤◌, Bool, true, false, cond, List, [], ◌∷◌, ◌++◌, length, get_or, ℤ, pos, ◌-ℤ◌, Option, Some, None, Ok, refl, sym, ap, subst, ◌∙◌, arith, lit<, lit≤}
+use Rattle.std.proofs.Common.{◌≡◌, ℕ, zero, suc, ◌+◌, ◌-◌, ◌*◌, ◌%◌, ◌^◌, ◌<◌, ◌≤◌, Bool, false, cond, List, [], ◌∷◌, ◌++◌, length, get_or, ℤ, pos, ◌-ℤ◌, Some, None, Ok, refl, sym, ap, subst, ◌∙◌, arith, lit<}
 use Rattle.std.specs.Prelude.{nat_eq, slice_get, unsigned_abs, ◌||◌}
-use Rattle.std.specs.List.{AllByRecursion}
 use Rattle.std.proofs.lemmas.Bool.{ne_eqb, eq-eqb}
 use Rattle.std.proofs.lemmas.Int.{ints, int_rem_euclid_is}
 use Rattle.cap_word.specs.Word as word
@@ -20,7 +19,7 @@ use Rattle.rv_machine.specs.Step.{instruction_at}
 use Rattle.flat_code.specs.declared.operations.Op.{Op}
 use Rattle.flat_code.specs.Codes.{function_at, operation_at}
 use Rattle.flat_code.specs.Frames.{FlatThread, pushed}
-use Rattle.flat_code.specs.Step.{scalar, scalars, both}
+use Rattle.flat_code.specs.Step.{scalar, scalars}
 use Rattle.stack_certificate.specs.declared.functions.FunctionFact.{FunctionFact}
 use Rattle.stack_certificate.specs.declared.sites.LinkKind.{LinkKind}
 use Rattle.stack_certificate.specs.Certificates.{fact_at}
@@ -38,6 +37,7 @@ use Rattle.segment_laws.proofs.Registers.{read-write_same, read-write_other, add
 use Rattle.segment_laws.proofs.Simulation.{During, Reaches, IsOneWord, load_scalar}
 use Rattle.segment_laws.proofs.Standing.{Standing}
 use Rattle.segment_laws.proofs.Ways.{Leads, Leads-none, Leads-one, Leads-then, HasForm-next}
+use Rattle.segment_laws.proofs.Arguments.{both_values}
 
 -- ---- parts of lists
 
@@ -62,11 +62,6 @@ arguments_at fact r (x ∷ xs) (suc j) lt = let e : r + 1 + j ≡ r + suc j = om
 
 -- ---- the values of arguments
 
-both_values : (w : Option ℕ) (ws : Option (List ℕ)) (values : List ℕ) → both w ws ≡ Some values → (v : ℕ) × (vs : List ℕ) × (w ≡ Some v) × (ws ≡ Some vs) × (values ≡ v ∷ vs)
-both_values None ws values e = absurd cc
-both_values (Some w) None values e = absurd cc
-both_values (Some w) (Some ws) values e = (w, ws, refl, refl, (let same : w ∷ ws ≡ values = cc in sym same))
-
 pub value_at : (t : FlatThread) (xs values : List ℕ) (j : ℕ) → scalars t xs ≡ Some values → j < length xs → scalar t (get_or xs j 0) ≡ Some (get_or values j 0)
 value_at t [] values j e lt = absurd (omega arith)
 value_at t (x ∷ xs) values zero e lt = let b = both_values (scalar t x) (scalars t xs) values e in b.2 ∙ ap (λ (vs : List ℕ). Some (get_or vs 0 0)) (sym b.4)
@@ -80,14 +75,13 @@ values_length t (x ∷ xs) values e = let b = both_values (scalar t x) (scalars 
 
 -- the words before the second call instruction of a linked transfer are words of the caller's frame
 pub row_before : (kind : LinkKind) (n w : ℕ) → w < n + 8 → transfer_row kind w (Some n) ≡ Whole
-row_before LinkKind.Plain n w lt = refl
-row_before (LinkKind.Spawned need) n w lt = refl
 row_before (LinkKind.Linked need) n w lt =
     let a : nat_eq w (n + 8) ≡ false = ne_eqb w (n + 8) (λ e. omega arith) in
     let b : nat_eq w (n + 9) ≡ false = ne_eqb w (n + 9) (λ e. omega arith) in
     let d : nat_eq w (n + 10) ≡ false = ne_eqb w (n + 10) (λ e. omega arith) in
     ap (λ (x : Bool). cond (x || nat_eq w (n + 9) || nat_eq w (n + 10)) Linking Whole) a
     ∙ ap (λ (x : Bool). cond (x || nat_eq w (n + 10)) Linking Whole) b ∙ ap (λ (x : Bool). cond x Linking Whole) d
+row_before _ n w lt = refl
 
 -- ---- arguments
 

@@ -9,8 +9,6 @@ module _ {R : Type 0} (number_of : R → ℕ) (thread_in : ℕ → R → Thread)
   -- ---- a record that stands at a place
 
   find_at : (place : ℕ) (slots : List (Option R)) (i : ℕ) (r : R) → at_place slots i ≡ Some r → ((j : ℕ) (s : R) → at_place slots j ≡ Some s → number_of s ≡ number_of r → j ≡ i) → find_from number_of thread_in place slots (number_of r) ≡ Some (thread_in (place + i) r)
-  find_at place [] i r there one = absurd cc
-  find_at place (None ∷ rest) zero r there one = absurd cc
   find_at place (None ∷ rest) (suc i) r there one =
       let sum : place + 1 + i ≡ place + suc i = omega arith in
       find_at (place + 1) rest i r there (λ j s at same. let e = one (suc j) s at same in omega (arith, e)) ∙ ap (λ (k : ℕ). Some (thread_in k r)) sum
@@ -25,6 +23,7 @@ module _ {R : Type 0} (number_of : R → ℕ) (thread_in : ℕ → R → Thread)
       let no : nat_eq (number_of s) (number_of r) ≡ false = ne_eqb (number_of s) (number_of r) (λ same. let e = one 0 s refl same in omega (arith, e)) in
       ap (λ (b : Bool). cond b (Some (thread_in place s)) (find_from number_of thread_in (place + 1) rest (number_of r))) no
       ∙ find_at (place + 1) rest i r there (λ j s' at same. let e = one (suc j) s' at same in omega (arith, e)) ∙ ap (λ (k : ℕ). Some (thread_in k r)) sum
+  find_at place _ _ r there one = absurd cc
 
   pub finds : (slots : List (Option R)) (next i : ℕ) (r : R) → IsNumbered number_of slots next → at_place slots i ≡ Some r → find_from number_of thread_in 0 slots (number_of r) ≡ Some (thread_in i r)
   finds slots next i r numbered there =

@@ -3,7 +3,7 @@ use Rattle.std.proofs.Common.{◌≡◌, ℕ, zero, suc, Bool, true, false, List
 use Rattle.std.specs.Prelude.{nat_lt}
 use Rattle.cap_word.specs.Calls.{Call, call_of}
 use Rattle.cap_word.specs.Rows.{width, word_at, with_word}
-use Rattle.cap_word.specs.Runs.{Goes, Asks, Stops, and_then, moves}
+use Rattle.cap_word.specs.Runs.{Goes, and_then, moves}
 use Rattle.cap_word.specs.declared.traps.TrapKind.{TrapKind}
 use Rattle.chunk_pool.specs.Pool.{Pool}
 use Rattle.flat_code.specs.declared.operations.Op.{Op}
@@ -19,9 +19,8 @@ use Rattle.segment_laws.specs.Alike.{last_function, last_flat, first_of}
 
 pub frames-first : (c : Checked) (pool : Pool) (frames : List Frame) (flats : List FlatFrame) (f g : ℕ) → f ≡ g → AreFlatFrames c pool frames flats → last_function f frames ≡ last_flat g flats
 frames-first c pool [] [] f g e are = e
-frames-first c pool [] (flat ∷ flats) f g e are = absurd are
-frames-first c pool (frame ∷ frames) [] f g e are = absurd are
 frames-first c pool (frame ∷ frames) (flat ∷ flats) f g e are = frames-first c pool frames flats frame.function flat.function are.0.function are.1
+frames-first c pool _ _ f g e are = absurd are
 
 -- a frame that goes on is of its function
 pub result-function : (frame : FlatFrame) (d : Option ℕ) (word : ℕ) → (with_result frame d word).function ≡ frame.function
@@ -32,8 +31,7 @@ result-function frame (Some d) word = refl
 
 abbrev Keeps : ℕ → FlatMove → Type 0
 Keeps f (Goes next) = first_of next ≡ f
-Keeps f (Asks asked waiting) = Unit {0}
-Keeps f (Stops end) = Unit {0}
+Keeps f _ = Unit {0}
 
 module _ (code : FlatCode) where
   on-keeps : {A : Type 0} (f : ℕ) (o : Option A) (use_it : A → FlatMove) → ((a : A) → Keeps f (use_it a)) → Keeps f (on o use_it)
@@ -57,20 +55,16 @@ module _ (code : FlatCode) where
   asks-keeps t (Some call) = tt
 
   does-keeps : (t : FlatThread) (op : Op) → Keeps (first_of t) (does code t op)
-  does-keeps t (Op.Const d x) = refl
   does-keeps t (Op.Copy d x) = on-keeps (first_of t) (scalar t x) _ (λ a. refl)
   does-keeps t (Op.Neg d x) = on-keeps (first_of t) (scalar t x) _ (λ a. refl)
   does-keeps t (Op.Not d x) = on-keeps (first_of t) (scalar t x) _ (λ a. refl)
   does-keeps t (Op.Flip d x) = on-keeps (first_of t) (scalar t x) _ (λ a. refl)
   does-keeps t (Op.Bin o d x y) = on-keeps (first_of t) (scalar t x) _ (λ a. on-keeps (first_of t) (scalar t y) _ (λ b. refl))
-  does-keeps t (Op.Zero x) = refl
-  does-keeps t (Op.LoadGlobal d g) = refl
   does-keeps t (Op.StoreGlobal g x) = on-keeps (first_of t) (scalar t x) _ (λ a. refl)
   does-keeps t (Op.LoadLocal d a i) = on-keeps (first_of t) (scalar t i) _ (λ k. on-keeps (first_of t) (variable t.frame a) _ (λ row. where-keeps (first_of t) t (nat_lt k (length row)) TrapKind.Index _ refl))
   does-keeps t (Op.LoadArray d a i) = on-keeps (first_of t) (scalar t i) _ (λ k. where-keeps (first_of t) t (nat_lt k (width t.globals a)) TrapKind.Index (puts t d (word_at t.globals a k)) refl)
   does-keeps t (Op.StoreLocal a i x) = on-keeps (first_of t) (scalar t i) _ (λ k. on-keeps (first_of t) (scalar t x) _ (λ v. on-keeps (first_of t) (variable t.frame a) _ (λ row. where-keeps (first_of t) t (nat_lt k (length row)) TrapKind.Index _ refl)))
   does-keeps t (Op.StoreArray a i x) = on-keeps (first_of t) (scalar t i) _ (λ k. on-keeps (first_of t) (scalar t x) _ (λ v. where-keeps (first_of t) t (nat_lt k (width t.globals a)) TrapKind.Index (goes_with t (with_word t.globals a k v)) refl))
-  does-keeps t (Op.Jump to) = refl
   does-keeps t (Op.JumpZero x to) = on-keeps (first_of t) (scalar t x) _ (λ a. jumps-keeps t to a)
   does-keeps t (Op.Call site d f args) = on-keeps (first_of t) (scalars t args) _ (λ ws. refl)
   does-keeps t (Op.CallTable site d table i x) = on-keeps (first_of t) (scalar t i) _ (λ k. on-keeps (first_of t) (scalar t x) _ (λ v. where-keeps (first_of t) t (nat_lt k (length (members_of code table))) TrapKind.Table _ refl))
@@ -78,6 +72,7 @@ module _ (code : FlatCode) where
   does-keeps t (Op.Spawn site d f x) = on-keeps (first_of t) (scalar t x) _ (λ a. tt)
   does-keeps t (Op.Return None) = returns-keeps t t.below 0
   does-keeps t (Op.Return (Some x)) = on-keeps (first_of t) (scalar t x) _ (λ a. returns-keeps t t.below a)
+  does-keeps t _ = refl
 
   step-keeps : (t : FlatThread) → Keeps (first_of t) (flat_step code t)
   step-keeps t = on-keeps (first_of t) (standing code t.frame) (does code t) (λ op. does-keeps t op)
@@ -90,8 +85,7 @@ module _ (code : FlatCode) where
   then-first : (n : ℕ) (t after : FlatThread) (move : FlatMove) → flat_step code t ≡ move → ((next : FlatThread) → moves (flat_machine code) n next ≡ Goes after → first_of after ≡ first_of next) → and_then move (moves (flat_machine code) n) ≡ Goes after →
       first_of after ≡ first_of t
   then-first n t after (Goes next) step later e = later next e ∙ step-first t next step
-  then-first n t after (Asks asked waiting) step later e = absurd cc
-  then-first n t after (Stops end) step later e = absurd cc
+  then-first n t after _ step later e = absurd cc
 
   pub moves-first : (n : ℕ) (t after : FlatThread) → moves (flat_machine code) n t ≡ Goes after → first_of after ≡ first_of t
   moves-first zero t after e = let same : t ≡ after = cc in ap first_of (sym same)

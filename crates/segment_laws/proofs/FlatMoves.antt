@@ -13,9 +13,8 @@ use Rattle.flat_code.specs.declared.operations.Op.{Op}
 -- ---- no question
 
 abbrev pub NoQuestion : FlatMove → Type 0
-NoQuestion (Goes next) = Unit {0}
 NoQuestion (Asks question waiting) = ⊥
-NoQuestion (Stops end) = Unit {0}
+NoQuestion _ = Unit {0}
 
 on_none : {A : Type 0} (o : Option A) (k : A → FlatMove) → ((a : A) → NoQuestion (k a)) → NoQuestion (on o k)
 on_none None k h = tt
@@ -40,20 +39,16 @@ IsQuestion (Op.Spawn site d f s) = Unit {0}
 IsQuestion _ = ⊥
 
 pub asks_nothing : (code : FlatCode) (t : FlatThread) (op : Op) → (IsQuestion op → ⊥) → NoQuestion (does code t op)
-asks_nothing code t (Op.Const d v) not = tt
 asks_nothing code t (Op.Copy d s) not = on_none (scalar t s) _ (λ a. tt)
 asks_nothing code t (Op.Neg d s) not = on_none (scalar t s) _ (λ a. tt)
 asks_nothing code t (Op.Not d s) not = on_none (scalar t s) _ (λ a. tt)
 asks_nothing code t (Op.Flip d s) not = on_none (scalar t s) _ (λ a. tt)
 asks_nothing code t (Op.Bin op d x y) not = on_none (scalar t x) _ (λ a. on_none (scalar t y) _ (λ b. tt))
-asks_nothing code t (Op.Zero a) not = tt
-asks_nothing code t (Op.LoadGlobal d g) not = tt
 asks_nothing code t (Op.StoreGlobal g s) not = on_none (scalar t s) _ (λ a. tt)
 asks_nothing code t (Op.LoadLocal d a i) not = on_none (scalar t i) _ (λ k. on_none (variable t.frame a) _ (λ row. where_none (nat_lt k (length row)) t TrapKind.Index _ tt))
 asks_nothing code t (Op.LoadArray d a i) not = on_none (scalar t i) _ (λ k. where_none (nat_lt k _) t TrapKind.Index _ tt)
 asks_nothing code t (Op.StoreLocal a i s) not = on_none (scalar t i) _ (λ k. on_none (scalar t s) _ (λ v. on_none (variable t.frame a) _ (λ row. where_none (nat_lt k (length row)) t TrapKind.Index _ tt)))
 asks_nothing code t (Op.StoreArray a i s) not = on_none (scalar t i) _ (λ k. on_none (scalar t s) _ (λ v. where_none (nat_lt k _) t TrapKind.Index _ tt))
-asks_nothing code t (Op.Jump to) not = tt
 asks_nothing code t (Op.JumpZero s to) not = on_none (scalar t s) _ (λ v. jumps_none t to v)
 asks_nothing code t (Op.Call site d f args) not = on_none (scalars t args) _ (λ vs. tt)
 asks_nothing code t (Op.CallTable site d table i s) not = on_none (scalar t i) _ (λ k. on_none (scalar t s) _ (λ v. where_none (nat_lt k _) t TrapKind.Table _ tt))
@@ -61,6 +56,7 @@ asks_nothing code t (Op.Model site d n args) not = absurd (not tt)
 asks_nothing code t (Op.Spawn site d f s) not = absurd (not tt)
 asks_nothing code t (Op.Return None) not = returns_none code t t.below 0
 asks_nothing code t (Op.Return (Some s)) not = on_none (scalar t s) _ (λ v. returns_none code t t.below v)
+asks_nothing code t _ not = tt
 
 -- ---- a question alone
 
@@ -83,10 +79,8 @@ spawn_asks code t site g x d = on_only (scalar t x) _ (λ v. tt)
 -- ---- no end and no trap
 
 abbrev pub NoFinish : FlatMove → Type 0
-NoFinish (Goes next) = Unit {0}
-NoFinish (Asks question waiting) = Unit {0}
 NoFinish (Stops (Finished finish)) = ⊥
-NoFinish (Stops Lost) = Unit {0}
+NoFinish _ = Unit {0}
 
 on_goes : {A : Type 0} (o : Option A) (k : A → FlatMove) → ((a : A) → NoFinish (k a)) → NoFinish (on o k)
 on_goes None k h = tt
@@ -124,15 +118,7 @@ goes_alone code t (Op.LoadGlobal d g) not = tt
 goes_alone code t (Op.StoreGlobal g s) not = on_goes (scalar t s) _ (λ a. tt)
 goes_alone code t (Op.Jump to) not = tt
 goes_alone code t (Op.JumpZero s to) not = on_goes (scalar t s) _ (λ v. jumps_on t to v)
-goes_alone code t (Op.LoadLocal d a i) not = absurd (not tt)
-goes_alone code t (Op.LoadArray d a i) not = absurd (not tt)
-goes_alone code t (Op.StoreLocal a i s) not = absurd (not tt)
-goes_alone code t (Op.StoreArray a i s) not = absurd (not tt)
-goes_alone code t (Op.Call site d f args) not = absurd (not tt)
-goes_alone code t (Op.CallTable site d table i s) not = absurd (not tt)
-goes_alone code t (Op.Model site d n args) not = absurd (not tt)
-goes_alone code t (Op.Spawn site d f s) not = absurd (not tt)
-goes_alone code t (Op.Return s) not = absurd (not tt)
+goes_alone code t _ not = absurd (not tt)
 
 -- ---- an index that was out of range
 

@@ -40,7 +40,7 @@ not_lost_goes : (t : FlatThread) → (let m : FlatMove = Stops Lost in m) ≡ Go
 not_lost_goes t e = cc
 
 -- a move that goes on is that thread
-goes_same : (t t' : FlatThread) → (let m : FlatMove = Goes t in m) ≡ Goes t' → t ≡ t'
+pub goes_same : (t t' : FlatThread) → (let m : FlatMove = Goes t in m) ≡ Goes t' → t ≡ t'
 goes_same t t' e = cc
 
 -- the index was in range
@@ -109,11 +109,7 @@ goes_from c code l t t' (Op.JumpZero x to) facts there simulates straight e =
     jumped : (v : ℕ) → scalar t x ≡ Some v → jumps t to v ≡ Goes t' → Reaches c code l t'
     jumped zero value e = subst (Reaches c code l) (goes_same _ t' e) (jump_zero_reaches c code l t x to facts there simulates value)
     jumped (suc v) value e = subst (Reaches c code l) (goes_same _ t' e) (jump_zero_passes c code l t x to v facts there simulates value)
-goes_from c code l t t' (Op.Call site d f args) facts there simulates straight e = absurd straight
-goes_from c code l t t' (Op.CallTable site d g i s) facts there simulates straight e = absurd straight
-goes_from c code l t t' (Op.Model site d n args) facts there simulates straight e = absurd straight
-goes_from c code l t t' (Op.Spawn site d f s) facts there simulates straight e = absurd straight
-goes_from c code l t t' (Op.Return s) facts there simulates straight e = absurd straight
+goes_from c code l t t' _ facts there simulates straight e = absurd straight
 
 -- each silent step of an operation that is no call
 pub step_reaches : (c : Checked) (code : List ℕ) (l : Local) (t t' : FlatThread) (op : Op) → CodeFacts c code → Simulates c l t → standing c.flat t.frame ≡ Some op → IsStraight op → flat_step c.flat t ≡ Goes t' → Reaches c code l t'

@@ -1,5 +1,5 @@
 -- Frames in place, where the chunks of a chain have the words that they had.
-use Rattle.std.proofs.Common.{◌≡◌, ℕ, ◌+◌, ◌-◌, ◌*◌, ◌/◌, ◌<◌, ◌≤◌, Bool, true, false, List, [], ◌∷◌, Some, refl, sym, ap, ◌∙◌, subst, slice_get}
+use Rattle.std.proofs.Common.{◌≡◌, ℕ, ◌+◌, ◌-◌, ◌/◌, ◌<◌, ◌≤◌, Bool, true, false, List, [], ◌∷◌, Some, refl, sym, ap, ◌∙◌, subst, slice_get}
 use Rattle.std.specs.Prelude.{nat_eq, slice_index}
 use Rattle.std.specs.List.{AllByRecursion}
 use Rattle.chunk_pool.specs.Pool.{Pool, chunk_of, word_of, end_of, payload_place_of, shape_of}
@@ -101,22 +101,13 @@ module _ (c : Checked) (pool after : Pool) (shape : shape_of after ≡ shape_of 
 
   frames_stay : (core core_now : Core) (place : Place) (row : Row) (chain : List ℕ) (frames : List Frame) → read core_now.x ra ≡ read core.x ra → read core_now.x sp ≡ read core.x sp → AllByRecursion Keeps chain
       → FramesAt c pool core place row chain frames → FramesStay core_now place row chain frames
-  frames_stay core core_now place NoFrame [] frames ra_same sp_same kept h = absurd h
   frames_stay core core_now place NoFrame (chunk ∷ []) [] ra_same sp_same kept h = record { frames_are = (subst (λ (n : ℕ). chunk < n) (sym count) h.0, sp_same ∙ h.1 ∙ sym (end_same chunk)); chunks = tt }
-  frames_stay core core_now place NoFrame (chunk ∷ []) (frame ∷ below) ra_same sp_same kept h = absurd h
-  frames_stay core core_now place NoFrame (chunk ∷ next ∷ chain) frames ra_same sp_same kept h = absurd h
-  frames_stay core core_now place Empty [] frames ra_same sp_same kept h = absurd h
-  frames_stay core core_now place Empty (chunk ∷ chain) [] ra_same sp_same kept h = absurd h
   frames_stay core core_now place Empty (chunk ∷ chain) (frame ∷ below) ra_same sp_same kept h =
       let stack = stack_stays (chunk ∷ chain) frame below (ap (λ (k : ℕ). Some k) (sym h.0.chunk_is)) kept h.1 in
       record { frames_are = (running_stays place core core_now chunk (read core.x sp) (read core_now.x sp) 0 (read core.x ra) (read core_now.x ra) frame sp_same ra_same h.0, stack.stack); chunks = stack.chunks }
-  frames_stay core core_now place Fresh [] frames ra_same sp_same kept h = absurd h
-  frames_stay core core_now place Fresh (chunk ∷ chain) [] ra_same sp_same kept h = absurd h
   frames_stay core core_now place Fresh (chunk ∷ chain) (frame ∷ below) ra_same sp_same kept h =
       let stack = stack_stays (chunk ∷ chain) frame below (ap (λ (k : ℕ). Some k) (sym h.0.chunk_is)) kept h.1 in
       record { frames_are = (running_stays place core core_now chunk (read core.x sp) (read core_now.x sp) _ (read core.x ra) (read core_now.x ra) frame sp_same ra_same h.0, stack.stack); chunks = stack.chunks }
-  frames_stay core core_now place Whole [] frames ra_same sp_same kept h = absurd h
-  frames_stay core core_now place Whole (chunk ∷ chain) [] ra_same sp_same kept h = absurd h
   frames_stay core core_now place Whole (chunk ∷ chain) (frame ∷ below) ra_same sp_same kept h =
       let stack = stack_stays (chunk ∷ chain) frame below (ap (λ (k : ℕ). Some k) (sym h.0.chunk_is)) kept h.1 in
       record {
@@ -127,9 +118,6 @@ module _ (c : Checked) (pool after : Pool) (shape : shape_of after ≡ shape_of 
         );
         chunks = stack.chunks;
       }
-  frames_stay core core_now place Linking [] frames ra_same sp_same kept h = absurd h
-  frames_stay core core_now place Linking (linked ∷ []) frames ra_same sp_same kept h = absurd h
-  frames_stay core core_now place Linking (linked ∷ chunk ∷ chain) [] ra_same sp_same kept h = absurd h
   frames_stay core core_now place Linking (linked ∷ chunk ∷ chain) (frame ∷ below) ra_same sp_same kept h =
       let stack = stack_stays (chunk ∷ chain) frame below (ap (λ (k : ℕ). Some k) (sym h.2.chunk_is)) kept.1 h.3 in
       let saved : saved_sp after linked ≡ saved_sp pool linked = word_same linked 1 kept.0 in
@@ -143,6 +131,7 @@ module _ (c : Checked) (pool after : Pool) (shape : shape_of after ≡ shape_of 
         );
         chunks = stack.chunks;
       }
+  frames_stay core core_now place _ _ _ ra_same sp_same kept h = absurd h
 
 -- ---- a thread
 

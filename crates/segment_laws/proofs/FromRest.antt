@@ -47,24 +47,7 @@ ask_shape (Op.Model site d n args) word e =
 ask_shape (Op.Spawn site d g x) word e =
     let word_is : 6 ≡ word = (let same : some_word 6 ≡ Some word = e in cc) in
     record { size_is = λ sizes kind. omega (arith, word_is); whole = λ kind w. refl }
-ask_shape (Op.Const d v) word e = absurd (let same : no_word ≡ Some word = e in cc)
-ask_shape (Op.Copy d s) word e = absurd (let same : no_word ≡ Some word = e in cc)
-ask_shape (Op.Neg d s) word e = absurd (let same : no_word ≡ Some word = e in cc)
-ask_shape (Op.Not d s) word e = absurd (let same : no_word ≡ Some word = e in cc)
-ask_shape (Op.Flip d s) word e = absurd (let same : no_word ≡ Some word = e in cc)
-ask_shape (Op.Bin b d x y) word e = absurd (let same : no_word ≡ Some word = e in cc)
-ask_shape (Op.Zero a) word e = absurd (let same : no_word ≡ Some word = e in cc)
-ask_shape (Op.LoadGlobal d h) word e = absurd (let same : no_word ≡ Some word = e in cc)
-ask_shape (Op.StoreGlobal h s) word e = absurd (let same : no_word ≡ Some word = e in cc)
-ask_shape (Op.LoadLocal d a k) word e = absurd (let same : no_word ≡ Some word = e in cc)
-ask_shape (Op.LoadArray d a k) word e = absurd (let same : no_word ≡ Some word = e in cc)
-ask_shape (Op.StoreLocal a k s) word e = absurd (let same : no_word ≡ Some word = e in cc)
-ask_shape (Op.StoreArray a k s) word e = absurd (let same : no_word ≡ Some word = e in cc)
-ask_shape (Op.Jump to) word e = absurd (let same : no_word ≡ Some word = e in cc)
-ask_shape (Op.JumpZero s to) word e = absurd (let same : no_word ≡ Some word = e in cc)
-ask_shape (Op.Call site d h args) word e = absurd (let same : no_word ≡ Some word = e in cc)
-ask_shape (Op.CallTable site d t k s) word e = absurd (let same : no_word ≡ Some word = e in cc)
-ask_shape (Op.Return s) word e = absurd (let same : no_word ≡ Some word = e in cc)
+ask_shape _ word e = absurd (let same : no_word ≡ Some word = e in cc)
 
 -- the operation behind one that asks
 pub some_at : {A : Type 0} (xs : List A) (i : ℕ) → i < length xs → (x : A) × (slice_get xs i ≡ Some x)

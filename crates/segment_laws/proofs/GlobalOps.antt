@@ -34,12 +34,12 @@ use Rattle.segment_laws.proofs.Straight.{one_word, flat_set}
 use Rattle.segment_laws.proofs.Ways.{Leads, Leads-then, ComesTo}
 
 -- a global is there, with as many words as its row
-widths_are : (code : FlatCode) (rows : List (List ℕ)) (words : List ℕ) (g : ℕ) → AreGlobals code rows words → g < length code.globals → width rows g ≡ global_words code g
+pub widths_are : (code : FlatCode) (rows : List (List ℕ)) (words : List ℕ) (g : ℕ) → AreGlobals code rows words → g < length code.globals → width rows g ≡ global_words code g
 widths_are code rows words g are there =
     let lengths : length rows ≡ length code.globals = sym (length-map rows length) ∙ ap length are.widths ∙ length-map code.globals (λ (x : FlatGlobal). x.words) in
     sym (get_or-map length rows g [] 0 (omega (arith, lengths, there))) ∙ ap (λ (ns : List ℕ). get_or ns g 0) are.widths
 
-global_there : (code : FlatCode) (g : ℕ) → g < length (map (λ (x : FlatGlobal). x.words) code.globals) → g < length code.globals
+pub global_there : (code : FlatCode) (g : ℕ) → g < length (map (λ (x : FlatGlobal). x.words) code.globals) → g < length code.globals
 global_there code g below = subst (λ (n : ℕ). g < n) (length-map code.globals (λ (x : FlatGlobal). x.words)) below
 
 -- the address of a word of a global is a word

@@ -3,7 +3,6 @@ use Rattle.std.proofs.Common.{◌≡◌, ℕ, ◌+◌, ◌^◌, ◌<◌, ◌≤�
 use Rattle.std.specs.Prelude.{slice_get, nat_lt}
 use Rattle.std.proofs.lemmas.Bool.{lt-ltb, le-ltb}
 use Rattle.cap_word.specs.Word as word
-use Rattle.cap_word.specs.Word.{word_of}
 use Rattle.rv_code.specs.declared.instructions.Instr.{Instr}
 use Rattle.rv_machine.specs.Access.{accessed}
 use Rattle.rv_machine.specs.Effect.{effect}
@@ -65,11 +64,11 @@ compares c code l t op frame below x n kind k facts there guarded during value =
       count = second.value_is;
     }
 
-does_bltu : (l : Local) (n : ℕ) → local_move l (effect (Instr.Bltu 5 6 (pos n)) (machine_of l)) ≡ local_move l (branches (machine_of l) (pos n) (nat_lt (read l.core.x 5) (read l.core.x 6)))
+pub does_bltu : (l : Local) (n : ℕ) → local_move l (effect (Instr.Bltu 5 6 (pos n)) (machine_of l)) ≡ local_move l (branches (machine_of l) (pos n) (nat_lt (read l.core.x 5) (read l.core.x 6)))
 unfolding effect
 does_bltu l n = refl
 
-none_bltu : (m : rows.Machine) (n : ℕ) → accessed (Instr.Bltu 5 6 (pos n)) m ≡ None
+pub none_bltu : (m : rows.Machine) (n : ℕ) → accessed (Instr.Bltu 5 6 (pos n)) m ≡ None
 unfolding accessed
 none_bltu m n = refl
 

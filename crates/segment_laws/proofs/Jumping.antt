@@ -157,7 +157,7 @@ pub record IsTarget (c : Checked) (f to : ℕ) : Type 0 where
   pub aligned : begin c.flat c.certificate f to % 4 ≡ 0
   pub below : begin c.flat c.certificate f to < 2 ^ 32
 
-there_at : (ops : List Op) (i : ℕ) → i < length ops → (op : Op) × (slice_get ops i ≡ Some op)
+pub there_at : (ops : List Op) (i : ℕ) → i < length ops → (op : Op) × (slice_get ops i ≡ Some op)
 there_at [] i below = absurd (omega arith)
 there_at (op ∷ ops) zero below = (op, refl)
 there_at (op ∷ ops) (suc i) below = there_at ops i (omega arith)

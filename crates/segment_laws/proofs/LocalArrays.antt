@@ -94,7 +94,7 @@ addresses c code l t op frame below x n k facts there guarded during value withi
     }
 
 -- few words fit a frame
-few_words : (c : Checked) (code : List ℕ) (f a : ℕ) → CodeFacts c code → f < length c.flat.functions → a < length (function_at c.flat f).sizes → 4 * get_or (function_at c.flat f).sizes a 0 ≤ 2032
+pub few_words : (c : Checked) (code : List ℕ) (f a : ℕ) → CodeFacts c code → f < length c.flat.functions → a < length (function_at c.flat f).sizes → 4 * get_or (function_at c.flat f).sizes a 0 ≤ 2032
 few_words c code f a facts there below =
     let fact = facts.frame f there in
     let inside = fact.place_inside a below in

@@ -16,26 +16,17 @@ AsksFor l n call = system_call l n ≡ Asks (Calls call) l
 
 row_asks : (l : Local) (call : ModelledCall) → AsksFor l (number_of call) (call_with call (read l.core.x 10) (read l.core.x 11))
 row_asks l ModelledCall.Accept = refl
-row_asks l ModelledCall.Wait = refl
-row_asks l ModelledCall.Sleep = refl
-row_asks l ModelledCall.Yield = refl
-row_asks l ModelledCall.Take = refl
-row_asks l ModelledCall.WaitFor = refl
-row_asks l ModelledCall.Put = refl
-row_asks l ModelledCall.Give = refl
-row_asks l ModelledCall.SelfNumber = refl
+row_asks l _ = refl
 
 -- what a call looks at are its arguments
 row_same : (call : ModelledCall) (a b c d : ℕ) → (0 < parameters_of call → a ≡ c) → (1 < parameters_of call → b ≡ d) → call_with call a b ≡ call_with call c d
-row_same ModelledCall.Accept a b c d first second = refl
 row_same ModelledCall.Wait a b c d first second = ap (λ (v : ℕ). Blocking (Block.Wait v)) (first (omega arith))
 row_same ModelledCall.Sleep a b c d first second = ap (λ (v : ℕ). Blocking (Block.Sleep v)) (first (omega arith))
-row_same ModelledCall.Yield a b c d first second = refl
 row_same ModelledCall.Take a b c d first second = λ i. Blocking (Block.Take (first (omega arith) i) (second (omega arith) i))
 row_same ModelledCall.WaitFor a b c d first second = λ i. Blocking (Block.WaitFor (first (omega arith) i) (second (omega arith) i))
 row_same ModelledCall.Put a b c d first second = ap (λ (v : ℕ). Immediate (Ask.Put v)) (first (omega arith))
 row_same ModelledCall.Give a b c d first second = λ i. Immediate (Ask.Give (first (omega arith) i) (second (omega arith) i))
-row_same ModelledCall.SelfNumber a b c d first second = refl
+row_same _ a b c d first second = refl
 
 -- with its arguments in a0 and a1
 pub asks_for : (l : Local) (n : ℕ) (vs : List ℕ) (call : Call) → ((j : ℕ) → j < length vs → read l.core.x (10 + j) ≡ get_or vs j 0) → call_of n vs ≡ Some call → AsksFor l n call
@@ -49,14 +40,7 @@ asks_for l n vs call held e =
 
 row_small : (call : ModelledCall) → (number_of call < 32) × (parameters_of call ≤ 2)
 row_small ModelledCall.Accept = (omega arith, omega arith)
-row_small ModelledCall.Wait = (omega arith, omega arith)
-row_small ModelledCall.Sleep = (omega arith, omega arith)
-row_small ModelledCall.Yield = (omega arith, omega arith)
-row_small ModelledCall.Take = (omega arith, omega arith)
-row_small ModelledCall.WaitFor = (omega arith, omega arith)
-row_small ModelledCall.Put = (omega arith, omega arith)
-row_small ModelledCall.Give = (omega arith, omega arith)
-row_small ModelledCall.SelfNumber = (omega arith, omega arith)
+row_small _ = (omega arith, omega arith)
 
 -- a call's number is small
 pub call_small : (n : ℕ) (vs : List ℕ) (call : Call) → call_of n vs ≡ Some call → (n < 32) × (length vs ≤ 2)

@@ -1,6 +1,6 @@
 -- Silent steps of the machine and of flat code, one after another.
 use Rattle.std.proofs.Common.{◌≡◌, ℕ, zero, suc, ◌+◌, ◌<◌, List, refl, sym, ap, subst, ◌∙◌, arith}
-use Rattle.cap_word.specs.Runs.{Move, Goes, Asks, Stops, moves, and_then}
+use Rattle.cap_word.specs.Runs.{Move, Goes, moves, and_then}
 use Rattle.cap_word.proofs.RunLemmas.{goes_on}
 use Rattle.machine_world.specs.Local.{Local, LocalMove, local_step, local_machine}
 use Rattle.machine_world.specs.Places.{Checked}
@@ -32,8 +32,7 @@ pub record IsFirst (code : List ℕ) (k : ℕ) (l at : Local) : Type 0 where
 
 first_of : (code : List ℕ) (k : ℕ) (l at : Local) (move : LocalMove) → local_step code l ≡ move → and_then move (moves (local_machine code) k) ≡ Goes at → IsFirst code k l at
 first_of code k l at (Goes next) e rest = record { next = next; step = e; rest = rest }
-first_of code k l at (Asks question waiting) e rest = absurd cc
-first_of code k l at (Stops end) e rest = absurd cc
+first_of code k l at _ e rest = absurd cc
 
 pub Comes-first : (code : List ℕ) (k : ℕ) (l at : Local) → Comes code (suc k) l at → IsFirst code k l at
 Comes-first code k l at comes = first_of code k l at (local_step code l) refl comes

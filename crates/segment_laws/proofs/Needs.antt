@@ -31,24 +31,7 @@ pub record NeedsFit (c : Checked) : Type 0 where
 site_known : (code : FlatCode) (op : Op) (g : ℕ) → Calls code op g → (site : ℕ) × (certified_site op ≡ Some site)
 site_known code (Op.Call site d h args) g calls = (site, refl)
 site_known code (Op.CallTable site d t k s) g calls = (site, refl)
-site_known code (Op.Const d v) g calls = absurd calls
-site_known code (Op.Copy d s) g calls = absurd calls
-site_known code (Op.Neg d s) g calls = absurd calls
-site_known code (Op.Not d s) g calls = absurd calls
-site_known code (Op.Flip d s) g calls = absurd calls
-site_known code (Op.Bin b d x y) g calls = absurd calls
-site_known code (Op.Zero a) g calls = absurd calls
-site_known code (Op.LoadGlobal d h) g calls = absurd calls
-site_known code (Op.StoreGlobal h s) g calls = absurd calls
-site_known code (Op.LoadLocal d a k) g calls = absurd calls
-site_known code (Op.LoadArray d a k) g calls = absurd calls
-site_known code (Op.StoreLocal a k s) g calls = absurd calls
-site_known code (Op.StoreArray a k s) g calls = absurd calls
-site_known code (Op.Jump to) g calls = absurd calls
-site_known code (Op.JumpZero s to) g calls = absurd calls
-site_known code (Op.Model site d n args) g calls = absurd calls
-site_known code (Op.Spawn site d h s) g calls = absurd calls
-site_known code (Op.Return s) g calls = absurd calls
+site_known code _ g calls = absurd calls
 
 module _ (code : FlatCode) (image : Image) (certificate : Certificate) (formed : IsWellFormed code) (valid : IsValid code image certificate) where
   bound_within : (f : ℕ) → f < length code.functions → (fact_at certificate f).bound ≤ certificate.max_path
@@ -66,23 +49,7 @@ module _ (code : FlatCode) (image : Image) (certificate : Certificate) (formed :
   within f (Op.Call site d h args) is = greatest_within (h ∷ []) (omega (arith, is.0, length-map code.functions signature_of), tt)
   within f (Op.CallTable site d t k s) is = greatest_within (members_of code t) (members_known (members_of code t) (all_index (IsTable (map signature_of code.functions)) code.tables t [] formed.tables is.0).1)
   within f (Op.Spawn site d h s) is = greatest_within (h ∷ []) (omega (arith, is.0, length-map code.functions signature_of), tt)
-  within f (Op.Const d v) is = omega arith
-  within f (Op.Copy d s) is = omega arith
-  within f (Op.Neg d s) is = omega arith
-  within f (Op.Not d s) is = omega arith
-  within f (Op.Flip d s) is = omega arith
-  within f (Op.Bin b d x y) is = omega arith
-  within f (Op.Zero a) is = omega arith
-  within f (Op.LoadGlobal d h) is = omega arith
-  within f (Op.StoreGlobal h s) is = omega arith
-  within f (Op.LoadLocal d a k) is = omega arith
-  within f (Op.LoadArray d a k) is = omega arith
-  within f (Op.StoreLocal a k s) is = omega arith
-  within f (Op.StoreArray a k s) is = omega arith
-  within f (Op.Jump to) is = omega arith
-  within f (Op.JumpZero s to) is = omega arith
-  within f (Op.Model site d n args) is = omega arith
-  within f (Op.Return s) is = omega arith
+  within f _ is = omega arith
 
   callees_within : (f i : ℕ) (op : Op) → f < length code.functions → operation_at code f i ≡ Some op → callee_bound code certificate op ≤ certificate.max_path
   callees_within f i op lt there = within f op (all_at (IsOperation (context_of code (function_at code f))) (function_at code f).ops i op (all_index (IsFunction code) code.functions f _ formed.functions lt).ops there)
@@ -92,13 +59,11 @@ module _ (code : FlatCode) (image : Image) (certificate : Certificate) (formed :
 
   needed : (kind : LinkKind) (bytes : ℕ) → IsNeed kind bytes → need_of kind ≤ bytes
   needed LinkKind.Plain bytes is = omega arith
-  needed (LinkKind.Linked need) bytes is = omega (arith, is)
-  needed (LinkKind.Spawned need) bytes is = omega (arith, is)
+  needed _ bytes is = omega (arith, is)
 
   of_spawned : (kind : LinkKind) (bytes : ℕ) → is_spawned kind ≡ true → IsNeed kind bytes → need_of kind ≡ bytes
-  of_spawned LinkKind.Plain bytes e is = absurd (false≢true e)
-  of_spawned (LinkKind.Linked need) bytes e is = absurd (false≢true e)
   of_spawned (LinkKind.Spawned need) bytes e is = is
+  of_spawned _ bytes e is = absurd (false≢true e)
 
   -- a new thread needs the bound of its function
   spawn_need : (f i site g x : ℕ) (d : Option ℕ) → f < length code.functions → operation_at code f i ≡ Some (Op.Spawn site d g x) → need_of (kind_of certificate (Op.Spawn site d g x)) ≡ (fact_at certificate g).bound

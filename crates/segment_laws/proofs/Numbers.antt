@@ -6,14 +6,11 @@ use Rattle.std.proofs.lemmas.Int.{ints, int_rem_euclid_is}
 use Rattle.cap_word.specs.Word.{word_of, add, sub, flag}
 use Rattle.rv_machine.specs.Effect.{upper}
 use Rattle.stack_certificate.specs.Parts.{upper_part, lower_part}
+use Rattle.segment_laws.proofs.Registers.{word_of-small}
 
 pub word_of-difference : (a b : ℕ) → b ≤ 2 ^ 32 → word_of (pos a -ℤ pos b) ≡ (a + (2 ^ 32 - b)) % 2 ^ 32
 unfolding word_of
 word_of-difference a b below = ap unsigned_abs (int_rem_euclid_is (pos a -ℤ pos b) (pos (2 ^ 32)) (2 ^ 32) 1 (a + (2 ^ 32 - b)) (lit< tt) refl (omega (arith, ints)))
-
-small : (n : ℕ) → n < 2 ^ 32 → word_of (pos n) ≡ n
-unfolding word_of
-small n below = omega arith
 
 -- li r, v leaves v
 pub li_value : (v : ℕ) → v < 2 ^ 32 → add (upper (pos (upper_part v))) (word_of (lower_part v)) ≡ v
@@ -21,15 +18,15 @@ unfolding add
 li_value v below = ⊎_elim
     (λ (low : v % 2 ^ 12 < 2 ^ 11).
     let part : lower_part v ≡ pos (v % 2 ^ 12) = cond-true (nat_lt (v % 2 ^ 12) (2 ^ 11)) (pos (v % 2 ^ 12)) (pos (v % 2 ^ 12) -ℤ pos (2 ^ 12)) (lt-ltb (v % 2 ^ 12) (2 ^ 11) low) in
-    let lower : word_of (lower_part v) ≡ v % 2 ^ 12 = ap word_of part ∙ small (v % 2 ^ 12) (omega arith) in
-    let high : word_of (pos (upper_part v)) ≡ upper_part v = small (upper_part v) (omega arith) in
+    let lower : word_of (lower_part v) ≡ v % 2 ^ 12 = ap word_of part ∙ word_of-small (v % 2 ^ 12) (omega arith) in
+    let high : word_of (pos (upper_part v)) ≡ upper_part v = word_of-small (upper_part v) (omega arith) in
     ap (λ (h : ℕ). (h * 2 ^ 12 % 2 ^ 32 + word_of (lower_part v)) % 2 ^ 32) high
     ∙ ap (λ (k : ℕ). (upper_part v * 2 ^ 12 % 2 ^ 32 + k) % 2 ^ 32) lower
     ∙ (let sum : ((v + 2048) / 4096 % 2 ^ 20 * 2 ^ 12 % 2 ^ 32 + v % 2 ^ 12) % 2 ^ 32 ≡ v = omega arith in sum))
     (λ (past : 2 ^ 11 ≤ v % 2 ^ 12).
     let part : lower_part v ≡ pos (v % 2 ^ 12) -ℤ pos (2 ^ 12) = cond-false (nat_lt (v % 2 ^ 12) (2 ^ 11)) (pos (v % 2 ^ 12)) (pos (v % 2 ^ 12) -ℤ pos (2 ^ 12)) (le-ltb (v % 2 ^ 12) (2 ^ 11) past) in
     let lower : word_of (lower_part v) ≡ (v % 2 ^ 12 + (2 ^ 32 - 2 ^ 12)) % 2 ^ 32 = ap word_of part ∙ word_of-difference (v % 2 ^ 12) (2 ^ 12) (omega arith) in
-    let high : word_of (pos (upper_part v)) ≡ upper_part v = small (upper_part v) (omega arith) in
+    let high : word_of (pos (upper_part v)) ≡ upper_part v = word_of-small (upper_part v) (omega arith) in
     ap (λ (h : ℕ). (h * 2 ^ 12 % 2 ^ 32 + word_of (lower_part v)) % 2 ^ 32) high
     ∙ ap (λ (k : ℕ). (upper_part v * 2 ^ 12 % 2 ^ 32 + k) % 2 ^ 32) lower
     ∙ (let sum : ((v + 2048) / 4096 % 2 ^ 20 * 2 ^ 12 % 2 ^ 32 + (v % 2 ^ 12 + (2 ^ 32 - 2 ^ 12)) % 2 ^ 32) % 2 ^ 32 ≡ v = omega arith in sum))
@@ -69,6 +66,5 @@ at_most-not a b = ⊎_elim
 
 pub int_le-not : (x y : ℤ) → int_le x y ≡ not (int_lt y x)
 int_le-not (pos a) (pos b) = at_most-not a b
-int_le-not (pos a) (negsuc b) = refl
-int_le-not (negsuc a) (pos b) = refl
 int_le-not (negsuc a) (negsuc b) = at_most-not b a
+int_le-not _ _ = refl

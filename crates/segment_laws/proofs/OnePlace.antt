@@ -16,12 +16,10 @@ use Rattle.machine_world.specs.Places.{Checked, Place, InStub, InPrologue, InOpe
 -- ---- words before an operation
 
 -- a longer front has no smaller sum
-sum-front : (f : Op → ℕ) (ops : List Op) (i j : ℕ) → i ≤ j → sum_by f (take i ops) ≤ sum_by f (take j ops)
-sum-front f ops zero j below = omega arith
-sum-front f [] (suc i) zero below = absurd (omega arith)
-sum-front f [] (suc i) (suc j) below = omega arith
-sum-front f (op ∷ ops) (suc i) zero below = absurd (omega arith)
+pub sum-front : (f : Op → ℕ) (ops : List Op) (i j : ℕ) → i ≤ j → sum_by f (take i ops) ≤ sum_by f (take j ops)
+sum-front f _ (suc i) zero below = absurd (omega arith)
 sum-front f (op ∷ ops) (suc i) (suc j) below = omega (arith, sum-front f ops i j (omega arith), sum_by-cons f op (take i ops), sum_by-cons f op (take j ops))
+sum-front f _ _ _ below = omega arith
 
 before-front : (code : FlatCode) (certificate : Certificate) (f i j : ℕ) → i ≤ j → words_before code certificate f i ≤ words_before code certificate f j
 before-front code certificate f i j below = omega (arith, sum-front (λ op. size (function_at code f).sizes (kind_of certificate op) op) (function_at code f).ops i j below)

@@ -2,16 +2,15 @@
 use Rattle.std.proofs.Common.{◌≡◌, ◌≢◌, ℕ, ◌+◌, ◌<◌, ◌≤◌, Bool, true, false, nat_eq, ltb, not, List, [], ◌∷◌, ◌++◌, Some, refl, sym, ap, ◌∙◌, arith, cond, ⊎_elim}
 use Rattle.std.specs.List.{AllByRecursion}
 use Rattle.std.proofs.lemmas.Bool.{cond_both, cases_eq, cond-true, cond-false, eq-eqb, ne_eqb, eqb-true}
-use Rattle.std.proofs.lemmas.List.{get_or-set_other}
 use Rattle.std.proofs.lemmas.List.Sums.{sum_by-cons}
-use Rattle.chunk_pool.specs.Pool.{Pool, Taken, chunk_of, with_word, taken_for, all_free}
+use Rattle.chunk_pool.specs.Pool.{Pool, Taken, chunk_of, taken_for, all_free}
 use Rattle.chunk_pool.proofs.NeedLaws.{taken_for-leaves, taken_for-keeps}
 use Rattle.machine_world.specs.Chains.{held_copies}
 use Rattle.machine_world.specs.Counted.{IsCounted}
 use Rattle.machine_world.specs.Held.{copies_in, copies}
 use Rattle.machine_world.specs.Local.{with_header}
-use Rattle.machine_world.specs.Threads.{Thread, World, first_with, thread_of, replaced, without}
-use Rattle.segment_laws.specs.Silent.{local_in}
+use Rattle.machine_world.specs.Threads.{Thread, World, first_with, thread_of, replaced, without, local_in}
+use Rattle.machine_world.proofs.AloneLaws.{chunk_of-with_header}
 
 -- ---- chunks
 
@@ -73,11 +72,8 @@ segment_keeps w number other t o after counted found too apart kept =
     let most = at_most_one (ltb chunk w.areas.pool.count) in
     kept chunk (omega (arith, held, all, most, some)))
 
-header_other : (p : Pool) (chunk tp_now sp_now other : ℕ) → other ≢ chunk → chunk_of (with_header p chunk tp_now sp_now) other ≡ chunk_of p other
-header_other p chunk tp_now sp_now other apart = get_or-set_other (with_word p chunk 0 tp_now).contents chunk other _ [] apart ∙ get_or-set_other p.contents chunk other _ [] apart
-
 -- a chunk that was taken was free
-taken_free : (p : Pool) (need : ℕ) (taken : Taken) → taken_for p need ≡ Some taken → 0 < copies taken.chunk (all_free p)
+pub taken_free : (p : Pool) (need : ℕ) (taken : Taken) → taken_for p need ≡ Some taken → 0 < copies taken.chunk (all_free p)
 taken_free p need taken e =
     let left = taken_for-leaves p need taken e taken.chunk in
     let first : copies taken.chunk (taken.chunk ∷ all_free taken.pool) ≡ cond (nat_eq taken.chunk taken.chunk) 1 0 + copies taken.chunk (all_free taken.pool) = sum_by-cons (λ (other : ℕ). cond (nat_eq other taken.chunk) 1 0) taken.chunk (all_free taken.pool) in
@@ -88,7 +84,7 @@ pub start_keeps : (w : World) (other need tp_now sp_now : ℕ) (o : Thread) (tak
     AllByRecursion (λ chunk. chunk_of (with_header taken.pool taken.chunk tp_now sp_now) chunk ≡ chunk_of w.areas.pool chunk) o.core.chain
 start_keeps w other need tp_now sp_now o taken counted found e =
     each_chunk (λ chunk. chunk_of (with_header taken.pool taken.chunk tp_now sp_now) chunk ≡ chunk_of w.areas.pool chunk) o.core.chain (λ chunk some.
-    header_other taken.pool taken.chunk tp_now sp_now chunk
+    chunk_of-with_header taken.pool taken.chunk tp_now sp_now chunk
     (λ (same : chunk ≡ taken.chunk). (let held = held_one chunk other w.threads o found in
     let all = counted.partition chunk in
     let most = at_most_one (ltb chunk w.areas.pool.count) in

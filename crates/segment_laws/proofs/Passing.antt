@@ -18,7 +18,7 @@ use Rattle.machine_world.specs.Local as local
 use Rattle.stack_certificate.specs.Registers.{sp, tp}
 use Rattle.machine_world.specs.Local.{Core, Local, with_result, passed}
 use Rattle.machine_world.specs.Places.{Checked, Place, InOperation, IsAt, Row, Whole, row_at, size_in}
-use Rattle.machine_world.specs.Rests.{IsResting, AtStart, AtCall, PastCall, IsAtCall, IsPastCall, AreFlatFrames, AreFlatPast}
+use Rattle.machine_world.specs.Rests.{IsResting, AtCall, PastCall, IsAtCall, IsPastCall, AreFlatFrames, AreFlatPast}
 use Rattle.machine_world.proofs.FormLaws.{IsCore-passed}
 use Rattle.segment_laws.specs.Around.{IsPassed, RestsBehind}
 use Rattle.segment_laws.proofs.FirstWords.{HasOther, has_other, first_other, ask_words}
@@ -41,13 +41,12 @@ call_is_ecall c code pool core f i word op frames facts at =
     ap (instruction_at code) at.frames_are.at.2 ∙ here.fetch word Instr.Ecall words.ecall
 
 pub may_run : (c : Checked) (code : List ℕ) (pool : Pool) (core : Core) → CodeFacts c code → (rests : IsResting c pool core) → (instruction_at code core.pc ≡ Ok Instr.Ecall → ⊥) → MayRun c pool core rests
-may_run c code pool core facts (AtStart f frames has) none = tt
 may_run c code pool core facts (AtCall f i op word frames at) none = absurd (none (call_is_ecall c code pool core f i word op frames facts at))
-may_run c code pool core facts (PastCall f i op word place frames past) none = tt
+may_run c code pool core facts _ none = tt
 
 -- ---- behind it
 
-kept : (x : List ℕ) (result : Option ℕ) (r : ℕ) → (r ≡ 10 → ⊥) → read (with_result x result) r ≡ read x r
+pub kept : (x : List ℕ) (result : Option ℕ) (r : ℕ) → (r ≡ 10 → ⊥) → read (with_result x result) r ≡ read x r
 kept x None r apart = refl
 kept x (Some value) r apart = read-write_other x 10 value r apart
 
@@ -149,7 +148,7 @@ behind_by c code pool core f i word op frame below result None facts follows at 
     (ap (row_at c.certificate 0) follow.1 ∙ row_first (kind_of c.certificate after) after)
     (ap (instruction_at code) at_next ∙ later.fetch 0 first.instr first.is) first.other
 
-no_other : (r : Result Instr FaultKind) (instr : Instr) → r ≡ Ok instr → (instr ≡ Instr.Ecall → ⊥) → r ≡ Ok Instr.Ecall → ⊥
+pub no_other : (r : Result Instr FaultKind) (instr : Instr) → r ≡ Ok instr → (instr ≡ Instr.Ecall → ⊥) → r ≡ Ok Instr.Ecall → ⊥
 no_other r instr is other e = other (let both : Ok instr ≡ Ok Instr.Ecall = sym is ∙ e in cc)
 
 pub passes : (c : Checked) (code : List ℕ) (pool : Pool) (core : Core) (f i word : ℕ) (op : Op) (frames : List Frame) (result : Option ℕ) → CodeFacts c code → FollowsAsks c.flat → IsAtCall c pool core f i op word frames → IsPassed c code pool (passed core result) f i op word

@@ -33,10 +33,9 @@ use Rattle.segment_laws.proofs.OnePlace.{one_place}
 -- ---- the first word of an operation
 
 not_linking : (kind : LinkKind) (n : ℕ) → is_linking kind n 0 ≡ false
-not_linking LinkKind.Plain n = refl
-not_linking (LinkKind.Spawned need) n = refl
 not_linking (LinkKind.Linked need) n =
     (λ i. ne_eqb 0 (n + 8) (λ e. omega arith) i || ne_eqb 0 (n + 9) (λ e. omega arith) i || ne_eqb 0 (n + 10) (λ e. omega arith) i)
+not_linking _ n = refl
 
 abbrev row_or : Bool → Row
 row_or b = cond b Linking Whole
@@ -161,8 +160,7 @@ middle_some op n = omega arith
 
 transfer_some : (kind : LinkKind) → 0 < transfer_size kind
 transfer_some LinkKind.Plain = omega arith
-transfer_some (LinkKind.Linked need) = omega arith
-transfer_some (LinkKind.Spawned need) = omega arith
+transfer_some _ = omega arith
 
 pub size_some : (sizes : List ℕ) (kind : LinkKind) (op : Op) → ((a : ℕ) → op ≡ Op.Zero a → 0 < get_or sizes a 0) → 0 < size sizes kind op
 size_some sizes kind (Op.Zero a) zeroes = zeroes a refl
@@ -244,21 +242,4 @@ past_arrives flat image certificate l f i word v (Op.Spawn site d g x) next plac
     let count : word + 1 ≡ 7 = omega (arith, word_is) in
     started (record { flat = flat; certificate = certificate }) image.code l t site g x v d within.frame within.below facts at
     (subst (λ (w : ℕ). During (record { flat = flat; certificate = certificate }) l t w within.frame within.below) count within.during) value
-past_arrives flat image certificate l f i word v (Op.Call site d g args) next place frames t facts valid form past followed stands globals value = absurd (let e : no_word ≡ Some word = past.ecall in cc)
-past_arrives flat image certificate l f i word v (Op.CallTable site d g x y) next place frames t facts valid form past followed stands globals value = absurd (let e : no_word ≡ Some word = past.ecall in cc)
-past_arrives flat image certificate l f i word v (Op.Return s) next place frames t facts valid form past followed stands globals value = absurd (let e : no_word ≡ Some word = past.ecall in cc)
-past_arrives flat image certificate l f i word v (Op.Const d x) next place frames t facts valid form past followed stands globals value = absurd (let e : no_word ≡ Some word = past.ecall in cc)
-past_arrives flat image certificate l f i word v (Op.Copy d x) next place frames t facts valid form past followed stands globals value = absurd (let e : no_word ≡ Some word = past.ecall in cc)
-past_arrives flat image certificate l f i word v (Op.Neg d x) next place frames t facts valid form past followed stands globals value = absurd (let e : no_word ≡ Some word = past.ecall in cc)
-past_arrives flat image certificate l f i word v (Op.Not d x) next place frames t facts valid form past followed stands globals value = absurd (let e : no_word ≡ Some word = past.ecall in cc)
-past_arrives flat image certificate l f i word v (Op.Flip d x) next place frames t facts valid form past followed stands globals value = absurd (let e : no_word ≡ Some word = past.ecall in cc)
-past_arrives flat image certificate l f i word v (Op.Bin o d x y) next place frames t facts valid form past followed stands globals value = absurd (let e : no_word ≡ Some word = past.ecall in cc)
-past_arrives flat image certificate l f i word v (Op.Zero x) next place frames t facts valid form past followed stands globals value = absurd (let e : no_word ≡ Some word = past.ecall in cc)
-past_arrives flat image certificate l f i word v (Op.LoadGlobal d g) next place frames t facts valid form past followed stands globals value = absurd (let e : no_word ≡ Some word = past.ecall in cc)
-past_arrives flat image certificate l f i word v (Op.StoreGlobal g x) next place frames t facts valid form past followed stands globals value = absurd (let e : no_word ≡ Some word = past.ecall in cc)
-past_arrives flat image certificate l f i word v (Op.LoadLocal d x y) next place frames t facts valid form past followed stands globals value = absurd (let e : no_word ≡ Some word = past.ecall in cc)
-past_arrives flat image certificate l f i word v (Op.LoadArray d x y) next place frames t facts valid form past followed stands globals value = absurd (let e : no_word ≡ Some word = past.ecall in cc)
-past_arrives flat image certificate l f i word v (Op.StoreLocal d x y) next place frames t facts valid form past followed stands globals value = absurd (let e : no_word ≡ Some word = past.ecall in cc)
-past_arrives flat image certificate l f i word v (Op.StoreArray d x y) next place frames t facts valid form past followed stands globals value = absurd (let e : no_word ≡ Some word = past.ecall in cc)
-past_arrives flat image certificate l f i word v (Op.Jump to) next place frames t facts valid form past followed stands globals value = absurd (let e : no_word ≡ Some word = past.ecall in cc)
-past_arrives flat image certificate l f i word v (Op.JumpZero x to) next place frames t facts valid form past followed stands globals value = absurd (let e : no_word ≡ Some word = past.ecall in cc)
+past_arrives flat image certificate l f i word v _ next place frames t facts valid form past followed stands globals value = absurd (let e : no_word ≡ Some word = past.ecall in cc)

@@ -19,8 +19,7 @@ use Rattle.segment_laws.proofs.Facts.{IsOperationAt}
 
 some_words : (kind : LinkKind) → 1 ≤ transfer_size kind
 some_words LinkKind.Plain = omega arith
-some_words (LinkKind.Linked need) = omega arith
-some_words (LinkKind.Spawned need) = omega arith
+some_words _ = omega arith
 
 -- the parameters of a function that is there
 pub parameters_of : (code : FlatCode) (g : ℕ) → g < length (map signature_of code.functions) → (signature_at (map signature_of code.functions) g).params ≡ (function_at code g).params

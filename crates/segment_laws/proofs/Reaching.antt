@@ -24,9 +24,8 @@ none_before code count l middle first none = (count + none.0, none.1, Comes-then
 
 alike_before : (c : Checked) (code : List ℕ) (count m n : ℕ) (l middle : Local) (move : FlatMove) → Comes code count l middle → n ≤ count + m → ReachesAlike c code middle m move → ReachesAlike c code l n move
 alike_before c code count m n l middle (Goes next) first le is = (count + is.0, is.1, omega (arith, is.2), Comes-then code count is.0 l middle is.1 first is.3, is.4)
-alike_before c code count m n l middle (Asks asked waiting) first le is = (count + is.0, is.1, is.2, Comes-then code count is.0 l middle is.1 first is.3, is.4, is.5)
-alike_before c code count m n l middle (Stops (Finished finish)) first le is = (count + is.0, is.1, is.2, Comes-then code count is.0 l middle is.1 first is.3, is.4, is.5)
 alike_before c code count m n l middle (Stops Lost) first le is = absurd is
+alike_before c code count m n l middle _ first le is = (count + is.0, is.1, is.2, Comes-then code count is.0 l middle is.1 first is.3, is.4, is.5)
 
 before : (c : Checked) (code : List ℕ) (count m n : ℕ) (l middle : Local) (move : FlatMove) → Comes code count l middle → n ≤ count + m → FindsNone code middle ⊎ ReachesAlike c code middle m move → FindsNone code l ⊎ ReachesAlike c code l n move
 before c code count m n l middle move first le is = ⊎_elim

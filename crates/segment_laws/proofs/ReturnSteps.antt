@@ -1,5 +1,5 @@
 -- Returns of flat code, and the machine that stands for it.
-use Rattle.std.proofs.Common.{◌≡◌, ℕ, ◌+◌, ◌-◌, ◌<◌, ◌≤◌, Bool, true, false, List, [], ◌∷◌, length, Option, Some, None, refl, sym, ap, subst, ◌∙◌, arith, ⊎_elim}
+use Rattle.std.proofs.Common.{◌≡◌, ℕ, ◌-◌, ◌<◌, Bool, true, false, List, [], ◌∷◌, length, Option, Some, None, refl, sym, ap, subst, ◌∙◌, ⊎_elim}
 use Rattle.cap_word.specs.Calls.{Finish}
 use Rattle.cap_word.specs.Runs.{Goes, Stops}
 use Rattle.flat_code.specs.declared.operations.Op.{Op}
@@ -28,8 +28,6 @@ module _ (c : Checked) (code : List ℕ) (facts : CodeFacts c code) (calls : Cal
   back_by : (l : Local) (t after : FlatThread) (frame : Frame) (below : List Frame) (flats : List FlatFrame) (value : Option ℕ) (word : ℕ) → HasReturned c code l frame below value → AreFlatFrames c l.areas.pool below flats → During c l t 0 frame below →
       ((function_at c.flat frame.function).gives ≡ true → value ≡ Some word) → returns c.flat t flats word ≡ Goes after → Reaches c code l after
   back_by l t after frame [] [] value word has are during gives e = absurd cc
-  back_by l t after frame [] (g ∷ gs) value word has are during gives e = absurd are
-  back_by l t after frame (b ∷ bs) [] value word has are during gives e = absurd are
   back_by l t after frame (b ∷ bs) (g ∷ gs) value word has are during gives e =
       let next : FlatThread = record { frame = answered c.flat g word; below = gs; globals = t.globals } in
       let same : next ≡ after = cc in
@@ -38,6 +36,7 @@ module _ (c : Checked) (code : List ℕ) (facts : CodeFacts c code) (calls : Cal
       by : (first : Bool) → frame.is_first ≡ first → Reaches c code l (record { frame = answered c.flat g word; below = gs; globals = t.globals })
       by true k = returns_far c code l frame b bs g gs t.globals value word facts calls has k are during.globals gives
       by false k = returns_here c code l frame b bs g gs t.globals value word facts calls has k are during.globals gives
+  back_by l t after frame _ _ value word has are during gives e = absurd are
 
   ends_by : (l : Local) (t : FlatThread) (finish : Finish) (frame : Frame) (below : List Frame) (flats : List FlatFrame) (value : Option ℕ) (word : ℕ) → HasReturned c code l frame below value → AreFlatFrames c l.areas.pool below flats → During c l t 0 frame below →
       returns c.flat t flats word ≡ Stops (Finished finish) → EndsAlike c code l t finish
@@ -45,9 +44,8 @@ module _ (c : Checked) (code : List ℕ) (facts : CodeFacts c code) (calls : Cal
       let ends = ends_thread c code l frame value facts has in
       let same : record { trap = None; globals = t.globals } ≡ finish = cc in
       record { count = ends.0; areas = _; comes = ends.1; finish_is = sym same; globals = during.globals }
-  ends_by l t finish frame [] (g ∷ gs) value word has are during e = absurd are
-  ends_by l t finish frame (b ∷ bs) [] value word has are during e = absurd are
   ends_by l t finish frame (b ∷ bs) (g ∷ gs) value word has are during e = absurd cc
+  ends_by l t finish frame _ _ value word has are during e = absurd are
 
   no_result : (l : Local) (t : FlatThread) (frame : Frame) (below : List Frame) (word : ℕ) → IsOperationAt c code t.frame.function t.frame.next (Op.Return None) → During c l t 0 frame below → (function_at c.flat frame.function).gives ≡ true → None ≡ Some word
   no_result l t frame below word there during gives =

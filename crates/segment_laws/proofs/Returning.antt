@@ -144,24 +144,7 @@ pub gives_result : (c : Checked) (code : List ℕ) (f i g d : ℕ) (op : Op) →
 gives_result c code f i g d (Op.Call site to h args) calls there called e =
     ap (λ (k : ℕ). (function_at c.flat k).gives) (sym called) ∙ sym (gives_of c.flat h there.formed.0) ∙ wanted c f _ to d there.formed.3 e
 gives_result c code f i g d (Op.CallTable site to t k x) calls there called e = calls.members_give t g called
-gives_result c code f i g d (Op.Const x v) calls there called e = absurd called
-gives_result c code f i g d (Op.Copy x s) calls there called e = absurd called
-gives_result c code f i g d (Op.Neg x s) calls there called e = absurd called
-gives_result c code f i g d (Op.Not x s) calls there called e = absurd called
-gives_result c code f i g d (Op.Flip x s) calls there called e = absurd called
-gives_result c code f i g d (Op.Bin b x y z) calls there called e = absurd called
-gives_result c code f i g d (Op.Zero a) calls there called e = absurd called
-gives_result c code f i g d (Op.LoadGlobal x h) calls there called e = absurd called
-gives_result c code f i g d (Op.StoreGlobal h s) calls there called e = absurd called
-gives_result c code f i g d (Op.LoadLocal x a k) calls there called e = absurd called
-gives_result c code f i g d (Op.LoadArray x a k) calls there called e = absurd called
-gives_result c code f i g d (Op.StoreLocal a k s) calls there called e = absurd called
-gives_result c code f i g d (Op.StoreArray a k s) calls there called e = absurd called
-gives_result c code f i g d (Op.Jump to) calls there called e = absurd called
-gives_result c code f i g d (Op.JumpZero s to) calls there called e = absurd called
-gives_result c code f i g d (Op.Model site to n args) calls there called e = absurd called
-gives_result c code f i g d (Op.Spawn site to h s) calls there called e = absurd called
-gives_result c code f i g d (Op.Return s) calls there called e = absurd called
+gives_result c code f i g d _ calls there called e = absurd called
 
 -- behind the call, at the word of its result
 pub record AtResult (c : Checked) (code : List ℕ) (l : Local) (t : FlatThread) (w : ℕ) (frame : Frame) (below : List Frame) : Type 0 where

@@ -84,9 +84,8 @@ module _ (c : Checked) (pool after : Pool) (shape : shape_of after ≡ shape_of 
 
   all_waiting : (program : ProgramTree) (frames : List Frame) (waitings : List WaitingFrame) → AllKept frames → AreWaitingFrames c program pool frames waitings → AreWaitingFrames c program after frames waitings
   all_waiting program [] [] kept h = tt
-  all_waiting program [] (waiting ∷ waitings) kept h = absurd h
-  all_waiting program (frame ∷ frames) [] kept h = absurd h
   all_waiting program (frame ∷ frames) (waiting ∷ waitings) kept h = (waiting_stays program frame (standing c frame) waiting kept.0 h.0, all_waiting program frames waitings kept.1 h.1)
+  all_waiting program _ _ kept h = absurd h
 
   start_stays : (program : ProgramTree) (core : Core) (frames : List Frame) (starting : source.Frame) (waitings : List WaitingFrame) → AllKept frames → StandAtStart c program pool core frames starting waitings → StandAtStart c program after core frames starting waitings
   start_stays program core [] starting waitings kept h = h
@@ -103,21 +102,18 @@ module _ (c : Checked) (pool after : Pool) (shape : shape_of after ≡ shape_of 
 
   flats_stay : (frames : List Frame) (flats : List FlatFrame) → AllKept frames → AreFlatFrames c pool frames flats → AreFlatFrames c after frames flats
   flats_stay [] [] kept h = tt
-  flats_stay [] (flat ∷ flats) kept h = absurd h
-  flats_stay (frame ∷ frames) [] kept h = absurd h
   flats_stay (frame ∷ frames) (flat ∷ flats) kept h =
       (record { function = h.0.function; operation = h.0.operation; shape = h.0.shape; variables = variables_stay frame flat kept.0 h.0.variables }, flats_stay frames flats kept.1 h.1)
+  flats_stay _ _ kept h = absurd h
 
   flats_start : (core : Core) (frames : List Frame) (flats : List FlatFrame) → AllKept frames → AreFlatAtStart c pool core frames flats → AreFlatAtStart c after core frames flats
-  flats_start core [] flats kept h = absurd h
-  flats_start core (frame ∷ frames) [] kept h = absurd h
   flats_start core (frame ∷ frames) (flat ∷ flats) kept h = (h.0, flats_stay frames flats kept.1 h.1)
+  flats_start core _ _ kept h = absurd h
 
   flats_past : (i : ℕ) (frames : List Frame) (flats : List FlatFrame) → AllKept frames → AreFlatPast c pool i frames flats → AreFlatPast c after i frames flats
-  flats_past i [] flats kept h = absurd h
-  flats_past i (frame ∷ frames) [] kept h = absurd h
   flats_past i (frame ∷ frames) (flat ∷ flats) kept h =
       (record { function = h.0.function; operation = h.0.operation; shape = h.0.shape; variables = variables_stay frame flat kept.0 h.0.variables }, flats_stay frames flats kept.1 h.1)
+  flats_past i _ _ kept h = absurd h
 
 -- ---- a thread
 
@@ -175,6 +171,5 @@ rests_law c pool after core (AtCall f i op word frames in_place) kept =
 rests_law c pool after core (PastCall f i op word place frames in_place) kept = past_rests c pool after core core f i op word place frames in_place kept (keeps_self core)
 
 pub answered_law : (c : Checked) (pool after : Pool) (core core_now : Core) (rests : IsResting c pool core) → KeepsChunks pool after core.chain → KeepsStack core core_now → IsPast c pool core rests → RestsOn c pool core rests after core_now
-answered_law c pool after core core_now (AtStart f frames in_place) kept same past = absurd past
-answered_law c pool after core core_now (AtCall f i op word frames in_place) kept same past = absurd past
 answered_law c pool after core core_now (PastCall f i op word place frames in_place) kept same past = past_rests c pool after core core_now f i op word place frames in_place kept same
+answered_law c pool after core core_now _ kept same past = absurd past

@@ -9,9 +9,10 @@ use Rattle.machine_world.specs.Local.{Local, LocalMove, local_step}
 use Rattle.machine_world.specs.Numbered.{RiseBetween}
 use Rattle.machine_world.specs.Places.{Checked}
 use Rattle.machine_world.specs.Runs.{world_of, and_then, after_steps}
-use Rattle.machine_world.specs.Threads.{Thread, World, Setting, first_with, thread_of, replaced, Move, Goes, Stops, retired, moved, step_of, step_on, step}
+use Rattle.machine_world.specs.Threads.{Thread, World, Setting, first_with, thread_of, replaced, Move, Goes, Stops, retired, moved, step_of, step_on, step, local_in}
 use Rattle.segment_laws.specs.Ways.{WayIn, Leads}
-use Rattle.segment_laws.specs.Silent.{GoesOn, local_in, after_silent}
+use Rattle.segment_laws.specs.Silent.{GoesOn, after_silent}
+use Rattle.machine_world.proofs.WorldLaws.{replaced_none}
 
 -- ---- threads by number
 
@@ -109,14 +110,6 @@ goes_way c s (suc n) w thread at same running found fits way =
 
 -- ---- numbers that rise are different
 
--- no thread has a number below them
-above : (thread : Thread) (from next : ℕ) (threads : List Thread) → RiseBetween from next threads → thread.number < from → replaced thread threads ≡ threads
-above thread from next [] rise less = refl
-above thread from next (t ∷ threads) rise less =
-    let no : nat_eq t.number thread.number ≡ false = ne_eqb t.number thread.number (λ e. omega (arith, rise.0, less, e)) in
-    let rest = above thread (t.number + 1) next threads rise.1 (omega (arith, rise.0, less)) in
-    (λ i. chosen thread t (no i) ∷ rest i)
-
 -- a thread that stands in the place of its number
 itself : (thread : Thread) (from next : ℕ) (threads : List Thread) → RiseBetween from next threads → first_with thread.number threads ≡ Some thread → replaced thread threads ≡ threads
 itself thread from next [] rise found = refl
@@ -125,7 +118,7 @@ itself thread from next (t ∷ threads) rise found = ⊎_elim
     let yes : nat_eq t.number thread.number ≡ true = eq-eqb t.number thread.number same in
     let both : Some t ≡ Some thread = sym (ap (λ (b : Bool). cond b (Some t) (first_with thread.number threads)) yes) ∙ found in
     let is : t ≡ thread = cc in
-    let rest = above thread (t.number + 1) next threads rise.1 (omega (arith, same)) in
+    let rest = replaced_none thread (t.number + 1) next threads rise.1 (omega (arith, same)) in
     let first : chosen thread t (nat_eq t.number thread.number) ≡ t = ap (chosen thread t) yes ∙ sym is in
     (λ i. first i ∷ rest i))
     (λ (apart : t.number ≡ thread.number → ⊥).

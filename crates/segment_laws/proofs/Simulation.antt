@@ -90,9 +90,8 @@ IsWordPlace-scalar c code f x fact one =
 
 -- the word of a scalar that is set
 pub scalar_word : (o : Option (List ℕ)) (v : ℕ) → first o ≡ Some v → (ws : List ℕ) × (o ≡ Some (v ∷ ws))
-scalar_word None v e = absurd (cc)
-scalar_word (Some []) v e = absurd (cc)
 scalar_word (Some (w ∷ ws)) v e = (ws, (let same : w ≡ v = cc in ap (λ (k : ℕ). Some (k ∷ ws)) same))
+scalar_word _ v e = absurd (cc)
 
 variable_word-first : (c : Checked) (pool : Pool) (frame : Frame) (x : ℕ) → variable_word c pool frame x 0 ≡ word_in pool frame.chunk (frame.low + get_or (fact_at c.certificate frame.function).places x 0)
 variable_word-first c pool frame x =

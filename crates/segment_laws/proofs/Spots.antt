@@ -17,10 +17,10 @@ pub record Fit (areas : Areas) : Type 0 where
 
 -- ---- spots
 
-outside : (place : ℕ) (words : List ℕ) (address : ℕ) → place + 4 * length words ≤ address → is_within place words address ≡ false
+pub outside : (place : ℕ) (words : List ℕ) (address : ℕ) → place + 4 * length words ≤ address → is_within place words address ≡ false
 outside place words address past = and_right (nat_le place address) (nat_lt address (place + 4 * length words)) (le-ltb address (place + 4 * length words) past)
 
-inside : (place : ℕ) (words : List ℕ) (address : ℕ) → place ≤ address → address < place + 4 * length words → is_within place words address ≡ true
+pub inside : (place : ℕ) (words : List ℕ) (address : ℕ) → place ≤ address → address < place + 4 * length words → is_within place words address ≡ true
 inside place words address low high = and_from (nat_le place address) (nat_lt address (place + 4 * length words)) (le-leb place address low) (lt-ltb address (place + 4 * length words) high)
 
 -- a byte of a payload

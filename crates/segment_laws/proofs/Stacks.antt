@@ -41,7 +41,7 @@ ChunksIn-more : (chunk : ℕ) (chain : List ℕ) (frames : List Frame) → Chunk
 ChunksIn-more chunk chain [] is = is
 ChunksIn-more chunk chain (b ∷ bs) is = (omega (arith, is.0, copies-cons b.chunk chunk chain), ChunksIn-more chunk chain bs is.1)
 
-copies-front : (chunk : ℕ) (chain : List ℕ) → copies chunk (chunk ∷ chain) ≡ 1 + copies chunk chain
+pub copies-front : (chunk : ℕ) (chain : List ℕ) → copies chunk (chunk ∷ chain) ≡ 1 + copies chunk chain
 copies-front chunk chain = copies-cons chunk chunk chain ∙ ap (λ (b : Bool). cond b 1 0 + copies chunk chain) (eq-eqb chunk chunk refl)
 
 front_of : (chain : List ℕ) (chunk : ℕ) → slice_get chain 0 ≡ Some chunk → IsFront chain chunk
@@ -170,8 +170,6 @@ HoldsVariables-below c p b flat chunk k value top ends away holds x words set j 
 
 pub AreFlatFrames-with_word : (c : Checked) (p : Pool) (frames : List Frame) (flats : List FlatFrame) (chunk k value top : ℕ) → EndsBy p chunk k top → AreAway chunk top frames → AreFlatFrames c p frames flats → AreFlatFrames c (with_word p chunk k value) frames flats
 AreFlatFrames-with_word c p [] [] chunk k value top ends away are = are
-AreFlatFrames-with_word c p [] (flat ∷ flats) chunk k value top ends away are = absurd are
-AreFlatFrames-with_word c p (b ∷ bs) [] chunk k value top ends away are = absurd are
 AreFlatFrames-with_word c p (b ∷ bs) (flat ∷ flats) chunk k value top ends away are = (
   record {
     function = are.0.function;
@@ -181,6 +179,7 @@ AreFlatFrames-with_word c p (b ∷ bs) (flat ∷ flats) chunk k value top ends a
   },
   AreFlatFrames-with_word c p bs flats chunk k value top ends away.1 are.1,
 )
+AreFlatFrames-with_word c p _ _ chunk k value top ends away are = absurd are
 
 low_below-operation : (p : Pool) (first : Bool) (frame : Frame) (i : ℕ) → low_below p first frame ≡ low_below p first (record frame { operation = i })
 low_below-operation p true frame i = refl

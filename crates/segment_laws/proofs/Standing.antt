@@ -25,11 +25,10 @@ use Rattle.segment_laws.proofs.Words.{word_number, stored-payload, writable-payl
 
 -- the bytes of the running frame and what it returns to, by the row
 abbrev pub RowHolds : Checked → Local → ℕ → Row → Frame → Type 0
-RowHolds c l f NoFrame frame = ⊥
 RowHolds c l f Empty frame = (frame.bytes ≡ 0) × (frame.returns ≡ read l.core.x ra)
 RowHolds c l f Fresh frame = (frame.bytes ≡ frame_bytes c f) × (frame.returns ≡ read l.core.x ra)
-RowHolds c l f Linking frame = ⊥
 RowHolds c l f Whole frame = (frame.bytes ≡ frame_bytes c f) × (frame.returns ≡ return_word c l.areas.pool f frame.chunk frame.low)
+RowHolds c l f _ frame = ⊥
 
 pub record Standing (c : Checked) (l : Local) (place : Place) (row : Row) (frame : Frame) (below : List Frame) : Type 0 where
   pub form : HasForm c l
@@ -46,14 +45,6 @@ pub record Standing (c : Checked) (l : Local) (place : Place) (row : Row) (frame
 
 frames_at : (c : Checked) (l : Local) (place : Place) (row : Row) (frame : Frame) (below : List Frame) (rest : List ℕ) → Standing c l place row frame below → l.core.chain ≡ frame.chunk ∷ rest → FramesAt c l.areas.pool l.core place row (frame.chunk ∷ rest) (frame ∷ below)
 frames_at c l place NoFrame frame below rest is chain = absurd is.holds
-frames_at c l place Empty frame below rest is chain = (
-  record { function = is.function; operation = is.operation; chunk_is = refl; low_is = sym is.sp_is; bytes_are = is.holds.0; returns_are = is.holds.1 },
-  subst (λ (ch : List ℕ). IsStack c l.areas.pool ch frame below) chain is.stack,
-)
-frames_at c l place Fresh frame below rest is chain = (
-  record { function = is.function; operation = is.operation; chunk_is = refl; low_is = sym is.sp_is; bytes_are = is.holds.0; returns_are = is.holds.1 },
-  subst (λ (ch : List ℕ). IsStack c l.areas.pool ch frame below) chain is.stack,
-)
 frames_at c l place Linking frame below rest is chain = absurd is.holds
 frames_at c l place Whole frame below rest is chain = (
   record {
@@ -64,6 +55,10 @@ frames_at c l place Whole frame below rest is chain = (
     bytes_are = is.holds.0;
     returns_are = is.holds.1 ∙ ap (return_word c l.areas.pool (function_of place) frame.chunk) (sym is.sp_is);
   },
+  subst (λ (ch : List ℕ). IsStack c l.areas.pool ch frame below) chain is.stack,
+)
+frames_at c l place _ frame below rest is chain = (
+  record { function = is.function; operation = is.operation; chunk_is = refl; low_is = sym is.sp_is; bytes_are = is.holds.0; returns_are = is.holds.1 },
   subst (λ (ch : List ℕ). IsStack c l.areas.pool ch frame below) chain is.stack,
 )
 

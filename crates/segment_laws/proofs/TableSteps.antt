@@ -2,7 +2,6 @@
 use Rattle.std.proofs.Common.{◌≡◌, ℕ, zero, suc, ◌+◌, ◌*◌, ◌^◌, ◌<◌, ◌≤◌, Bool, List, [], ◌∷◌, length, get_or, pos, Option, Some, refl, sym, ap, ◌∙◌, arith, ⊎_elim}
 use Rattle.std.proofs.lemmas.Bool.{cases_lt, lt-ltb, le-ltb}
 use Rattle.cap_word.specs.Word as word
-use Rattle.cap_word.specs.Word.{word_of}
 use Rattle.cap_word.specs.Calls.{Finish}
 use Rattle.cap_word.specs.Runs.{Goes, Stops}
 use Rattle.cap_word.specs.declared.traps.TrapKind.{TrapKind}
@@ -18,7 +17,7 @@ use Rattle.machine_world.specs.Local.{Local}
 use Rattle.machine_world.specs.Places.{Checked}
 use Rattle.segment_laws.proofs.Calling.{row_before}
 use Rattle.segment_laws.proofs.Facts.{CodeFacts, IsOperationAt}
-use Rattle.segment_laws.proofs.FlatSteps.{function_there, was_there}
+use Rattle.segment_laws.proofs.FlatSteps.{function_there, was_there, goes_same}
 use Rattle.segment_laws.proofs.Guards.{IsGuarded, guard_passes, guard_traps}
 use Rattle.segment_laws.proofs.Immediate.{fetch_at, is_t1, is_a0, load_immediate}
 use Rattle.segment_laws.proofs.Inside.{IsWholeWord}
@@ -106,7 +105,7 @@ first_argument xs v e (suc j) lt = absurd (omega arith)
 
 -- ---- a step of the flat thread
 
-goes_never : (t : FlatThread) (finish : Finish) → (let m : FlatMove = Goes t in m) ≡ Stops (Finished finish) → ⊥
+pub goes_never : (t : FlatThread) (finish : Finish) → (let m : FlatMove = Goes t in m) ≡ Stops (Finished finish) → ⊥
 goes_never t finish e = cc
 
 pub lost_never : (finish : Finish) → (let m : FlatMove = Stops Lost in m) ≡ Stops (Finished finish) → ⊥
@@ -114,9 +113,6 @@ lost_never finish e = cc
 
 pub not_lost_goes : (t : FlatThread) → (let m : FlatMove = Stops Lost in m) ≡ Goes t → ⊥
 not_lost_goes t e = cc
-
-goes_same : (t t' : FlatThread) → (let m : FlatMove = Goes t in m) ≡ Goes t' → t ≡ t'
-goes_same t t' e = cc
 
 -- the index was in range
 pub was_member : (c : Checked) (t after : FlatThread) (table k v : ℕ) → enters_by (members_of c.flat table) c.flat t k v ≡ Goes after → (k < length (members_of c.flat table)) × (entered c t (get_or (members_of c.flat table) k 0) v ≡ after)

@@ -8,9 +8,9 @@ use Rattle.cap_word.specs.Runs.{Goes, Stops}
 use Rattle.cap_word.specs.Word as word
 use Rattle.cap_word.specs.declared.traps.TrapKind.{TrapKind}
 use Rattle.flat_code.specs.declared.operations.Op.{Op}
-use Rattle.flat_code.specs.Frames.{FlatThread, Finished, Lost, standing, variable, passed, set_to}
+use Rattle.flat_code.specs.Frames.{FlatThread, Finished, standing, variable, passed, set_to}
 use Rattle.flat_code.specs.Operators.{result_of}
-use Rattle.flat_code.specs.Step.{FlatMove, on, scalar, puts, where_in, within, trapped, jumps, does, flat_step}
+use Rattle.flat_code.specs.Step.{on, scalar, puts, where_in, within, trapped, jumps, does, flat_step}
 use Rattle.machine_world.specs.Local.{Local}
 use Rattle.machine_world.specs.Places.{Checked}
 use Rattle.segment_laws.proofs.Facts.{CodeFacts, IsOperationAt}
@@ -18,13 +18,8 @@ use Rattle.segment_laws.proofs.FlatSteps.{was_there, IsStraight, function_there}
 use Rattle.segment_laws.proofs.GlobalOps.{load_array_traps, store_array_traps}
 use Rattle.segment_laws.proofs.LocalArrays.{load_local_traps, store_local_traps}
 use Rattle.segment_laws.proofs.Simulation.{Simulates}
+use Rattle.segment_laws.proofs.TableSteps.{lost_never, goes_never}
 pub use Rattle.segment_laws.specs.Straight.{TrapsAlike}
-
-goes_never : (t : FlatThread) (finish : Finish) → (let m : FlatMove = Goes t in m) ≡ Stops (Finished finish) → ⊥
-goes_never t finish e = cc
-
-lost_never : (finish : Finish) → (let m : FlatMove = Stops Lost in m) ≡ Stops (Finished finish) → ⊥
-lost_never finish e = cc
 
 -- the index was out of range
 was_out : (t : FlatThread) (i size : ℕ) (after : FlatThread) (finish : Finish) → within t i size (Goes after) ≡ Stops (Finished finish) → (size ≤ i) × (finish ≡ record { trap = Some TrapKind.Index; globals = t.globals })
@@ -78,11 +73,7 @@ traps_from c code l t finish (Op.StoreArray g x y) facts there simulates straigh
 traps_from c code l t finish (Op.Jump to) facts there simulates straight e = absurd (goes_never _ finish e)
 traps_from c code l t finish (Op.JumpZero x to) facts there simulates straight e =
     let was = was_there (scalar t x) (jumps t to) (Stops (Finished finish)) e (lost_never finish) in absurd (jumps_never t to was.value finish was.move)
-traps_from c code l t finish (Op.Call site d f args) facts there simulates straight e = absurd straight
-traps_from c code l t finish (Op.CallTable site d g i s) facts there simulates straight e = absurd straight
-traps_from c code l t finish (Op.Model site d n args) facts there simulates straight e = absurd straight
-traps_from c code l t finish (Op.Spawn site d f s) facts there simulates straight e = absurd straight
-traps_from c code l t finish (Op.Return s) facts there simulates straight e = absurd straight
+traps_from c code l t finish _ facts there simulates straight e = absurd straight
 
 pub step_traps : (c : Checked) (code : List ℕ) (l : Local) (t : FlatThread) (finish : Finish) (op : Op) → CodeFacts c code → Simulates c l t → standing c.flat t.frame ≡ Some op → IsStraight op → flat_step c.flat t ≡ Stops (Finished finish) → TrapsAlike c code l t finish
 step_traps c code l t finish op facts simulates is straight e =

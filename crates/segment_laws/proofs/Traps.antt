@@ -1,8 +1,8 @@
 -- Traps: the machine comes to the ECALL of the trap with the globals as they were.
-use Rattle.std.proofs.Common.{◌≡◌, ℕ, ◌+◌, ◌*◌, ◌<◌, ◌≤◌, List, [], length, get_or, set, map, pos, false, Option, Some, None, refl, sym, ap, subst, ◌∙◌, arith}
+use Rattle.std.proofs.Common.{◌≡◌, ℕ, ◌+◌, ◌<◌, ◌≤◌, List, [], length, get_or, set, pos, false, Option, Some, refl, ap, ◌∙◌, arith}
 use Rattle.std.specs.Prelude.{nat_lt}
 use Rattle.std.proofs.lemmas.Bool.{le-ltb}
-use Rattle.std.proofs.lemmas.List.{length-map, get_or-map}
+use Rattle.std.proofs.lemmas.List.{length-map}
 use Rattle.std.proofs.lemmas.List.Sums.{get_or-le-sum_by}
 use Rattle.cap_word.specs.Calls.{Finish}
 use Rattle.cap_word.specs.Rows.{width, word_at, with_word}
@@ -10,24 +10,20 @@ use Rattle.cap_word.specs.Runs.{Goes, Stops}
 use Rattle.cap_word.specs.Word as word
 use Rattle.cap_word.specs.declared.traps.TrapKind.{TrapKind}
 use Rattle.rv_code.specs.declared.instructions.Instr.{Instr}
-use Rattle.rv_machine.specs.Access.{accessed}
-use Rattle.rv_machine.specs.Effect.{effect}
 use Rattle.rv_machine.specs.Registers.{read}
-use Rattle.rv_machine.specs.Rows as rows
-use Rattle.rv_machine.specs.Rows.{branches}
 use Rattle.flat_code.specs.declared.operations.Op.{Op}
 use Rattle.flat_code.specs.declared.programs.FlatGlobal.{FlatGlobal}
-use Rattle.flat_code.specs.Codes.{FlatCode, function_at, members_of}
+use Rattle.flat_code.specs.Codes.{function_at, members_of}
 use Rattle.flat_code.specs.Frames.{FlatThread, Finished, variable, passed, set_to}
 use Rattle.flat_code.specs.Step.{on, scalar, puts, within, enters_by, does}
 use Rattle.stack_certificate.specs.Certificates.{global_words, member_count}
 use Rattle.machine_world.specs.Globals.{AreGlobals, global_widths}
 use Rattle.machine_world.specs.InPlace.{Frame}
-use Rattle.machine_world.specs.Local.{Local, Trapped, machine_of, local_move, local_step, trapped}
+use Rattle.machine_world.specs.Local.{Local, Trapped, machine_of, local_step, trapped}
 use Rattle.machine_world.specs.Places.{Checked}
 use Rattle.segment_laws.proofs.Facts.{CodeFacts, IsOperationAt}
 use Rattle.segment_laws.proofs.FlatSteps.{was_there}
-use Rattle.segment_laws.proofs.Guards.{IsGuarded, ecall_is}
+use Rattle.segment_laws.proofs.Guards.{IsGuarded, ecall_is, does_bltu, none_bltu}
 use Rattle.segment_laws.proofs.Immediate.{fetch_at, is_t0, is_t1, is_a0, is_a7, add_immediate, load_immediate}
 use Rattle.segment_laws.proofs.Inside.{pc_next}
 use Rattle.segment_laws.proofs.Jumping.{moves_within, move-passed}
@@ -38,6 +34,8 @@ use Rattle.segment_laws.proofs.Ways.{IsGoodState, Leads, Leads-then}
 use Rattle.segment_laws.proofs.FlatMoves.{past_of}
 use Rattle.segment_laws.proofs.Entries.{count_is}
 use Rattle.segment_laws.proofs.TableSteps.{guarded, lost_never}
+use Rattle.segment_laws.proofs.GlobalOps.{widths_are, global_there}
+use Rattle.segment_laws.proofs.LocalArrays.{few_words}
 
 -- at the ECALL of a trap
 pub record AtTrap (c : Checked) (code : List ℕ) (l : Local) (t : FlatThread) (kind : TrapKind) : Type 0 where
@@ -46,14 +44,6 @@ pub record AtTrap (c : Checked) (code : List ℕ) (l : Local) (t : FlatThread) (
   pub good : IsGoodState c code at
   pub step : local_step code at ≡ Stops (Trapped kind)
   pub globals : AreGlobals c.flat t.globals at.areas.globals
-
-does_bltu : (l : Local) (n : ℕ) → local_move l (effect (Instr.Bltu 5 6 (pos n)) (machine_of l)) ≡ local_move l (branches (machine_of l) (pos n) (nat_lt (read l.core.x 5) (read l.core.x 6)))
-unfolding effect
-does_bltu l n = refl
-
-none_bltu : (m : rows.Machine) (n : ℕ) → accessed (Instr.Bltu 5 6 (pos n)) m ≡ None
-unfolding accessed
-none_bltu m n = refl
 
 -- the number of a kind
 abbrev pub IsKind : ℕ → TrapKind → Type 0
@@ -96,13 +86,6 @@ pub record TrapsWith (c : Checked) (code : List ℕ) (l : Local) (t : FlatThread
   pub finish_is : finish ≡ record { trap = Some kind; globals = t.globals }
   pub at : AtTrap c code l t kind
 
-few_words : (c : Checked) (code : List ℕ) (f a : ℕ) → CodeFacts c code → f < length c.flat.functions → a < length (function_at c.flat f).sizes → 4 * get_or (function_at c.flat f).sizes a 0 ≤ 2032
-few_words c code f a facts there below =
-    let fact = facts.frame f there in
-    let inside = fact.place_inside a below in
-    let most = fact.most in
-    omega (arith, inside, most)
-
 pub load_local_trap : (c : Checked) (code : List ℕ) (l : Local) (t : FlatThread) (d a x : ℕ) (finish : Finish) → CodeFacts c code → IsOperationAt c code t.frame.function t.frame.next (Op.LoadLocal d a x) → Simulates c l t → does c.flat t (Op.LoadLocal d a x) ≡ Stops (Finished finish) → TrapsWith c code l t finish
 load_local_trap c code l t d a x finish facts there simulates e =
     let op = Op.LoadLocal d a x in
@@ -139,14 +122,6 @@ store_local_trap c code l t a x y finish facts there simulates e =
     }
 
 -- ---- globals
-
-global_there : (code : FlatCode) (g : ℕ) → g < length (map (λ (x : FlatGlobal). x.words) code.globals) → g < length code.globals
-global_there code g below = subst (λ (n : ℕ). g < n) (length-map code.globals (λ (x : FlatGlobal). x.words)) below
-
-widths_are : (code : FlatCode) (rows : List (List ℕ)) (words : List ℕ) (g : ℕ) → AreGlobals code rows words → g < length code.globals → width rows g ≡ global_words code g
-widths_are code rows words g are there =
-    let lengths : length rows ≡ length code.globals = sym (length-map rows length) ∙ ap length are.widths ∙ length-map code.globals (λ (x : FlatGlobal). x.words) in
-    sym (get_or-map length rows g [] 0 (omega (arith, lengths, there))) ∙ ap (λ (ns : List ℕ). get_or ns g 0) are.widths
 
 few_global : (c : Checked) (code : List ℕ) (g : ℕ) → CodeFacts c code → g < length c.flat.globals → global_words c.flat g ≤ 65536
 few_global c code g facts there =

@@ -42,24 +42,7 @@ record IsCallAt (code : FlatCode) (certificate : Certificate) (op : Op) (g : ℕ
 call_at : (code : FlatCode) (certificate : Certificate) (op : Op) (g : ℕ) → Calls code op g → IsCallAt code certificate op g
 call_at code certificate (Op.Call site d h args) g calls = record { site = site; site_is = refl; plain_start = refl; bound = in_greatest certificate (h ∷ []) 0 g (omega arith) calls }
 call_at code certificate (Op.CallTable site d t i s) g calls = record { site = site; site_is = refl; plain_start = refl; bound = in_greatest certificate (members_of code t) calls.0 g calls.1 calls.2 }
-call_at code certificate (Op.Const x v) g calls = absurd calls
-call_at code certificate (Op.Copy x s) g calls = absurd calls
-call_at code certificate (Op.Neg x s) g calls = absurd calls
-call_at code certificate (Op.Not x s) g calls = absurd calls
-call_at code certificate (Op.Flip x s) g calls = absurd calls
-call_at code certificate (Op.Bin b x y z) g calls = absurd calls
-call_at code certificate (Op.Zero a) g calls = absurd calls
-call_at code certificate (Op.LoadGlobal x h) g calls = absurd calls
-call_at code certificate (Op.StoreGlobal h s) g calls = absurd calls
-call_at code certificate (Op.LoadLocal x a k) g calls = absurd calls
-call_at code certificate (Op.LoadArray x a k) g calls = absurd calls
-call_at code certificate (Op.StoreLocal a k s) g calls = absurd calls
-call_at code certificate (Op.StoreArray a k s) g calls = absurd calls
-call_at code certificate (Op.Jump to) g calls = absurd calls
-call_at code certificate (Op.JumpZero s to) g calls = absurd calls
-call_at code certificate (Op.Model site to n args) g calls = absurd calls
-call_at code certificate (Op.Spawn site to h s) g calls = absurd calls
-call_at code certificate (Op.Return s) g calls = absurd calls
+call_at code certificate _ g calls = absurd calls
 
 module _ (code : FlatCode) (image : Image) (certificate : Certificate) (formed : IsWellFormed code) (valid : IsValid code image certificate) where
   entry_facts : (f : ℕ) → f < length code.functions → EntryFacts (record { flat = code; certificate = certificate }) f

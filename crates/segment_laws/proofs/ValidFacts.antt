@@ -20,13 +20,13 @@ use Rattle.segment_laws.proofs.FramePlaces.{FrameFacts-valid}
 use Rattle.segment_laws.proofs.StandingCode.{fetched_there, all_at, all_index}
 use Rattle.segment_laws.specs.Facts.{IsOperationAt, CodeFacts}
 
-within : {X : Type 0} (xs : List X) (i : ℕ) (x : X) → slice_get xs i ≡ Some x → i < length xs
+pub within : {X : Type 0} (xs : List X) (i : ℕ) (x : X) → slice_get xs i ≡ Some x → i < length xs
 within [] i x e = absurd (cc)
 within (y ∷ ys) zero x e = omega arith
 within (y ∷ ys) (suc i) x e = (let rest = within ys i x e in omega (arith, rest))
 
 -- the words before the next operation are those before this one and its own
-before_next : (code : FlatCode) (certificate : Certificate) (f i : ℕ) (op : Op) → operation_at code f i ≡ Some op → words_before code certificate f i + size (function_at code f).sizes (kind_of certificate op) op ≡ words_before code certificate f (i + 1)
+pub before_next : (code : FlatCode) (certificate : Certificate) (f i : ℕ) (op : Op) → operation_at code f i ≡ Some op → words_before code certificate f i + size (function_at code f).sizes (kind_of certificate op) op ≡ words_before code certificate f (i + 1)
 before_next code certificate f i op there =
     ap (λ (o : Option Op). words_before code certificate f i + size_at (function_at code f).sizes (kind_of certificate op) o) (sym there) ∙ words_step code certificate f i op (sym there)
 

@@ -138,9 +138,8 @@ length-blank : (n : ℕ) → length (blank n) ≡ n
 length-blank n = length-replicate n 0
 
 get_or-blank : (n k : ℕ) → get_or (blank n) k 0 ≡ 0
-get_or-blank zero k = refl
-get_or-blank (suc n) zero = refl
 get_or-blank (suc n) (suc k) = get_or-blank n k
+get_or-blank _ _ = refl
 
 pub zero_reaches : (c : Checked) (code : List ℕ) (l : Local) (t : FlatThread) (x : ℕ) → CodeFacts c code → IsOperationAt c code t.frame.function t.frame.next (Op.Zero x) → Simulates c l t →
     Reaches c code l (record t { frame = passed (set_to t.frame x (blank (get_or (function_at c.flat t.frame.function).sizes x 0))) })

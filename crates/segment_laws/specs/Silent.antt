@@ -8,10 +8,6 @@ abbrev pub GoesOn : Setting → ℕ → World → World → Type 0
 GoesOn s zero w after = after ≡ w
 GoesOn s (suc n) w after = (next : World) × (step s w ≡ Goes next) × GoesOn s n next after
 
--- a thread over the areas of a world
-abbrev pub local_in : World → Thread → Local
-local_in w thread = record { areas = w.areas; core = thread.core }
-
 -- the world after n silent steps of a thread, which led it to this state
 abbrev pub after_silent : World → Thread → Local → ℕ → World
 after_silent w thread at n = record w {

@@ -4,8 +4,7 @@ ghost use Rattle.chunk_pool.specs.Pool.{Pool, Taken, chunk_of, taken_for};
 ghost use Rattle.machine_world.specs.Counted.{IsCounted};
 ghost use Rattle.machine_world.specs.Held.{copies_in};
 ghost use Rattle.machine_world.specs.Local.{with_header};
-ghost use Rattle.machine_world.specs.Threads.{Thread, World, replaced, thread_of, without};
-ghost use Rattle.segment_laws.specs.Silent.{local_in};
+ghost use Rattle.machine_world.specs.Threads.{Thread, World, replaced, thread_of, without, local_in};
 
 /// Laws of the other threads. If a segment of one thread keeps the chunks that are neither its own nor free, and if a
 /// chunk is taken for a new thread, the chunks of each other thread keep their words. Of two threads with one number

@@ -4,10 +4,10 @@ ghost use Rattle.machine_world.specs.Counted.{IsCounted};
 ghost use Rattle.machine_world.specs.Local.{Local, LocalMove, local_step};
 ghost use Rattle.machine_world.specs.Places.{Checked};
 ghost use Rattle.machine_world.specs.Runs.{after_steps};
-ghost use Rattle.machine_world.specs.Threads.{Thread, World, Setting, thread_of, moved, step};
+ghost use Rattle.machine_world.specs.Threads.{Thread, World, Setting, thread_of, moved, step, local_in};
 ghost use Rattle.machine_world.specs.Threads as world;
 ghost use Rattle.segment_laws.specs.Ways.{Leads};
-ghost use Rattle.segment_laws.specs.Silent.{GoesOn, local_in, after_silent};
+ghost use Rattle.segment_laws.specs.Silent.{GoesOn, after_silent};
 
 /// Laws of the world's steps by those of its running thread. Good steps of the thread, as many as the fuel allows, are
 /// silent steps of the world, which change only that thread, the areas, clock and cost. The next step is what the

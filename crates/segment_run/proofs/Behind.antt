@@ -1,7 +1,6 @@
 -- A thread just behind the ECALL of a call: where it stands, and that no other ECALL stands there.
-use Rattle.std.proofs.Common.{◌≡◌, ℕ, ◌+◌, ◌*◌, ◌%◌, ◌<◌, ◌≤◌, List, get_or, pos, Option, Some, None, Result, Ok, slice_get, refl, sym, ap, subst, ◌∙◌, arith}
+use Rattle.std.proofs.Common.{◌≡◌, ℕ, ◌+◌, ◌*◌, ◌%◌, ◌<◌, ◌≤◌, List, get_or, pos, Option, Some, None, Ok, slice_get, refl, sym, ap, subst, ◌∙◌, arith}
 use Rattle.chunk_pool.specs.Pool.{Pool}
-use Rattle.cap_word.specs.declared.faults.FaultKind.{FaultKind}
 use Rattle.rv_code.specs.declared.instructions.Instr.{Instr}
 use Rattle.rv_machine.specs.Step.{instruction_at}
 use Rattle.flat_code.specs.Codes.{function_at, operation_at, result_place}
@@ -18,7 +17,7 @@ use Rattle.certificate_rules.specs.Validity.{IsValid}
 use Rattle.machine_meaning.proofs.Formed.{formed, follows}
 use Rattle.machine_meaning.proofs.Zeroes.{program_zeroes}
 use Rattle.machine_world.specs.Rests.{IsResting, AtStart, AtCall, PastCall, IsAtCall, IsPastCall, ecall_word}
-use Rattle.segment_laws.proofs.Passing.{call_is_ecall}
+use Rattle.segment_laws.proofs.Passing.{call_is_ecall, no_other}
 use Rattle.segment_laws.proofs.ValidFacts.{CodeFacts-valid}
 use Rattle.segment_run.specs.Passing as passing
 use Rattle.stack_certificate.specs.declared.certificates.Certificate.{Certificate}
@@ -36,9 +35,6 @@ pub record IsBehindCall (c : Checked) (code : List ℕ) (core : Core) (f : ℕ) 
   pub at : IsAt c core.pc (InOperation f operation word)
   pub whole : row_at c.certificate word (operation_at c.flat f operation) ≡ Whole
   pub no_ecall : instruction_at code core.pc ≡ Ok Instr.Ecall → ⊥
-
-no_other : (r : Result Instr FaultKind) (instr : Instr) → r ≡ Ok instr → (instr ≡ Instr.Ecall → ⊥) → r ≡ Ok Instr.Ecall → ⊥
-no_other r instr is other e = other (let both : Ok instr ≡ Ok Instr.Ecall = sym is ∙ e in cc)
 
 no_sw : (r s : ℕ) (k : ℕ) → (let i : Instr = Instr.Sw r s (pos k) in i) ≡ Instr.Ecall → ⊥
 no_sw r s k e = cc

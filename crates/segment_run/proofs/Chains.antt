@@ -1,12 +1,12 @@
 -- The chain that the headers of chunks name, and what keeps it.
-use Rattle.std.proofs.Common.{◌≡◌, ℕ, zero, suc, ◌+◌, ◌/◌, ◌%◌, ◌^◌, ◌<◌, ◌≤◌, List, ◌∷◌, length, Option, Some, None, refl, ap, ◌∙◌, arith, cond}
+use Rattle.std.proofs.Common.{◌≡◌, ℕ, zero, suc, ◌+◌, ◌/◌, ◌%◌, ◌^◌, ◌<◌, ◌≤◌, List, ◌∷◌, length, Option, Some, refl, ap, ◌∙◌, arith, cond}
 use Rattle.std.specs.Prelude.{Bool, nat_eq}
 use Rattle.std.proofs.lemmas.Bool.{eq-eqb}
 use Rattle.chunk_pool.specs.Pool.{Pool, payload_place_of, IsPool, shape_of, words_of, chunk_at}
 use Rattle.rv_machine.specs.Bytes.{Stored, Nothing, Byte, Half, Word, with_half, with_word, with_stored}
 use Rattle.rv_machine.specs.Rows as rows
 use Rattle.rv_machine.specs.Words.{TellsWords}
-use Rattle.machine_world.specs.Areas.{Areas, Spot, InGlobals, InTables, InPayload, spot_of, with_byte_on, with_byte}
+use Rattle.machine_world.specs.Areas.{Areas, Spot, InPayload, spot_of, with_byte_on, with_byte}
 use Rattle.machine_world.specs.Held.{copies}
 use Rattle.machine_world.specs.Local.{saved_tp}
 use Rattle.machine_world.proofs.AreaLaws.{IsSpot, IsSpot-spot_of, IsPool-with_byte}
@@ -47,11 +47,9 @@ chain_from-kept p q chunk (suc n) same saved =
 -- ---- a store changes no header
 
 saved_tp-with_byte_on : (areas : Areas) (address b chunk : ℕ) (spot : Option Spot) → IsSpot areas address spot → saved_tp (with_byte_on areas spot b).pool chunk ≡ saved_tp areas.pool chunk
-saved_tp-with_byte_on areas address b chunk None is = refl
-saved_tp-with_byte_on areas address b chunk (Some (InGlobals offset)) is = refl
-saved_tp-with_byte_on areas address b chunk (Some (InTables offset)) is = refl
 saved_tp-with_byte_on areas address b chunk (Some (InPayload there offset)) is =
     word_of-other areas.pool there (offset / 4) _ chunk 0 (λ same first. omega (arith, is.1, first))
+saved_tp-with_byte_on areas address b chunk _ is = refl
 
 saved_tp-with_byte : (areas : Areas) (a b chunk : ℕ) → IsPool areas.pool → saved_tp (with_byte areas a b).pool chunk ≡ saved_tp areas.pool chunk
 saved_tp-with_byte areas a b chunk sound = saved_tp-with_byte_on areas a b chunk (spot_of areas a) (IsSpot-spot_of areas a sound)

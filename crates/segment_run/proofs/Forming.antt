@@ -17,12 +17,11 @@ use Rattle.stack_image.specs.declared.images.Image.{Image}
 -- lists with the same element at each index are the same
 pub same_lists : (xs ys : List ℕ) → ((i : ℕ) → slice_get xs i ≡ slice_get ys i) → xs ≡ ys
 same_lists [] [] h = refl
-same_lists [] (y ∷ ys) h = absurd (let e = h 0 in cc)
-same_lists (x ∷ xs) [] h = absurd (let e = h 0 in cc)
 same_lists (x ∷ xs) (y ∷ ys) h =
     let first : x ≡ y = (let e = h 0 in cc) in
     let rest = same_lists xs ys (λ i. h (suc i)) in
     (λ j. first j ∷ rest j)
+same_lists _ _ h = absurd (let e = h 0 in cc)
 
 pub sum_widths : (gs : List FlatGlobal) → sum_by (λ (g : FlatGlobal). length (replicate {A = ℕ} g.words g.start)) gs ≡ sum (map (λ (g : FlatGlobal). g.words) gs)
 sum_widths [] = refl

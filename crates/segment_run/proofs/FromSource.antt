@@ -18,7 +18,7 @@ use Rattle.machine_meaning.proofs.Zeroes.{program_zeroes}
 use Rattle.machine_world.specs.Globals.{AreGlobals}
 use Rattle.machine_world.specs.InPlace.{Frame}
 use Rattle.machine_world.specs.Local as local
-use Rattle.machine_world.specs.Local.{Local, LocalMove, Calls, Starts, Ended, Trapped, NoRoom, Wrong, local_step, local_machine}
+use Rattle.machine_world.specs.Local.{Local, LocalMove, Calls, Starts, NoRoom, Wrong, local_step, local_machine}
 use Rattle.machine_world.specs.Places.{Checked}
 use Rattle.machine_world.specs.Rests.{IsAtCall, IsResting, AtCall}
 use Rattle.rv_code.specs.declared.instructions.Instr.{Instr}
@@ -58,32 +58,13 @@ asks_at c code facts l question call f i (Op.Spawn site d g x) word frames at h 
     let is = (facts.operation f i (Op.Spawn site d g x) at.frames_are.at.0 at.operation).formed in
     let within : g < length c.flat.functions = omega (arith, is.0, length-map c.flat.functions signature_of) in
     subst (AsksAt c l) (sym h.2) (site, g, x, d, within, record { function = f; operation = i; word = word; frames = frames; at = at }, refl, refl)
-asks_at c code facts l question call f i (Op.Call site d g args) word frames at h = absurd h
-asks_at c code facts l question call f i (Op.CallTable site d t k x) word frames at h = absurd h
-asks_at c code facts l question call f i (Op.Return v) word frames at h = absurd h
-asks_at c code facts l question call f i (Op.Const d x) word frames at h = absurd h
-asks_at c code facts l question call f i (Op.Copy d x) word frames at h = absurd h
-asks_at c code facts l question call f i (Op.Neg d x) word frames at h = absurd h
-asks_at c code facts l question call f i (Op.Not d x) word frames at h = absurd h
-asks_at c code facts l question call f i (Op.Flip d x) word frames at h = absurd h
-asks_at c code facts l question call f i (Op.Bin o d x y) word frames at h = absurd h
-asks_at c code facts l question call f i (Op.Zero x) word frames at h = absurd h
-asks_at c code facts l question call f i (Op.LoadGlobal d g) word frames at h = absurd h
-asks_at c code facts l question call f i (Op.StoreGlobal g x) word frames at h = absurd h
-asks_at c code facts l question call f i (Op.LoadLocal d x y) word frames at h = absurd h
-asks_at c code facts l question call f i (Op.LoadArray d x y) word frames at h = absurd h
-asks_at c code facts l question call f i (Op.StoreLocal d x y) word frames at h = absurd h
-asks_at c code facts l question call f i (Op.StoreArray d x y) word frames at h = absurd h
-asks_at c code facts l question call f i (Op.Jump to) word frames at h = absurd h
-asks_at c code facts l question call f i (Op.JumpZero x to) word frames at h = absurd h
+asks_at c code facts l question call f i _ word frames at h = absurd h
 
 safe_move : (c : Checked) (code : List ℕ) → CodeFacts c code → (program : ProgramTree) (running : Running) (at : Local) (move : LocalMove) → IsStepAsSource c program running at move → IsSafeMove c at move
-safe_move c code facts program running at (Goes next) h = tt
 safe_move c code facts program running at (Asks question still) h = (let w = h.1.4 in asks_at c code facts at question h.1.1.call w.function w.operation w.op w.word w.frames w.rests w.same)
-safe_move c code facts program running at (Stops (Ended areas)) h = tt
-safe_move c code facts program running at (Stops (Trapped kind)) h = tt
 safe_move c code facts program running at (Stops NoRoom) h = h
 safe_move c code facts program running at (Stops Wrong) h = h.3
+safe_move c code facts program running at _ h = tt
 
 pub stays_safe : (program : ProgramTree) (image : Image) (certificate : Certificate) (l : Local) → IsWellScoped program → IsValid (lowered program) image certificate → HasForm (record { flat = lowered program; certificate = certificate }) l
     → IsResting (record { flat = lowered program; certificate = certificate }) l.areas.pool l.core → (instruction_at image.code l.core.pc ≡ Ok Instr.Ecall → ⊥) → StaysSafe (record { flat = lowered program; certificate = certificate }) image.code l
@@ -103,24 +84,7 @@ module _ (program : ProgramTree) (image : Image) (certificate : Certificate) (sc
   same_call : (op : Op) (asked call : Call) → AsksCall checked op (Calls asked) call → call ≡ asked
   same_call (Op.Model site d n args) asked call h = let e : Calls asked ≡ Calls call = h.2 in let same : asked ≡ call = cc in sym same
   same_call (Op.Spawn site d g x) asked call h = absurd (let e = h.2 in cc)
-  same_call (Op.Call site d g args) asked call h = absurd h
-  same_call (Op.CallTable site d t k x) asked call h = absurd h
-  same_call (Op.Return v) asked call h = absurd h
-  same_call (Op.Const d x) asked call h = absurd h
-  same_call (Op.Copy d x) asked call h = absurd h
-  same_call (Op.Neg d x) asked call h = absurd h
-  same_call (Op.Not d x) asked call h = absurd h
-  same_call (Op.Flip d x) asked call h = absurd h
-  same_call (Op.Bin o d x y) asked call h = absurd h
-  same_call (Op.Zero x) asked call h = absurd h
-  same_call (Op.LoadGlobal d g) asked call h = absurd h
-  same_call (Op.StoreGlobal g x) asked call h = absurd h
-  same_call (Op.LoadLocal d x y) asked call h = absurd h
-  same_call (Op.LoadArray d x y) asked call h = absurd h
-  same_call (Op.StoreLocal d x y) asked call h = absurd h
-  same_call (Op.StoreArray d x y) asked call h = absurd h
-  same_call (Op.Jump to) asked call h = absurd h
-  same_call (Op.JumpZero x to) asked call h = absurd h
+  same_call _ asked call h = absurd h
 
   -- the start of a thread
   same_start : (at : Local) (f i : ℕ) (op : Op) (word : ℕ) (frames : List Frame) (function argument need : ℕ) (call : Call) → IsAtCall checked at.areas.pool at.core f i op word frames → function < length (lowered program).functions
@@ -135,24 +99,7 @@ module _ (program : ProgramTree) (image : Image) (certificate : Certificate) (sc
       let given : argument ≡ h.0 = cc in
       let same : function ≡ g = entries (lowered program) image certificate function g valid there within entry in
       h.1 ∙ (λ k. spawn_of (sym same k) (sym given k))
-  same_start at f i (Op.Call site d g args) word frames function argument need call rests there h = absurd h
-  same_start at f i (Op.CallTable site d t k x) word frames function argument need call rests there h = absurd h
-  same_start at f i (Op.Return v) word frames function argument need call rests there h = absurd h
-  same_start at f i (Op.Const d x) word frames function argument need call rests there h = absurd h
-  same_start at f i (Op.Copy d x) word frames function argument need call rests there h = absurd h
-  same_start at f i (Op.Neg d x) word frames function argument need call rests there h = absurd h
-  same_start at f i (Op.Not d x) word frames function argument need call rests there h = absurd h
-  same_start at f i (Op.Flip d x) word frames function argument need call rests there h = absurd h
-  same_start at f i (Op.Bin o d x y) word frames function argument need call rests there h = absurd h
-  same_start at f i (Op.Zero x) word frames function argument need call rests there h = absurd h
-  same_start at f i (Op.LoadGlobal d g) word frames function argument need call rests there h = absurd h
-  same_start at f i (Op.StoreGlobal g x) word frames function argument need call rests there h = absurd h
-  same_start at f i (Op.LoadLocal d x y) word frames function argument need call rests there h = absurd h
-  same_start at f i (Op.LoadArray d x y) word frames function argument need call rests there h = absurd h
-  same_start at f i (Op.StoreLocal d x y) word frames function argument need call rests there h = absurd h
-  same_start at f i (Op.StoreArray d x y) word frames function argument need call rests there h = absurd h
-  same_start at f i (Op.Jump to) word frames function argument need call rests there h = absurd h
-  same_start at f i (Op.JumpZero x to) word frames function argument need call rests there h = absurd h
+  same_start at f i _ word frames function argument need call rests there h = absurd h
 
   calls_next : (at after : Local) (question : local.Question) (asked : Question) (waiting : Waiting) (n : ℕ) (call : Call) → moves (source_machine program) n running ≡ Asks asked waiting → WaitsAsSource checked program at question asked waiting → asked.call ≡ call → after ≡ at
       → CallsNext checked program running call after
@@ -200,8 +147,7 @@ module _ (program : ProgramTree) (image : Image) (certificate : Certificate) (sc
   answered (answer.Traps kind) at after left left_after step h =
       let s = subst (IsStepAsSource checked program running at) h.1 step in
       stops_next after s.0 s.1 (Some kind) s.2 s.3.0 (subst (λ (l : Local). AreGlobals (lowered program) s.1.globals l.areas.globals) (sym h.2) s.3.1)
-  answered answer.NoChunk at after left left_after step h = tt
-  answered answer.OutOfFuel at after left left_after step h = tt
+  answered _ at after left left_after step h = tt
 
   -- the answer of a segment is what the source thread comes to next
   pub source_answer : (segment : Segment) (before after : Local) (left left_after : ℕ) → RunsAsSource checked image.code program before running → IsSegment checked image.code segment before left after left_after → IsSourceAnswer checked program running segment after

@@ -20,7 +20,7 @@ use Rattle.machine_world.specs.Globals.{AreGlobals}
 use Rattle.stack_certificate.specs.Registers.{a0}
 use Rattle.machine_world.specs.Local.{Core, Local, with_header}
 use Rattle.machine_world.specs.Places.{Checked}
-use Rattle.machine_world.specs.Rests.{IsResting, AtStart, AtCall, PastCall}
+use Rattle.machine_world.specs.Rests.{IsResting, AtStart}
 use Rattle.machine_world.specs.StandsFor.{Starts, StandsForThread}
 use Rattle.machine_world.specs.WellFormed.{AreWellFormed}
 use Rattle.rv_code.specs.declared.instructions.Instr.{Instr}
@@ -101,15 +101,8 @@ module _ (program : ProgramTree) (image : Image) (certificate : Certificate) (sc
         few = ((CallFacts-valid (lowered program) image certificate (formed program image certificate scoped valid) valid).entries f there).most
 
         in_register : (k : ℕ) → k < 8 → get_or (argument ∷ replicate 7 0) k 0 ≡ read (new_thread checked areas taken f argument).core.x (10 + k)
-        in_register zero lt = refl
-        in_register (suc zero) lt = refl
-        in_register (suc (suc zero)) lt = refl
-        in_register (suc (suc (suc zero))) lt = refl
-        in_register (suc (suc (suc (suc zero)))) lt = refl
-        in_register (suc (suc (suc (suc (suc zero))))) lt = refl
-        in_register (suc (suc (suc (suc (suc (suc zero)))))) lt = refl
-        in_register (suc (suc (suc (suc (suc (suc (suc zero))))))) lt = refl
         in_register (suc (suc (suc (suc (suc (suc (suc (suc k)))))))) lt = absurd (omega arith)
+        in_register _ lt = refl
 
     rests_at : (globals : List (List ℕ)) → AreGlobals (lowered program) globals areas.globals → RestsAtStart checked (new_thread checked areas taken f argument) f arguments globals
     rests_at globals are =
@@ -130,8 +123,7 @@ module _ (program : ProgramTree) (image : Image) (certificate : Certificate) (sc
 
     rest_alike : (pool : Pool) (core : Core) (rests : IsResting checked pool core) (frame : source.Frame) → IsAtStart checked pool core rests → RestAlike checked pool core rests (Starts frame [])
     rest_alike pool core (AtStart g frames has) frame start = tt
-    rest_alike pool core (AtCall g i op word frames at) frame start = absurd start
-    rest_alike pool core (PastCall g i op word place frames past) frame start = absurd start
+    rest_alike pool core _ frame start = absurd start
 
     pub new_source : (globals : List (List ℕ)) → AreGlobals (lowered program) globals areas.globals → StandsForThread checked program (new_thread checked areas taken f argument) (Starts (source.pushed program f arguments) []) globals
     new_source globals are =

@@ -16,16 +16,14 @@ above : (n : ℕ) → eqb (suc n) 0 ≡ false
 above n = ne_eqb (suc n) 0 (λ (e : suc n ≡ 0). omega (arith, e))
 
 pub read_beside : (x : List ℕ) (first register : ℕ) → slice_index x 0 ≡ 0 → slice_index x register ≡ read (slice_set x 0 first) register
-read_beside [] first zero is = is
-read_beside (y ∷ x) first zero is = is
 read_beside [] first (suc register) is = sym (cond-false (eqb (suc register) 0) 0 (slice_index [] (suc register)) (above register))
 read_beside (y ∷ x) first (suc register) is = sym (cond-false (eqb (suc register) 0) 0 (slice_index (first ∷ x) (suc register)) (above register))
+read_beside _ first zero is = is
 
 pub written_beside : (x : List ℕ) (first register value : ℕ) → 0 < register → slice_set (slice_set x register value) 0 first ≡ write (slice_set x 0 first) register value
-written_beside [] first zero value some = absurd (omega arith)
-written_beside (y ∷ x) first zero value some = absurd (omega arith)
 written_beside [] first (suc register) value some = sym (cond-false (eqb (suc register) 0) [] [] (above register))
 written_beside (y ∷ x) first (suc register) value some = sym (cond-false (eqb (suc register) 0) (first ∷ x) (slice_set (first ∷ x) (suc register) value) (above register))
+written_beside _ first zero value some = absurd (omega arith)
 
 pub first_stays : (x : List ℕ) (register value : ℕ) → 0 < register → slice_index (slice_set x register value) 0 ≡ slice_index x 0
 first_stays [] zero value some = absurd (omega arith)

@@ -2,7 +2,7 @@
 use Rattle.std.proofs.Common.{◌≡◌, ℕ, ◌+◌, ◌-◌, ◌^◌, ◌<◌, List, [], ◌∷◌, None, refl, ap, subst, arith}
 use Rattle.std.specs.List.{AllByRecursion}
 use Rattle.c_lower.specs.ProgramCode.{lowered}
-use Rattle.c_mean.specs.Frames.{Place, Nowhere, InLocal, InGlobal, InLocalElement, InGlobalElement, Returned, Waiting}
+use Rattle.c_mean.specs.Frames.{Place, InLocalElement, InGlobalElement, Waiting}
 use Rattle.c_tree.specs.Trees.{ProgramTree}
 use Rattle.c_tree.specs.WellScoped.{IsWellScoped}
 use Rattle.certificate_rules.specs.Validity.{IsValid}
@@ -16,7 +16,7 @@ use Rattle.machine_world.specs.Globals.{AreGlobals}
 use Rattle.machine_world.specs.InPlace.{Frame}
 use Rattle.machine_world.specs.Local.{Core, passed}
 use Rattle.machine_world.specs.Places.{Checked}
-use Rattle.machine_world.specs.Rests.{IsResting, AtStart, AtCall, PastCall, IsAtCall}
+use Rattle.machine_world.specs.Rests.{IsResting, AtCall, PastCall, IsAtCall}
 use Rattle.machine_world.specs.StandsFor.{Waits, HoldsIndex, StandAtCall, StandsFor}
 use Rattle.rv_machine.specs.Registers.{write}
 use Rattle.segment_laws.proofs.Passing.{passes, behind_by}
@@ -39,12 +39,9 @@ retired_is core below = ap (λ (pc : ℕ). let next : Core = record { pc = pc; x
 
 -- the index of a place that waits stands where it stood
 index_kept : (c : Checked) (pool : Pool) (frame : Frame) (temporary j : ℕ) (place : Place) → HoldsIndex c pool frame temporary place → HoldsIndex c pool (frame_at frame j) temporary place
-index_kept c pool frame temporary j Nowhere is = tt
-index_kept c pool frame temporary j (InLocal x) is = tt
-index_kept c pool frame temporary j (InGlobal g) is = tt
 index_kept c pool frame temporary j (InLocalElement a i) is = is
 index_kept c pool frame temporary j (InGlobalElement a i) is = is
-index_kept c pool frame temporary j Returned is = tt
+index_kept c pool frame temporary j _ is = tt
 
 waiting_kept : (c : Checked) (program : ProgramTree) (pool : Pool) (op : Op) (j : ℕ) (frame : Frame) (below : List Frame) (waiting : Waiting) → StandAtCall c program pool op (frame ∷ below) waiting → StandAtCall c program pool op (frame_at frame j ∷ below) waiting
 waiting_kept c program pool op j frame below waiting is = (
@@ -70,12 +67,11 @@ module _ (program : ProgramTree) (image : Image) (certificate : Certificate) (sc
   -- ---- a call retires
 
   rests_by : (areas : Areas) (core : Core) (rests : IsResting checked areas.pool core) → core.pc < 2 ^ 32 - 4 → IsBefore checked areas.pool core rests → RestsBehind checked image.code (record { areas = areas; core = retired core })
-  rests_by areas core (AtStart f frames has) below before = absurd before
-  rests_by areas core (PastCall f i op word place frames past) below before = absurd before
   rests_by areas core (AtCall f i op word frames at) below before =
       let is = passes checked image.code areas.pool core f i word op frames None facts (follows program scoped) at in
       subst (λ (next : Core). RestsBehind checked image.code (record { areas = areas; core = next })) (retired_is core below)
       (record { rests = PastCall f i op word is.place is.frames is.past; behind = tt; no_ecall = is.no_ecall })
+  rests_by areas core _ below before = absurd before
 
   pub retire_rests : (areas : Areas) (core : Core) → core.pc < 2 ^ 32 - 4 → RestsBefore checked (record { areas = areas; core = core }) → RestsBehind checked image.code (record { areas = areas; core = retired core })
   retire_rests areas core below is = rests_by areas core is.rests below is.before
@@ -97,9 +93,8 @@ module _ (program : ProgramTree) (image : Image) (certificate : Certificate) (sc
 
   waits_by : (areas : Areas) (core : Core) (waiting : Waiting) (globals : List (List ℕ)) (rests : IsResting checked areas.pool core) → core.pc < 2 ^ 32 - 4 → IsBefore checked areas.pool core rests → StandsFor checked program areas.pool core rests (Waits waiting) →
       AreGlobals checked.flat globals areas.globals → WaitsBehind checked program (record { areas = areas; core = retired core }) waiting globals
-  waits_by areas core waiting globals (AtStart f frames has) below before stands globals_are = absurd before
-  waits_by areas core waiting globals (PastCall f i op word place frames past) below before stands globals_are = absurd before
   waits_by areas core waiting globals (AtCall f i op word frames at) below before stands globals_are = waits_at areas core f i word op frames waiting globals below at stands globals_are
+  waits_by areas core waiting globals _ below before stands globals_are = absurd before
 
   pub retire_waits : (areas : Areas) (core : Core) (waiting : Waiting) (globals : List (List ℕ)) → core.pc < 2 ^ 32 - 4 → WaitsBefore checked program (record { areas = areas; core = core }) waiting globals → WaitsBehind checked program (record { areas = areas; core = retired core }) waiting globals
   retire_waits areas core waiting globals below is = waits_by areas core waiting globals is.stands.rests below is.before is.stands.stands is.stands.globals_are

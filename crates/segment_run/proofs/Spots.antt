@@ -1,7 +1,7 @@
 -- The map of the areas, address by address, as the code tests it.
-use Rattle.std.proofs.Common.{◌≡◌, inl, inr, ℕ, ◌+◌, ◌-◌, ◌*◌, ◌<◌, ◌≤◌, true, false, List, length, Option, Some, None, refl, sym, ap, ◌∙◌, arith}
+use Rattle.std.proofs.Common.{◌≡◌, inl, inr, ℕ, ◌+◌, ◌-◌, ◌*◌, ◌<◌, ◌≤◌, false, List, length, Option, Some, None, refl, sym, ap, ◌∙◌, arith}
 use Rattle.std.specs.Prelude.{nat_le, nat_lt}
-use Rattle.std.proofs.lemmas.Bool.{cases_lt, cond-true, cond-false, lt-ltb, le-ltb, le-leb, lt-leb, and_from, and_left, and_right}
+use Rattle.std.proofs.lemmas.Bool.{cases_lt, cond-true, cond-false, le-leb, lt-leb, and_left}
 use Rattle.chunk_pool.specs.Pool.{Pool, HasAddress, shape_of, place_of, payload_place_of, chunk_at, first_place}
 use Rattle.chunk_pool.proofs.AddressLaws.{chunk_at-some, chunk_in-below}
 use Rattle.machine_world.specs.Areas as world
@@ -9,15 +9,10 @@ use Rattle.machine_world.specs.Areas.{Areas, InGlobals, InTables, InPayload, glo
 use Rattle.segment_run.specs.Spots.{world_spot, IsOn}
 use Rattle.segment_run.specs.declared.areas.Spot.{Spot}
 use Rattle.segment_run.specs.declared.areas.Spot.TheVariants as spot
-
-outside : (place : ℕ) (words : List ℕ) (address : ℕ) → place + 4 * length words ≤ address → is_within place words address ≡ false
-outside place words address past = and_right (nat_le place address) (nat_lt address (place + 4 * length words)) (le-ltb address (place + 4 * length words) past)
+use Rattle.segment_laws.proofs.Spots.{outside, inside}
 
 before : (place : ℕ) (words : List ℕ) (address : ℕ) → address < place → is_within place words address ≡ false
 before place words address low = and_left (nat_le place address) (nat_lt address (place + 4 * length words)) (lt-leb place address low)
-
-inside : (place : ℕ) (words : List ℕ) (address : ℕ) → place ≤ address → address < place + 4 * length words → is_within place words address ≡ true
-inside place words address low high = and_from (nat_le place address) (nat_lt address (place + 4 * length words)) (le-leb place address low) (lt-ltb address (place + 4 * length words) high)
 
 -- few words of globals and of tables
 pub record AreFew (areas : Areas) : Type 0 where

@@ -15,6 +15,7 @@ use Rattle.segment_laws.proofs.OnePlace.{one_place}
 use Rattle.accepted_pairs.specs.CodeLists.{StandsIn}
 use Rattle.segment_run.specs.Lookups.{HasEntry}
 use Rattle.segment_run.specs.Walking.{IsInCall}
+use Rattle.segment_laws.proofs.ValidFacts.{within}
 
 -- an operation of a function, and the words before it and behind it
 pub record HasWord (c : Checked) (address f i word : ℕ) : Type 0 where
@@ -23,11 +24,6 @@ pub record HasWord (c : Checked) (address f i word : ℕ) : Type 0 where
   pub inside : i < length (function_at c.flat f).ops
   pub next : words_before c.flat c.certificate f i + size (function_at c.flat f).sizes (kind_of c.certificate op) op ≡ words_before c.flat c.certificate f (i + 1)
   pub small : word < size (function_at c.flat f).sizes (kind_of c.certificate op) op
-
-within : {X : Type 0} (xs : List X) (i : ℕ) (x : X) → slice_get xs i ≡ Some x → i < length xs
-within [] i x e = absurd (cc)
-within (y ∷ xs) zero x e = omega arith
-within (y ∷ xs) (suc i) x e = (let rest = within xs i x e in omega (arith, rest))
 
 next_words : (c : Checked) (f i : ℕ) (op : Op) → operation_at c.flat f i ≡ Some op
     → words_before c.flat c.certificate f i + size (function_at c.flat f).sizes (kind_of c.certificate op) op ≡ words_before c.flat c.certificate f (i + 1)

@@ -40,6 +40,7 @@ use Rattle.segment_run.specs.Walking.{IsInCall, IsReadOf, IsAround, IsWalked}
 use Rattle.segment_run.specs.declared.contexts.Context.{Context}
 use Rattle.segment_run.specs.declared.walking.Frame.{Frame as ReadFrame}
 use Rattle.segment_run.proofs.Reading.{frame_in}
+use Rattle.segment_laws.proofs.Jumping.{there_at}
 
 -- ---- the frames of a thread at rest
 
@@ -57,11 +58,6 @@ at_whole c pool core f i word op frames at = record {
   has = at.frames_are;
   row = ap (row_at c.certificate word) at.operation ∙ (ask_shape op word at.ecall).whole (kind_of c.certificate op) word;
 }
-
-followed : (ops : List Op) (i : ℕ) → i < length ops → (op : Op) × (slice_get ops i ≡ Some op)
-followed [] i within = absurd (omega (arith, within))
-followed (op ∷ ops) zero within = (op, refl)
-followed (op ∷ ops) (suc i) within = followed ops i (omega (arith, within))
 
 past_whole : (flat : FlatCode) (image : Image) (certificate : Certificate) (pool : Pool) (core : Core) (f i word : ℕ) (op : Op) (place : Place) (frames : List Frame) (d : Option ℕ) →
     CodeFacts (record { flat = flat; certificate = certificate }) image.code → FollowsAsks flat → IsValid flat image certificate → result_place op ≡ d →
@@ -85,7 +81,7 @@ past_whole flat image certificate pool core f i word op place frames None facts 
     let here = facts.operation f i op there past.operation in
     let shape = ask_shape op word past.ecall in
     let size_is : size (function_at flat f).sizes (kind_of certificate op) op ≡ word + 1 + 0 = shape.size_is (function_at flat f).sizes (kind_of certificate op) ∙ ap (λ (o : Option ℕ). word + 1 + result_size o) to in
-    let next = followed (function_at flat f).ops (i + 1) (follow f i word op there past.operation past.ecall) in
+    let next = there_at (function_at flat f).ops (i + 1) (follow f i word op there past.operation past.ecall) in
     let some : 0 < size (function_at flat f).sizes (kind_of certificate next.0) next.0 = size_some (function_at flat f).sizes (kind_of certificate next.0) next.0 (λ a is. facts.zeroed f (i + 1) a there (next.1 ∙ ap Some is)) in
     let step = here.next in
     let pc = past.pc in
@@ -195,10 +191,9 @@ module _ (program : ProgramTree) (image : Image) (certificate : Certificate) (sc
 
   through_size : (kind : LinkKind) (second : Bool) (n : ℕ) → through_call kind second ≡ Some n → (1 ≤ n) × (n ≤ transfer_size kind)
   through_size LinkKind.Plain false n e = (let same : 1 ≡ n = cc in (omega (arith, same), omega (arith, same)))
-  through_size LinkKind.Plain true n e = absurd (cc)
   through_size (LinkKind.Linked need) false n e = (let same : 5 ≡ n = cc in (omega (arith, same), omega (arith, same)))
   through_size (LinkKind.Linked need) true n e = (let same : 9 ≡ n = cc in (omega (arith, same), omega (arith, same)))
-  through_size (LinkKind.Spawned need) second n e = absurd (cc)
+  through_size _ _ n e = absurd (cc)
 
   joined_parts : (a n : ℕ) (through : Option ℕ) → joined (Some a) through ≡ Some n → (m : ℕ) × (through ≡ Some m) × (a + m ≡ n)
   joined_parts a n None e = absurd (cc)
@@ -228,24 +223,7 @@ module _ (program : ProgramTree) (image : Image) (certificate : Certificate) (sc
       called_from frame next (Op.Call site d g args) site (length args) returns.1.0 there within refl refl (omega arith) returns.1.1 returns.1.2
   comes_from frame next (Some (Op.CallTable site d t i s)) there within returns =
       called_from frame next (Op.CallTable site d t i s) site 13 returns.1.0 there within refl refl (omega arith) returns.1.1 returns.1.2
-  comes_from frame next (Some (Op.Model site d n args)) there within returns = absurd returns.0
-  comes_from frame next (Some (Op.Spawn site d g s)) there within returns = absurd returns.0
-  comes_from frame next (Some (Op.Return s)) there within returns = absurd returns.0
-  comes_from frame next (Some (Op.Const d v)) there within returns = absurd returns.0
-  comes_from frame next (Some (Op.Copy d s)) there within returns = absurd returns.0
-  comes_from frame next (Some (Op.Neg d s)) there within returns = absurd returns.0
-  comes_from frame next (Some (Op.Not d s)) there within returns = absurd returns.0
-  comes_from frame next (Some (Op.Flip d s)) there within returns = absurd returns.0
-  comes_from frame next (Some (Op.Bin o d a b)) there within returns = absurd returns.0
-  comes_from frame next (Some (Op.Zero a)) there within returns = absurd returns.0
-  comes_from frame next (Some (Op.LoadGlobal d g)) there within returns = absurd returns.0
-  comes_from frame next (Some (Op.StoreGlobal g s)) there within returns = absurd returns.0
-  comes_from frame next (Some (Op.LoadLocal d a i)) there within returns = absurd returns.0
-  comes_from frame next (Some (Op.LoadArray d a i)) there within returns = absurd returns.0
-  comes_from frame next (Some (Op.StoreLocal a i s)) there within returns = absurd returns.0
-  comes_from frame next (Some (Op.StoreArray a i s)) there within returns = absurd returns.0
-  comes_from frame next (Some (Op.Jump to)) there within returns = absurd returns.0
-  comes_from frame next (Some (Op.JumpZero s to)) there within returns = absurd returns.0
+  comes_from frame next (Some _) there within returns = absurd returns.0
 
   pub next_call : (pool : Pool) (frame : ReadFrame) (chain : List ℕ) (at next : Frame) (below : List Frame) → IsReadOf checked pool frame chain at (next ∷ below) → Comes (at.returns - 4) next
   next_call pool frame chain at next below is =

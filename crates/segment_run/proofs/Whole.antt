@@ -18,7 +18,7 @@ use Rattle.machine_world.specs.Areas.{Areas}
 use Rattle.stack_certificate.specs.Registers.{a0}
 use Rattle.machine_world.specs.Local.{Core, Local}
 use Rattle.machine_world.specs.Places.{Checked}
-use Rattle.machine_world.specs.Rests.{IsResting, AtStart, AtCall, PastCall}
+use Rattle.machine_world.specs.Rests.{IsResting, PastCall}
 use Rattle.machine_world.specs.StandsFor.{SourceThread, StandsForThread, going_on}
 use Rattle.machine_world.specs.WellFormed.{AreWellFormed, AreWords}
 use Rattle.segment_laws.specs.Ways.{HasForm, Owns}
@@ -73,9 +73,8 @@ wanted None core = tt
 wanted (Some d) core = refl
 
 holds : (c : Checked) (pool : Pool) (core : Core) (rests : IsResting c pool core) → HoldsResult c pool core rests (read core.x a0)
-holds c pool core (AtStart f frames in_place) = tt
-holds c pool core (AtCall f i op word frames in_place) = tt
 holds c pool core (PastCall f i op word place frames in_place) = wanted (result_place op) core
+holds c pool core _ = tt
 
 pub runs_as : (program : ProgramTree) (image : Image) (certificate : Certificate) (l : Local) (thread : SourceThread) (globals : List (List ℕ)) → IsWellScoped program → IsValid (lowered program) image certificate → HasForm (record { flat = lowered program; certificate = certificate }) l →
     StandsForThread (record { flat = lowered program; certificate = certificate }) program l thread globals → (instruction_at image.code l.core.pc ≡ Ok Instr.Ecall → ⊥) →

@@ -11,9 +11,8 @@ use Rattle.c_mean.proofs.ChainLemmas.{chained_is, chain_in_range}
 
 -- a list of one element is that element
 pub one-element : {A : Type 0} (xs : List A) (x : A) → length xs ≡ 1 → x ≡ slice_index_or xs 0 x → xs ≡ x ∷ []
-one-element [] x one is = absurd (omega (arith, one))
 one-element (y ∷ []) x one is = ap (λ z. z ∷ []) (sym is)
-one-element (y ∷ z ∷ zs) x one is = absurd (omega (arith, one))
+one-element _ x one is = absurd (omega (arith, one))
 
 -- its value, by those of its operands
 pub pair-value : (names globals : List (List ℕ)) (tree first right : ExprTree) (o : Infix) (l r word : ℕ) → tree ≡ chained first ((o, right) ∷ []) → value names globals first ≡ Ok l → value names globals right ≡ Ok r → joined_value o (Ok l) (Ok r) ≡ Ok word → value names globals tree ≡ Ok word

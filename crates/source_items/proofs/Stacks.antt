@@ -106,17 +106,15 @@ pub leave-plain : (p : Part) (s : StmtTree) (n : ℕ) (rest : List todo.Item) �
 leave-plain part.Whole s n rest plain has = leave-whole s n rest has
 leave-plain (part.Start number) s n rest plain has = refl
 leave-plain part.Test s n rest plain has = leave-test (condition_of s) (loop_of s) n rest has
-leave-plain part.Enter s n rest plain has = elim plain [ ]
-leave-plain part.Back s n rest plain has = elim plain [ ]
 leave-plain part.Step s n rest plain has = leave-step (step_of s) n rest has
+leave-plain _ s n rest plain has = elim plain [ ]
 
 pub skip-plain : (p : Part) (s : StmtTree) (n : ℕ) (rest : List todo.Item) → IsPlainPart p → HasPart p s → todo.after_skip n (part_item p s ∷ rest) ≡ todo.after_skip n rest
 skip-plain part.Whole s n rest plain has = skip-whole s n rest has
 skip-plain (part.Start number) s n rest plain has = refl
 skip-plain part.Test s n rest plain has = skip-test (condition_of s) (loop_of s) n rest has
-skip-plain part.Enter s n rest plain has = elim plain [ ]
-skip-plain part.Back s n rest plain has = elim plain [ ]
 skip-plain part.Step s n rest plain has = skip-step (step_of s) n rest has
+skip-plain _ s n rest plain has = elim plain [ ]
 
 -- an item is taken: what a jump passes over
 pub passing-plain : (c : Context) (old now rest : List Item) (item : Item) (n : ℕ) → now ≡ rest ++ item ∷ [] → IsPlainPart item.part → IsPassing c old now n → IsPassing c old rest n
@@ -195,20 +193,15 @@ entered-step (Some s) rest h = refl
 
 -- a part that is no mark
 abbrev pub IsStepPart : Part → Type 0
-IsStepPart part.Whole = Unit {0}
-IsStepPart (part.Start number) = Unit {0}
-IsStepPart part.Test = Unit {0}
 IsStepPart part.Enter = ⊥
-IsStepPart part.Step = Unit {0}
-IsStepPart part.Back = Unit {0}
+IsStepPart _ = Unit {0}
 
 entered-part : (p : Part) (s : StmtTree) (rest : List todo.Item) → IsStepPart p → HasPart p s → entered (part_item p s ∷ rest) ≡ part_item p s ∷ rest
 entered-part part.Whole s rest is has = entered-whole s rest has
-entered-part (part.Start number) s rest is has = refl
 entered-part part.Test s rest is has = entered-test (condition_of s) (loop_of s) rest has
 entered-part part.Enter s rest is has = elim is [ ]
 entered-part part.Step s rest is has = entered-step (step_of s) rest has
-entered-part part.Back s rest is has = refl
+entered-part _ s rest is has = refl
 
 -- an item is taken that is no mark
 pub taken-item : (c : Context) (old now rest : List Item) (item : Item) → now ≡ rest ++ item ∷ [] → IsStepPart item.part → entered (to_do now) ≡ entered (to_do old) → AreItems c now →

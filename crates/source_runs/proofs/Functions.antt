@@ -58,25 +58,22 @@ small-at (f ∷ fs) (suc i) x h lt is = small-at fs i x h.1 (omega arith) is
 
 pub layouts-count : (fs : List FunctionTree) (layouts : List Layout) → AreLayouts fs layouts → length layouts ≡ length fs
 layouts-count [] [] h = refl
-layouts-count [] (l ∷ layouts) h = elim h [ ]
-layouts-count (f ∷ fs) [] h = elim h [ ]
 layouts-count (f ∷ fs) (l ∷ layouts) h = ap suc (layouts-count fs layouts h.1)
+layouts-count _ _ h = elim h [ ]
 
 layouts-from : (fs : List FunctionTree) (layouts : List Layout) (f : ℕ) (layout : Layout) → AreLayouts fs layouts → f < length fs → layout ≡ get_or layouts f layout → IsLayout (slice_index_or fs f no_function).sizes layout
 layouts-from [] [] f layout h lt is = absurd (omega arith)
-layouts-from [] (l ∷ layouts) f layout h lt is = elim h [ ]
-layouts-from (g ∷ fs) [] f layout h lt is = elim h [ ]
 layouts-from (g ∷ fs) (l ∷ layouts) zero layout h lt is = subst (IsLayout g.sizes) (sym is) h.0
 layouts-from (g ∷ fs) (l ∷ layouts) (suc f) layout h lt is = layouts-from fs layouts f layout h.1 (omega arith) is
+layouts-from _ _ f layout h lt is = elim h [ ]
 
 pub layout-at : (tree : ProgramTree) (layouts : List Layout) (f : ℕ) (layout : Layout) → AreLayouts tree.functions layouts → f < length tree.functions → layout ≡ get_or layouts f layout → IsLayout (sizes_at tree f) layout
 layout-at tree layouts f layout h lt is = layouts-from tree.functions layouts f layout h lt is
 
 layouts-push : (fs : List FunctionTree) (layouts : List Layout) (f : FunctionTree) (layout : Layout) → AreLayouts fs layouts → IsLayout f.sizes layout → AreLayouts (fs ++ f ∷ []) (layouts ++ layout ∷ [])
 layouts-push [] [] f layout h one = (one, tt {0})
-layouts-push [] (l ∷ layouts) f layout h one = elim h [ ]
-layouts-push (g ∷ fs) [] f layout h one = elim h [ ]
 layouts-push (g ∷ fs) (l ∷ layouts) f layout h one = (h.0, layouts-push fs layouts f layout h.1 one)
+layouts-push _ _ f layout h one = elim h [ ]
 
 -- one function more has its layout
 pub layouts-more : (fs : List Function) (i : ℕ) (x : Function) (layouts more : List Layout) (layout : Layout) → i < length fs → x ≡ get_or fs i x → AreLayouts (map function_tree (take i fs)) layouts → IsLayout x.sizes.items layout → more ≡ layouts ++ layout ∷ [] → AreLayouts (map function_tree (take (i + 1) fs)) more

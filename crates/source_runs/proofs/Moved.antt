@@ -1,6 +1,6 @@
 -- What steps lead to: values that are used, items that are taken, and silent steps one after another.
 use Rattle.std.proofs.Common.{◌≡◌, ◌≢◌, ℕ, zero, suc, ◌+◌, ◌-◌, ◌<◌, ◌≤◌, List, [], ◌∷◌, ◌++◌, length, map, sym, ap, ◌∙◌, arith, refl, subst}
-use Rattle.std.specs.Prelude.{Bool, true, false, Result, Ok, Err, MatchResult, OnOk, Option, Some, None, Vec, reverse, slice_index}
+use Rattle.std.specs.Prelude.{Bool, Result, Ok, Err, MatchResult, OnOk, Option, Some, None, Vec, reverse, slice_index}
 use Rattle.std.specs.List.{AllByRecursion}
 use Rattle.std.specs.declared.alloc.Global.{Global}
 use Rattle.std.proofs.lemmas.Bool.{lt-ltb, le-ltb}
@@ -10,14 +10,12 @@ use Rattle.cap_word.specs.declared.modelled_calls.ModelledCall.{ModelledCall}
 use Rattle.c_mean.proofs.CallLemmas.{each_made}
 use Rattle.cap_word.specs.Runs.{Goes, Asks, Stops, and_then, moves}
 use Rattle.cap_word.proofs.RunLemmas.{goes_on}
-use Rattle.cap_word.specs.declared.calls.Ask.{Ask}
-use Rattle.cap_word.specs.declared.calls.Block.{Block}
 use Rattle.cap_word.specs.declared.traps.TrapKind.{TrapKind}
 use Rattle.c_tree.specs.Trees.{ProgramTree}
 use Rattle.c_mean.specs.Frames as source
 use Rattle.c_mean.specs.Frames.{Running, pushed}
 use Rattle.c_mean.specs.Steps as steps
-use Rattle.c_mean.specs.Steps.{SourceMove, asks_if, branched, delivered_or, entered_by, entered_where, on_value, performs, performs_first, returned, source_machine, source_step, waits_at}
+use Rattle.c_mean.specs.Steps.{SourceMove, asks_if, branched, entered_by, entered_where, on_value, performs, performs_first, returned, source_machine, source_step, waits_at}
 use Rattle.c_mean.specs.ToDo as todo
 use Rattle.source_items.specs.Items.{AreItems, entered, to_do}
 use Rattle.source_items.specs.declared.items.Item.{Item}
@@ -106,17 +104,8 @@ module _ (tree : ProgramTree) where
   performs_head running (item ∷ rest) = performs tree (steps.to_do running rest) item rest
 
   pub first-is : (running : Running) (items : List todo.Item) → performs_first tree running items ≡ performs_head running (entered items)
-  first-is running [] = refl
   first-is running (todo.Enter ∷ rest) = first-is running rest
-  first-is running (todo.Simply s ∷ rest) = refl
-  first-is running (todo.Choose c s r ∷ rest) = refl
-  first-is running (todo.Test c loop ∷ rest) = refl
-  first-is running (todo.Back loop ∷ rest) = refl
-  first-is running (todo.Leave ∷ rest) = refl
-  first-is running (todo.Skip ∷ rest) = refl
-  first-is running (todo.GiveBack v ∷ rest) = refl
-  first-is running (todo.GiveBackWord word ∷ rest) = refl
-  first-is running (todo.Fail trap ∷ rest) = refl
+  first-is running _ = refl
 
   -- only the globals count at a return
   pub returned-same : (one other : Running) (below : List source.WaitingFrame) (word : ℕ) → one.globals ≡ other.globals → returned one below word ≡ returned other below word
@@ -171,26 +160,17 @@ module _ (tree : ProgramTree) where
 
   -- a modelled call that isn't blocked starts no thread
   abbrev StartsNone : Option Call → Type 0
-  StartsNone None = Unit {0}
-  StartsNone (Some (Blocking block)) = Unit {0}
   StartsNone (Some (Immediate ask)) = IsAskThere tree ask
+  StartsNone _ = Unit {0}
 
   table-none : (call : ModelledCall) (a b : ℕ) → StartsNone (Some (call_with call a b))
   table-none ModelledCall.Accept a b = tt {0}
-  table-none ModelledCall.Wait a b = tt {0}
-  table-none ModelledCall.Sleep a b = tt {0}
-  table-none ModelledCall.Yield a b = tt {0}
-  table-none ModelledCall.Take a b = tt {0}
-  table-none ModelledCall.WaitFor a b = tt {0}
-  table-none ModelledCall.Put a b = tt {0}
-  table-none ModelledCall.Give a b = tt {0}
-  table-none ModelledCall.SelfNumber a b = tt {0}
+  table-none _ a b = tt {0}
 
   starts-none : (number : ℕ) (words : List ℕ) → StartsNone (call_of number words)
   starts-none number words = each_made StartsNone (tt {0}) table-none number words
 
   pub asked-so : (running : Running) (words : List ℕ) (thread : Thread) (site : ℕ) (place : source.Place) (made : Move) (number : ℕ) (arguments : List ℕ) → IsCalling made (call_of number arguments) → record { front = waits_at running site place; below = running.below } ≡ waiting_of tree thread → running.globals ≡ globals_of tree words → IsThread tree thread words → HasStepped tree (asks_if running site place (call_of number arguments)) thread words (Ok made)
-  asked-so running words thread site place move.Goes number arguments h waits same fits = elim h [ ]
   asked-so running words thread site place (move.Asks ask) number arguments h waits same fits = (
     ap (asks_if running site place) h
         ∙ (ap (λ (w : source.Waiting). Asks (record { call = Immediate ask; globals = running.globals }) w) waits ∙ ap (λ (g : List (List ℕ)). Asks (record { call = Immediate ask; globals = g }) (waiting_of tree thread)) same),
@@ -199,7 +179,7 @@ module _ (tree : ProgramTree) where
   )
   asked-so running words thread site place (move.Blocks block) number arguments h waits same fits =
       (ap (asks_if running site place) h ∙ (ap (λ (w : source.Waiting). Asks (record { call = Blocking block; globals = running.globals }) w) waits ∙ ap (λ (g : List (List ℕ)). Asks (record { call = Blocking block; globals = g }) (waiting_of tree thread)) same), fits)
-  asked-so running words thread site place move.Ends number arguments h waits same fits = elim h [ ]
+  asked-so running words thread site place _ number arguments h waits same fits = elim h [ ]
 
   -- a function is called
   pub entered-so : (running : Running) (words : List ℕ) (thread : Thread) (site : ℕ) (place : source.Place) (f : ℕ) (arguments : List ℕ) →
@@ -226,8 +206,7 @@ module _ (tree : ProgramTree) where
 
   one-move : (made : SourceMove) → and_then made (moves (source_machine tree) 0) ≡ made
   one-move (Goes after) = refl
-  one-move (Asks question waiting) = refl
-  one-move (Stops end) = refl
+  one-move _ = refl
 
   pub step-after : (n m : ℕ) (start now : Running) → m ≡ n + 1 → moves (source_machine tree) n start ≡ Goes now → moves (source_machine tree) m start ≡ source_step tree now
   step-after n m start now e silent = ap (λ k. moves (source_machine tree) k start) e ∙ (goes_on (source_machine tree) n 1 start now silent ∙ one-move (source_step tree now))

@@ -62,18 +62,15 @@ module _ (names globals : List (List ℕ)) where
   -- ---- a few arguments
 
   pub values-one : (es : List Expr) (e : Expr) → length es ≡ 1 → e ≡ get_or es 0 e → of es ≡ with_first (value names globals (expr_tree e)) (Ok [])
-  values-one [] e h is = absurd (omega arith)
   values-one (x ∷ []) e h is = ap (λ (y : Expr). with_first (value names globals (expr_tree y)) (Ok [])) (sym is)
-  values-one (x ∷ y ∷ es) e h is = absurd (omega arith)
+  values-one _ e h is = absurd (omega arith)
 
   pub only-value : (es : List Expr) (e : Expr) (made : Value) → length es ≡ 1 → e ≡ get_or es 0 e → made ≡ value names globals (expr_tree e) → MatchResult made (λ word. of es ≡ Ok (word ∷ [])) (λ trap. of es ≡ Err trap)
   only-value es e (Ok word) h is v = values-one es e h is ∙ ap (λ (x : Value). with_first x (Ok [])) (sym v)
   only-value es e (Err trap) h is v = values-one es e h is ∙ ap (λ (x : Value). with_first x (Ok [])) (sym v)
 
   pub values-two : (es : List Expr) (e f : Expr) → length es ≡ 2 → e ≡ get_or es 0 e → f ≡ get_or es 1 f → of es ≡ with_first (value names globals (expr_tree e)) (with_first (value names globals (expr_tree f)) (Ok []))
-  values-two [] e f h is also = absurd (omega arith)
-  values-two (x ∷ []) e f h is also = absurd (omega arith)
   values-two (x ∷ y ∷ []) e f h is also =
       ap (λ (z : Expr). with_first (value names globals (expr_tree z)) (with_first (value names globals (expr_tree y)) (Ok []))) (sym is)
       ∙ ap (λ (z : Expr). with_first (value names globals (expr_tree e)) (with_first (value names globals (expr_tree z)) (Ok []))) (sym also)
-  values-two (x ∷ y ∷ z ∷ es) e f h is also = absurd (omega arith)
+  values-two _ e f h is also = absurd (omega arith)

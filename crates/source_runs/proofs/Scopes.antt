@@ -1,6 +1,6 @@
 -- The parts of a statement that is well scoped are so.
 use Rattle.std.proofs.Common.{◌≡◌, ℕ, zero, suc, List, [], ◌∷◌, sym, subst}
-use Rattle.std.specs.Prelude.{false, Option, Some, None, slice_get, slice_index_or}
+use Rattle.std.specs.Prelude.{false, Option, Some, slice_get, slice_index_or}
 use Rattle.c_tree.specs.TextOrder.{simple_names}
 use Rattle.c_tree.specs.Trees.{ExprTree, RightTree, SimpleTree, StmtTree, Do, Empty, Block, If, IfElse, While, For, Break, Continue, Return}
 use Rattle.c_tree.specs.WellScoped.{AreSimplesScoped, Context, IsExprScoped, IsReturnScoped, IsSimpleScoped, scope_after_all, with_names}
@@ -41,17 +41,8 @@ module _ (c : Context) where
   some-same P a b e h = let same : a ≡ b = cc in subst P same h
 
   pub condition-scoped : (t : StmtTree) (e : ExprTree) → Some e ≡ condition_of t → IsScoped c t → InSomeScope (λ scope. IsExprScoped c scope e)
-  condition-scoped (Do s) e is h = cc
-  condition-scoped Empty e is h = cc
-  condition-scoped (Block ss) e is h = cc
-  condition-scoped (If x s) e is h = cc
-  condition-scoped (IfElse x s r) e is h = cc
-  condition-scoped (While x s) e is h = cc
-  condition-scoped (For init None step s) e is h = cc
   condition-scoped (For init (Some x) step s) e is h = some-same (λ y. InSomeScope (λ scope. IsExprScoped c scope y)) x e (sym is) (record { scope = scope_after_all h.scope init; scoped = h.scoped.1 })
-  condition-scoped Break e is h = cc
-  condition-scoped Continue e is h = cc
-  condition-scoped (Return v) e is h = cc
+  condition-scoped _ e is h = cc
 
   -- only a `for` has a condition of its own
   pub condition-loop : (t : StmtTree) (e : ExprTree) → Some e ≡ condition_of t → IsLoop t
@@ -67,17 +58,8 @@ module _ (c : Context) where
   condition-loop (Return v) e is = cc
 
   pub step-scoped : (t : StmtTree) (s : SimpleTree) → Some s ≡ step_of t → IsScoped c t → InSomeScope (λ scope. IsSimpleScoped c scope s)
-  step-scoped (Do x) s is h = cc
-  step-scoped Empty s is h = cc
-  step-scoped (Block ss) s is h = cc
-  step-scoped (If e x) s is h = cc
-  step-scoped (IfElse e x r) s is h = cc
-  step-scoped (While e x) s is h = cc
-  step-scoped (For init e None body) s is h = cc
   step-scoped (For init e (Some x) body) s is h = some-same (λ y. InSomeScope (λ scope. IsSimpleScoped c scope y)) x s (sym is) (record { scope = scope_after_all h.scope init; scoped = h.scoped.2.1 })
-  step-scoped Break s is h = cc
-  step-scoped Continue s is h = cc
-  step-scoped (Return v) s is h = cc
+  step-scoped _ s is h = cc
 
   simple-from : (ss : List SimpleTree) (scope : List ℕ) (k : ℕ) (s : SimpleTree) → Some s ≡ slice_get ss k → AreSimplesScoped c scope ss → InSomeScope (λ scope. IsSimpleScoped c scope s)
   simple-from [] scope k s is h = cc
@@ -85,16 +67,8 @@ module _ (c : Context) where
   simple-from (x ∷ ss) scope (suc k) s is h = simple-from ss (with_names scope (simple_names x)) k s is h.1
 
   pub start-scoped : (t : StmtTree) (k : ℕ) (s : SimpleTree) → Some s ≡ slice_get (start_of t) k → IsScoped c t → InSomeScope (λ scope. IsSimpleScoped c scope s)
-  start-scoped (Do x) k s is h = cc
-  start-scoped Empty k s is h = cc
-  start-scoped (Block ss) k s is h = cc
-  start-scoped (If e x) k s is h = cc
-  start-scoped (IfElse e x r) k s is h = cc
-  start-scoped (While e x) k s is h = cc
   start-scoped (For init e step body) k s is h = simple-from init h.scope k s is h.scoped.0
-  start-scoped Break k s is h = cc
-  start-scoped Continue k s is h = cc
-  start-scoped (Return v) k s is h = cc
+  start-scoped _ k s is h = cc
 
 -- ---- a part of a list that is there
 

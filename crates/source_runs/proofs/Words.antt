@@ -22,9 +22,8 @@ rows_length (n ∷ ns) words = ap suc (rows_length ns (drop n words))
 
 take-set-lt : (n : ℕ) (words : List ℕ) (i v : ℕ) → i < n → take n (set words i v) ≡ set (take n words) i v
 take-set-lt zero words i v h = absurd (omega arith)
-take-set-lt (suc n) [] i v h = refl
-take-set-lt (suc n) (w ∷ words) zero v h = refl
 take-set-lt (suc n) (w ∷ words) (suc i) v h = ap (λ (xs : List ℕ). w ∷ xs) (take-set-lt n words i v (omega arith))
+take-set-lt (suc n) _ _ v h = refl
 
 -- a word is written at its place
 pub row-set : (ns words : List ℕ) (x i at v : ℕ) → at ≡ sum (take x ns) + i → i < slice_index ns x → rows_of ns (slice_set words at v) ≡ with_word (rows_of ns words) x i v

@@ -1,16 +1,16 @@
 -- A plan that code may rely on is of a program whose frames all fit.
-use Rattle.std.proofs.Common.{◌≡◌, ℕ, zero, suc, ◌+◌, ◌<◌, ◌≤◌, false, List, [], ◌∷◌, length, map, refl, ap, arith}
-use Rattle.std.specs.Prelude.{None, option_map, slice_index, slice_index_or}
+use Rattle.std.proofs.Common.{◌≡◌, ℕ, suc, ◌+◌, ◌<◌, ◌≤◌, false, List, [], ◌∷◌, length, map, refl, ap, arith}
+use Rattle.std.specs.Prelude.{None, option_map, slice_index}
 use Rattle.std.proofs.lemmas.Bool.Decides.{nat_tests}
 use Rattle.flat_code.specs.declared.functions.FlatFunction.{FlatFunction}
 use Rattle.flat_code.specs.Codes.{FlatCode}
 use Rattle.flat_code.specs.Weight.{weight_of}
 use Rattle.checkpoint_place.specs.declared.plans.Plan.{Plan}
-use Rattle.checkpoint_place.specs.declared.refusals.PlaceError.TheVariants as place
 use Rattle.checkpoint_place.specs.Refusal.{is_too_large, refusal_from}
 use Rattle.stack_plan.specs.Plans.{IsEnough, weights_of}
 use Rattle.stack_build.specs.Builds.{frame_refusal}
 use Rattle.stack_build.specs.Refusals.{of_place}
+use Rattle.stack_plan.proofs.Enough.{weight-at}
 
 fit-tests : (max_path w : ℕ) → w ≤ max_path → w ≤ 2032 → is_too_large max_path w ≡ false
 fit-tests max_path w h k = grind (arith, nat_tests)
@@ -21,11 +21,6 @@ none-refused max_path base (w ∷ ws) h =
     let here = h 0 (omega arith) in
     let e = fit-tests max_path w here.0 here.1 in
     rw e (none-refused max_path (base + 1) ws (λ k lt. h (suc k) (omega arith)))
-
-weight-at : (fs : List FlatFunction) (f : ℕ) → f < length fs → slice_index (map (λ g. weight_of g.sizes) fs) f ≡ weight_of (slice_index_or fs f (record { params = 0; gives = false; sizes = []; ops = [] })).sizes
-weight-at [] f h = absurd (omega arith)
-weight-at (g ∷ gs) zero h = refl
-weight-at (g ∷ gs) (suc f) h = weight-at gs f (omega arith)
 
 pub weights-count : (fs : List FlatFunction) → length (map (λ g. weight_of g.sizes) fs) ≡ length fs
 weights-count [] = refl

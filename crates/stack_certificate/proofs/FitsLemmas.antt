@@ -7,7 +7,7 @@ use Rattle.rv_code.specs.Field.{low_bits}
 use Rattle.rv_code.specs.Operands.{IsInRange}
 use Rattle.rv_code.specs.Range.{IsRegister, IsImmediate, IsUpperImmediate, IsShiftCount, IsBranchOffset, IsJumpOffset}
 use Rattle.rv_code.specs.declared.instructions.Instr.{Instr}
-use Rattle.rv_code.specs.declared.instructions.Instr.TheVariants.{Lui, Auipc, Jal, Jalr, Beq, Bne, Blt, Bge, Bltu, Bgeu, Lb, Lh, Lw, Lbu, Lhu, Sb, Sh, Sw, Addi, Slti, Sltiu, Xori, Ori, Andi, Slli, Srli, Srai, Add, Sub, Sll, Slt, Sltu, Xor, Srl, Sra, Or, And, Fence, Ecall, Ebreak, Mul, Mulh, Mulhsu, Mulhu, Div, Divu, Rem, Remu}
+use Rattle.rv_code.specs.declared.instructions.Instr.TheVariants.{Lui, Auipc, Jal, Jalr, Beq, Bne, Blt, Bge, Bltu, Bgeu, Lb, Lh, Lw, Lbu, Lhu, Sb, Sh, Sw, Addi, Slti, Sltiu, Xori, Ori, Andi, Slli, Srli, Srai, Add, Sub, Sll, Slt, Sltu, Xor, Srl, Sra, Or, And, Fence, Mul, Mulh, Mulhsu, Mulhu, Div, Divu, Rem, Remu}
 use Rattle.stack_certificate.specs.Fits.{fits_register, fits_immediate, fits_branch, fits_jump, fits_upper, fits_shift, fits, checked}
 
 -- a test that tells whether a fact holds
@@ -96,8 +96,6 @@ fits_answers (Sra rd rs1 rs2) = and3 (register rd) (register rs1) (register rs2)
 fits_answers (Or rd rs1 rs2) = and3 (register rd) (register rs1) (register rs2)
 fits_answers (And rd rs1 rs2) = and3 (register rd) (register rs1) (register rs2)
 fits_answers (Fence rd rs1 imm) = and3 (register rd) (register rs1) (immediate imm)
-fits_answers Ecall = always
-fits_answers Ebreak = always
 fits_answers (Mul rd rs1 rs2) = and3 (register rd) (register rs1) (register rs2)
 fits_answers (Mulh rd rs1 rs2) = and3 (register rd) (register rs1) (register rs2)
 fits_answers (Mulhsu rd rs1 rs2) = and3 (register rd) (register rs1) (register rs2)
@@ -106,6 +104,7 @@ fits_answers (Div rd rs1 rs2) = and3 (register rd) (register rs1) (register rs2)
 fits_answers (Divu rd rs1 rs2) = and3 (register rd) (register rs1) (register rs2)
 fits_answers (Rem rd rs1 rs2) = and3 (register rd) (register rs1) (register rs2)
 fits_answers (Remu rd rs1 rs2) = and3 (register rd) (register rs1) (register rs2)
+fits_answers _ = always
 
 chosen-in : (test : Bool) (instr : Instr) → Answers test (IsInRange instr) → IsInRange instr → (if test then Some instr else None) ≡ Some instr
 chosen-in true instr answers h = refl

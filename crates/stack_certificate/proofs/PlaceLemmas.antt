@@ -40,14 +40,7 @@ returned_place c (Some s) h = h.1.0
 -- the row of a modelled call in the table: its number is small, and so is the count of its parameters
 row_small : (call : ModelledCall) → (number_of call < 2048) × (parameters_of call ≤ 6)
 row_small ModelledCall.Accept = (omega arith, omega arith)
-row_small ModelledCall.Wait = (omega arith, omega arith)
-row_small ModelledCall.Sleep = (omega arith, omega arith)
-row_small ModelledCall.Yield = (omega arith, omega arith)
-row_small ModelledCall.Take = (omega arith, omega arith)
-row_small ModelledCall.WaitFor = (omega arith, omega arith)
-row_small ModelledCall.Put = (omega arith, omega arith)
-row_small ModelledCall.Give = (omega arith, omega arith)
-row_small ModelledCall.SelfNumber = (omega arith, omega arith)
+row_small _ = (omega arith, omega arith)
 
 -- a modelled call's number is small, and it has few arguments
 modelled_small : (n k : ℕ) → modelled_parameters n ≡ Some k → (n < 2048) × (k ≤ 6)
@@ -62,10 +55,6 @@ modelled_small n k h = by_call (call_numbered n) refl h
 
 have_places : (c : Context) → ((g : ℕ) → (signature_at c.signatures g).params ≤ 6) → (op : Op) → IsOperation c op → HavePlaces (length c.sizes) op
 have_places c most (Op.Const d value) h = h.0.0
-have_places c most (Op.Copy d s) h = (h.0.0, h.1.0)
-have_places c most (Op.Neg d s) h = (h.0.0, h.1.0)
-have_places c most (Op.Not d s) h = (h.0.0, h.1.0)
-have_places c most (Op.Flip d s) h = (h.0.0, h.1.0)
 have_places c most (Op.Bin op d a b) h = (h.0.0, h.1.0, h.2.0)
 have_places c most (Op.Zero a) h = h
 have_places c most (Op.LoadGlobal d g) h = h.0.0
@@ -81,6 +70,7 @@ have_places c most (Op.CallTable site d t i s) h = (h.1.0, h.2.0, result_place c
 have_places c most (Op.Model site d n args) h = (variables c args h.1, (modelled_small n (length args) h.0).1, (modelled_small n (length args) h.0).0, result_place c _ d h.2)
 have_places c most (Op.Spawn site d f s) h = (h.2.0, result_place c _ d h.3)
 have_places c most (Op.Return s) h = returned_place c s h
+have_places c most _ h = (h.0.0, h.1.0)
 
 pub function_formed : (code : FlatCode) (f : ℕ) → IsWellFormed code → f < length code.functions → IsFunction code (function_at code f)
 function_formed code f formed lt = all_at (IsFunction code) code.functions f _ formed.functions lt
@@ -99,9 +89,8 @@ operation_formed code f i d formed lt inside =
 
 pub same_count : (fs : List FlatFunction) (facts : List FunctionFact) → HasPlaces fs facts → length facts ≡ length fs
 same_count [] [] h = refl
-same_count [] (fact ∷ facts) h = absurd h
-same_count (f ∷ fs) [] h = absurd h
 same_count (f ∷ fs) (fact ∷ facts) h = ap suc (same_count fs facts h.1)
+same_count _ _ h = absurd h
 
 pub same_places : (fs : List FlatFunction) (facts : List FunctionFact) (i : ℕ) (f : FlatFunction) (fact : FunctionFact) → HasPlaces fs facts → i < length fs → length (slice_index_or facts i fact).places ≡ length (slice_index_or fs i f).sizes
 same_places [] facts i f fact h lt = absurd (omega arith)

@@ -12,21 +12,7 @@ use Rattle.stack_certificate.specs.Registers.{a0}
 
 length-middle : (op : BinOp) → length (middle op) ≡ middle_size op
 length-middle BinOp.Add = refl
-length-middle BinOp.Subtract = refl
-length-middle BinOp.Multiply = refl
-length-middle BinOp.Divide = refl
-length-middle BinOp.Remainder = refl
-length-middle BinOp.BitAnd = refl
-length-middle BinOp.BitOr = refl
-length-middle BinOp.BitXor = refl
-length-middle BinOp.ShiftLeft = refl
-length-middle BinOp.ShiftRight = refl
-length-middle BinOp.Less = refl
-length-middle BinOp.Greater = refl
-length-middle BinOp.LessOrEqual = refl
-length-middle BinOp.GreaterOrEqual = refl
-length-middle BinOp.Equal = refl
-length-middle BinOp.NotEqual = refl
+length-middle _ = refl
 
 length-zeroes : (place n : ℕ) → length (zeroes place n) ≡ n
 length-zeroes place zero = refl
@@ -46,8 +32,7 @@ length-result fact (Some d) = refl
 
 length-transfer : (kind : LinkKind) (callee : Option ℕ) (here : ℕ) → length (transfer kind callee here) ≡ transfer_size kind
 length-transfer LinkKind.Plain callee here = refl
-length-transfer (LinkKind.Linked need) callee here = refl
-length-transfer (LinkKind.Spawned need) callee here = refl
+length-transfer _ callee here = refl
 
 pub length-prologue : (fact : FunctionFact) (params : ℕ) → length (prologue fact params) ≡ 2 + params
 length-prologue fact params = let e = length-saves fact a0 0 params in omega arith

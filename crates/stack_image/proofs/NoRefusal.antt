@@ -12,15 +12,13 @@ use Rattle.stack_image.specs.Refusal.{begins_as_image, code_size, globals_size, 
 
 none_after_tests : (b d : Bool) (x y : ImageError) (rest : Option ImageError) →
     cond (not b) (Some x) (cond d (Some y) rest) ≡ None → (b ≡ true) × (d ≡ false) × (rest ≡ None)
-none_after_tests true true x y rest e = absurd cc
 none_after_tests true false x y rest e = (refl, refl, e)
-none_after_tests false d x y rest e = absurd cc
+none_after_tests _ _ x y rest e = absurd cc
 
 none_after_two : {X : Type 0} (b d : Bool) (x y : X) (rest : Option X) →
     cond b (Some x) (cond d (Some y) rest) ≡ None → (b ≡ false) × (d ≡ false) × (rest ≡ None)
-none_after_two true d x y rest e = absurd cc
-none_after_two false true x y rest e = absurd cc
 none_after_two false false x y rest e = (refl, refl, e)
+none_after_two _ _ x y rest e = absurd cc
 
 none_after_limit : (which : Option Which) (rest : Option ImageError) → limit_refusal which rest ≡ None → (which ≡ None) × (rest ≡ None)
 none_after_limit (Some which) rest e = absurd cc
@@ -98,8 +96,5 @@ magic_of_four : (a b c d : ℕ) → (nat_eq a 67 && (nat_eq b 65 && (nat_eq c 80
 magic_of_four a b c d e = grind arith
 
 pub magic_in_front : (bytes : List ℕ) → begins_as_image bytes ≡ true → 4 ≤ length bytes → take 4 bytes ≡ magic
-magic_in_front [] e long = absurd (omega arith)
-magic_in_front (a ∷ []) e long = absurd (omega arith)
-magic_in_front (a ∷ b ∷ []) e long = absurd (omega arith)
-magic_in_front (a ∷ b ∷ c ∷ []) e long = absurd (omega arith)
 magic_in_front (a ∷ b ∷ c ∷ d ∷ rest) e long = magic_of_four a b c d e
+magic_in_front _ e long = absurd (omega arith)

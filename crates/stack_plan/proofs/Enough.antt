@@ -27,7 +27,7 @@ use Rattle.stack_plan.proofs.SiteLemmas.{greatest-among, has-number, numbers-ris
 
 -- ---- weights
 
-weight-at : (fs : List FlatFunction) (f : ℕ) → f < length fs → slice_index (map (λ g. weight_of g.sizes) fs) f ≡ weight_of (slice_index_or fs f (record { params = 0; gives = false; sizes = []; ops = [] })).sizes
+pub weight-at : (fs : List FlatFunction) (f : ℕ) → f < length fs → slice_index (map (λ g. weight_of g.sizes) fs) f ≡ weight_of (slice_index_or fs f (record { params = 0; gives = false; sizes = []; ops = [] })).sizes
 weight-at [] f h = absurd (omega arith)
 weight-at (g ∷ gs) zero h = refl
 weight-at (g ∷ gs) (suc f) h = weight-at gs f (omega arith)
@@ -57,10 +57,8 @@ not-refused None plan h = refl
 not-refused (Some e) plan h = cc
 
 neither : (a b : Bool) → (a || not b) ≡ false → (a ≡ false) × (b ≡ true)
-neither true true e = cc
-neither true false e = cc
 neither false true e = (refl, refl)
-neither false false e = cc
+neither _ _ e = cc
 
 -- ---- plans
 

@@ -30,12 +30,11 @@ has-number (t ∷ ss) s among = elim among [
 ]
 
 pub numbers-rise : (ss : List GraphSite) → IsRising ss → IsStrictlyIncreasing (map (λ (x : GraphSite). x.number) ss)
-numbers-rise [] up k h = absurd (omega arith)
-numbers-rise (s ∷ []) up k h = absurd (omega arith)
 numbers-rise (s ∷ t ∷ ss) up zero h = up.0.0
 numbers-rise (s ∷ t ∷ ss) up (suc k) h =
     let one : suc k + 1 ≡ suc (k + 1) = omega arith in
     rw one (numbers-rise (t ∷ ss) up.1 k (let z : suc (k + 1) < suc (length (map (λ (x : GraphSite). x.number) (t ∷ ss))) = rw one at h in omega (arith, z)))
+numbers-rise _ up k h = absurd (omega arith)
 
 -- what is within a limit by itself has a greatest value within it
 pub greatest-within : (v : GraphSite → ℕ) (weight limit : ℕ) (ss : List GraphSite) → weight ≤ limit → weight + greatest v (filter (λ s. nat_le (weight + v s) limit) ss) ≤ limit

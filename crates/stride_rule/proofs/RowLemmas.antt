@@ -126,27 +126,22 @@ module _ (number : ℕ) where
 
 -- what holds of each client holds of that at a place
 pub row_passes : (P : Client → Type 0) (ps : List (Option Row)) (k : ℕ) (r : Row) → AllByRecursion P (clients_of ps) → row_at ps k ≡ Some r → P r.client
-row_passes P [] k r all e = absurd cc
-row_passes P (None ∷ ps) zero r all e = absurd cc
 row_passes P (None ∷ ps) (suc k) r all e = row_passes P ps k r all e
 row_passes P (Some x ∷ ps) zero r all e = let is : x ≡ r = cc in subst (λ (y : Row). P y.client) is all.0
 row_passes P (Some x ∷ ps) (suc k) r all e = row_passes P ps k r all.1 e
+row_passes P _ _ r all e = absurd cc
 
 -- growth changes no need, and what a thread waits for no client
 
 pub needs_grown : (ps : List (Option Row)) (k : ℕ) → needs_in (slice_set ps k (row_grown (row_at ps k))) ≡ needs_in ps
-needs_grown [] k = refl
-needs_grown (None ∷ ps) zero = refl
 needs_grown (None ∷ ps) (suc k) = needs_grown ps k
-needs_grown (Some r ∷ ps) zero = refl
 needs_grown (Some r ∷ ps) (suc k) = ap (λ (ns : List (ℕ × Need)). (r.client.thread.number, r.need) ∷ ns) (needs_grown ps k)
+needs_grown _ _ = refl
 
 pub clients_told : (need : Need) (ps : List (Option Row)) (k : ℕ) → clients_of (slice_set ps k (row_told need (row_at ps k))) ≡ clients_of ps
-clients_told need [] k = refl
-clients_told need (None ∷ ps) zero = refl
 clients_told need (None ∷ ps) (suc k) = clients_told need ps k
-clients_told need (Some r ∷ ps) zero = refl
 clients_told need (Some r ∷ ps) (suc k) = ap (λ (cs : List Client). r.client ∷ cs) (clients_told need ps k)
+clients_told need _ _ = refl
 
 -- ---- needs by the numbers of threads
 

@@ -113,8 +113,7 @@ near-first latest greatest first (c ∷ cs) h near is = (
 
 not_held : (held all : Bool) → (held || not all) ≡ false → (held ≡ false) × (all ≡ true)
 not_held false true e = (refl, refl)
-not_held false false e = absurd (let no : true ≡ false = e in cc)
-not_held true all e = absurd (let no : true ≡ false = e in cc)
+not_held _ _ e = absurd (let no : true ≡ false = e in cc)
 
 is-some : (o : Option Client) → IsSome o → (c : Client) × (o ≡ Some c)
 is-some None some = absurd (let no : false ≡ true = some in cc)

@@ -25,7 +25,8 @@ use Rattle.thread_core.specs.Turns.{Tells, IsTurn, MayBegin, LeavesRun}
 use Rattle.thread_core.specs.Worlds.{Held}
 use Rattle.thread_core.specs.declared.state.State.{State}
 use Rattle.thread_core.specs.declared.turns.Turn.{Turn}
-use Rattle.thread_core.proofs.CostLaws.{Counts, counts_step, goes_cost}
+use Rattle.machine_world.proofs.Counts.{Counts, counts_step}
+use Rattle.thread_core.proofs.CostLaws.{goes_cost}
 use Rattle.thread_core.proofs.OutsideLaws.{between_come}
 
 -- what stays of a setting

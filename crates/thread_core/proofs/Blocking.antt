@@ -1,6 +1,5 @@
 -- A thread that stands at the ECALL of a call that blocks: what the step of the world is, and what comes of it.
 use Rattle.std.proofs.Common.{◌≡◌, ◌≢◌, ℕ, ◌+◌, ◌-◌, ◌^◌, ◌<◌, ◌⊎◌, inl, inr, List, length, Option, Some, None, IsSome, option_map, refl, sym, ap, ◌∙◌, subst, arith, slice_set}
-use Rattle.std.proofs.lemmas.Bool.{cases_eq}
 use Rattle.std.proofs.lemmas.List.{length-map, length-set, get_or-set_same, get_or-set_other}
 use Rattle.slab.specs.Slab.{Slab, get}
 use Rattle.c_lower.specs.ProgramCode.{lowered}
@@ -45,6 +44,7 @@ use Rattle.thread_core.specs.declared.turns.Turn.{Turn}
 use Rattle.thread_core.proofs.Answering.{rests_small}
 use Rattle.thread_core.proofs.PassLaws.{its_record, its_step, passed_core}
 use Rattle.thread_core.proofs.TellingLaws.{number_at, found_at}
+use Rattle.thread_waits.proofs.BlockLaws.{same_or_not}
 
 around_by : (c : Checked) (pool : Pool) (core : Core) (rests : IsResting c pool core) → IsPast c pool core rests → IsAround c pool core rests
 around_by c pool core (AtStart f frames in_place) past = past
@@ -57,17 +57,13 @@ around accepted st context behind = record { rests = behind.rests; around = arou
 -- the key of a thread that rests behind its ECALL
 key_by : (c : Checked) (pool : Pool) (core : Core) (key : List ℕ) (rests : IsResting c pool core) → IsPast c pool core rests →
     ((f i word : ℕ) (op : Op) (place : Place) (frames : List Frame) → IsPastCall c pool core f i op word place frames → key ≡ key_of c f i frames) → HasKeyOf c pool core key
-key_by c pool core key (AtStart f frames in_place) past is = absurd past
-key_by c pool core key (AtCall f i op word frames in_place) past is = absurd past
 key_by c pool core key (PastCall f i op word place frames in_place) past is =
     record { function = f; operation = i; word = word; op = op; place = place; frames = frames; stands = in_place; is = λ g j w o p fs stands. is g j w o p fs stands }
+key_by c pool core key _ past is = absurd past
 
 has_key : (c : Checked) (w : World) (found : Option Thread) (t : Thread) (key : List ℕ) → found ≡ Some t → HasKeyOf c w.areas.pool t.core key → HasKey c w found key
 has_key c w None t key e h = absurd (let x : None ≡ Some t = e in cc)
 has_key c w (Some u) t key e h = let same : u ≡ t = cc in subst (λ (u : Thread). HasKeyOf c w.areas.pool u.core key) (sym same) h
-
-slot_or_not : (k slot : ℕ) → (k ≡ slot) ⊎ (k ≢ slot)
-slot_or_not k slot = cases_eq k slot
 
 module _ (accepted : Acceptance) (most : ℕ) (st : State) (thread : ThreadId) (runs : Runs accepted most st thread) (left : 0 < st.fuel.left) (block : Block)
     (at : LocalIs st thread (λ l. IsAtModel (checked_of accepted) (code_of accepted) l (Calls (Blocking block)))) (valid : IsValid (lowered (accepted_tree accepted)) accepted.image accepted.certificate) where
@@ -168,7 +164,7 @@ module _ (accepted : Acceptance) (most : ℕ) (st : State) (thread : ThreadId) (
       was_by place x e (inr apart) = (x, sym (others place apart) ∙ e)
 
       was : (place : ℕ) (x : Record) → get records place ≡ Some x → (y : Record) × (get st.records place ≡ Some y)
-      was place x e = was_by place x e (slot_or_not place thread.slot)
+      was place x e = was_by place x e (same_or_not place thread.slot)
 
       vacant_by : (place : ℕ) → get records place ≡ None → (place ≡ thread.slot) ⊎ (place ≢ thread.slot) → wait_at waits place ≡ None
       vacant_by place e (inl same) = absurd (let f : Some (record r { context = result }) ≡ None = sym written ∙ ap (get records) (sym same) ∙ e in cc)
@@ -185,12 +181,12 @@ module _ (accepted : Acceptance) (most : ℕ) (st : State) (thread : ThreadId) (
 
       aligned : AreAligned new
       aligned = record {
-        vacant = λ place e. vacant_by place e (slot_or_not place thread.slot);
+        vacant = λ place e. vacant_by place e (same_or_not place thread.slot);
         runs = λ place none. absurd none;
-        waits = λ place x e apart. waiting_by place x e (slot_or_not place thread.slot);
+        waits = λ place x e apart. waiting_by place x e (same_or_not place thread.slot);
         there = λ place x e. (let below = runs.kept.aligned.there place (was place x e).0 (was place x e).1 in let same = length-set st.waits.places thread.slot (Some wait) in omega (arith, below, same));
         named = λ place x e. runs.kept.aligned.named place (was place x e).0 (was place x e).1;
-        untrapped = λ place. untrapped_by place (slot_or_not place thread.slot);
+        untrapped = λ place. untrapped_by place (same_or_not place thread.slot);
       }
 
       kept_new : IsKept accepted most new
@@ -224,7 +220,7 @@ module _ (accepted : Acceptance) (most : ℕ) (st : State) (thread : ThreadId) (
           record {
             kept = kept_new;
             rest = record { caps = refl; backlog = refl; chunks = refl; begun = refl };
-            places = λ other old alive. number_at new other.slot ∙ same_by other.slot (slot_or_not other.slot thread.slot) ∙ sym (number_at st other.slot) ∙ old;
+            places = λ other old alive. number_at new other.slot ∙ same_by other.slot (same_or_not other.slot thread.slot) ∙ sym (number_at st other.slot) ∙ old;
             tells = subst (λ (m : Move). TellsIf m (Some turn) thread.number (machine_of most st) (held_in accepted most new)) (sym (goes untrapped ∙ ap (λ (w : World). Blocks w) (sym machine_is))) (keyed, refl, refl, runs.going);
             goes = refl;
           }

@@ -12,9 +12,7 @@ some_resource caps zero amount most t = absurd (let no : Some TrapKind.Resource 
 some_resource caps (suc r) amount most t = omega arith
 
 pub in_range : (x : Exchanging) (block : Block) → length x.caps ≡ 8 → (row_of x block).trap ≡ None → IsBlockInRange block
-in_range x Block.Accept long t = tt
 in_range x (Block.Wait channel) long t = channel_below channel t
-in_range x (Block.Sleep ticks) long t = tt
-in_range x Block.Yield long t = tt
 in_range x (Block.WaitFor channel ticks) long t = channel_below channel t
 in_range x (Block.Take resource amount) long t = (some_resource x.caps resource amount (cap_of x.caps resource) t, given_below x.caps resource amount (cap_of x.caps resource) long t)
+in_range x _ long t = tt

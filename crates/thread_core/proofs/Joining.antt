@@ -25,6 +25,7 @@ use Rattle.thread_core.specs.declared.state.State.{State}
 use Rattle.thread_core.specs.declared.turns.Turn.{Turn}
 use Rattle.thread_core.proofs.Alike.{stop_told}
 use Rattle.thread_core.proofs.TellingLaws.{found_at, number_at}
+use Rattle.thread_core.proofs.BeginLaws.{setting_same}
 
 -- ---- one after the other
 
@@ -43,9 +44,6 @@ places_on accepted most a b c same keeps = λ thread is alive.
 places_joined : (accepted : Acceptance) (most : ℕ) (a b c : State) (answered : Option Turn) → SamePlaces a b → PlacesIf accepted most b answered c → PlacesIf accepted most a answered c
 places_joined accepted most a b c None same then = λ place. then place ∙ same place
 places_joined accepted most a b c (Some turn) same then = places_on accepted most a b c same then
-
-setting_same : (accepted : Acceptance) (most : ℕ) (a b : State) → KeepsRest accepted most a b → setting_of accepted most b ≡ setting_of accepted most a
-setting_same accepted most a b rest = λ i. record { code = accepted.image.code; fuel = most; backlog = rest.backlog i; caps = rest.caps i }
 
 pub joined : (accepted : Acceptance) (most : ℕ) (thread : ThreadId) (old mid new : State) (segment : Segment) (answered : Option Turn) → RanTo accepted most thread old segment mid → Told accepted most thread mid answered new → OnTold accepted most thread old answered new
 joined accepted most thread old mid new segment answered ran told = record {

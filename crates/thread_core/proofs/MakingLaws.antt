@@ -45,7 +45,7 @@ use Rattle.chunk_pool.proofs.ShapeLaws.{first_bytes-start}
 use Rattle.chunk_pool.proofs.NeedLaws.{taken_for-count, taken_for-none, taken_for-start}
 use Rattle.machine_world.proofs.CountedLaws.{all_free-new}
 
-chunk_fours : (chunk : ℕ) → chunk % 16 ≡ 0 → 4 * (chunk / 4) ≡ chunk
+pub chunk_fours : (chunk : ℕ) → chunk % 16 ≡ 0 → 4 * (chunk / 4) ≡ chunk
 chunk_fours chunk h = omega (arith, h)
 
 abbrev pub areas_of : Image → Pool → Areas
@@ -80,10 +80,8 @@ started_count A entry need context after (Some taken) e h = ap (λ (a : Areas). 
 
 -- the number of the record at a place
 numbers_at : (slots : List (Option Record)) (place : ℕ) → slice_index_or (map (option_map number_of) slots) place None ≡ option_map number_of (slice_index_or slots place None)
-numbers_at [] zero = refl
-numbers_at [] (suc place) = refl
-numbers_at (x ∷ slots) zero = refl
 numbers_at (x ∷ slots) (suc place) = numbers_at slots place
+numbers_at _ _ = refl
 
 -- what came of it
 pub record IsMade (accepted : Acceptance) (policy : WorldPolicy) (fuel : ℕ) (st : State) : Type 0 where
@@ -248,8 +246,7 @@ module _ (accepted : Acceptance) (scoped : IsWellScoped (accepted_tree accepted)
 
         untrapped : (place : ℕ) → IsUntrapped st.exchange (wait_at waits place)
         untrapped zero = tt
-        untrapped (suc zero) = tt
-        untrapped (suc (suc place)) = tt
+        untrapped _ = tt
 
     kept_is : IsKept accepted fuel st
     kept_is = record {

@@ -21,17 +21,12 @@ use Rattle.thread_core.specs.declared.state.State.{State}
 
 -- a call is a trap by the caps alone
 untrapped_block : (x y : Exchanging) → y.caps ≡ x.caps → (block : Block) (since : ℕ) → IsUntrapped x (Some (Wait.At block since)) → IsUntrapped y (Some (Wait.At block since))
-untrapped_block x y e Block.Accept since u = u
-untrapped_block x y e (Block.Wait channel) since u = u
-untrapped_block x y e (Block.Sleep ticks) since u = u
-untrapped_block x y e Block.Yield since u = u
 untrapped_block x y e (Block.Take resource amount) since u = rw e u
-untrapped_block x y e (Block.WaitFor channel ticks) since u = u
+untrapped_block x y e _ since u = u
 
 pub untrapped_same : (x y : Exchanging) → y.caps ≡ x.caps → (wait : Option Wait) → IsUntrapped x wait → IsUntrapped y wait
-untrapped_same x y e None u = tt
-untrapped_same x y e (Some Wait.Fresh) u = tt
 untrapped_same x y e (Some (Wait.At block since)) u = untrapped_block x y e block since u
+untrapped_same x y e _ u = tt
 
 -- the world that an action that can be done leads to is well formed
 form_if : (c : Checked) (s : Setting) (w : World) (b : Bool) → b ≡ true → IsWellFormedIf c s (if b then Some w else None) → IsWellFormed c s w

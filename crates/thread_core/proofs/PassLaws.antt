@@ -27,6 +27,7 @@ use Rattle.thread_core.specs.declared.records.Record.{Record}
 use Rattle.thread_core.specs.declared.state.State.{State}
 use Rattle.thread_core.proofs.OutsideLaws.{untrapped_same}
 use Rattle.thread_core.proofs.TellingLaws.{found_at}
+use Rattle.thread_waits.proofs.BlockLaws.{same_or_not}
 
 same_record : (st : State) (place : ℕ) (r t : Record) → get st.records place ≡ Some r → get st.records place ≡ Some t → r ≡ t
 same_record st place r t e f = let x : Some r ≡ Some t = sym e ∙ f in cc
@@ -88,9 +89,6 @@ pub passed_core : (st : State) (context : Context) (answer : Option ℕ) → con
 passed_core st context None h = ap (λ (pc : ℕ). record { pc = pc; x = context.x; chain = (local_of st.areas context).core.chain }) (sym (next_word context.pc h))
 passed_core st context (Some value) h = ap (λ (pc : ℕ). record { pc = pc; x = with_result context.x (Some value); chain = (local_of st.areas context).core.chain }) (sym (next_word context.pc h))
 
-slot_or_not : (k slot : ℕ) → (k ≡ slot) ⊎ (k ≢ slot)
-slot_or_not k slot = grind arith
-
 module _ (accepted : Acceptance) (most : ℕ) (st : State) (thread : ThreadId) (runs : Runs accepted most st thread) (r : Record) (there : get st.records thread.slot ≡ Some r)
     (context : Context) (exchange : Exchanging) (records : Slab Record) (fuel : Fuel) where
   abbrev after : State
@@ -117,11 +115,11 @@ module _ (accepted : Acceptance) (most : ℕ) (st : State) (thread : ThreadId) (
 
     pub aligned_after : exchange.caps ≡ st.exchange.caps → AreAligned after
     aligned_after caps = record {
-      vacant = λ place e. runs.kept.aligned.vacant place (still_none place e (slot_or_not place thread.slot));
+      vacant = λ place e. runs.kept.aligned.vacant place (still_none place e (same_or_not place thread.slot));
       runs = runs.kept.aligned.runs;
-      waits = λ place t e away. let s : (s : Record) × (get st.records place ≡ Some s) = was_there place t e (slot_or_not place thread.slot) in runs.kept.aligned.waits place s.0 s.1 away;
-      there = λ place t e. let s : (s : Record) × (get st.records place ≡ Some s) = was_there place t e (slot_or_not place thread.slot) in runs.kept.aligned.there place s.0 s.1;
-      named = λ place t e. let s : (s : Record) × (get st.records place ≡ Some s) = was_there place t e (slot_or_not place thread.slot) in runs.kept.aligned.named place s.0 s.1;
+      waits = λ place t e away. let s : (s : Record) × (get st.records place ≡ Some s) = was_there place t e (same_or_not place thread.slot) in runs.kept.aligned.waits place s.0 s.1 away;
+      there = λ place t e. let s : (s : Record) × (get st.records place ≡ Some s) = was_there place t e (same_or_not place thread.slot) in runs.kept.aligned.there place s.0 s.1;
+      named = λ place t e. let s : (s : Record) × (get st.records place ≡ Some s) = was_there place t e (same_or_not place thread.slot) in runs.kept.aligned.named place s.0 s.1;
       untrapped = λ place. untrapped_same st.exchange exchange caps (wait_at st.waits place) (runs.kept.aligned.untrapped place);
     }
 

@@ -10,7 +10,7 @@ use Rattle.certificate_rules.specs.Validity.{IsValid}
 use Rattle.chunk_pool.specs.Pool.{Pool}
 use Rattle.machine_world.specs.Areas.{Areas}
 use Rattle.machine_world.specs.Places.{Checked}
-use Rattle.machine_world.specs.Rests.{IsResting, AtStart, AtCall, PastCall}
+use Rattle.machine_world.specs.Rests.{IsResting, AtStart, PastCall}
 use Rattle.rv_code.specs.declared.instructions.Instr.{Instr}
 use Rattle.rv_machine.specs.Step.{instruction_at}
 use Rattle.segment_laws.proofs.Facts.{CodeFacts}
@@ -46,13 +46,11 @@ use Rattle.thread_core.specs.declared.records.Record.{Record}
 use Rattle.thread_core.specs.declared.state.State.{State}
 use Rattle.thread_core.proofs.OutsideLaws.{untrapped_same}
 use Rattle.thread_core.proofs.TellingLaws.{found_at, ready_told}
+use Rattle.thread_waits.proofs.BlockLaws.{same_or_not}
 
 if_so : (b : Bool) → b ≡ true → (x y : Option World) → (if b then x else y) ≡ x
 if_so true e x y = refl
 if_so false e x y = absurd (cc)
-
-here_or_not : (k slot : ℕ) → (k ≡ slot) ⊎ (k ≢ slot)
-here_or_not k slot = grind arith
 
 gone_at : (w : Waiting) (place : ℕ) → place < length w.places → wait_at (record w { places = slice_set w.places place None }) place ≡ None
 gone_at w place there = get_or-set_same w.places place None None there
@@ -91,7 +89,7 @@ module _ (accepted : Acceptance) (most : ℕ) (st : State) (kept : IsKept accept
   was_there place t e (inr apart) = (t, sym (others place apart) ∙ e)
 
   pub same_places : SamePlaces st resumed_state
-  same_places place = by_place (here_or_not place thread.slot)
+  same_places place = by_place (same_or_not place thread.slot)
     where
       by_place : (place ≡ thread.slot) ⊎ (place ≢ thread.slot) → option_map number_of (get records place) ≡ option_map number_of (get st.records place)
       by_place (inl same) = rw (same, now_there, there) refl
@@ -99,13 +97,13 @@ module _ (accepted : Acceptance) (most : ℕ) (st : State) (kept : IsKept accept
 
   aligned_now : exchange.caps ≡ st.exchange.caps → AreAligned resumed_state
   aligned_now caps = record {
-    vacant = λ place e. vacant place e (here_or_not place thread.slot);
+    vacant = λ place e. vacant place e (same_or_not place thread.slot);
     runs = λ place same. ap (wait_at waits) (sym same) ∙ gone;
     waits = λ place t e away. subst (λ (o : Option Wait). IsSome o) (sym (elsewhere place (λ same. away (sym same))))
-        (let s = was_there place t e (here_or_not place thread.slot) in kept.aligned.waits place s.0 s.1 (subst (λ (o : Option ThreadId). Rattle.thread_core.specs.Kept.RunsAt o place → ⊥) (sym between) (λ no. no)));
-    there = λ place t e. let s = was_there place t e (here_or_not place thread.slot) in let low = kept.aligned.there place s.0 s.1 in let long = length-set st.waits.places thread.slot None in omega (arith, low, long);
-    named = λ place t e. let s = was_there place t e (here_or_not place thread.slot) in kept.aligned.named place s.0 s.1;
-    untrapped = λ place. untrapped place (here_or_not place thread.slot);
+        (let s = was_there place t e (same_or_not place thread.slot) in kept.aligned.waits place s.0 s.1 (subst (λ (o : Option ThreadId). Rattle.thread_core.specs.Kept.RunsAt o place → ⊥) (sym between) (λ no. no)));
+    there = λ place t e. let s = was_there place t e (same_or_not place thread.slot) in let low = kept.aligned.there place s.0 s.1 in let long = length-set st.waits.places thread.slot None in omega (arith, low, long);
+    named = λ place t e. let s = was_there place t e (same_or_not place thread.slot) in kept.aligned.named place s.0 s.1;
+    untrapped = λ place. untrapped place (same_or_not place thread.slot);
   }
     where
       vacant : (place : ℕ) → get records place ≡ None → (place ≡ thread.slot) ⊎ (place ≢ thread.slot) → wait_at waits place ≡ None
@@ -181,7 +179,7 @@ module _ (accepted : Acceptance) (most : ℕ) (st : State) (kept : IsKept accept
 
       threads_same : threads_in number_of (thread_of_record st.areas.pool (record st.waits { places = slice_set st.waits.places thread.slot None })) st.records.slots st.next ≡ threads_of st
       threads_same = (all_same number_of (thread_of_record st.areas.pool st.waits) (thread_of_record st.areas.pool (record st.waits { places = slice_set st.waits.places thread.slot None })) st.records.slots st.records.slots st.next kept.numbered (λ k. refl)
-          (λ k s e. ap (λ (b : Option Rattle.machine_world.specs.Threads.Blocked). let t : Thread = record { number = s.number; core = core_of st.areas.pool s.context; blocked = b } in t) (blocked_same k (here_or_not k thread.slot)))).1
+          (λ k s e. ap (λ (b : Option Rattle.machine_world.specs.Threads.Blocked). let t : Thread = record { number = s.number; core = core_of st.areas.pool s.context; blocked = b } in t) (blocked_same k (same_or_not k thread.slot)))).1
 
 -- ---- behind the ECALL
 
@@ -201,17 +199,13 @@ module _ (accepted : Acceptance) (scoped : IsWellScoped (accepted_tree accepted)
   -- a thread that rests as it does between segments doesn't stand at an ECALL
   pub no_ecall : (pool : Pool) (thread : Thread) (blocked : Option Blocked) (rests : IsResting c pool thread.core) → RestsSo c pool thread rests blocked → instruction_at accepted.image.code thread.core.pc ≡ Ok Instr.Ecall → ⊥
   no_ecall pool thread None (AtStart f frames in_place) so = at_entry f thread.core.pc in_place.at.0 in_place.at.2
-  no_ecall pool thread (Some blocked) (AtStart f frames in_place) so = absurd so
-  no_ecall pool thread None (AtCall f i op word frames in_place) so = absurd so
-  no_ecall pool thread (Some blocked) (AtCall f i op word frames in_place) so = absurd so
-  no_ecall pool thread None (PastCall f i op word place frames in_place) so = absurd so
   no_ecall pool thread (Some blocked) (PastCall f i op word place frames in_place) so = (behind_call (accepted_tree accepted) accepted.image accepted.certificate scoped valid pool thread.core f i word op place frames in_place).no_ecall
+  no_ecall pool thread _ _ so = absurd so
 
   -- one that is blocked rests behind its ECALL
   pub rests_behind : (areas : Areas) (thread : Thread) (blocked : Blocked) (rests : IsResting c areas.pool thread.core) → RestsSo c areas.pool thread rests (Some blocked) → RestsBehind c accepted.image.code (record { areas = areas; core = thread.core })
-  rests_behind areas thread blocked (AtStart f frames in_place) so = absurd so
-  rests_behind areas thread blocked (AtCall f i op word frames in_place) so = absurd so
   rests_behind areas thread blocked (PastCall f i op word place frames in_place) so = record { rests = PastCall f i op word place frames in_place; behind = tt; no_ecall = no_ecall areas.pool thread (Some blocked) (PastCall f i op word place frames in_place) so }
+  rests_behind areas thread blocked _ so = absurd so
 
   -- one that rests behind its ECALL, or at its start, may run
   module _ (most : ℕ) (new : State) (thread : ThreadId) (kept : IsKept accepted most new) (is : new.running ≡ Some thread) (going : new.stopped ≡ None) where
@@ -251,9 +245,8 @@ pub no_wait : (st : State) (thread : ThreadId) → Stands st thread → wait_at 
 no_wait st thread h e = let f : false ≡ true = rw e at h.ready in cc
 
 waited : (now : Bool) (clock since : ℕ) (wait : Option ℕ) → (now || is_past clock (wake_of since wait)) ≡ true → (now || is_some wait) ≡ true
-waited true clock since wait e = refl
 waited false clock since None e = e
-waited false clock since (Some ticks) e = refl
+waited _ clock since _ e = refl
 
 may_of : (setting : Setting) (w : World) (wait : Option Wait) → Rattle.thread_waits.specs.Waiting.is_ready_in setting.caps w.exchange w.clock wait ≡ true → may_run setting w (blocked_of wait) ≡ true
 may_of setting w None e = absurd (cc)

@@ -10,7 +10,7 @@ use Rattle.chunk_pool.specs.Pool.{chunk_of, shape_of}
 use Rattle.machine_world.specs.Areas.{Areas}
 use Rattle.machine_world.specs.Held.{copies_in, KeepsShape}
 use Rattle.machine_world.specs.Local as local
-use Rattle.machine_world.specs.Local.{Core, Local, local_step}
+use Rattle.machine_world.specs.Local.{Local, local_step}
 use Rattle.machine_world.specs.Places.{Checked}
 use Rattle.machine_world.specs.Threads as machine
 use Rattle.machine_world.specs.Threads.{Blocked, Thread, World, Setting, first_with, thread_of, replaced, without, moved, step}
@@ -40,6 +40,7 @@ use Rattle.thread_core.proofs.OtherChains.{chain_stays}
 use Rattle.thread_core.proofs.TellingLaws.{found_at, number_at}
 use Rattle.thread_waits.specs.Waiting.{wait_at}
 use Rattle.chunk_pool.proofs.ShapeLaws.{count-same}
+use Rattle.machine_meaning.proofs.Threads.{without_same}
 
 -- ---- any steps
 
@@ -58,10 +59,6 @@ replaced_length t (x ∷ threads) = ap suc (replaced_length t threads)
 gone_by : (number : ℕ) (x : Thread) (threads : List Thread) → first_with number (without number threads) ≡ None → (b : Bool) → nat_eq x.number number ≡ b → first_with number (without number (x ∷ threads)) ≡ None
 gone_by number x threads rest true e = rw e rest
 gone_by number x threads rest false e = rw (e, e) rest
-
-first_gone : (number : ℕ) (threads : List Thread) → first_with number (without number threads) ≡ None
-first_gone number [] = refl
-first_gone number (x ∷ threads) = gone_by number x threads (first_gone number threads) (nat_eq x.number number) refl
 
 abbrev with_chain : Record → Option Blocked → List ℕ → Thread
 with_chain s blocked chain = record { number = s.number; core = record { pc = s.context.pc; x = s.context.x; chain = chain }; blocked = blocked }
@@ -242,7 +239,7 @@ module _ (accepted : Acceptance) (most : ℕ) (thread : ThreadId) (old : State) 
           places_by other is alive (inl same) =
               let here : Some r.number ≡ Some other.number = sym (ap (option_map number_of) (ap (get old.records) same ∙ there)) ∙ sym (number_at old other.slot) ∙ is in
               let number : r.number ≡ other.number = cc in
-              let none : first_with other.number (threads_of left_by) ≡ None = ap (first_with other.number) threads_left.1 ∙ subst (λ (n : ℕ). first_with n (without r.number world.threads) ≡ None) number (first_gone r.number world.threads) in
+              let none : first_with other.number (threads_of left_by) ≡ None = ap (first_with other.number) threads_left.1 ∙ subst (λ (n : ℕ). first_with n (without r.number world.threads) ≡ None) number (without_same r.number world.threads) in
               absurd (not_some (first_with other.number (threads_of left_by)) none alive)
 
       pub ran_out : (steps spare : ℕ) (at : Local) → Leads (checked_of accepted) (code_of accepted) steps (local_of old.areas r.context) at → steps + spare ≡ old.fuel.left → fuel.left + 1 ≡ spare →

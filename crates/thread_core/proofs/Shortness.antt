@@ -6,7 +6,7 @@ use Rattle.machine_world.specs.InPlace.{IsInPlace}
 use Rattle.machine_world.specs.Places.{Checked}
 use Rattle.machine_world.specs.Runs.{after_action, Pick}
 use Rattle.machine_world.specs.Stretches.{IsSound, OnWorld, IsGoodStretch}
-use Rattle.machine_world.specs.Threads.{Thread, World, Setting, Move, Goes, Puts, Spawns, Blocks, Ends, Stops, Wrong, step}
+use Rattle.machine_world.specs.Threads.{Thread, World, Setting, Move, Goes, Puts, Spawns, Blocks, Ends, step}
 use Rattle.machine_world.proofs.ChainLaws.{length-chain}
 use Rattle.segment_run.specs.Contexts.{checked_of}
 use Rattle.thread_core.specs.Lengths.{HasShortChain, HaveShortChains, ChainsStayShort, StepsKeepShort, BeginsShort}
@@ -27,8 +27,7 @@ on_both P Q both (Puts value after) h = both after h
 on_both P Q both (Spawns number after) h = both after h
 on_both P Q both (Blocks after) h = both after h
 on_both P Q both (Ends after) h = both after h
-on_both P Q both (Stops stop) h = absurd h
-on_both P Q both Wrong h = absurd h
+on_both P Q both _ h = absurd h
 
 pub stay_short : (c : Checked) (s : Setting) (n : ℕ) (w : World) → IsGoodStretch c s n w → ChainsStayShort c s n w
 stay_short c s zero w h = all_short c w h

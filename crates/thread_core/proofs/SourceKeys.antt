@@ -9,7 +9,7 @@ use Rattle.accepted_pairs.proofs.SomeAt.{some_at}
 use Rattle.chunk_pool.specs.Pool.{Pool}
 use Rattle.machine_world.specs.Local.{Core}
 use Rattle.machine_world.specs.Places.{Checked}
-use Rattle.machine_world.specs.Rests.{IsResting, AtStart, AtCall, PastCall}
+use Rattle.machine_world.specs.Rests.{IsResting, PastCall}
 use Rattle.machine_world.specs.StandsFor.{Waits, StandsFor}
 use Rattle.machine_world.specs.StandsForWorld.{IsPast, StandsForRest}
 use Rattle.machine_world.specs.Threads.{Blocked, Thread, World, thread_of}
@@ -19,15 +19,13 @@ use Rattle.thread_core.specs.Turns.{HasKey, HasKeyOf}
 use Rattle.thread_core.proofs.Numbering.{IsBlockedIn}
 
 resting : (c : Checked) (program : ProgramTree) (pool : Pool) (core : Core) (key : List ℕ) → HasKeyOf c pool core key → (waiting : Waiting) → (rests : IsResting c pool core) → IsPast c pool core rests → StandsFor c program pool core rests (Waits waiting) → key ≡ key_of waiting
-resting c program pool core key has waiting (AtStart f frames in_place) past stands = absurd past
-resting c program pool core key has waiting (AtCall f i op word frames at) past stands = absurd past
 resting c program pool core key has waiting (PastCall f i op word place frames at) past stands = has.is f i word op place frames at ∙ key_is c program pool core (PastCall f i op word place frames at) waiting stands
+resting c program pool core key has waiting _ past stands = absurd past
 
 blocked_key : (c : Checked) (program : ProgramTree) (pool : Pool) (thread : Thread) (blocked : Blocked) (key : List ℕ) → thread.blocked ≡ Some blocked → HasKeyOf c pool thread.core key → (rest : Option Rest) → StandsForRest c program pool (Some thread) rest → IsKeyOf rest key
-blocked_key c program pool thread blocked key at has None h = absurd h
-blocked_key c program pool thread blocked key at has (Some source.Ended) h = absurd h
 blocked_key c program pool thread blocked key at has (Some (source.Fresh function arguments)) h = absurd (let no : None ≡ Some blocked = sym h.unblocked ∙ at in cc)
 blocked_key c program pool thread blocked key at has (Some (source.Blocked block waiting)) h = resting c program pool thread.core key has waiting h.rests h.past h.stands
+blocked_key c program pool thread blocked key at has _ h = absurd h
 
 -- a thread that is blocked has the key of its source thread
 pub key_of_rest : (c : Checked) (program : ProgramTree) (w : World) (number : ℕ) (key : List ℕ) (rest : Option Rest) → IsBlockedIn w number → HasKey c w (thread_of w number) key → StandsForRest c program w.areas.pool (thread_of w number) rest → IsKeyOf rest key
@@ -39,8 +37,7 @@ key_of_rest c program w number key rest is has h =
 ended_by : (c : Checked) (program : ProgramTree) (pool : Pool) (rest : Option Rest) (other : Rest) → rest ≡ Some other → StandsForRest c program pool None rest → HasEnded rest
 ended_by c program pool None other e h = absurd (let no : None ≡ Some other = e in cc)
 ended_by c program pool (Some source.Ended) other e h = tt
-ended_by c program pool (Some (source.Fresh function arguments)) other e h = absurd h
-ended_by c program pool (Some (source.Blocked block waiting)) other e h = absurd h
+ended_by c program pool (Some _) other e h = absurd h
 
 -- one that lives no more has ended there
 pub ended_rest : (c : Checked) (program : ProgramTree) (w : World) (number : ℕ) (rests : List Rest) → number < length rests → thread_of w number ≡ None → StandsForRest c program w.areas.pool (thread_of w number) (slice_get rests number) → HasEnded (slice_get rests number)

@@ -122,9 +122,7 @@ module _ (accepted : Acceptance) (most : ℕ) (thread : ThreadId) (scoped : IsWe
 
     at_stop : (stop : Stop) (cost : ℕ) → Trapped (Stops stop) → machine_of most new ≡ at → TellsSource (Turn.Cut stop cost) start number puts started (held_in accepted most new)
     at_stop (Stop.Trap kind) cost trap e = (trap.after, done same (Some kind) trap.after at.next trap.finished starts_at (reached_at.under_way.next ∙ sym (ap (λ rests. length rests) trap.same)))
-    at_stop Stop.NoChunk cost trap e = still e
-    at_stop Stop.Fuel cost trap e = still e
-    at_stop Stop.Threads cost trap e = still e
+    at_stop _ cost trap e = still e
 
     by_move : (move : Move) → StepReaches c program s start number puts move → Leaves number at move → Trapped move → (turn : Turn) → Tells move turn number at (held_in accepted most new) → TellsSource turn start number puts started (held_in accepted most new)
     by_move (Puts value after) reach leaves trap (Turn.Out told) t =

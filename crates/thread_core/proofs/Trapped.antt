@@ -1,5 +1,5 @@
 -- Where a step of the world is a trap, the source's run comes to it from where it is, and starts no thread on the way.
-use Rattle.std.proofs.Common.{◌≡◌, ℕ, nat_eq, List, length, Option, Some, None, refl, sym, ap, subst, ◌∙◌, cond}
+use Rattle.std.proofs.Common.{◌≡◌, ℕ, nat_eq, List, length, Option, Some, None, refl, sym, ap, subst, ◌∙◌}
 use Rattle.std.specs.Prelude.{nat_le}
 use Rattle.std.proofs.lemmas.Bool.{cond_both}
 use Rattle.cap_word.specs.Calls.{Call, Blocking, Immediate, most_threads}
@@ -20,10 +20,10 @@ use Rattle.certificate_rules.specs.Validity.{IsValid}
 use Rattle.chunk_pool.specs.Pool.{Taken, taken_for}
 use Rattle.flat_code.specs.declared.operations.Op.{Op}
 use Rattle.machine_world.specs.Local as local
-use Rattle.machine_world.specs.Local.{LocalMove, Ended, Trapped, NoRoom, Wrong, local_step}
+use Rattle.machine_world.specs.Local.{LocalMove, Ended, Trapped, local_step}
 use Rattle.machine_world.specs.Places.{Checked}
 use Rattle.machine_world.specs.Threads as machine
-use Rattle.machine_world.specs.Threads.{Thread, World, Setting, thread_of, Move, retired, resumed, result_of, unless_trap, printed, answered, blocks, package_call, spawned, starts, asked, moved, step_of, step_on, step}
+use Rattle.machine_world.specs.Threads.{Thread, World, Setting, Move, retired, resumed, result_of, unless_trap, printed, answered, blocks, package_call, spawned, starts, asked, moved, step, local_in}
 use Rattle.machine_world.specs.WellFormed.{IsWellFormed}
 use Rattle.machine_meaning.specs.AsSource.{AsksCall, IsStepAsSource}
 use Rattle.stack_certificate.specs.Certificates.{fact_at, need_of}
@@ -31,13 +31,8 @@ use Rattle.stack_certificate.specs.Templates.{kind_of}
 use Rattle.stack_certificate.specs.declared.certificates.Certificate.{Certificate}
 use Rattle.stack_image.specs.declared.images.Image.{Image}
 use Rattle.machine_meaning.specs.Reached.{IsReached, IsFinished}
-use Rattle.machine_meaning.proofs.Forms.{local_in}
 use Rattle.machine_meaning.proofs.SegmentSteps.{along, finish, own}
-
--- the step of a world whose running thread is there
-step_is : (s : Setting) (w : World) (number : ℕ) (thread : Thread) → w.running ≡ Some number → thread_of w number ≡ Some thread → step s w ≡ cond (nat_eq w.cost s.fuel) (machine.Stops Stop.Fuel) (moved s w thread (local_step s.code (local_in w thread)))
-unfolding step
-step_is s w number thread running found = ap (step_on s w) running ∙ ap (step_of s w) found
+use Rattle.machine_meaning.proofs.WorldSteps.{step_is}
 
 module _ (program : ProgramTree) (image : Image) (certificate : Certificate) (scoped : IsWellScoped program) (valid : IsValid (lowered program) image certificate) (s : Setting) (code_is : s.code ≡ image.code)
     (start : source.World) (number : ℕ) (puts : List ℕ) (w : World) (formed_w : IsWellFormed (record { flat = lowered program; certificate = certificate }) s w) (r : IsReached (record { flat = lowered program; certificate = certificate }) program s start number puts w) where
@@ -111,16 +106,13 @@ module _ (program : ProgramTree) (image : Image) (certificate : Certificate) (sc
     by_op op question call h comes = absurd h
 
   by_move : (move : LocalMove) → IsStepAsSource checked program segment.running (local_in w thread) move → TrapsSo (moved s w thread move)
-  by_move (Goes next) h = tt
   by_move (Asks question still) h =
       let source_asks = asks_in_world program s.caps segment h.1.0 h.1.1 h.1.2 h.1.3 in
       by_op source_asks.0 h.1.2 h.1.1.globals h.1.4.op question h.1.1.call h.1.4.same source_asks.2
-  by_move (Stops (Ended areas)) h = tt
   by_move (Stops (Trapped kind)) h =
       let source_stops = stops_in_world program s.caps segment h.0 h.1 h.2 in
       trapped source_stops.0 h.1.globals kind h.1.trap (source.rests segment h.1.globals source.Ended) h.3.0 source_stops.2
-  by_move (Stops NoRoom) h = tt
-  by_move (Stops Wrong) h = tt
+  by_move _ h = tt
 
   pub trap_step : TrapsSo (step s w)
   trap_step =

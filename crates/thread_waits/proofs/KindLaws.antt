@@ -1,5 +1,5 @@
 -- Readiness by kinds.
-use Rattle.std.proofs.Common.{◌≡◌, ℕ, ◌&&◌, ◌||◌, not, Bool, true, false, List, Option, Some, None, refl, ◌∙◌}
+use Rattle.std.proofs.Common.{◌≡◌, ℕ, ◌&&◌, ◌||◌, not, Bool, true, false, List, Option, Some, refl, ◌∙◌}
 use Rattle.std.specs.List.{list_any}
 use Rattle.cap_word.specs.declared.calls.Block.{Block}
 use Rattle.c_mean.specs.ModelledCalls.{Exchange, channel_of, holds_some}
@@ -43,9 +43,8 @@ block_elsewhere caps x clock since (Block.WaitFor channel ticks) = either_way (h
 
 elsewhere : (caps : List ℕ) (x : Exchange) (clock : ℕ) (wait : Option Wait) →
     (is_ready_in caps x clock wait && not (is_at_accept wait)) ≡ (is_ready_anyway clock wait || (is_at_message x wait || is_taking caps x wait))
-elsewhere caps x clock None = refl
-elsewhere caps x clock (Some Wait.Fresh) = refl
 elsewhere caps x clock (Some (Wait.At block since)) = block_elsewhere caps x clock since block
+elsewhere caps x clock _ = refl
 
 -- some is ready elsewhere: one anyway, one at a message, or one that takes
 pub any_elsewhere_by : (caps : List ℕ) (x : Exchange) (w : Waiting) →
@@ -67,17 +66,13 @@ block_ready : (caps : List ℕ) (x : Exchange) (clock since : ℕ) (block : Bloc
     is_ready_in caps x clock (Some (Wait.At block since))
     ≡ ((is_ready_in caps x clock (Some (Wait.At block since)) && not (is_at_accept (Some (Wait.At block since)))) || (is_at_accept (Some (Wait.At block since)) && holds_some x.arrivals))
 block_ready caps x clock since Block.Accept = at_accept (holds_some x.arrivals)
-block_ready caps x clock since (Block.Wait channel) = elsewhere_is _
-block_ready caps x clock since (Block.Sleep ticks) = elsewhere_is _
 block_ready caps x clock since Block.Yield = refl
-block_ready caps x clock since (Block.Take resource amount) = elsewhere_is _
-block_ready caps x clock since (Block.WaitFor channel ticks) = elsewhere_is _
+block_ready caps x clock since _ = elsewhere_is _
 
 ready : (caps : List ℕ) (x : Exchange) (clock : ℕ) (wait : Option Wait) →
     is_ready_in caps x clock wait ≡ ((is_ready_in caps x clock wait && not (is_at_accept wait)) || (is_at_accept wait && holds_some x.arrivals))
-ready caps x clock None = refl
-ready caps x clock (Some Wait.Fresh) = refl
 ready caps x clock (Some (Wait.At block since)) = block_ready caps x clock since block
+ready caps x clock _ = refl
 
 -- some is ready: one elsewhere, or one at `accept` where an arrival waits
 pub any_ready_by : (caps : List ℕ) (x : Exchange) (w : Waiting) →

@@ -17,17 +17,13 @@ ticks_small clock since ticks n h e =
     time_small clock (since + ticks_of ticks) n e (omega arith) (past_or_later clock (since + ticks_of ticks))
 
 block_small : (clock since n : ℕ) (block : Block) → since ≤ latest → later_wake clock (Some (Wait.At block since)) ≡ Some n → n < no_number
-block_small clock since n Block.Accept h e = absurd (cc)
-block_small clock since n (Block.Wait channel) h e = absurd (cc)
 block_small clock since n (Block.Sleep ticks) h e = ticks_small clock since ticks n h e
-block_small clock since n Block.Yield h e = absurd (cc)
-block_small clock since n (Block.Take resource amount) h e = absurd (cc)
 block_small clock since n (Block.WaitFor channel ticks) h e = ticks_small clock since ticks n h e
+block_small clock since n _ h e = absurd (cc)
 
 pub wake_small : (clock n : ℕ) (wait : Option Wait) → IsWaitInRangeIf wait → later_wake clock wait ≡ Some n → n < no_number
-wake_small clock n None r e = absurd (cc)
-wake_small clock n (Some Wait.Fresh) r e = absurd (cc)
 wake_small clock n (Some (Wait.At block since)) r e = block_small clock since n block r.1 e
+wake_small clock n _ r e = absurd (cc)
 
 pub none_by : (o : Option ℕ) → ((n : ℕ) → o ≡ Some n → ⊥) → (o ≡ None) ⊎ ((n : ℕ) × (o ≡ Some n)) → o ≡ None
 none_by o never (inl e) = e

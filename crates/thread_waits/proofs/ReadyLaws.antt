@@ -27,17 +27,13 @@ eq_cases a b = grind (arith, nat_tests)
 
 block_at_message : (x : Exchange) (channel : ℕ) → holds_some (channel_of x channel) ≡ true → (since : ℕ) (block : Block) →
     is_at_channel channel (Some (Wait.At block since)) ≡ true → is_at_message x (Some (Wait.At block since)) ≡ true
-block_at_message x channel h since Block.Accept e = absurd (cc)
 block_at_message x channel h since (Block.Wait other) e = rw (eq_true other channel e) h
-block_at_message x channel h since (Block.Sleep ticks) e = absurd (cc)
-block_at_message x channel h since Block.Yield e = absurd (cc)
-block_at_message x channel h since (Block.Take resource amount) e = absurd (cc)
 block_at_message x channel h since (Block.WaitFor other ticks) e = rw (eq_true other channel e) h
+block_at_message x channel h since _ e = absurd (cc)
 
 at_message : (x : Exchange) (channel : ℕ) → holds_some (channel_of x channel) ≡ true → (wait : Option Wait) → is_at_channel channel wait ≡ true → is_at_message x wait ≡ true
-at_message x channel h None e = absurd (cc)
-at_message x channel h (Some Wait.Fresh) e = absurd (cc)
 at_message x channel h (Some (Wait.At block since)) e = block_at_message x channel h since block e
+at_message x channel h _ e = absurd (cc)
 
 -- where somebody waits at a channel that holds a message, somebody is ready
 pub some_at_message : (x : Exchange) (places : List (Option Wait)) (channel : ℕ) → holds_some (channel_of x channel) ≡ true → 0 < count_by (is_at_channel channel) places → list_any (is_at_message x) places ≡ true
@@ -59,18 +55,14 @@ idle_wait x places k channel wait h e there (inr idle) = idle
 
 idle_block : (x : Exchange) (places : List (Option Wait)) → ((channel : ℕ) → channel < 64 → IsIdle x places channel) → (k since : ℕ) (block : Block) → k < length places →
     IsWaitInRangeIf (Some (Wait.At block since)) → slice_index_or places k None ≡ Some (Wait.At block since) → is_at_message x (Some (Wait.At block since)) ≡ false
-idle_block x places idle k since Block.Accept h r e = refl
 idle_block x places idle k since (Block.Wait channel) h r e = idle_wait x places k channel (Some (Wait.At (Block.Wait channel) since)) h e (eq_same channel) (idle channel r.0)
-idle_block x places idle k since (Block.Sleep ticks) h r e = refl
-idle_block x places idle k since Block.Yield h r e = refl
-idle_block x places idle k since (Block.Take resource amount) h r e = refl
 idle_block x places idle k since (Block.WaitFor channel ticks) h r e = idle_wait x places k channel (Some (Wait.At (Block.WaitFor channel ticks) since)) h e (eq_same channel) (idle channel r.0)
+idle_block x places idle k since _ h r e = refl
 
 idle_at : (x : Exchange) (places : List (Option Wait)) → ((channel : ℕ) → channel < 64 → IsIdle x places channel) → (k : ℕ) (wait : Option Wait) → k < length places →
     IsWaitInRangeIf wait → slice_index_or places k None ≡ wait → is_at_message x wait ≡ false
-idle_at x places idle k None h r e = refl
-idle_at x places idle k (Some Wait.Fresh) h r e = refl
 idle_at x places idle k (Some (Wait.At block since)) h r e = idle_block x places idle k since block h r e
+idle_at x places idle k _ h r e = refl
 
 -- where no channel has both, nobody at a channel is ready
 pub none_at_message : (x : Exchange) (places : List (Option Wait)) → All IsWaitInRangeIf places → ((channel : ℕ) → channel < 64 → IsIdle x places channel) → list_any (is_at_message x) places ≡ false
@@ -80,7 +72,7 @@ none_at_message x places ranges idle =
 
 -- ---- resources
 
-get_or_any : (xs : List (Option Wait)) (k : ℕ) (d e : Option Wait) → k < length xs → slice_index_or xs k d ≡ slice_index_or xs k e
+pub get_or_any : (xs : List (Option Wait)) (k : ℕ) (d e : Option Wait) → k < length xs → slice_index_or xs k d ≡ slice_index_or xs k e
 get_or_any [] k d e h = absurd (omega arith)
 get_or_any (x ∷ xs) zero d e h = refl
 get_or_any (x ∷ xs) (suc k) d e h = get_or_any xs k d e (omega arith)
@@ -100,17 +92,12 @@ taking_by caps x r amount since resource taken e h (inr other) = absurd (if_some
 
 block_taking : (caps : List ℕ) (x : Exchange) (r amount since : ℕ) (block : Block) → amount_of r (Some (Wait.At block since)) ≡ Some amount → nat_le (use_of x r + amount) (cap_of caps r) ≡ true →
     is_taking caps x (Some (Wait.At block since)) ≡ true
-block_taking caps x r amount since Block.Accept e h = absurd (cc)
-block_taking caps x r amount since (Block.Wait other) e h = absurd (cc)
-block_taking caps x r amount since (Block.Sleep ticks) e h = absurd (cc)
-block_taking caps x r amount since Block.Yield e h = absurd (cc)
 block_taking caps x r amount since (Block.Take resource taken) e h = taking_by caps x r amount since resource taken e h (eq_cases resource r)
-block_taking caps x r amount since (Block.WaitFor other ticks) e h = absurd (cc)
+block_taking caps x r amount since _ e h = absurd (cc)
 
 taking : (caps : List ℕ) (x : Exchange) (r amount : ℕ) (wait : Option Wait) → amount_of r wait ≡ Some amount → nat_le (use_of x r + amount) (cap_of caps r) ≡ true → is_taking caps x wait ≡ true
-taking caps x r amount None e h = absurd (cc)
-taking caps x r amount (Some Wait.Fresh) e h = absurd (cc)
 taking caps x r amount (Some (Wait.At block since)) e h = block_taking caps x r amount since block e h
+taking caps x r amount _ e h = absurd (cc)
 
 pub default_same : (places : List (Option Wait)) (k : ℕ) → k < length places → slice_index_or places k (slice_index_or places k None) ≡ slice_index_or places k None
 default_same places k h = get_or_any places k (slice_index_or places k None) None h
@@ -136,17 +123,12 @@ none_taking_one caps x r places leaves least t l h = All-from_get_or (λ wait. i
 -- where it is so of each resource, nobody who waits for one is ready
 free_block : (caps : List ℕ) (x : Exchange) (since : ℕ) (block : Block) → IsWaitInRangeIf (Some (Wait.At block since)) → ((r : ℕ) → 1 ≤ r → r < 8 → is_taker caps x r (Some (Wait.At block since)) ≡ false) →
     is_taking caps x (Some (Wait.At block since)) ≡ false
-free_block caps x since Block.Accept r h = refl
-free_block caps x since (Block.Wait channel) r h = refl
-free_block caps x since (Block.Sleep ticks) r h = refl
-free_block caps x since Block.Yield r h = refl
 free_block caps x since (Block.Take resource amount) r h = rw (eq_same resource) at (h resource r.0.0 r.0.1)
-free_block caps x since (Block.WaitFor channel ticks) r h = refl
+free_block caps x since _ r h = refl
 
 free_wait : (caps : List ℕ) (x : Exchange) (wait : Option Wait) → IsWaitInRangeIf wait → ((r : ℕ) → 1 ≤ r → r < 8 → is_taker caps x r wait ≡ false) → is_taking caps x wait ≡ false
-free_wait caps x None r h = refl
-free_wait caps x (Some Wait.Fresh) r h = refl
 free_wait caps x (Some (Wait.At block since)) r h = free_block caps x since block r h
+free_wait caps x _ r h = refl
 
 pub none_taking : (caps : List ℕ) (x : Exchange) (places : List (Option Wait)) → All IsWaitInRangeIf places → ((r : ℕ) → 1 ≤ r → r < 8 → All (λ wait. is_taker caps x r wait ≡ false) places) →
     list_any (is_taking caps x) places ≡ false

@@ -44,9 +44,8 @@ sleeps_block caps x clock since (Block.Take resource amount) = none_either (nat_
 sleeps_block caps x clock since (Block.WaitFor channel ticks) = message_or_past (holds_some (channel_of x channel)) clock (since + ticks_of ticks)
 
 pub sleeps_by : (caps : List ℕ) (x : Exchange) (clock : ℕ) (wait : Option Wait) → sleeps_in caps x clock wait ≡ silent_wake x clock wait
-sleeps_by caps x clock None = refl
-sleeps_by caps x clock (Some Wait.Fresh) = refl
 sleeps_by caps x clock (Some (Wait.At block since)) = sleeps_block caps x clock since block
+sleeps_by caps x clock _ = refl
 
 silent : (x : Exchange) (clock : ℕ) (wait : Option Wait) → is_at_message x wait ≡ false → silent_wake x clock wait ≡ later_wake clock wait
 silent x clock wait e = ap (λ (b : Bool). cond b None (later_wake clock wait)) e

@@ -61,12 +61,8 @@ past_number clock (Some time) h = rw (later_no clock time h) refl
 -- ---- who is ready by the clock
 
 always_block : (clock since : ℕ) (block : Block) → is_ready_always (Some (Wait.At block since)) ≡ true → is_ready_anyway clock (Some (Wait.At block since)) ≡ true
-always_block clock since Block.Accept e = absurd (cc)
-always_block clock since (Block.Wait channel) e = absurd (cc)
-always_block clock since (Block.Sleep ticks) e = absurd (cc)
 always_block clock since Block.Yield e = refl
-always_block clock since (Block.Take resource amount) e = absurd (cc)
-always_block clock since (Block.WaitFor channel ticks) e = absurd (cc)
+always_block clock since _ e = absurd (cc)
 
 pub always_ready : (clock : ℕ) (wait : Option Wait) → is_ready_always wait ≡ true → is_ready_anyway clock wait ≡ true
 always_ready clock None e = absurd (cc)
@@ -77,27 +73,21 @@ same_time : (time other : ℕ) → Some time ≡ Some other → time ≡ other
 same_time time other e = cc
 
 past_block : (clock time since : ℕ) (block : Block) → wake_of (Some (Wait.At block since)) ≡ Some time → time ≤ clock → is_ready_anyway clock (Some (Wait.At block since)) ≡ true
-past_block clock time since Block.Accept e h = absurd (cc)
-past_block clock time since (Block.Wait channel) e h = absurd (cc)
 past_block clock time since (Block.Sleep ticks) e h = let same : since + ticks_of ticks ≡ time = same_time (since + ticks_of ticks) time e in le_yes (since + ticks_of ticks) clock (omega arith)
-past_block clock time since Block.Yield e h = absurd (cc)
-past_block clock time since (Block.Take resource amount) e h = absurd (cc)
 past_block clock time since (Block.WaitFor channel ticks) e h = let same : since + ticks_of ticks ≡ time = same_time (since + ticks_of ticks) time e in le_yes (since + ticks_of ticks) clock (omega arith)
+past_block clock time since _ e h = absurd (cc)
 
 -- whose time has come
 pub past_ready : (clock time : ℕ) (wait : Option Wait) → wake_of wait ≡ Some time → time ≤ clock → is_ready_anyway clock wait ≡ true
-past_ready clock time None e h = absurd (cc)
-past_ready clock time (Some Wait.Fresh) e h = absurd (cc)
 past_ready clock time (Some (Wait.At block since)) e h = past_block clock time since block e h
+past_ready clock time _ e h = absurd (cc)
 
 unready_block : (clock since : ℕ) (block : Block) → is_ready_always (Some (Wait.At block since)) ≡ false → clock < number_or (wake_of (Some (Wait.At block since))) →
     is_ready_anyway clock (Some (Wait.At block since)) ≡ false
-unready_block clock since Block.Accept e h = refl
-unready_block clock since (Block.Wait channel) e h = refl
 unready_block clock since (Block.Sleep ticks) e h = le_no (since + ticks_of ticks) clock h
 unready_block clock since Block.Yield e h = absurd (cc)
-unready_block clock since (Block.Take resource amount) e h = refl
 unready_block clock since (Block.WaitFor channel ticks) e h = le_no (since + ticks_of ticks) clock h
+unready_block clock since _ e h = refl
 
 -- whose time hasn't
 pub unready : (clock : ℕ) (wait : Option Wait) → is_ready_always wait ≡ false → clock < number_or (wake_of wait) → is_ready_anyway clock wait ≡ false

@@ -16,14 +16,12 @@ NoLonger a b = (other : Mark) (bytes : List ℕ) → a ∷ b ∷ bytes ≢ mark_
 
 -- whether a text begins with the byte and goes on, and whether it begins with the two bytes
 abbrev goes_on : ℕ → List ℕ → Bool
-goes_on a [] = false
-goes_on a (c ∷ []) = false
 goes_on a (c ∷ d ∷ rest) = nat_eq c a
+goes_on a _ = false
 
 abbrev begins_with_two : ℕ → ℕ → List ℕ → Bool
-begins_with_two a b [] = false
-begins_with_two a b (c ∷ []) = false
 begins_with_two a b (c ∷ d ∷ rest) = nat_eq c a && nat_eq d b
+begins_with_two a b _ = false
 
 stays_one : (a b : ℕ) → nat_eq a a ≡ true → ((other : Mark) → goes_on a (mark_text other) ≡ false) → NoLonger a b
 stays_one a b itself none other bytes = λ e. both_ways (goes_on a (mark_text other)) (none other) (sym (ap (goes_on a) e) ∙ itself)

@@ -24,8 +24,7 @@ use Rattle.workload.proofs.Resolved.{chain_site, worker_site, chain_trees, worke
 -- a call's transfer has at most eleven words, however it links
 transfer_few : (kind : LinkKind) → transfer_size kind ≤ 11
 transfer_few LinkKind.Plain = lit≤ tt
-transfer_few (LinkKind.Linked need) = lit≤ tt
-transfer_few (LinkKind.Spawned need) = lit≤ tt
+transfer_few _ = lit≤ tt
 
 -- a function whose frame isn't too large and whose code has few words, whatever the plan
 pub record IsLight (f : FunctionTree) : Type 0 where

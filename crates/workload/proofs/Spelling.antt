@@ -14,6 +14,7 @@ use Rattle.c_lex.specs.Marks.{mark_text}
 use Rattle.c_lex.specs.Lexemes.{IsTaken, IsOfKind}
 use Rattle.c_lex.specs.Places.{lexeme_of}
 use Rattle.c_lex.specs.Tokens.{LeadsTo}
+use Rattle.c_lex.proofs.Leads.{IsGap-append}
 
 -- a token as it is written: the white space before it, its bytes, and what it is
 pub record Written : Type 0 where
@@ -63,9 +64,8 @@ tokens_of at (w ∷ ws) more = token_of at w ∷ tokens_of (past at w) ws more
 
 -- the place where the white space of token k begins, the tokens from it on, and the place of the token itself
 abbrev pub start_of : ℕ → ℕ → List Written → ℕ
-start_of zero at ws = at
-start_of (suc k) at [] = at
 start_of (suc k) at (w ∷ ws) = start_of k (past at w) ws
+start_of _ at _ = at
 
 abbrev pub from : ℕ → List Written → List Written
 from zero ws = ws
@@ -106,15 +106,12 @@ gap_append_at front whole gap after split (comment text rest same is others) mor
     (subst (IsComment text) (ap (λ l. rest ++ l) split ∙ sym (append_assoc rest gap after)) is)
     (gap_append_at rest whole gap after split others more)
 
-gap_append : (front gap after : List ℕ) → IsGap front (gap ++ after) → IsGap gap after → IsGap (front ++ gap) after
-gap_append front gap after is more = gap_append_at front (gap ++ after) gap after refl is more
-
 -- what a rest leads to, the text leads to that has white space before it
 pub leads_gap : (at : ℕ) (gap rest : List ℕ) (tokens : List Token) (stop : ℕ) (end : List ℕ) → IsGap gap rest → LeadsTo (at + length gap) rest tokens stop end → LeadsTo at (gap ++ rest) tokens stop end
 leads_gap at gap rest [] stop end is last = record {
   gap = gap ++ last.gap;
   split = ap (λ l. gap ++ l) last.split ∙ sym (append_assoc gap last.gap end);
-  between = gap_append gap last.gap end (subst (IsGap gap) last.split is) last.between;
+  between = IsGap-append gap last.gap end (subst (IsGap gap) last.split is) last.between;
   place = let long = length-append gap last.gap in omega (arith, last.place);
 }
 leads_gap at gap rest (token ∷ tokens) stop end is leads =
@@ -124,7 +121,7 @@ leads_gap at gap rest (token ∷ tokens) stop end is leads =
         gap = gap ++ first.gap;
         lexeme = first.lexeme;
         split = ap (λ l. gap ++ l) first.split ∙ sym (append_assoc gap first.gap (first.lexeme ++ leads.0));
-        between = gap_append gap first.gap (first.lexeme ++ leads.0) (subst (IsGap gap) first.split is) first.between;
+        between = IsGap-append gap first.gap (first.lexeme ++ leads.0) (subst (IsGap gap) first.split is) first.between;
         taken = first.taken;
         kind = first.kind;
         place = let long = length-append gap first.gap in omega (arith, first.place);
@@ -156,9 +153,8 @@ stands_next source at w ws after s = record {
 }
 
 pub stands_from : (k : ℕ) (source : List ℕ) (at : ℕ) (ws : List Written) (after : List ℕ) → Stands source at ws after → Stands source (start_of k at ws) (from k ws) after
-stands_from zero source at ws after s = s
-stands_from (suc k) source at [] after s = s
 stands_from (suc k) source at (w ∷ ws) after s = stands_from k source (past at w) ws after (stands_next source at w ws after s)
+stands_from _ source at _ after s = s
 
 -- the bytes of the source at a token's place are those that were written
 pub lexeme_is : (source : List ℕ) (at : ℕ) (w : Written) (ws : List Written) (after : List ℕ) → Stands source at (w ∷ ws) after → lexeme_of source (token_of at w) ≡ w.lexeme

@@ -12,16 +12,14 @@ use Rattle.cap_text.specs.Decimals.{canonical_decimal}
 use Rattle.cap_text.proofs.DecimalLaws.{decimal_digits, decimal_value, length_decimal, first_of_decimal}
 use Rattle.c_lex.specs.declared.keywords.Keyword.{Keyword}
 use Rattle.c_lex.specs.declared.keywords.Keyword.TheVariants as keywords
-use Rattle.c_lex.specs.declared.marks.Mark.{Mark}
-use Rattle.c_lex.specs.declared.marks.Mark.TheVariants as marks
 use Rattle.c_lex.specs.Bytes.{is_white_space, is_letter, is_word_byte}
 use Rattle.c_lex.specs.Gaps.{IsGap}
 use Rattle.c_lex.specs.Gaps.IsGap.{nothing, space}
 use Rattle.c_lex.specs.Keywords.{keyword_text}
-use Rattle.c_lex.specs.Marks.{mark_text}
 use Rattle.c_lex.specs.Numbers.{IsNumber, IsDecimal}
 use Rattle.c_lex.specs.Lexemes.{AllWordBytes, IsWord, IsIdentifier, IsLexeme, IsTaken, IsOfKind}
 use Rattle.workload.proofs.Spelling.{Written, IsWritten, keyword, name, number}
+use Rattle.c_lex.proofs.MarkTable.{mark_no_word}
 
 -- a text is written as itself
 pub same_itself : (text : List ℕ) → bytes_eq text text ≡ true
@@ -46,10 +44,6 @@ within_word : (front : List ℕ) (b : ℕ) (back : List ℕ) → AllWordBytes (f
 within_word [] b back all = all.0
 within_word (c ∷ front) b back all = within_word front b back all.1
 
-no_mark_word : (mark : Mark) → is_word_byte (get_or (mark_text mark) 0 0) ≡ false
-no_mark_word marks.ShiftLeftAssign = refl
-no_mark_word _ = refl
-
 ends_at : (b : ℕ) (rest after : List ℕ) → after ≡ b ∷ rest → EndsWord after → is_word_byte b ≡ false
 ends_at b rest after same ends = subst EndsWord same ends
 
@@ -63,7 +57,7 @@ word_taken first lexeme after all ends = record {
   longer : (more rest : List ℕ) → after ≡ more ++ rest → IsLexeme ((first ∷ lexeme) ++ more) → more ≡ []
   longer [] rest same whole = refl
   longer (b ∷ more) rest same (inl word) = absurd (both_ways _ (ends_at b (more ++ rest) after same ends) (within_word (first ∷ lexeme) b more word))
-  longer (b ∷ more) rest same (inr mark) = absurd (both_ways _ (no_mark_word mark.0) (sym (ap (λ text. is_word_byte (get_or text 0 0)) mark.1) ∙ all.0))
+  longer (b ∷ more) rest same (inr mark) = absurd (both_ways _ (mark_no_word mark.0) (sym (ap (λ text. is_word_byte (get_or text 0 0)) mark.1) ∙ all.0))
 
 -- a word as it is written
 pub word_written : (w : Written) (after : List ℕ) → AllWhite w.gap → IsWord w.lexeme → EndsWord after → IsOfKind w.lexeme w.kind → IsWritten w after

@@ -29,8 +29,7 @@ names_of_f (suc (suc x)) k in_scope inside = absurd (omega arith)
 names_of_main : HoldsNames checked at_entry.pool main_frame waiting_main.frame.names call_in_main.scope
 unfolding start_in
 names_of_main zero zero in_scope inside = refl
-names_of_main zero (suc k) in_scope inside = absurd (omega arith)
-names_of_main (suc x) k in_scope inside = absurd (omega arith)
+names_of_main _ _ in_scope inside = absurd (omega arith)
 
 waits_f : IsWaitingFrame checked recursion at_entry.pool caller_frame (standing checked caller_frame) waiting_f
 unfolding start_in

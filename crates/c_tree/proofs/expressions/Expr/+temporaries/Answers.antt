@@ -9,8 +9,7 @@ use Rattle.c_tree.proofs.expressions.Expr.+temporaries.Goals as goal
 
 capped_step : (o : Infix) (most n m r : ℕ) → m ≡ capped n → r ≡ max most (capped (operand_temporaries o m)) → capped r ≡ capped (max most (operand_temporaries o n))
 capped_step (Infix.Binary op) most n m r e f = omega arith
-capped_step Infix.LogicalAnd most n m r e f = omega arith
-capped_step Infix.LogicalOr most n m r e f = omega arith
+capped_step _ most n m r e f = omega arith
 
 pub loop-operator-init : goal.loop-operator-init
 loop-operator-init t c =
