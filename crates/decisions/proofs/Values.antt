@@ -68,100 +68,78 @@ placement_decided given =
     Sizes : Type 0
     Sizes = (chunk : ℕ) × (IsNumberOf given option.Chunk chunk × Rest chunk)
 
--- ---- the caps
+-- ---- pairs of numbers
 
--- the fields are caps of resources that rise from above this one
-abbrev CapsFrom : List (List ℕ) → ℕ → Type 0
-CapsFrom fields below = (pairs : List (ℕ × ℕ)) × ((fields ≡ map cap_text pairs) × AreCapsAbove below pairs)
+-- whether fields are the texts of pairs whose first numbers rise, with each number in its range
+module _ (text_of : ℕ × ℕ → List ℕ) (next : ℕ → ℕ) (Above : ℕ → ℕ → Type 0) (above : (base first : ℕ) → Decided (Above base first)) (firsts seconds : ℕ)
+    (Rise : ℕ → List (ℕ × ℕ) → Type 0) (none : (base : ℕ) → Rise base [])
+    (join : (base first second : ℕ) (pairs : List (ℕ × ℕ)) → Above base first × (first ≤ firsts) × (1 ≤ second) × (second ≤ seconds) × Rise (next first) pairs → Rise base ((first, second) ∷ pairs))
+    (split : (base first second : ℕ) (pairs : List (ℕ × ℕ)) → Rise base ((first, second) ∷ pairs) → Above base first × (first ≤ firsts) × (1 ≤ second) × (second ≤ seconds) × Rise (next first) pairs) where
+  -- the fields are the texts of such pairs
+  abbrev PairsFrom : List (List ℕ) → ℕ → Type 0
+  PairsFrom fields base = (pairs : List (ℕ × ℕ)) × ((fields ≡ map text_of pairs) × Rise base pairs)
 
--- the field is one cap, and the others are those of resources above it
-abbrev FirstCap : List ℕ → List (List ℕ) → ℕ → ℕ → ℕ → Type 0
-FirstCap field fields below resource most = ((field ≡ cap_text (resource, most)) × ((below < resource) × (1 ≤ most))) × CapsFrom fields resource
+  -- the field is one pair, and the others follow it
+  abbrev First : List ℕ → List (List ℕ) → ℕ → ℕ → ℕ → Type 0
+  First field fields base first second = ((field ≡ text_of (first, second)) × (Above base first × (1 ≤ second))) × PairsFrom fields (next first)
 
-abbrev SomeCap : List ℕ → List (List ℕ) → ℕ → ℕ → ℕ → Type 0
-SomeCap field fields below resources mosts = Below (λ resource. Below (λ most. FirstCap field fields below resource most) mosts) resources
+  abbrev SomePair : List ℕ → List (List ℕ) → ℕ → Type 0
+  SomePair field fields base = Below (λ first. Below (λ second. First field fields base first second) (suc seconds)) (suc firsts)
 
-caps_from : (fields : List (List ℕ)) (below : ℕ) → Decided (CapsFrom fields below)
-caps_from [] below = inl ([], (refl, tt))
-caps_from (field ∷ fields) below = by 8 1000001 refl refl (λ n. caps_from fields n) where
-  first : ((n : ℕ) → Decided (CapsFrom fields n)) → (resource most : ℕ) → Decided (FirstCap field fields below resource most)
-  first again resource most = both_decided (both_decided (text_same field (cap_text (resource, most)))
-      (both_decided (lt_decided below resource) (le_decided 1 most))) (again resource)
+  some_decided : (field : List ℕ) (fields : List (List ℕ)) (base : ℕ) → ((n : ℕ) → Decided (PairsFrom fields n)) → Decided (SomePair field fields base)
+  some_decided field fields base again =
+      below_decided (λ first. Below (λ second. First field fields base first second) (suc seconds))
+      (λ first. below_decided (λ second. First field fields base first second)
+      (λ second. both_decided (both_decided (text_same field (text_of (first, second))) (both_decided (above base first) (le_decided 1 second))) (again (next first))) (suc seconds)) (suc firsts)
 
-  search : ((n : ℕ) → Decided (CapsFrom fields n)) → (resources mosts : ℕ) → Decided (SomeCap field fields below resources mosts)
-  search again resources mosts =
-      below_decided (λ resource. Below (λ most. FirstCap field fields below resource most) mosts)
-      (λ resource. below_decided (λ most. FirstCap field fields below resource most) (first again resource) mosts) resources
-
-  to : (resources mosts : ℕ) → resources ≡ 8 → mosts ≡ 1000001 → SomeCap field fields below resources mosts → CapsFrom (field ∷ fields) below
-  to resources mosts r m b =
+  to_pairs : (field : List ℕ) (fields : List (List ℕ)) (base : ℕ) → SomePair field fields base → PairsFrom (field ∷ fields) base
+  to_pairs field fields base b =
       let f = b.1.1.1.1 in
       let text = f.0.0 in
       let more = f.1.1.0 in
       let first_below = b.1.0 in
-      let most_below = b.1.1.1.0 in
-      ((b.0, b.1.1.0) ∷ f.1.0, ((cc), (f.0.1.0, omega (arith, first_below, r), f.0.1.1, omega (arith, most_below, m), f.1.1.1)))
+      let second_below = b.1.1.1.0 in
+      ((b.0, b.1.1.0) ∷ f.1.0, ((cc), join base b.0 b.1.1.0 f.1.0 (f.0.1.0, omega (arith, first_below), f.0.1.1, omega (arith, second_below), f.1.1.1)))
 
-  from : (resources mosts : ℕ) → resources ≡ 8 → mosts ≡ 1000001 → CapsFrom (field ∷ fields) below → SomeCap field fields below resources mosts
-  from resources mosts r m (([], h)) = let e = h.0 in absurd cc
-  from resources mosts r m (((resource, most) ∷ pairs, h)) =
+  from_pairs : (field : List ℕ) (fields : List (List ℕ)) (base : ℕ) → PairsFrom (field ∷ fields) base → SomePair field fields base
+  from_pairs field fields base (([], h)) = let e = h.0 in absurd cc
+  from_pairs field fields base (((first, second) ∷ pairs, h)) =
       let e = h.0 in
-      let a = h.1.1 in
-      let b = h.1.3 in
-      (resource, (omega (arith, a, r), (most, (omega (arith, b, m), (((cc), (h.1.0, h.1.2)), (pairs, ((cc), h.1.4)))))))
+      let is = split base first second pairs h.1 in
+      let a = is.1 in
+      let b = is.3 in
+      (first, (omega (arith, a), (second, (omega (arith, b), (((cc), (is.0, is.2)), (pairs, ((cc), is.4)))))))
 
-  by : (resources mosts : ℕ) → resources ≡ 8 → mosts ≡ 1000001 → ((n : ℕ) → Decided (CapsFrom fields n)) → Decided (CapsFrom (field ∷ fields) below)
-  by resources mosts r m again = decided_by (to resources mosts r m) (from resources mosts r m) (search again resources mosts)
+  pairs_from : (fields : List (List ℕ)) (base : ℕ) → Decided (PairsFrom fields base)
+  pairs_from [] base = inl ([], (refl, none base))
+  pairs_from (field ∷ fields) base = decided_by (to_pairs field fields base) (from_pairs field fields base) (some_decided field fields base (λ n. pairs_from fields n))
+
+-- ---- the caps
+
+abbrev CapsFrom : List (List ℕ) → ℕ → Type 0
+CapsFrom fields below = (pairs : List (ℕ × ℕ)) × ((fields ≡ map cap_text pairs) × AreCapsAbove below pairs)
+
+caps_from : (fields : List (List ℕ)) → Decided (CapsFrom fields 0)
+caps_from fields =
+    pairs_from cap_text (λ resource. resource) (λ below resource. below < resource) lt_decided 7 1000000 AreCapsAbove (λ below. tt) (λ below resource most pairs h. h) (λ below resource most pairs h. h)
+    fields 0
 
 pub caps_decided : (given : Option (List ℕ)) → Decided ((caps : List ℕ) × AreCaps given caps)
 caps_decided None = inl (replicate 8 0, refl)
 caps_decided (Some text) =
     decided_by (λ (h : CapsFrom (pieces 44 text) 0). (caps_of h.0, (h.0, record { joined = h.1.0; in_range = h.1.1 }, refl)))
     (λ h. (h.1.0, (h.1.1.joined, h.1.1.in_range)))
-    (caps_from (pieces 44 text) 0)
+    (caps_from (pieces 44 text))
 
 -- ---- the rule
 
 abbrev TicketsFrom : List (List ℕ) → ℕ → Type 0
 TicketsFrom fields least = (pairs : List (ℕ × ℕ)) × ((fields ≡ map ticket_text pairs) × AreTicketsFrom least pairs)
 
-abbrev FirstTicket : List ℕ → List (List ℕ) → ℕ → ℕ → ℕ → Type 0
-FirstTicket field fields least thread count = ((field ≡ ticket_text (thread, count)) × ((least ≤ thread) × (1 ≤ count))) × TicketsFrom fields (suc thread)
-
-abbrev SomeTicket : List ℕ → List (List ℕ) → ℕ → ℕ → ℕ → Type 0
-SomeTicket field fields least threads counts = Below (λ thread. Below (λ count. FirstTicket field fields least thread count) counts) threads
-
-tickets_from : (fields : List (List ℕ)) (least : ℕ) → Decided (TicketsFrom fields least)
-tickets_from [] least = inl ([], (refl, tt))
-tickets_from (field ∷ fields) least = by 1000001 1025 refl refl (λ n. tickets_from fields n) where
-  first : ((n : ℕ) → Decided (TicketsFrom fields n)) → (thread count : ℕ) → Decided (FirstTicket field fields least thread count)
-  first again thread count = both_decided (both_decided (text_same field (ticket_text (thread, count)))
-      (both_decided (le_decided least thread) (le_decided 1 count))) (again (suc thread))
-
-  search : ((n : ℕ) → Decided (TicketsFrom fields n)) → (threads counts : ℕ) → Decided (SomeTicket field fields least threads counts)
-  search again threads counts =
-      below_decided (λ thread. Below (λ count. FirstTicket field fields least thread count) counts)
-      (λ thread. below_decided (λ count. FirstTicket field fields least thread count) (first again thread) counts) threads
-
-  to : (threads counts : ℕ) → threads ≡ 1000001 → counts ≡ 1025 → SomeTicket field fields least threads counts → TicketsFrom (field ∷ fields) least
-  to threads counts r m b =
-      let f = b.1.1.1.1 in
-      let text = f.0.0 in
-      let more = f.1.1.0 in
-      let first_below = b.1.0 in
-      let most_below = b.1.1.1.0 in
-      ((b.0, b.1.1.0) ∷ f.1.0, ((cc), (f.0.1.0, omega (arith, first_below, r), f.0.1.1, omega (arith, most_below, m), f.1.1.1)))
-
-  from : (threads counts : ℕ) → threads ≡ 1000001 → counts ≡ 1025 → TicketsFrom (field ∷ fields) least → SomeTicket field fields least threads counts
-  from threads counts r m (([], h)) = let e = h.0 in absurd cc
-  from threads counts r m (((thread, count) ∷ pairs, h)) =
-      let e = h.0 in
-      let a = h.1.1 in
-      let b = h.1.3 in
-      (thread, (omega (arith, a, r), (count, (omega (arith, b, m), (((cc), (h.1.0, h.1.2)), (pairs, ((cc), h.1.4)))))))
-
-  by : (threads counts : ℕ) → threads ≡ 1000001 → counts ≡ 1025 → ((n : ℕ) → Decided (TicketsFrom fields n)) → Decided (TicketsFrom (field ∷ fields) least)
-  by threads counts r m again = decided_by (to threads counts r m) (from threads counts r m) (search again threads counts)
+tickets_from : (fields : List (List ℕ)) → Decided (TicketsFrom fields 0)
+tickets_from fields =
+    pairs_from ticket_text (λ thread. suc thread) (λ least thread. least ≤ thread) le_decided 1000000 1024 AreTicketsFrom (λ least. tt) (λ least thread tickets pairs h. h) (λ least thread tickets pairs h. h)
+    fields 0
 
 few_pairs : (fields : List (List ℕ)) (pairs : List (ℕ × ℕ)) → fields ≡ map ticket_text pairs → length fields ≡ length pairs
 few_pairs fields pairs e = ap length e ∙ length-map pairs ticket_text
@@ -172,7 +150,7 @@ tickets_decided (Some text) =
     decided_by (λ (h : TicketsFrom (pieces 44 text) 0 × (length (pieces 44 text) ≤ 64)).
     (tickets_of h.0.0, (h.0.0, record { joined = h.0.1.0; in_range = h.0.1.1; few = (let e = few_pairs _ _ h.0.1.0 in let few = h.1 in omega arith) }, refl)))
     (λ h. ((h.1.0, (h.1.1.joined, h.1.1.in_range)), (let e = few_pairs _ _ h.1.1.joined in let few = h.1.1.few in omega arith)))
-    (both_decided (tickets_from (pieces 44 text) 0) (le_decided (length (pieces 44 text)) 64))
+    (both_decided (tickets_from (pieces 44 text)) (le_decided (length (pieces 44 text)) 64))
 
 rule_decided : (given tickets_given : Option (List ℕ)) → Decided ((rule : Rule) × IsRule given tickets_given rule)
 rule_decided given tickets_given =

@@ -1,5 +1,5 @@
 -- The program of the rows is well formed, and the certificate is for it.
-use Rattle.std.proofs.Common.{refl, lit≤, lit<, [], ◌∷◌, eqb}
+use Rattle.std.proofs.Common.{refl, lit≤, lit<, rules, [], ◌∷◌, eqb}
 use Rattle.std.specs.List.{IsDistinct}
 use Rattle.flat_code.specs.WellFormed.{IsFunction, IsWellFormed}
 use Rattle.pair_rows.specs.Sample.{callee_function, main_function, putting_code, putting_function, sample_code}
@@ -10,19 +10,7 @@ callee_formed = record {
   parameters = refl;
   words = lit≤ tt;
   count = lit≤ tt;
-  ops = (
-    ((lit< tt, refl), (lit< tt, refl)),
-    (
-      (refl, (lit< tt, refl)),
-      (
-        ((lit< tt, refl), lit< tt),
-        (
-          (refl, (lit< tt, refl)),
-          tt,
-        ),
-      ),
-    ),
-  );
+  ops = search rules;
 }
 
 main_formed : IsFunction sample_code main_function
@@ -31,118 +19,7 @@ main_formed = record {
   parameters = refl;
   words = lit≤ tt;
   count = lit≤ tt;
-  ops = (
-    ((lit< tt, refl), lit< tt),
-    (
-      ((lit< tt, refl), (lit< tt, refl)),
-      (
-        ((lit< tt, refl), (lit< tt, refl)),
-        (
-          ((lit< tt, refl), (lit< tt, refl)),
-          (
-            ((lit< tt, refl), (lit< tt, refl)),
-            (
-              ((lit< tt, refl), (lit< tt, refl), (lit< tt, refl)),
-              (
-                ((lit< tt, refl), (lit< tt, refl), (lit< tt, refl)),
-                (
-                  ((lit< tt, refl), (lit< tt, refl), (lit< tt, refl)),
-                  (
-                    ((lit< tt, refl), (lit< tt, refl), (lit< tt, refl)),
-                    (
-                      ((lit< tt, refl), (lit< tt, refl), (lit< tt, refl)),
-                      (
-                        ((lit< tt, refl), (lit< tt, refl), (lit< tt, refl)),
-                        (
-                          ((lit< tt, refl), (lit< tt, refl), (lit< tt, refl)),
-                          (
-                            ((lit< tt, refl), (lit< tt, refl), (lit< tt, refl)),
-                            (
-                              ((lit< tt, refl), (lit< tt, refl), (lit< tt, refl)),
-                              (
-                                ((lit< tt, refl), (lit< tt, refl), (lit< tt, refl)),
-                                (
-                                  ((lit< tt, refl), (lit< tt, refl), (lit< tt, refl)),
-                                  (
-                                    ((lit< tt, refl), (lit< tt, refl), (lit< tt, refl)),
-                                    (
-                                      ((lit< tt, refl), (lit< tt, refl), (lit< tt, refl)),
-                                      (
-                                        ((lit< tt, refl), (lit< tt, refl), (lit< tt, refl)),
-                                        (
-                                          ((lit< tt, refl), (lit< tt, refl), (lit< tt, refl)),
-                                          (
-                                            ((lit< tt, refl), (lit< tt, refl), (lit< tt, refl)),
-                                            (
-                                              lit< tt,
-                                              (
-                                                ((lit< tt, refl), (lit< tt, refl)),
-                                                (
-                                                  ((lit< tt, refl), (lit< tt, refl)),
-                                                  (
-                                                    ((lit< tt, refl), lit< tt, (lit< tt, refl)),
-                                                    (
-                                                      ((lit< tt, refl), lit< tt, (lit< tt, refl)),
-                                                      (
-                                                        (lit< tt, (lit< tt, refl), (lit< tt, refl)),
-                                                        (
-                                                          (lit< tt, (lit< tt, refl), (lit< tt, refl)),
-                                                          (
-                                                            lit< tt,
-                                                            (
-                                                              ((lit< tt, refl), lit< tt),
-                                                              (
-                                                                (lit< tt, refl, ((lit< tt, refl), tt), (refl, (lit< tt, refl))),
-                                                                (
-                                                                  (lit< tt, refl, ((lit< tt, refl), tt), tt),
-                                                                  (
-                                                                    (lit< tt, (lit< tt, refl), (lit< tt, refl), (refl, (lit< tt, refl))),
-                                                                    (
-                                                                      (refl, tt, (refl, (lit< tt, refl))),
-                                                                      (
-                                                                        (refl, ((lit< tt, refl), ((lit< tt, refl), tt)), tt),
-                                                                        (
-                                                                          (lit< tt, refl, (lit< tt, refl), (refl, (lit< tt, refl))),
-                                                                          (
-                                                                            (refl, (lit< tt, refl)),
-                                                                            tt,
-                                                                          ),
-                                                                        ),
-                                                                      ),
-                                                                    ),
-                                                                  ),
-                                                                ),
-                                                              ),
-                                                            ),
-                                                          ),
-                                                        ),
-                                                      ),
-                                                    ),
-                                                  ),
-                                                ),
-                                              ),
-                                            ),
-                                          ),
-                                        ),
-                                      ),
-                                    ),
-                                  ),
-                                ),
-                              ),
-                            ),
-                          ),
-                        ),
-                      ),
-                    ),
-                  ),
-                ),
-              ),
-            ),
-          ),
-        ),
-      ),
-    ),
-  );
+  ops = search rules;
 }
 
 alone : IsDistinct eqb (0 ∷ 1 ∷ 2 ∷ 3 ∷ 4 ∷ 5 ∷ [])
@@ -166,13 +43,7 @@ putting_function_formed = record {
   parameters = refl;
   words = lit≤ tt;
   count = lit≤ tt;
-  ops = (
-    ((lit< tt, refl), lit< tt),
-    (
-      (refl, ((lit< tt, refl), tt), tt),
-      (((lit< tt, refl), lit< tt), ((refl, (lit< tt, refl)), (((lit< tt, refl), lit< tt), ((refl, (lit< tt, refl)), tt)))),
-    ),
-  );
+  ops = search rules;
 }
 
 single : IsDistinct eqb (0 ∷ [])
