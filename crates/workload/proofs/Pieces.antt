@@ -10,6 +10,11 @@ use Rattle.workload.proofs.Spelling.{Written, close, blank, keyword, mark, name,
 use Rattle.workload.proofs.Words.{keyword_written, name_written, number_written, decimal_word, decimal_number, chain_is_name, name_x, name_r, name_w, name_n, name_c, name_v, name_i, name_main, name_accept, name_wait, name_put, name_spawn}
 use Rattle.workload.proofs.Marks.{left_parenthesis, right_parenthesis, left_brace, right_brace, comma, semicolon, assign, less, plus}
 
+infixr 5 ◌⊕◌
+-- what holds of a piece, and what holds of the pieces behind it
+◌⊕◌ : {A B : Type 0} → A → B → A × B
+◌⊕◌ a b = (a, b)
+
 -- the name of function i of the chain
 abbrev pub chain_name : ℕ → List ℕ
 chain_name i = 102 ∷ canonical_decimal i
@@ -37,40 +42,19 @@ first_pieces =
     ∷ []
 
 pub first_written : (rest : List ℕ) → AreWritten (first_pieces) (10 ∷ rest)
-first_written rest = (
-  keyword_written _ _ _ tt refl,
-  (
-    name_written _ _ _ (refl, tt) (chain_is_name 0) refl,
-    (
-      left_parenthesis _ _ _ tt,
-      (
-        keyword_written _ _ _ tt refl,
-        (
-          name_written _ _ _ (refl, tt) name_x refl,
-          (
-            right_parenthesis _ _ _ tt,
-            (
-              left_brace _ _ _ (refl, tt),
-              (
-                keyword_written _ _ _ (refl, tt) refl,
-                (
-                  name_written _ _ _ (refl, tt) name_x refl,
-                  (
-                    semicolon _ _ _ tt,
-                    (
-                      right_brace _ _ _ (refl, tt),
-                      tt,
-                    ),
-                  ),
-                ),
-              ),
-            ),
-          ),
-        ),
-      ),
-    ),
-  ),
-)
+first_written rest =
+    keyword_written _ _ _ tt refl
+    ⊕ name_written _ _ _ (refl, tt) (chain_is_name 0) refl
+    ⊕ left_parenthesis _ _ _ tt
+    ⊕ keyword_written _ _ _ tt refl
+    ⊕ name_written _ _ _ (refl, tt) name_x refl
+    ⊕ right_parenthesis _ _ _ tt
+    ⊕ left_brace _ _ _ (refl, tt)
+    ⊕ keyword_written _ _ _ (refl, tt) refl
+    ⊕ name_written _ _ _ (refl, tt) name_x refl
+    ⊕ semicolon _ _ _ tt
+    ⊕ right_brace _ _ _ (refl, tt)
+    ⊕ tt
 
 pub first_spelled : (rest : List ℕ) → first_line ++ rest ≡ spell (first_pieces) (10 ∷ rest)
 unfolding first_line
@@ -105,76 +89,31 @@ link_pieces i m =
     ∷ []
 
 pub link_written : (i : ℕ) (m : ℕ) (rest : List ℕ) → AreWritten (link_pieces i m) (10 ∷ rest)
-link_written i m rest = (
-  keyword_written _ _ _ tt refl,
-  (
-    name_written _ _ _ (refl, tt) (chain_is_name i) refl,
-    (
-      left_parenthesis _ _ _ tt,
-      (
-        keyword_written _ _ _ tt refl,
-        (
-          name_written _ _ _ (refl, tt) name_x refl,
-          (
-            right_parenthesis _ _ _ tt,
-            (
-              left_brace _ _ _ (refl, tt),
-              (
-                keyword_written _ _ _ (refl, tt) refl,
-                (
-                  name_written _ _ _ (refl, tt) name_r refl,
-                  (
-                    semicolon _ _ _ tt,
-                    (
-                      name_written _ _ _ (refl, tt) name_r refl,
-                      (
-                        assign _ _ (refl, tt),
-                        (
-                          name_written _ _ _ (refl, tt) (chain_is_name m) refl,
-                          (
-                            left_parenthesis _ _ _ tt,
-                            (
-                              name_written _ _ _ tt name_x refl,
-                              (
-                                plus _ _ (refl, tt),
-                                (
-                                  number_written _ _ _ _ (refl, tt) (refl, tt) one_number refl,
-                                  (
-                                    right_parenthesis _ _ _ tt,
-                                    (
-                                      semicolon _ _ _ tt,
-                                      (
-                                        keyword_written _ _ _ (refl, tt) refl,
-                                        (
-                                          name_written _ _ _ (refl, tt) name_r refl,
-                                          (
-                                            semicolon _ _ _ tt,
-                                            (
-                                              right_brace _ _ _ (refl, tt),
-                                              tt,
-                                            ),
-                                          ),
-                                        ),
-                                      ),
-                                    ),
-                                  ),
-                                ),
-                              ),
-                            ),
-                          ),
-                        ),
-                      ),
-                    ),
-                  ),
-                ),
-              ),
-            ),
-          ),
-        ),
-      ),
-    ),
-  ),
-)
+link_written i m rest =
+    keyword_written _ _ _ tt refl
+    ⊕ name_written _ _ _ (refl, tt) (chain_is_name i) refl
+    ⊕ left_parenthesis _ _ _ tt
+    ⊕ keyword_written _ _ _ tt refl
+    ⊕ name_written _ _ _ (refl, tt) name_x refl
+    ⊕ right_parenthesis _ _ _ tt
+    ⊕ left_brace _ _ _ (refl, tt)
+    ⊕ keyword_written _ _ _ (refl, tt) refl
+    ⊕ name_written _ _ _ (refl, tt) name_r refl
+    ⊕ semicolon _ _ _ tt
+    ⊕ name_written _ _ _ (refl, tt) name_r refl
+    ⊕ assign _ _ (refl, tt)
+    ⊕ name_written _ _ _ (refl, tt) (chain_is_name m) refl
+    ⊕ left_parenthesis _ _ _ tt
+    ⊕ name_written _ _ _ tt name_x refl
+    ⊕ plus _ _ (refl, tt)
+    ⊕ number_written _ _ _ _ (refl, tt) (refl, tt) one_number refl
+    ⊕ right_parenthesis _ _ _ tt
+    ⊕ semicolon _ _ _ tt
+    ⊕ keyword_written _ _ _ (refl, tt) refl
+    ⊕ name_written _ _ _ (refl, tt) name_r refl
+    ⊕ semicolon _ _ _ tt
+    ⊕ right_brace _ _ _ (refl, tt)
+    ⊕ tt
 
 pub link_spelled : (i : ℕ) (m : ℕ) (rest : List ℕ) → link_line i m ++ rest ≡ spell (link_pieces i m) (10 ∷ rest)
 unfolding link_line
@@ -225,124 +164,47 @@ worker_pieces n =
     ∷ []
 
 pub worker_written : (n : ℕ) (rest : List ℕ) → AreWritten (worker_pieces n) (10 ∷ rest)
-worker_written n rest = (
-  keyword_written _ _ _ tt refl,
-  (
-    name_written _ _ _ (refl, tt) name_w refl,
-    (
-      left_parenthesis _ _ _ tt,
-      (
-        keyword_written _ _ _ tt refl,
-        (
-          name_written _ _ _ (refl, tt) name_n refl,
-          (
-            right_parenthesis _ _ _ tt,
-            (
-              left_brace _ _ _ (refl, tt),
-              (
-                keyword_written _ _ _ (refl, tt) refl,
-                (
-                  name_written _ _ _ (refl, tt) name_c refl,
-                  (
-                    semicolon _ _ _ tt,
-                    (
-                      keyword_written _ _ _ (refl, tt) refl,
-                      (
-                        name_written _ _ _ (refl, tt) name_v refl,
-                        (
-                          semicolon _ _ _ tt,
-                          (
-                            name_written _ _ _ (refl, tt) name_c refl,
-                            (
-                              assign _ _ (refl, tt),
-                              (
-                                name_written _ _ _ (refl, tt) name_accept refl,
-                                (
-                                  left_parenthesis _ _ _ tt,
-                                  (
-                                    right_parenthesis _ _ _ tt,
-                                    (
-                                      semicolon _ _ _ tt,
-                                      (
-                                        name_written _ _ _ (refl, tt) name_v refl,
-                                        (
-                                          assign _ _ (refl, tt),
-                                          (
-                                            name_written _ _ _ (refl, tt) name_wait refl,
-                                            (
-                                              left_parenthesis _ _ _ tt,
-                                              (
-                                                name_written _ _ _ tt name_c refl,
-                                                (
-                                                  right_parenthesis _ _ _ tt,
-                                                  (
-                                                    semicolon _ _ _ tt,
-                                                    (
-                                                      name_written _ _ _ (refl, tt) name_v refl,
-                                                      (
-                                                        assign _ _ (refl, tt),
-                                                        (
-                                                          name_written _ _ _ (refl, tt) (chain_is_name n) refl,
-                                                          (
-                                                            left_parenthesis _ _ _ tt,
-                                                            (
-                                                              name_written _ _ _ tt name_v refl,
-                                                              (
-                                                                right_parenthesis _ _ _ tt,
-                                                                (
-                                                                  semicolon _ _ _ tt,
-                                                                  (
-                                                                    name_written _ _ _ (refl, tt) name_put refl,
-                                                                    (
-                                                                      left_parenthesis _ _ _ tt,
-                                                                      (
-                                                                        name_written _ _ _ tt name_v refl,
-                                                                        (
-                                                                          right_parenthesis _ _ _ tt,
-                                                                          (
-                                                                            semicolon _ _ _ tt,
-                                                                            (
-                                                                              right_brace _ _ _ (refl, tt),
-                                                                              tt,
-                                                                            ),
-                                                                          ),
-                                                                        ),
-                                                                      ),
-                                                                    ),
-                                                                  ),
-                                                                ),
-                                                              ),
-                                                            ),
-                                                          ),
-                                                        ),
-                                                      ),
-                                                    ),
-                                                  ),
-                                                ),
-                                              ),
-                                            ),
-                                          ),
-                                        ),
-                                      ),
-                                    ),
-                                  ),
-                                ),
-                              ),
-                            ),
-                          ),
-                        ),
-                      ),
-                    ),
-                  ),
-                ),
-              ),
-            ),
-          ),
-        ),
-      ),
-    ),
-  ),
-)
+worker_written n rest =
+    keyword_written _ _ _ tt refl
+    ⊕ name_written _ _ _ (refl, tt) name_w refl
+    ⊕ left_parenthesis _ _ _ tt
+    ⊕ keyword_written _ _ _ tt refl
+    ⊕ name_written _ _ _ (refl, tt) name_n refl
+    ⊕ right_parenthesis _ _ _ tt
+    ⊕ left_brace _ _ _ (refl, tt)
+    ⊕ keyword_written _ _ _ (refl, tt) refl
+    ⊕ name_written _ _ _ (refl, tt) name_c refl
+    ⊕ semicolon _ _ _ tt
+    ⊕ keyword_written _ _ _ (refl, tt) refl
+    ⊕ name_written _ _ _ (refl, tt) name_v refl
+    ⊕ semicolon _ _ _ tt
+    ⊕ name_written _ _ _ (refl, tt) name_c refl
+    ⊕ assign _ _ (refl, tt)
+    ⊕ name_written _ _ _ (refl, tt) name_accept refl
+    ⊕ left_parenthesis _ _ _ tt
+    ⊕ right_parenthesis _ _ _ tt
+    ⊕ semicolon _ _ _ tt
+    ⊕ name_written _ _ _ (refl, tt) name_v refl
+    ⊕ assign _ _ (refl, tt)
+    ⊕ name_written _ _ _ (refl, tt) name_wait refl
+    ⊕ left_parenthesis _ _ _ tt
+    ⊕ name_written _ _ _ tt name_c refl
+    ⊕ right_parenthesis _ _ _ tt
+    ⊕ semicolon _ _ _ tt
+    ⊕ name_written _ _ _ (refl, tt) name_v refl
+    ⊕ assign _ _ (refl, tt)
+    ⊕ name_written _ _ _ (refl, tt) (chain_is_name n) refl
+    ⊕ left_parenthesis _ _ _ tt
+    ⊕ name_written _ _ _ tt name_v refl
+    ⊕ right_parenthesis _ _ _ tt
+    ⊕ semicolon _ _ _ tt
+    ⊕ name_written _ _ _ (refl, tt) name_put refl
+    ⊕ left_parenthesis _ _ _ tt
+    ⊕ name_written _ _ _ tt name_v refl
+    ⊕ right_parenthesis _ _ _ tt
+    ⊕ semicolon _ _ _ tt
+    ⊕ right_brace _ _ _ (refl, tt)
+    ⊕ tt
 
 pub worker_spelled : (n : ℕ) (rest : List ℕ) → worker_line n ++ rest ≡ spell (worker_pieces n) (10 ∷ rest)
 unfolding worker_line
@@ -389,112 +251,43 @@ main_pieces n =
     ∷ []
 
 pub main_written : (n : ℕ) (rest : List ℕ) → 1 ≤ n → n ≤ 1000 → AreWritten (main_pieces n) (10 ∷ rest)
-main_written n rest low high = (
-  keyword_written _ _ _ tt refl,
-  (
-    name_written _ _ _ (refl, tt) name_main refl,
-    (
-      left_parenthesis _ _ _ tt,
-      (
-        right_parenthesis _ _ _ tt,
-        (
-          left_brace _ _ _ (refl, tt),
-          (
-            keyword_written _ _ _ (refl, tt) refl,
-            (
-              name_written _ _ _ (refl, tt) name_i refl,
-              (
-                semicolon _ _ _ tt,
-                (
-                  keyword_written _ _ _ (refl, tt) refl,
-                  (
-                    left_parenthesis _ _ _ (refl, tt),
-                    (
-                      name_written _ _ _ tt name_i refl,
-                      (
-                        assign _ _ (refl, tt),
-                        (
-                          number_written _ _ _ _ (refl, tt) (refl, tt) zero_number refl,
-                          (
-                            semicolon _ _ _ tt,
-                            (
-                              name_written _ _ _ (refl, tt) name_i refl,
-                              (
-                                less _ _ (refl, tt),
-                                (
-                                  number_written _ _ _ _ (refl, tt) (decimal_word n) (decimal_number n low high) refl,
-                                  (
-                                    semicolon _ _ _ tt,
-                                    (
-                                      name_written _ _ _ (refl, tt) name_i refl,
-                                      (
-                                        assign _ _ (refl, tt),
-                                        (
-                                          name_written _ _ _ (refl, tt) name_i refl,
-                                          (
-                                            plus _ _ (refl, tt),
-                                            (
-                                              number_written _ _ _ _ (refl, tt) (refl, tt) one_number refl,
-                                              (
-                                                right_parenthesis _ _ _ tt,
-                                                (
-                                                  name_written _ _ _ (refl, tt) name_spawn refl,
-                                                  (
-                                                    left_parenthesis _ _ _ tt,
-                                                    (
-                                                      name_written _ _ _ tt name_w refl,
-                                                      (
-                                                        comma _ _ _ tt,
-                                                        (
-                                                          name_written _ _ _ (refl, tt) name_i refl,
-                                                          (
-                                                            right_parenthesis _ _ _ tt,
-                                                            (
-                                                              semicolon _ _ _ tt,
-                                                              (
-                                                                keyword_written _ _ _ (refl, tt) refl,
-                                                                (
-                                                                  number_written _ _ _ _ (refl, tt) (refl, tt) zero_number refl,
-                                                                  (
-                                                                    semicolon _ _ _ tt,
-                                                                    (
-                                                                      right_brace _ _ _ (refl, tt),
-                                                                      tt,
-                                                                    ),
-                                                                  ),
-                                                                ),
-                                                              ),
-                                                            ),
-                                                          ),
-                                                        ),
-                                                      ),
-                                                    ),
-                                                  ),
-                                                ),
-                                              ),
-                                            ),
-                                          ),
-                                        ),
-                                      ),
-                                    ),
-                                  ),
-                                ),
-                              ),
-                            ),
-                          ),
-                        ),
-                      ),
-                    ),
-                  ),
-                ),
-              ),
-            ),
-          ),
-        ),
-      ),
-    ),
-  ),
-)
+main_written n rest low high =
+    keyword_written _ _ _ tt refl
+    ⊕ name_written _ _ _ (refl, tt) name_main refl
+    ⊕ left_parenthesis _ _ _ tt
+    ⊕ right_parenthesis _ _ _ tt
+    ⊕ left_brace _ _ _ (refl, tt)
+    ⊕ keyword_written _ _ _ (refl, tt) refl
+    ⊕ name_written _ _ _ (refl, tt) name_i refl
+    ⊕ semicolon _ _ _ tt
+    ⊕ keyword_written _ _ _ (refl, tt) refl
+    ⊕ left_parenthesis _ _ _ (refl, tt)
+    ⊕ name_written _ _ _ tt name_i refl
+    ⊕ assign _ _ (refl, tt)
+    ⊕ number_written _ _ _ _ (refl, tt) (refl, tt) zero_number refl
+    ⊕ semicolon _ _ _ tt
+    ⊕ name_written _ _ _ (refl, tt) name_i refl
+    ⊕ less _ _ (refl, tt)
+    ⊕ number_written _ _ _ _ (refl, tt) (decimal_word n) (decimal_number n low high) refl
+    ⊕ semicolon _ _ _ tt
+    ⊕ name_written _ _ _ (refl, tt) name_i refl
+    ⊕ assign _ _ (refl, tt)
+    ⊕ name_written _ _ _ (refl, tt) name_i refl
+    ⊕ plus _ _ (refl, tt)
+    ⊕ number_written _ _ _ _ (refl, tt) (refl, tt) one_number refl
+    ⊕ right_parenthesis _ _ _ tt
+    ⊕ name_written _ _ _ (refl, tt) name_spawn refl
+    ⊕ left_parenthesis _ _ _ tt
+    ⊕ name_written _ _ _ tt name_w refl
+    ⊕ comma _ _ _ tt
+    ⊕ name_written _ _ _ (refl, tt) name_i refl
+    ⊕ right_parenthesis _ _ _ tt
+    ⊕ semicolon _ _ _ tt
+    ⊕ keyword_written _ _ _ (refl, tt) refl
+    ⊕ number_written _ _ _ _ (refl, tt) (refl, tt) zero_number refl
+    ⊕ semicolon _ _ _ tt
+    ⊕ right_brace _ _ _ (refl, tt)
+    ⊕ tt
 
 pub main_spelled : (n : ℕ) (rest : List ℕ) → main_line n ++ rest ≡ spell (main_pieces n) (10 ∷ rest)
 unfolding main_line
