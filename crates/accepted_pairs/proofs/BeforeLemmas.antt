@@ -1,8 +1,5 @@
 -- The list of words before each operation.
-use Rattle.std.proofs.Common.{◌≡◌, ℕ, ◌+◌, ◌^◌, ◌<◌, ◌≤◌, ◌++◌, lit<, List, [], ◌∷◌, length, arith, sym, ap, ◌∙◌, subst, inl, inr}
-use Rattle.std.specs.Prelude.{slice_index}
-use Rattle.std.proofs.lemmas.Bool.{cases_lt}
-use Rattle.std.proofs.lemmas.List.{length_push, get_or_append_left, get_or_push, get_or_past}
+use Rattle.accepted_pairs.proofs.Common.{◌≡◌, ℕ, ◌+◌, ◌^◌, ◌<◌, ◌≤◌, ◌++◌, lit<, List, [], ◌∷◌, length, arith, sym, ap, ◌∙◌, subst, inl, inr, slice_index, cases_lt, length_push, get_or_append_left, get_or_push, get_or_past}
 
 pub count_more : (before after : List ℕ) (n w : ℕ) → length before ≡ n + 1 → after ≡ before ++ w ∷ [] → length after ≡ n + 1 + 1
 count_more before after n w count e = ap length e ∙ (length_push before w ∙ ap (λ (k : ℕ). k + 1) count)

@@ -1,17 +1,7 @@
 -- The lists of a valid pair's code.
-use Rattle.std.proofs.Common.{◌≡◌, ℕ, zero, suc, ◌+◌, ◌-◌, ◌*◌, ◌/◌, ◌%◌, ◌<◌, ◌≤◌, ◌⊎◌, ◌++◌, List, [], ◌∷◌, length, arith, refl, sym, ◌∙◌, subst, ap, inl, inr, Some}
-use Rattle.std.specs.Prelude.{slice_get, slice_index}
+use Rattle.accepted_pairs.proofs.Common.{◌≡◌, ℕ, ◌+◌, ◌-◌, ◌*◌, ◌/◌, ◌%◌, ◌<◌, ◌≤◌, ◌⊎◌, ◌++◌, List, [], ◌∷◌, length, arith, refl, sym, ◌∙◌, subst, ap, inl, inr, slice_index, cases_lt, length_push, FlatCode, Image, Certificate, fact_at, IsValid, AreWordsBefore, AreBefore, NamesFunctions, StandsIn, pushed}
 use Rattle.std.specs.Global.{Vec}
-use Rattle.std.proofs.lemmas.Bool.{cases_lt}
-use Rattle.std.proofs.lemmas.List.{length_push}
-use Rattle.flat_code.specs.Codes.{FlatCode}
-use Rattle.stack_image.specs.declared.images.Image.{Image}
-use Rattle.stack_certificate.specs.declared.certificates.Certificate.{Certificate}
-use Rattle.stack_certificate.specs.Certificates.{fact_at}
 use Rattle.certificate_rules.specs.Ranges.{AreApart}
-use Rattle.certificate_rules.specs.Validity.{IsValid}
-use Rattle.accepted_pairs.specs.Held.{AreWordsBefore}
-use Rattle.accepted_pairs.specs.CodeLists.{AreBefore, NamesFunctions, StandsIn}
 
 -- ---- what validity says of the functions
 
@@ -56,12 +46,6 @@ named_more code image certificate f start old new valid there entry names run be
         run word (omega (arith, here.low, entry)) (omega (arith, here.high, entry)) ∙ sym is
 
 -- ---- the words before each operation
-
-pushed : {X : Type 0} (xs : List X) (x y : X) (k : ℕ) → slice_get (xs ++ (x ∷ [])) k ≡ Some y → (slice_get xs k ≡ Some y) ⊎ ((k ≡ length xs) × (x ≡ y))
-pushed [] x y zero e = inr (refl, cc)
-pushed [] x y (suc k) e = absurd (cc)
-pushed (z ∷ xs) x y zero e = inl e
-pushed (z ∷ xs) x y (suc k) e = elim (pushed xs x y k e) [ inl h ↦ inl h | inr h ↦ inr (omega (arith, h.0), h.1) ]
 
 pub before_one_more : (code : FlatCode) (certificate : Certificate) (n : ℕ) (old new : List (Vec ℕ)) (before : Vec ℕ) → AreBefore code certificate n old → new ≡ old ++ (before ∷ []) →
     AreWordsBefore code certificate n before.items → AreBefore code certificate (n + 1) new

@@ -1,3 +1,4 @@
+mod Common
 pub mod ReadableLemmas
 pub mod RisingLemmas
 pub mod BeforeLemmas

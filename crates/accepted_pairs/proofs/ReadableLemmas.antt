@@ -1,15 +1,7 @@
 -- A pair of which V1 holds can be read.
-use Rattle.std.proofs.Common.{◌≡◌, ℕ, zero, suc, ◌^◌, ◌<◌, ◌≤◌, List, [], ◌∷◌, length, arith, refl}
-use Rattle.std.specs.Prelude.{slice_index_or}
+use Rattle.accepted_pairs.proofs.Common.{◌≡◌, ℕ, zero, suc, ◌^◌, ◌<◌, ◌≤◌, List, [], ◌∷◌, length, arith, refl, slice_index_or, FlatCode, Image, Certificate, FunctionFact, HasPlaces, IsValid, IsReadable}
 use Rattle.flat_code.specs.declared.functions.FlatFunction.{FlatFunction}
-use Rattle.flat_code.specs.Codes.{FlatCode}
-use Rattle.stack_image.specs.declared.images.Image.{Image}
-use Rattle.stack_certificate.specs.declared.certificates.Certificate.{Certificate}
-use Rattle.stack_certificate.specs.declared.functions.FunctionFact.{FunctionFact}
-use Rattle.stack_certificate.specs.Templates.{HasPlaces}
 use Rattle.certificate_rules.specs.Rules.{V1}
-use Rattle.certificate_rules.specs.Validity.{IsValid}
-use Rattle.accepted_pairs.specs.Held.{IsReadable}
 
 -- places by recursion, from the counts of each function
 places_for : (fs : List FlatFunction) (facts : List FunctionFact) (d : FlatFunction) (e : FunctionFact) → length facts ≡ length fs →

@@ -1,13 +1,8 @@
 -- Facts of sites whose numbers rise.
-use Rattle.std.proofs.Common.{◌≡◌, ◌≢◌, ℕ, zero, suc, ◌+◌, ◌-◌, ◌<◌, ◌≤◌, Bool, true, false, List, [], ◌∷◌, length, arith, refl, sym, ap, ◌∙◌, subst, inl, inr}
-use Rattle.std.specs.Prelude.{slice_index, slice_index_or, nat_eq}
+use Rattle.accepted_pairs.proofs.Common.{◌≡◌, ◌≢◌, ℕ, zero, suc, ◌+◌, ◌-◌, ◌<◌, ◌≤◌, Bool, true, false, List, [], ◌∷◌, length, arith, refl, sym, ap, ◌∙◌, subst, inl, inr, slice_index, slice_index_or, nat_eq, get_or-map, get_or_default, length-map, cases_lt, eq-eqb, ne_eqb, eqb-true, or_left, or_right, or_cases, kind_in, kind_or, fact_numbers, is_named}
 use Rattle.std.specs.List.Sorted.{IsStrictlyIncreasing}
-use Rattle.std.proofs.lemmas.List.{get_or-map, get_or_default, length-map}
-use Rattle.std.proofs.lemmas.Bool.{cases_lt, eq-eqb, ne_eqb, eqb-true, or_left, or_right, or_cases}
 use Rattle.stack_certificate.specs.declared.sites.LinkKind.{LinkKind}
 use Rattle.stack_certificate.specs.declared.sites.SiteFact.{SiteFact}
-use Rattle.stack_certificate.specs.Certificates.{kind_in, kind_or}
-use Rattle.certificate_rules.specs.Sites.{fact_numbers, is_named}
 
 -- a higher place has a higher number
 steps : (xs : List ℕ) → IsStrictlyIncreasing xs → (i d : ℕ) → i + suc d < length xs → slice_index xs i < slice_index xs (i + suc d)

@@ -1,6 +1,5 @@
 -- A list has an item at each place below its length.
-use Rattle.std.proofs.Common.{◌≡◌, ℕ, zero, suc, ◌<◌, List, [], ◌∷◌, length, arith, refl, Some}
-use Rattle.std.specs.Prelude.{slice_get}
+use Rattle.accepted_pairs.proofs.Common.{◌≡◌, ℕ, zero, suc, ◌<◌, List, [], ◌∷◌, length, arith, refl, Some, slice_get}
 
 pub some_at : {X : Type 0} (xs : List X) (k : ℕ) → k < length xs → (x : X) × (slice_get xs k ≡ Some x)
 some_at [] k lt = absurd (omega arith)

@@ -1,8 +1,7 @@
 -- What a text has after each line that is appended.
-use Rattle.std.proofs.Common.{◌≡◌, ℕ, zero, suc, ℤ, pos, ◌+◌, ◌^◌, ◌<◌, List, [], ◌∷◌, ◌++◌, append_assoc, length, get_or, take, map, refl, ap, ◌∙◌, sym, arith, add-one, to_z, of_z, FitsSigned}
+use Rattle.std.proofs.Common.{◌≡◌, ℕ, ℤ, pos, ◌+◌, ◌^◌, ◌<◌, List, [], ◌∷◌, ◌++◌, append_assoc, length, get_or, take, map, refl, ap, ◌∙◌, sym, arith, add-one, to_z, of_z, FitsSigned}
 use Rattle.std.specs.Prelude.{codes}
 use Rattle.std.specs.Int.{w128}
-use Rattle.std.specs.List.{AllByRecursion}
 use Rattle.std.proofs.lemmas.Int.{to_z-of_z}
 use Rattle.std.proofs.lemmas.List.{flat_map_more, map_more, get_or-map}
 use Rattle.cap_text.specs.Decimals.{canonical_decimal, canonical_integer}
@@ -55,8 +54,3 @@ function_written t t1 t2 t3 t4 t5 t6 t7 t8 t9 name n frame bound x y ex ey e1 e2
 pub site_written : (t t1 t2 t3 t4 t5 t6 t7 caller kind : List ℕ) (n x : ℕ) → x ≡ n → t1 ≡ t ++ codes "site " → t2 ≡ t1 ++ canonical_decimal x → t3 ≡ t2 ++ (32 ∷ []) → t4 ≡ t3 ++ caller → t5 ≡ t4 ++ (32 ∷ []) → t6 ≡ t5 ++ kind → t7 ≡ t6 ++ (10 ∷ [])
     → t7 ≡ t ++ (((((codes "site " ++ canonical_decimal n) ++ 32 ∷ caller) ++ 32 ∷ []) ++ kind) ++ 10 ∷ [])
 site_written t t1 t2 t3 t4 t5 t6 t7 caller kind n x ex e1 e2 e3 e4 e5 e6 e7 = rw (e7, e6, e5, e4, e3, e2, e1, ex) (simp append_assoc)
-
-pub all_at : {A : Type 0} (P : A → Type 0) (xs : List A) (i : ℕ) (d : A) → i < length xs → AllByRecursion P xs → P (get_or xs i d)
-all_at P [] i d l h = absurd (omega arith)
-all_at P (x ∷ xs) zero d l h = h.0
-all_at P (x ∷ xs) (suc i) d l h = all_at P xs i d (omega arith) h.1

@@ -1,15 +1,8 @@
 -- What actions between segments, and steps, leave of the clock, the cost, the chunks and the number of threads.
-use Rattle.std.proofs.Common.{◌≡◌, ℕ, suc, ◌<◌, ◌≤◌, ◌&&◌, Bool, true, false, nat_eq, nat_le, not, List, [], ◌∷◌, length, Option, Some, None, refl, ◌∙◌, subst, arith, length-append}
-use Rattle.std.specs.Prelude.{if◌then◌else◌, IfSome}
-use Rattle.std.proofs.lemmas.Bool.{cond_both}
-use Rattle.std.proofs.lemmas.Bool.Decides.{nat_tests}
-use Rattle.std.proofs.lemmas.List.{length-map}
-use Rattle.cap_word.specs.Calls.{most_threads}
+use Rattle.audited_logs.proofs.Common.{◌≡◌, ℕ, suc, ◌<◌, ◌≤◌, ◌&&◌, Bool, true, false, nat_eq, nat_le, not, List, [], ◌∷◌, length, Option, Some, None, refl, ◌∙◌, subst, arith, length-append, if◌then◌else◌, IfSome, cond_both, nat_tests, length-map, most_threads, Delivery, is_dropped, with_delivery, row_for, on_step, on_printed, given_if}
 use Rattle.cap_word.specs.Runs as runs
-use Rattle.c_mean.specs.ModelledCalls.{Delivery, is_dropped, with_delivery}
 use Rattle.machine_world.specs.Runs.{Action, Deliver, Advance, Pick, is_between, delivered, advanced, may_run, picked_at, picked, after_action, after_actions, and_then, world_of}
 use Rattle.machine_world.specs.Threads.{Blocked, Thread, World, Setting, thread_of, replaced, without, resumed, start_core, Move, step}
-use Rattle.machine_world.proofs.StepCases.{row_for, on_step, on_printed}
 use Rattle.lawful_log.proofs.Picked.{between_if}
 
 -- ---- actions
@@ -27,21 +20,17 @@ same_some a b e = cc
 pub none-not : (a : World) → ◌≡◌ {A = Option World} None (Some a) → ⊥
 none-not a e = absurd (cc)
 
-given : (b : Bool) (w after : World) → (if b then Some w else None) ≡ Some after → w ≡ after
-given true w after e = same_some w after e
-given false w after e = absurd (none-not after e)
-
 delivered_acted : (w : World) (delivery : Delivery) (b : Bool) → Acted w (if b then w else record w { exchange = with_delivery w.exchange delivery }) w.clock
 delivered_acted w delivery true = record { areas = refl; cost = refl; threads = refl; clock_is = refl }
 delivered_acted w delivery false = record { areas = refl; cost = refl; threads = refl; clock_is = refl }
 
 pub delivers : (s : Setting) (w after : World) (delivery : Delivery) → after_action s w (Deliver delivery) ≡ Some after → Acted w after w.clock
 delivers s w after delivery e =
-    subst (λ (v : World). Acted w v w.clock) (given (is_between w) (delivered s w delivery) after e) (delivered_acted w delivery (is_dropped s.backlog w.exchange delivery))
+    subst (λ (v : World). Acted w v w.clock) (given_if (is_between w) (delivered s w delivery) after e) (delivered_acted w delivery (is_dropped s.backlog w.exchange delivery))
 
 pub advances : (s : Setting) (w after : World) (to : ℕ) → after_action s w (Advance to) ≡ Some after → Acted w after to
 advances s w after to e =
-    subst (λ (v : World). Acted w v to) (given (is_between w && nat_le w.clock to) (advanced w to) after e) (record { areas = refl; cost = refl; threads = refl; clock_is = refl })
+    subst (λ (v : World). Acted w v to) (given_if (is_between w && nat_le w.clock to) (advanced w to) after e) (record { areas = refl; cost = refl; threads = refl; clock_is = refl })
 
 picked_acted : (s : Setting) (w : World) (thread : Thread) (blocked : Option Blocked) → Acted w (picked_at s w thread blocked) w.clock
 picked_acted s w thread None = record { areas = refl; cost = refl; threads = refl; clock_is = refl }
@@ -50,7 +39,7 @@ picked_acted s w thread (Some blocked) = record { areas = refl; cost = refl; thr
 picks_found : (s : Setting) (w after : World) (found : Option Thread) → picked s w found ≡ Some after → Acted w after w.clock
 picks_found s w after None e = absurd (none-not after e)
 picks_found s w after (Some thread) e =
-    subst (λ (v : World). Acted w v w.clock) (given (may_run s w thread.blocked) (picked_at s w thread thread.blocked) after e) (picked_acted s w thread thread.blocked)
+    subst (λ (v : World). Acted w v w.clock) (given_if (may_run s w thread.blocked) (picked_at s w thread thread.blocked) after e) (picked_acted s w thread thread.blocked)
 
 pub picks : (s : Setting) (w after : World) (number : ℕ) → after_action s w (Pick number) ≡ Some after → Acted w after w.clock
 picks s w after number e = picks_found s w after (thread_of w number) (between_if (is_between w) (picked s w (thread_of w number)) after e)

@@ -1,15 +1,8 @@
 -- Where the source's run of a thread begins, and the first step at which it asks.
-use Rattle.std.proofs.Common.{◌≡◌, ℕ, zero, suc, ◌<◌, true, List, [], ◌∷◌, ◌++◌, length, length-append, Option, Some, None, refl, ap, ◌∙◌, subst, arith}
-use Rattle.std.specs.Prelude.{slice_get}
-use Rattle.cap_word.specs.Calls.{Question, spawn_of}
-use Rattle.cap_word.specs.Runs.{Goes, Asks, and_then, moves}
-use Rattle.c_tree.specs.Trees.{ProgramTree}
-use Rattle.c_mean.specs.Frames.{Running, Waiting}
-use Rattle.c_mean.specs.Steps.{SourceMove, source_step, source_machine}
+use Rattle.audited_logs.proofs.Common.{◌≡◌, ℕ, zero, suc, ◌<◌, true, List, [], ◌∷◌, ◌++◌, length, length-append, Option, Some, None, refl, ap, ◌∙◌, subst, arith, slice_get, Question, spawn_of, Goes, Asks, and_then, moves, ProgramTree, Running, Waiting, SourceMove, source_step, source_machine, lives}
 use Rattle.c_mean.specs.World as source
 use Rattle.c_mean.specs.World.{Rest, Fresh, Blocked, Segment, begun_at, begun, segment_step, segment_move, segment_machine, calls}
 use Rattle.c_mean.proofs.SegmentLemmas.{silent}
-use Rattle.lawful_reading.specs.Happenings.{lives}
 use Rattle.audited_logs.proofs.Steps.{Keeps, rest_kept}
 use Rattle.audited_logs.proofs.Uses.{none-not, same_some}
 

@@ -1,26 +1,10 @@
 -- A state of a lawful log, and the state of its lawful reading beside it: the machine is left out, and of the segment under way stands
 -- where the source's run has come to.
-use Rattle.std.proofs.Common.{◌≡◌, ℕ, ◌+◌, Bool, false, true, List, ◌∷◌, length, Option, Some, None, sym, ap, ◌∙◌}
-use Rattle.std.specs.Prelude.{is_some}
+use Rattle.audited_logs.proofs.Common.{◌≡◌, ℕ, ◌+◌, Bool, false, true, List, ◌∷◌, length, Option, Some, None, sym, ap, ◌∙◌, is_some, IsCutAt, Waiter, Past, Seen, Trace, checked_of, Setup, setting_of, State, held_chunks, live_in, NotYet, World, IsWellFormed, FitsEntry, Entry, with_puts, IsReached, StandsSettled, given_of}
 use Rattle.c_mean.specs.World as source
-use Rattle.c_mean.specs.World.{IsCutAt}
-use Rattle.choice_rules.specs.Seen.{Waiter, Past, Seen}
-use Rattle.choice_rules.specs.Trace.{Trace}
-use Rattle.lawful_log.specs.Good.{checked_of}
-use Rattle.lawful_log.specs.Setup.{Setup, setting_of}
 use Rattle.lawful_log.specs.State as log
-use Rattle.lawful_log.specs.State.{State, held_chunks}
-use Rattle.lawful_reading.specs.Happenings.{live_in}
 use Rattle.lawful_reading.specs.Reading as reading
 use Rattle.lawful_reading.specs.State as reading_state
-use Rattle.lawful_reading.specs.State.{NotYet}
-use Rattle.machine_world.specs.Threads.{World}
-use Rattle.machine_world.specs.WellFormed.{IsWellFormed}
-use Rattle.schedule_log.specs.EntryRanges.{FitsEntry}
-use Rattle.schedule_log.specs.declared.entries.Entry.{Entry}
-use Rattle.machine_meaning.specs.Reached.{with_puts, IsReached}
-use Rattle.machine_meaning.specs.UnderWay.{StandsSettled}
-use Rattle.audited_logs.specs.Audited.{given_of}
 use Rattle.audited_logs.proofs.Acts.{Few}
 use Rattle.audited_logs.proofs.Live.{live_between}
 use Rattle.audited_logs.proofs.Pools.{chunk_count}

@@ -1,23 +1,10 @@
 -- The choice of a thread, in a lawful log and in its reading.
-use Rattle.std.proofs.Common.{◌≡◌, ℕ, ◌+◌, [], length, Some, refl, sym, ap, ◌∙◌, subst, arith, append-nil}
-use Rattle.cap_word.specs.Runs.{Goes}
-use Rattle.c_lower.specs.ProgramCode.{lowered}
+use Rattle.audited_logs.proofs.Common.{◌≡◌, ℕ, ◌+◌, [], length, Some, refl, sym, ap, ◌∙◌, subst, arith, append-nil, Goes, lowered, IsWellScoped, IsValid, IsChoice, Seen, checked_of, Setup, setting_of, State, held_chunks, Advance, Pick, IsReached, advanced_law, given_of}
 use Rattle.c_mean.specs.World as source
-use Rattle.c_tree.specs.WellScoped.{IsWellScoped}
-use Rattle.certificate_rules.specs.Validity.{IsValid}
-use Rattle.choice_rules.specs.Choice.{IsChoice}
-use Rattle.choice_rules.specs.Seen.{Seen}
 use Rattle.lawful_log.specs.Choice as log
-use Rattle.lawful_log.specs.Good.{checked_of}
-use Rattle.lawful_log.specs.Setup.{Setup, setting_of}
-use Rattle.lawful_log.specs.State.{State, held_chunks}
 use Rattle.lawful_reading.specs.Choice as reading
 use Rattle.lawful_reading.specs.State as reading_state
-use Rattle.machine_world.specs.Runs.{Advance, Pick}
-use Rattle.machine_meaning.specs.Reached.{IsReached}
-use Rattle.machine_meaning.proofs.BetweenSegments.{advanced_law}
 use Rattle.machine_meaning.proofs.WorldLaws as laws
-use Rattle.audited_logs.specs.Audited.{given_of}
 use Rattle.audited_logs.proofs.Acts.{two, advances, picks}
 use Rattle.audited_logs.proofs.Begun.{begins}
 use Rattle.audited_logs.proofs.Beside.{Rests, Runs, IsAt, Position, Between, Within, between_of, same_seen, not_within}

@@ -1,37 +1,13 @@
 -- What comes from outside, in a lawful log and in its reading.
-use Rattle.std.proofs.Common.{◌≡◌, ℕ, ◌-◌, Bool, true, false, cond, Some, refl, sym, ap, ◌∙◌, subst, arith}
-use Rattle.c_mean.specs.ModelledCalls.{Delivery, is_dropped, with_delivery}
+use Rattle.audited_logs.proofs.Common.{◌≡◌, ℕ, ◌-◌, Bool, true, false, cond, Some, refl, sym, ap, ◌∙◌, subst, arith, Delivery, is_dropped, with_delivery, delivery_of, received, IsDelivery, Seen, behind, free_count, checked_of, Setup, setting_of, State, held_chunks, Areas, Action, Deliver, Advance, after_action, World, IsWellFormedIf, DeliversWords, IsWellFormedIf-action, Item, StandsSettled, delivered_law, advanced_law, given_of, delivers_words}
 use Rattle.c_mean.specs.World as source
-use Rattle.choice_rules.specs.Deliveries.{delivery_of, received, IsDelivery}
-use Rattle.choice_rules.specs.Seen.{Seen}
-use Rattle.choice_rules.specs.Trace.{behind}
-use Rattle.chunk_pool.specs.Pool.{free_count}
-use Rattle.event_trace.specs.Lines.{FitsKind}
-use Rattle.event_trace.specs.declared.events.EventKind.{EventKind}
 use Rattle.event_trace.specs.declared.events.EventKind.TheVariants as events
 use Rattle.lawful_log.specs.Deliveries as log
-use Rattle.lawful_log.specs.Good.{checked_of}
-use Rattle.lawful_log.specs.Setup.{Setup, setting_of}
-use Rattle.lawful_log.specs.State.{State, held_chunks}
 use Rattle.lawful_reading.specs.Choice as reading
 use Rattle.lawful_reading.specs.State as reading_state
-use Rattle.machine_world.specs.Areas.{Areas}
-use Rattle.machine_world.specs.Runs.{Action, Deliver, Advance, after_action}
-use Rattle.machine_world.specs.Threads.{World}
-use Rattle.machine_world.specs.WellFormed.{IsWellFormedIf, DeliversWords}
-use Rattle.machine_world.proofs.FormWorlds.{IsWellFormedIf-action}
-use Rattle.schedule_log.specs.declared.entries.Item.{Item}
-use Rattle.machine_meaning.specs.UnderWay.{StandsSettled}
-use Rattle.machine_meaning.proofs.BetweenSegments.{delivered_law, advanced_law}
-use Rattle.audited_logs.specs.Audited.{given_of}
 use Rattle.audited_logs.proofs.Acts.{Acted, two, advances, delivers}
 use Rattle.audited_logs.proofs.Beside.{Holds, Rests, Position, Between, Within, between_at, between_of, same_seen, not_within}
 use Rattle.audited_logs.proofs.Policies.{delivery_read}
-
--- an event of the trace delivers a word
-delivers_word : (kind : EventKind) → FitsKind kind → DeliversWords (Deliver (delivery_of kind))
-delivers_word (events.Arrive value) fits = fits
-delivers_word (events.Message channel value) fits = fits.1
 
 -- what holds of a world holds after an action between segments
 pub holds_after : (g : Setup) (w after : World) (action : Action) (clock : ℕ) → DeliversWords action → Holds g w → after_action (setting_of g) w action ≡ Some after → Acted w after clock → Holds g after
@@ -61,7 +37,7 @@ module _ (g : Setup) (most : ℕ) (before after : State) (clock : ℕ) (item : I
 
   came_between : (steps : ℕ) → Rests g before → Came g most (between_of before steps) clock item drops after
   came_between steps rests =
-      let words = delivers_word is.event.kind is.delivery.point.next_is.line.spells.fits.kind in
+      let words = delivers_words is.event.kind is.delivery.point.next_is.line.spells.fits.kind in
       let both = two (setting_of g) (Advance clock) (Deliver delivery) before.machine is.machine is.delivers in
       let first = advances (setting_of g) before.machine both.between clock both.once in
       let then = delivers (setting_of g) both.between is.machine delivery both.twice in

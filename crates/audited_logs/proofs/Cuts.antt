@@ -1,18 +1,8 @@
 -- The source's run of a thread, cut at its outputs: what comes next after a cut.
-use Rattle.std.proofs.Common.{◌≡◌, ℕ, zero, suc, ◌+◌, ◌-◌, ◌<◌, ◌≤◌, List, [], ◌∷◌, ◌++◌, length, Option, Some, None, refl, sym, ap, ◌∙◌, arith, length-append, ⊎_elim}
-use Rattle.std.specs.Prelude.{option_map}
-use Rattle.std.proofs.lemmas.Bool.{cases_lt}
-use Rattle.cap_word.specs.Runs.{Goes, Asks, Stops, and_then, moves}
-use Rattle.cap_word.proofs.RunLemmas.{moves_add, goes_on, stops_stay}
-use Rattle.c_tree.specs.Trees.{ProgramTree}
+use Rattle.audited_logs.proofs.Common.{◌≡◌, ℕ, zero, suc, ◌+◌, ◌-◌, ◌<◌, ◌≤◌, List, [], ◌∷◌, ◌++◌, length, Option, Some, None, refl, sym, ap, ◌∙◌, arith, length-append, ⊎_elim, option_map, cases_lt, Goes, Asks, Stops, and_then, moves, moves_add, goes_on, stops_stay, ProgramTree, PutsNext, RestsNext, same_next, same_end, not_both}
 use Rattle.c_mean.specs.World as source
 use Rattle.c_mean.specs.World.{Segment, SegmentMove, Rested, segment_step, segment_machine, begun, thread_moves}
-use Rattle.lawful_reading.specs.Happenings.{PutsNext, RestsNext}
 use Rattle.audited_logs.proofs.Steps.{keeps_step, keeps_moves, grows, none_put}
-use Rattle.lawful_reading.proofs.Moves.{same_next, same_end}
-
-not_both : (a : Rested) (b : Segment) → ◌≡◌ {A = SegmentMove} (Stops a) (Goes b) → ⊥
-not_both a b e = absurd (cc)
 
 none-not : (move : SegmentMove) → ◌≡◌ {A = Option SegmentMove} None (Some move) → ⊥
 none-not move e = absurd (cc)

@@ -1,20 +1,8 @@
 -- The lines of the edges fit the format, where the records of the segments do.
-use Rattle.std.proofs.Common.{◌≡◌, ℕ, suc, ◌+◌, ◌^◌, ◌<◌, ◌≤◌, ℤ, unsigned_abs, cond, nat_eq, List, [], ◌∷◌, ◌++◌, length, map, fold, drop, arith}
-use Rattle.std.specs.Prelude.{FitsSigned}
-use Rattle.std.specs.Int.{w128}
-use Rattle.std.specs.List.{AllByRecursion}
-use Rattle.std.proofs.lemmas.Bool.{cond_both}
-use Rattle.std.proofs.lemmas.Int.{fits_signed_from_abs}
-use Rattle.std.proofs.lemmas.List.Elements.{recursion_from_All}
-use Rattle.blocking_graph.specs.Edges.{is_before, is_of, first_edge, next_edge, edges_with, edges_of, count_of}
+use Rattle.audited_logs.proofs.Common.{◌≡◌, ℕ, suc, ◌+◌, ◌^◌, ◌<◌, ◌≤◌, ℤ, unsigned_abs, cond, nat_eq, List, [], ◌∷◌, ◌++◌, length, map, fold, drop, arith, FitsSigned, w128, AllByRecursion, cond_both, fits_signed_from_abs, recursion_from_All, is_before, is_of, first_edge, next_edge, edges_with, edges_of, count_of, EdgeLine, SegmentRecord, given, shown, edge_entry, FitsEntry, FitsAverages, Entry}
 use Rattle.blocking_graph.specs.Graph.{IsEdge, IsSegment}
-use Rattle.blocking_graph.specs.declared.edges.EdgeLine.{EdgeLine}
-use Rattle.blocking_graph.specs.declared.segments.SegmentRecord.{SegmentRecord}
 use Rattle.blocking_graph.proofs.GraphLemmas.{IsEdge-first, IsEdge-next, count_of-edges_with}
 use Rattle.blocking_graph.proofs.PredictionLemmas.{count_of-cons}
-use Rattle.choice_rules.specs.EdgeLines.{given, shown, edge_entry}
-use Rattle.schedule_log.specs.EntryRanges.{FitsEntry, FitsAverages}
-use Rattle.schedule_log.specs.declared.entries.Entry.{Entry}
 
 -- ---- records and edges in range
 

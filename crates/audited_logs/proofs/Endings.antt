@@ -1,22 +1,7 @@
 -- The end of a log: the edges, and the stop.
-use Rattle.std.proofs.Common.{◌≡◌, ◌≢◌, ℕ, ◌+◌, inl, inr, List, [], ◌∷◌, ◌++◌, map, Option, None, refl, sym, ap, subst}
-use Rattle.std.specs.Prelude.{is_some}
-use Rattle.std.specs.List.{AllByRecursion}
-use Rattle.blocking_graph.specs.Edges.{edges_of}
-use Rattle.blocking_graph.specs.declared.edges.EdgeLine.{EdgeLine}
-use Rattle.cap_word.specs.declared.stops.Stop.{Stop}
-use Rattle.choice_rules.specs.EdgeLines.{edge_entry}
-use Rattle.lawful_log.specs.Lawful.{ending}
-use Rattle.lawful_log.specs.Setup.{Setup}
-use Rattle.lawful_log.specs.State.{State}
-use Rattle.lawful_reading.specs.Ends.{edges_left, MayStop, IsCause, StopsBy}
+use Rattle.audited_logs.proofs.Common.{◌≡◌, ◌≢◌, ℕ, ◌+◌, inl, inr, List, [], ◌∷◌, ◌++◌, map, Option, None, refl, sym, ap, subst, is_some, AllByRecursion, edges_of, EdgeLine, Stop, edge_entry, ending, Setup, State, edges_left, MayStop, IsCause, StopsBy, Segment, End, NotYet, Edges, Stopped, FitsEntry, Entry, StopLine, given_of}
 use Rattle.lawful_reading.specs.State as reading_state
-use Rattle.lawful_reading.specs.State.{Segment, End, NotYet, Edges, Stopped}
 use Rattle.lawful_reading.proofs.Refused.{stopped-not}
-use Rattle.schedule_log.specs.EntryRanges.{FitsEntry}
-use Rattle.schedule_log.specs.declared.entries.Entry.{Entry}
-use Rattle.schedule_log.specs.declared.entries.StopLine.{StopLine}
-use Rattle.audited_logs.specs.Audited.{given_of}
 use Rattle.audited_logs.proofs.Beside.{Position, Between, Within}
 use Rattle.audited_logs.proofs.Stops.{StopsAs}
 use Rattle.audited_logs.proofs.Texts.{no_line, Whole, whole_more}

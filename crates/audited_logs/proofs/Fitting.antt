@@ -1,40 +1,12 @@
 -- Each line that a reading allows fits the format, and leaves its state in range.
-use Rattle.std.proofs.Common.{◌≡◌, ℕ, ◌+◌, ◌-◌, ◌^◌, ◌<◌, ◌≤◌, ℤ, pos, ◌-ℤ◌, unsigned_abs, Bool, true, false, ◌&&◌, nat_eq, List, [], ◌∷◌, ◌++◌, length, drop, Some, None, refl, sym, ap, ◌∙◌, subst, arith, rules}
-use Rattle.std.specs.Prelude.{FitsSigned, filter}
-use Rattle.std.specs.Int.{w32}
-use Rattle.std.specs.List.{AllByRecursion}
-use Rattle.std.proofs.Math.Facts.{sfits_to_z}
-use Rattle.std.proofs.lemmas.Int.{ints}
-use Rattle.std.proofs.lemmas.List.Elements.{All-from_recursion}
-use Rattle.blocking_graph.specs.Edges.{edges_of}
-use Rattle.blocking_graph.specs.Nodes.{keys_with}
-use Rattle.cap_word.specs.Word.{signed}
-use Rattle.cap_word.proofs.WordLemmas.{to_z-signed}
+use Rattle.audited_logs.proofs.Common.{◌≡◌, ℕ, ◌+◌, ◌-◌, ◌^◌, ◌<◌, ◌≤◌, ℤ, pos, ◌-ℤ◌, unsigned_abs, Bool, true, false, ◌&&◌, nat_eq, List, [], ◌∷◌, ◌++◌, length, drop, Some, None, refl, sym, ap, ◌∙◌, subst, arith, rules, FitsSigned, filter, w32, AllByRecursion, sfits_to_z, ints, All-from_recursion, edges_of, keys_with, signed, to_z-signed, IsWellScoped, IsLawfulBy, is_eligible, delivery_of, item_of, received, edge_entry, Rule, by_graph, by_stride, is_ready, Waiter, uses_in, changes, newcomers, FitsKind, EventKind, IsComing, IsRun, StopsBy, Given, chunks_of, IsOut, IsBlock, IsEnd, IsClosed, rested, FitsItem, FitsEntry, FitsStop, Entry, Item, StopLine, AreCapsSmall, All-weaker, All-append}
 use Rattle.c_mean.specs.World as source
 use Rattle.c_mean.proofs.WorldStandLemmas.{blocked_stands}
-use Rattle.c_tree.specs.WellScoped.{IsWellScoped}
-use Rattle.choice_rules.specs.Choice.{IsLawfulBy, is_eligible}
-use Rattle.choice_rules.specs.Deliveries.{delivery_of, item_of, received}
-use Rattle.choice_rules.specs.EdgeLines.{edge_entry}
-use Rattle.choice_rules.specs.Policy.{Rule, by_graph, by_stride}
-use Rattle.choice_rules.specs.Readiness.{is_ready}
-use Rattle.choice_rules.specs.Seen.{Waiter, uses_in, changes, newcomers}
-use Rattle.event_trace.specs.Lines.{FitsKind}
-use Rattle.event_trace.specs.declared.events.EventKind.{EventKind}
 use Rattle.event_trace.specs.declared.events.EventKind.TheVariants as events
-use Rattle.lawful_reading.specs.Choice.{IsComing, IsRun}
-use Rattle.lawful_reading.specs.Ends.{StopsBy}
-use Rattle.lawful_reading.specs.Given.{Given, chunks_of}
-use Rattle.lawful_reading.specs.Segments.{IsOut, IsBlock, IsEnd, IsClosed, rested}
 use Rattle.lawful_reading.specs.State.{Segment, State, seen_of, start_of}
-use Rattle.schedule_log.specs.EntryRanges.{FitsItem, FitsEntry, FitsStop}
-use Rattle.schedule_log.specs.declared.entries.Entry.{Entry}
-use Rattle.schedule_log.specs.declared.entries.Item.{Item}
-use Rattle.schedule_log.specs.declared.entries.StopLine.{StopLine}
-use Rattle.audited_logs.specs.Audited.{AreCapsSmall}
 use Rattle.audited_logs.proofs.EdgeFits.{FitsRecord, edges_fit}
-use Rattle.audited_logs.proofs.Keys.{all_both, key_fits}
-use Rattle.audited_logs.proofs.Ranges.{latest, FitsWaiter, FitsSegment, FitsIf, InRange, all_weaker, all_filter, find_all, later_waiter, newcomers_fit, node_within, keys_within, clock_within}
+use Rattle.audited_logs.proofs.Keys.{key_fits}
+use Rattle.audited_logs.proofs.Ranges.{latest, FitsWaiter, FitsSegment, FitsIf, InRange, all_filter, find_all, later_waiter, newcomers_fit, node_within, keys_within, clock_within}
 use Rattle.audited_logs.proofs.Steps.{keeps_step, keeps_moves}
 use Rattle.audited_logs.proofs.Uses.{Small, FitUses, delivery_fits, begun_fits, moves_fit, rest_fits, put_fits}
 use Rattle.audited_logs.proofs.ReadWorlds.{after_more}
@@ -299,13 +271,13 @@ module _ (g : Given) (scoped : IsWellScoped g.program) (small : AreCapsSmall g.p
           cost = total;
           held = held_now;
           lines = range.lines;
-          waiting = all_both (FitsWaiter (b.cost + cost)) (b.waiting ++ newcomers b.source (length world.threads)) joining
-              (all_both (FitsWaiter (b.cost + cost)) b.waiting (newcomers b.source (length world.threads))
-              (all_weaker (FitsWaiter b.cost) (FitsWaiter (b.cost + cost)) (λ w fits. later_waiter b.cost (b.cost + cost) (omega arith) w fits) b.waiting range.waiting)
+          waiting = All-append (FitsWaiter (b.cost + cost)) (b.waiting ++ newcomers b.source (length world.threads)) joining
+              (All-append (FitsWaiter (b.cost + cost)) b.waiting (newcomers b.source (length world.threads))
+              (All-weaker (FitsWaiter b.cost) (FitsWaiter (b.cost + cost)) (λ w fits. later_waiter b.cost (b.cost + cost) (omega arith) w fits) b.waiting range.waiting)
               (newcomers_fit (b.cost + cost) b.source (length world.threads) ran.few))
               all;
           keys = omega (arith, short, some);
-          records = all_both FitsRecord b.past.records (_ ∷ []) range.records (record_now node few, tt);
+          records = All-append FitsRecord b.past.records (_ ∷ []) range.records (record_now node few, tt);
           count = (let more = one_longer b.past.records (record { from = segment.node; to = node; cost = cost; change = changes segment.uses (uses_in (chunks_of g - free) world.exchange) }) in omega (arith, more, count, some));
           exchange = exchange_now;
           segment = tt;

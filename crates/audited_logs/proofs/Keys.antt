@@ -1,23 +1,13 @@
 -- A key has one to eight sites, each of which is a word.
-use Rattle.std.proofs.Common.{◌≡◌, ℕ, zero, suc, ◌^◌, ◌<◌, ◌≤◌, false, List, [], ◌∷◌, ◌++◌, length, map, take, Option, Some, None, refl, sym, ap, subst, arith, get_or}
-use Rattle.std.specs.List.{AllByRecursion}
-use Rattle.std.proofs.lemmas.List.Elements.{All-from_recursion, All-contains}
+use Rattle.audited_logs.proofs.Common.{◌≡◌, ℕ, zero, suc, ◌^◌, ◌<◌, ◌≤◌, false, List, [], ◌∷◌, ◌++◌, length, map, take, Option, Some, None, refl, sym, ap, subst, arith, get_or, AllByRecursion, All-from_recursion, All-contains, RightTree, Computed, Called, SimpleTree, DeclareWith, SetLocal, SetGlobal, SetLocalElement, SetGlobalElement, Calling, StmtTree, StmtTrees, Do, Block, If, IfElse, While, For, Return, NoStmts, Then, FunctionTree, ProgramTree, IsWellScoped, with_names, scope_after, scope_after_all, Waiting, WaitingFrame, function_at, key_of, FitsKey, All-append}
 use Rattle.c_tree.specs.TextOrder.{call_site, right_sites, returned_sites, simple_sites, simples_sites, step_sites, stmt_sites, stmts_sites, functions_sites, program_sites}
-use Rattle.c_tree.specs.Trees.{RightTree, Computed, Called, SimpleTree, DeclareWith, SetLocal, SetGlobal, SetLocalElement, SetGlobalElement, Calling, StmtTree, StmtTrees, Do, Block, If, IfElse, While, For, Return, NoStmts, Then, FunctionTree, ProgramTree}
-use Rattle.c_tree.specs.WellScoped.{IsWellScoped, with_names, scope_after, scope_after_all}
 use Rattle.c_tree.specs.TextOrder.{simple_names}
 use Rattle.c_tree.specs.declared.facts.Site.{Site}
-use Rattle.c_mean.specs.Frames.{Waiting, WaitingFrame, function_at, key_of}
 use Rattle.c_mean.specs.Sites.{Target, ToLocal, ToGlobal, ToCaller, ToLocalElement, ToGlobalElement, CallInText, right_calls, simple_calls, simples_calls, step_calls, returned_calls, stmt_calls, stmts_calls, function_calls, WaitsInText}
 use Rattle.c_mean.specs.ToDo.{Item, Simply, Back, WhileLoop, ForLoop, step_item, all_before, turn_before}
-use Rattle.schedule_log.specs.EntryRanges.{FitsKey}
 use Rattle.log_laws.proofs.RestLemmas.{all-left}
 
 -- ---- lists
-
-pub all_both : {X : Type 0} (P : X → Type 0) (xs ys : List X) → AllByRecursion P xs → AllByRecursion P ys → AllByRecursion P (xs ++ ys)
-all_both P [] ys h k = k
-all_both P (x ∷ xs) ys h k = (h.0, all_both P xs ys h.1 k)
 
 all_right : {X : Type 0} (P : X → Type 0) (xs ys : List X) → AllByRecursion P (xs ++ ys) → AllByRecursion P ys
 all_right P [] ys h = h
@@ -48,7 +38,7 @@ module _ (P : ℕ → Type 0) where
   in_simples : (ss : List SimpleTree) (scope : List ℕ) (rest : List Item) → AllByRecursion HasSite (simples_sites ss) → AllByRecursion IsSited (simples_calls ss scope rest)
   in_simples [] scope rest h = tt
   in_simples (s ∷ ss) scope rest h =
-      all_both IsSited (simple_calls s scope (map Simply ss ++ rest)) (simples_calls ss (with_names scope (simple_names s)) rest)
+      All-append IsSited (simple_calls s scope (map Simply ss ++ rest)) (simples_calls ss (with_names scope (simple_names s)) rest)
       (in_simple s scope (map Simply ss ++ rest) (all-left HasSite (simple_sites s) (simples_sites ss) h))
       (in_simples ss (with_names scope (simple_names s)) rest (all_right HasSite (simple_sites s) (simples_sites ss) h))
 
@@ -66,15 +56,15 @@ module _ (P : ℕ → Type 0) where
     in_stmt (Block ss) scope rest h = in_stmts ss scope rest h
     in_stmt (If c s) scope rest h = in_stmt s scope rest h
     in_stmt (IfElse c s r) scope rest h =
-        all_both IsSited (stmt_calls s scope rest) (stmt_calls r scope rest)
+        All-append IsSited (stmt_calls s scope rest) (stmt_calls r scope rest)
         (in_stmt s scope rest (all-left HasSite (stmt_sites s) (stmt_sites r) h)) (in_stmt r scope rest (all_right HasSite (stmt_sites s) (stmt_sites r) h))
     in_stmt (While c s) scope rest h = in_stmt s scope (Back (WhileLoop c s) ∷ rest) h
     in_stmt (For init c step s) scope rest h =
         let later = all_right HasSite (simples_sites init) (step_sites step ++ stmt_sites s) h in
         let inner = scope_after_all scope init in
-        all_both IsSited (simples_calls init scope (turn_before (ForLoop c step s) rest)) (step_calls step inner (Back (ForLoop c step s) ∷ rest) ++ stmt_calls s inner (step_item step ++ Back (ForLoop c step s) ∷ rest))
+        All-append IsSited (simples_calls init scope (turn_before (ForLoop c step s) rest)) (step_calls step inner (Back (ForLoop c step s) ∷ rest) ++ stmt_calls s inner (step_item step ++ Back (ForLoop c step s) ∷ rest))
         (in_simples init scope (turn_before (ForLoop c step s) rest) (all-left HasSite (simples_sites init) (step_sites step ++ stmt_sites s) h))
-        (all_both IsSited (step_calls step inner (Back (ForLoop c step s) ∷ rest)) (stmt_calls s inner (step_item step ++ Back (ForLoop c step s) ∷ rest))
+        (All-append IsSited (step_calls step inner (Back (ForLoop c step s) ∷ rest)) (stmt_calls s inner (step_item step ++ Back (ForLoop c step s) ∷ rest))
         (in_step step inner (Back (ForLoop c step s) ∷ rest) (all-left HasSite (step_sites step) (stmt_sites s) later))
         (in_stmt s inner (step_item step ++ Back (ForLoop c step s) ∷ rest) (all_right HasSite (step_sites step) (stmt_sites s) later)))
     in_stmt (Return v) scope rest h = in_returned v scope rest h
@@ -83,7 +73,7 @@ module _ (P : ℕ → Type 0) where
     in_stmts : (ss : StmtTrees) (scope : List ℕ) (rest : List Item) → AllByRecursion HasSite (stmts_sites ss) → AllByRecursion IsSited (stmts_calls ss scope rest)
     in_stmts NoStmts scope rest h = tt
     in_stmts (Then s ss) scope rest h =
-        all_both IsSited (stmt_calls s scope (all_before ss rest)) (stmts_calls ss (scope_after scope s) rest)
+        All-append IsSited (stmt_calls s scope (all_before ss rest)) (stmts_calls ss (scope_after scope s) rest)
         (in_stmt s scope (all_before ss rest) (all-left HasSite (stmt_sites s) (stmts_sites ss) h)) (in_stmts ss (scope_after scope s) rest (all_right HasSite (stmt_sites s) (stmts_sites ss) h))
 
   -- those of a function of the program, or of none

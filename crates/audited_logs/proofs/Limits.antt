@@ -1,13 +1,6 @@
 -- Which lines are allowed doesn't rest on how many steps may be taken.
-use Rattle.std.proofs.Common.{◌≡◌, ℕ, ◌+◌, ◌≤◌, List, refl, sym, ap, ◌∙◌, arith}
-use Rattle.cap_word.specs.declared.stops.Stop.{Stop}
-use Rattle.schedule_log.specs.declared.entries.Entry.{Entry}
-use Rattle.schedule_log.specs.declared.entries.StopLine.{StopLine}
+use Rattle.audited_logs.proofs.Common.{◌≡◌, ℕ, ◌+◌, ◌≤◌, List, refl, sym, ap, ◌∙◌, arith, Stop, Entry, StopLine, edges_left, IsCause, StopsBy, Given, IsAllowed, Leads, nowhere, by_line, IsClosed}
 use Rattle.c_mean.specs.World as source
-use Rattle.lawful_reading.specs.Ends.{edges_left, IsCause, StopsBy}
-use Rattle.lawful_reading.specs.Given.{Given}
-use Rattle.lawful_reading.specs.Reading.{IsAllowed, Leads, nowhere, by_line}
-use Rattle.lawful_reading.specs.Segments.{IsClosed}
 use Rattle.lawful_reading.specs.State.{Segment, State, End, NotYet, IsPossible}
 use Rattle.audited_logs.proofs.Texts.{Chain, no_line, one_line}
 

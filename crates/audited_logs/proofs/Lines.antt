@@ -1,34 +1,14 @@
 -- The lines of a lawful log are those of the text: line by line, beside the state of the log.
-use Rattle.std.proofs.Common.{ℕ, ℤ, ◌≡◌, true, false, refl, sym, ap, subst, ◌∙◌, List, [], ◌∷◌, ◌++◌, append-nil, length, map, Option, Some, None}
-use Rattle.std.specs.Prelude.{is_some}
-use Rattle.blocking_graph.specs.Edges.{edges_of}
-use Rattle.blocking_graph.specs.declared.edges.EdgeLine.{EdgeLine}
-use Rattle.cap_word.specs.declared.stops.Stop.{Stop}
-use Rattle.cap_word.specs.declared.traps.TrapKind.{TrapKind}
-use Rattle.c_mean.specs.ModelledCalls.{Delivery, with_delivery}
+use Rattle.audited_logs.proofs.Common.{ℕ, ℤ, ◌≡◌, true, false, refl, sym, ap, subst, ◌∙◌, List, [], ◌∷◌, ◌++◌, append-nil, length, map, Option, Some, None, is_some, edges_of, EdgeLine, Stop, TrapKind, Delivery, with_delivery, delivery_of, received, edge_entry, outputs_of, HasRun, IsCut, DeepProgram, DeepRest, DeepWorld, RunsTheSame, WorldsAlike, delivered, Setup, live_in, World, Entry, Item, StopLine, lines_of, ComesTo, HaveAllEnded, IsSomeLive, ComesToTrap, ComesToCut, StopsSo, AreTextLines, IsTextLog, delivered_is}
 use Rattle.c_mean.specs.World as source
-use Rattle.choice_rules.specs.Deliveries.{delivery_of, received}
-use Rattle.choice_rules.specs.EdgeLines.{edge_entry}
-use Rattle.choice_rules.specs.SourceRuns.{outputs_of, HasRun, IsCut}
-use Rattle.deep_mean.specs.DeepTrees.{DeepProgram}
-use Rattle.deep_mean.specs.DeepWorld.{DeepRest, DeepWorld}
-use Rattle.hoist_meaning.specs.SameRuns.{RunsTheSame, WorldsAlike}
 use Rattle.lawful_log.specs.Choice.{IsRun}
 use Rattle.lawful_log.specs.Deliveries.{IsComing}
-use Rattle.lawful_log.specs.Good.{delivered}
 use Rattle.lawful_log.specs.Lawful.{IsAllowed, Leads, nowhere, by_entry, ending, IsLawfulLog}
 use Rattle.lawful_log.specs.Segments.{IsOut, IsBlock, IsEnd}
-use Rattle.lawful_log.specs.Setup.{Setup}
 use Rattle.lawful_log.specs.State.{Segment, State, start_of}
 use Rattle.lawful_log.specs.Stops.{IsStop}
-use Rattle.lawful_reading.specs.Happenings.{live_in}
-use Rattle.machine_world.specs.Threads.{World}
-use Rattle.schedule_log.specs.declared.entries.Entry.{Entry}
-use Rattle.schedule_log.specs.declared.entries.Item.{Item}
-use Rattle.schedule_log.specs.declared.entries.StopLine.{StopLine}
-use Rattle.audited_logs.specs.TextLog.{lines_of, ComesTo, HaveAllEnded, IsSomeLive, ComesToTrap, ComesToCut, StopsSo, AreTextLines, IsTextLog}
 use Rattle.audited_logs.proofs.Rests.{rest_at, blocked_in, ended_in, all_ended, some_live}
-use Rattle.audited_logs.proofs.Values.{put_more, after_more, delivered_is}
+use Rattle.audited_logs.proofs.Values.{put_more, after_more}
 
 -- what the segment under way has put
 abbrev own : Option Segment → List (ℕ × ℕ)

@@ -1,18 +1,8 @@
 -- As many threads of the machine are live as have not ended in the source world for which it stands.
-use Rattle.std.proofs.Common.{◌≡◌, ℕ, suc, ◌+◌, ◌<◌, ◌≤◌, Bool, true, false, cond, nat_eq, List, [], ◌∷◌, length, count_by, Option, Some, None, refl, sym, ap, ◌∙◌, subst, arith, ⊎_elim}
-use Rattle.std.specs.Prelude.{slice_get}
-use Rattle.std.proofs.lemmas.Bool.{cases_eq, cond-true, cond-false, eq-eqb, ne_eqb}
-use Rattle.std.proofs.lemmas.List.Sums.{sum_by-cons}
+use Rattle.audited_logs.proofs.Common.{◌≡◌, ℕ, suc, ◌+◌, ◌<◌, ◌≤◌, Bool, true, false, cond, nat_eq, List, [], ◌∷◌, length, count_by, Option, Some, None, refl, sym, ap, ◌∙◌, subst, arith, ⊎_elim, slice_get, cases_eq, cond-true, cond-false, eq-eqb, ne_eqb, sum_by-cons, Rest, Fresh, Blocked, Ended, ProgramTree, Pool, lives, live_in, Checked, Thread, World, Setting, first_with, thread_of, IsUnderWay, RiseBetween-bound}
 use Rattle.c_mean.specs.World as source
-use Rattle.c_mean.specs.World.{Rest, Fresh, Blocked, Ended}
-use Rattle.c_tree.specs.Trees.{ProgramTree}
-use Rattle.chunk_pool.specs.Pool.{Pool}
-use Rattle.lawful_reading.specs.Happenings.{lives, live_in}
 use Rattle.machine_world.specs.Numbered.{RiseBetween, IsNumbered}
-use Rattle.machine_world.specs.Places.{Checked}
 use Rattle.machine_world.specs.StandsForWorld.{StandsForRest, StandsForWorld}
-use Rattle.machine_world.specs.Threads.{Thread, World, Setting, first_with, thread_of}
-use Rattle.machine_meaning.specs.UnderWay.{IsUnderWay}
 use Rattle.audited_logs.proofs.Begun.{StillLives}
 
 -- a thread of the machine is there where one of the source hasn't ended
@@ -35,10 +25,6 @@ live_agrees thread Ended h = absurd (let no : false ≡ true = h in cc)
 live_agrees thread _ h = tt
 
 -- ---- numbers that rise
-
-rise_bound : (from next : ℕ) (threads : List Thread) → RiseBetween from next threads → from ≤ next
-rise_bound from next [] rise = rise
-rise_bound from next (t ∷ ts) rise = let above = rise_bound (t.number + 1) next ts rise.1 in let first = rise.0 in omega (arith, first, above)
 
 none_below : (number from next : ℕ) (threads : List Thread) → RiseBetween from next threads → number < from → first_with number threads ≡ None
 none_below number from next [] rise below = refl
@@ -123,7 +109,7 @@ count_by_first from _ rests threads _ found here rise all rest = absurd here
 
 counted : (rests : List Rest) (from : ℕ) (threads : List Thread) → RiseBetween from (from + length rests) threads → AllAgree from rests threads → Counted rests threads
 counted [] from [] rise all = refl
-counted [] from (t ∷ ts) rise all = let above = rise_bound (t.number + 1) (from + 0) ts rise.1 in let first = rise.0 in absurd (omega (arith, above, first))
+counted [] from (t ∷ ts) rise all = let above = RiseBetween-bound (t.number + 1) (from + 0) ts rise.1 in let first = rise.0 in absurd (omega (arith, above, first))
 counted (r ∷ rests) from threads rise all =
     let here : Agree (first_with from threads) (Some r) = (let same : from + 0 ≡ from = omega arith in subst (λ (n : ℕ). Agree (first_with n threads) (Some r)) same (all 0)) in
     count_by_first from r rests threads (first_with from threads) refl here rise all (λ ts later agree. counted rests (from + 1) ts later agree)

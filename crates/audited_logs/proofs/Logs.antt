@@ -1,23 +1,10 @@
 -- Every lawful log of a valid pair is read to its stop, or to a line that needs too many steps.
-use Rattle.std.proofs.Common.{ℕ, ◌≤◌, List, ◌∷◌, ◌++◌, refl, sym, subst, arith, ⊎_elim}
-use Rattle.c_lower.specs.ProgramCode.{lowered}
-use Rattle.c_tree.specs.WellScoped.{IsWellScoped}
-use Rattle.certificate_rules.specs.Validity.{IsValid}
-use Rattle.lawful_log.specs.Good.{checked_of}
+use Rattle.audited_logs.proofs.Common.{ℕ, ◌≤◌, List, ◌∷◌, ◌++◌, refl, sym, subst, arith, ⊎_elim, lowered, IsWellScoped, IsValid, checked_of, Setup, start_areas, Given, chunks_of, IsLawful, IsUnlawful, IsTooLong, World, AreWellFormed, most_fuel, log_text, Entry, StopLine, given_of, IsLawfulOrTooLong, AreCapsSmall}
 use Rattle.lawful_log.specs.Lawful.{IsAllowed, Leads, nowhere, by_entry, ending, IsLawfulLog}
-use Rattle.lawful_log.specs.Setup.{Setup, start_areas}
 use Rattle.lawful_log.specs.State.{State, start_of}
 use Rattle.chunk_pool.proofs.PoolLaws.{count-most}
-use Rattle.lawful_reading.specs.Given.{Given, chunks_of}
-use Rattle.lawful_reading.specs.Reading.{IsLawful, IsUnlawful, IsTooLong}
 use Rattle.lawful_reading.specs.State as reading_state
 use Rattle.lawful_reading.proofs.Verdicts.{lawful_unlawful, unlawful_too_long}
-use Rattle.machine_world.specs.Threads.{World}
-use Rattle.machine_world.specs.WellFormed.{AreWellFormed, most_fuel}
-use Rattle.schedule_log.specs.EntryText.{log_text}
-use Rattle.schedule_log.specs.declared.entries.Entry.{Entry}
-use Rattle.schedule_log.specs.declared.entries.StopLine.{StopLine}
-use Rattle.audited_logs.specs.Audited.{given_of, IsLawfulOrTooLong, AreCapsSmall}
 use Rattle.audited_logs.proofs.Begun.{begins}
 use Rattle.audited_logs.proofs.Beside.{GoesOn, next_goes}
 use Rattle.audited_logs.proofs.Choices.{chosen}

@@ -1,19 +1,7 @@
 -- A line that is allowed is within the steps that may be taken, or needs more of them, whatever way its need is met.
-use Rattle.std.proofs.Common.{◌≡◌, ℕ, suc, ◌+◌, ◌-◌, ◌<◌, ◌≤◌, ◌⊎◌, inl, inr, Some, sym, ap, ◌∙◌, arith, ⊎_elim, List}
-use Rattle.std.proofs.lemmas.Bool.{cases_lt}
-use Rattle.cap_word.specs.Runs.{Goes, and_then, moves}
-use Rattle.cap_word.specs.declared.stops.Stop.{Stop}
-use Rattle.c_tree.specs.Trees.{ProgramTree}
+use Rattle.audited_logs.proofs.Common.{◌≡◌, ℕ, suc, ◌+◌, ◌-◌, ◌<◌, ◌≤◌, ◌⊎◌, inl, inr, Some, sym, ap, ◌∙◌, arith, ⊎_elim, List, cases_lt, Goes, and_then, moves, Stop, ProgramTree, SegmentMove, Rested, segment_machine, Entry, StopLine, StopsBy, Given, PutsNext, RestsNext, IsCrowdedNext, ComesAt, live_in, IsAllowed, IsBeyond, Needs, silent_puts, silent_rests, one_put, one_rest, not_put_and_rest}
 use Rattle.c_mean.specs.World as source
-use Rattle.c_mean.specs.World.{SegmentMove, Rested, segment_machine}
-use Rattle.schedule_log.specs.declared.entries.Entry.{Entry}
-use Rattle.schedule_log.specs.declared.entries.StopLine.{StopLine}
-use Rattle.lawful_reading.specs.Ends.{StopsBy}
-use Rattle.lawful_reading.specs.Given.{Given}
-use Rattle.lawful_reading.specs.Happenings.{PutsNext, RestsNext, IsCrowdedNext, ComesAt, live_in}
-use Rattle.lawful_reading.specs.Reading.{IsAllowed, IsBeyond, Needs}
 use Rattle.lawful_reading.specs.State.{Segment, State}
-use Rattle.lawful_reading.proofs.Moves.{silent_puts, silent_rests, one_put, one_rest, not_put_and_rest}
 use Rattle.audited_logs.proofs.Steps.{keeps_step, keeps_moves, lives_more, threads_grow}
 use Rattle.audited_logs.proofs.Cuts.{later_moves}
 

@@ -1,19 +1,6 @@
 -- The lawful log of a valid pair is the log of the text that its program is read from.
-use Rattle.std.proofs.Common.{ℕ, ◌≤◌, List}
 use Rattle.audited_logs.proofs.Positions.{live_at_stop}
-use Rattle.c_hoist.specs.NestedText.{ReadsNested}
-use Rattle.c_lower.specs.ProgramCode.{lowered}
-use Rattle.c_tree.specs.WellScoped.{IsWellScoped}
-use Rattle.certificate_rules.specs.Validity.{IsValid}
-use Rattle.deep_mean.specs.Naming.{deep_program}
-use Rattle.lawful_log.specs.Good.{checked_of}
-use Rattle.lawful_log.specs.Lawful.{IsLawfulLog}
-use Rattle.lawful_log.specs.Setup.{Setup, start_areas}
-use Rattle.machine_world.specs.Threads.{World}
-use Rattle.machine_world.specs.WellFormed.{AreWellFormed, most_fuel}
-use Rattle.schedule_log.specs.declared.entries.Entry.{Entry}
-use Rattle.schedule_log.specs.declared.entries.StopLine.{StopLine}
-use Rattle.audited_logs.specs.TextLog.{IsTextLog}
+use Rattle.audited_logs.proofs.Common.{ℕ, ◌≤◌, List, ReadsNested, lowered, IsWellScoped, IsValid, deep_program, checked_of, IsLawfulLog, Setup, start_areas, World, AreWellFormed, most_fuel, Entry, StopLine, IsTextLog}
 use Rattle.audited_logs.proofs.Lines.{log_of_same}
 use Rattle.audited_logs.proofs.TextMeaning.{program_means}
 

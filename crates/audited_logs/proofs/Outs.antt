@@ -1,21 +1,11 @@
 -- An output, in a lawful log and in its reading.
-use Rattle.std.proofs.Common.{◌≡◌, ℕ, ◌+◌, ◌^◌, ◌<◌, ℤ, List, [], ◌∷◌, ◌++◌, map, Some, refl, sym, ap, ◌∙◌, subst, arith, append_assoc}
-use Rattle.std.proofs.lemmas.List.{map-append}
-use Rattle.cap_word.specs.Runs.{Goes}
-use Rattle.c_lower.specs.ProgramCode.{lowered}
+use Rattle.audited_logs.proofs.Common.{◌≡◌, ℕ, ◌+◌, ◌^◌, ◌<◌, ℤ, List, [], ◌∷◌, ◌++◌, map, Some, refl, sym, ap, ◌∙◌, subst, arith, append_assoc, map-append, Goes, lowered, SegmentMove, IsWellScoped, IsValid, checked_of, Setup, setting_of, with_puts, given_of}
 use Rattle.c_mean.specs.World as source
-use Rattle.c_mean.specs.World.{SegmentMove, segment_machine}
-use Rattle.c_tree.specs.WellScoped.{IsWellScoped}
-use Rattle.certificate_rules.specs.Validity.{IsValid}
 use Rattle.lawful_log.specs.Segments as log
-use Rattle.lawful_log.specs.Good.{checked_of}
-use Rattle.lawful_log.specs.Setup.{Setup, setting_of}
 use Rattle.lawful_log.specs.State.{Segment, State}
 use Rattle.lawful_reading.specs.Segments as reading
 use Rattle.lawful_reading.specs.State as reading_state
-use Rattle.machine_meaning.specs.Reached.{with_puts}
 use Rattle.machine_meaning.proofs.Forms.{has_form}
-use Rattle.audited_logs.specs.Audited.{given_of}
 use Rattle.audited_logs.proofs.Begun.{begins}
 use Rattle.audited_logs.proofs.Beside.{Runs, IsAt, Position, Between, Within, within_of, segment_of, not_both, same_segment}
 use Rattle.audited_logs.proofs.Cuts.{Put, begun_by, moved_from, moves_from, puts_next}

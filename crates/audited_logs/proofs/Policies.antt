@@ -1,22 +1,8 @@
 -- A choice point rests on how many chunks there are in all, and not on how many there are of each size.
-use Rattle.std.proofs.Common.{◌≡◌, ◌≢◌, ℕ, ◌+◌, ◌&&◌, ◌||◌, Bool, not, nat_eq, List, ◌∷◌, drop, Some, find, subst, arith}
-use Rattle.std.specs.Prelude.{IsSome, IsTrue}
-use Rattle.std.specs.List.{AllByRecursion}
-use Rattle.blocking_graph.specs.Edges.{edges_of}
-use Rattle.choice_rules.specs.Choice.{queue_at, goes_before_at, IsLawfulBy, IsChoice}
-use Rattle.choice_rules.specs.Clock.{IsChoicePoint}
-use Rattle.choice_rules.specs.Deliveries.{IsDelivery}
-use Rattle.choice_rules.specs.Policy.{Policy, Rule, by_graph, by_stride}
-use Rattle.choice_rules.specs.Readiness.{is_ready, at_accept, any_elsewhere}
-use Rattle.choice_rules.specs.Seen.{Waiter, Seen, uses_of, last_choice}
-use Rattle.choice_rules.specs.Stops.{IsIdle}
-use Rattle.event_trace.specs.declared.events.Event.{Event}
+use Rattle.audited_logs.proofs.Common.{◌≡◌, ◌≢◌, ℕ, ◌+◌, ◌&&◌, ◌||◌, Bool, not, nat_eq, List, ◌∷◌, drop, Some, find, subst, arith, IsSome, IsTrue, AllByRecursion, edges_of, queue_at, goes_before_at, IsLawfulBy, IsChoice, IsChoicePoint, IsDelivery, Policy, Rule, by_graph, by_stride, is_ready, at_accept, any_elsewhere, Waiter, Seen, uses_of, last_choice, IsIdle, Event, Item, Option, read_policy}
 use Rattle.resource_monitor.specs.Gate.{gate}
-use Rattle.schedule_log.specs.declared.entries.Item.{Item}
 use Rattle.scheduler.specs.Scores as scores
 use Rattle.scheduler.specs.Scores.{comes_before}
-use Rattle.std.specs.Prelude.{Option}
-use Rattle.audited_logs.specs.Audited.{read_policy}
 
 module _ (policy : Policy) (seen : Seen) where
   abbrev read : Policy

@@ -1,19 +1,9 @@
 -- The count of chunks stays through a run, and one is held at its start.
-use Rattle.std.proofs.Common.{◌≡◌, ℕ, suc, ◌+◌, ◌-◌, ◌≤◌, nat_eq, cond, List, [], ◌∷◌, length, true, false, Option, Some, None, refl, ap, ◌∙◌, subst, arith, length-append, ⊎_elim}
-use Rattle.std.proofs.lemmas.Bool.{cases_eq, eq-eqb, ne_eqb}
+use Rattle.audited_logs.proofs.Common.{◌≡◌, ℕ, suc, ◌+◌, ◌-◌, ◌≤◌, nat_eq, cond, List, [], ◌∷◌, length, true, false, Option, Some, None, refl, ap, ◌∙◌, subst, arith, length-append, ⊎_elim, cases_eq, eq-eqb, ne_eqb, range_with_len, Pool, Taken, all_free, free_count, taken_for, start_pool, copies-cons, IfSome, Areas, local_step, empty_world, started_on, start_world, world_of, World, Setting, Move, with_thread, step, local_in, row_for, on_step, on_printed}
 use Rattle.std.proofs.lemmas.List.FromFn.{length-range_with_len}
-use Rattle.std.specs.List.{range_with_len}
-use Rattle.chunk_pool.specs.Pool.{Pool, Taken, all_free, free_count, taken_for, start_pool}
-use Rattle.chunk_pool.proofs.FreeLaws.{copies-cons}
 use Rattle.chunk_pool.proofs.NeedLaws.{taken_for-count, taken_for-leaves}
 use Rattle.chunk_pool.proofs.ShapeLaws.{count-same}
-use Rattle.std.specs.Prelude.{IfSome}
-use Rattle.machine_world.specs.Areas.{Areas}
 use Rattle.machine_world.specs.Held.{copies, KeepsShape}
-use Rattle.machine_world.specs.Local.{local_step}
-use Rattle.machine_world.specs.Runs.{empty_world, started_on, start_world, world_of}
-use Rattle.machine_world.specs.Threads.{World, Setting, Move, with_thread, step, local_in}
-use Rattle.machine_world.proofs.StepCases.{row_for, on_step, on_printed}
 use Rattle.machine_world.proofs.HeldLaws.{KeepsShape-step}
 
 -- how many chunks a world has

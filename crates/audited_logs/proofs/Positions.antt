@@ -1,31 +1,14 @@
 -- Beside each state to which a lawful log leads stands one of its reading. So between segments as many threads of the machine are live as have
 -- not ended in the source's world.
-use Rattle.std.proofs.Common.{◌≡◌, ℕ, ◌/◌, ◌≤◌, false, List, [], ◌∷◌, length, Some, refl, sym, ap, ◌∙◌, subst, arith}
-use Rattle.std.specs.Prelude.{is_some}
-use Rattle.c_lower.specs.ProgramCode.{lowered}
+use Rattle.audited_logs.proofs.Common.{◌≡◌, ℕ, ◌/◌, ◌≤◌, false, List, [], ◌∷◌, length, Some, refl, sym, ap, ◌∙◌, subst, arith, is_some, lowered, IsWellScoped, IsValid, Waiter, uses_in, no_past, Trace, checked_of, Setup, setting_of, start_machine, start_areas, Given, live_in, World, AreWellFormed, IsWellFormed, IsWellFormedIf, most_fuel, IsWellFormedIf-start, Entry, StopLine, starts_law, given_of}
 use Rattle.c_mean.specs.World as source
-use Rattle.c_tree.specs.WellScoped.{IsWellScoped}
-use Rattle.certificate_rules.specs.Validity.{IsValid}
-use Rattle.choice_rules.specs.Seen.{Waiter, uses_in, no_past}
-use Rattle.choice_rules.specs.Trace.{Trace}
-use Rattle.lawful_log.specs.Good.{checked_of}
 use Rattle.lawful_log.specs.Lawful.{IsAllowed, Leads, nowhere, by_entry, IsLawfulLog}
-use Rattle.lawful_log.specs.Setup.{Setup, setting_of, start_machine, start_areas}
 use Rattle.lawful_log.specs.State.{State, start_of}
-use Rattle.lawful_reading.specs.Given.{Given}
-use Rattle.lawful_reading.specs.Happenings.{live_in}
 use Rattle.lawful_reading.specs.State as reading_state
 use Rattle.machine_meaning.proofs.Formed.{formed}
-use Rattle.machine_world.specs.Threads.{World}
-use Rattle.machine_world.specs.WellFormed.{AreWellFormed, IsWellFormed, IsWellFormedIf, most_fuel}
 use Rattle.machine_world.proofs.CountedLaws.{all_free-new}
-use Rattle.machine_world.proofs.FormWorlds.{IsWellFormedIf-start}
-use Rattle.schedule_log.specs.declared.entries.Entry.{Entry}
-use Rattle.schedule_log.specs.declared.entries.StopLine.{StopLine}
 use Rattle.segment_laws.proofs.ValidCalls.{CallFacts-valid}
 use Rattle.stack_certificate.specs.Certificates.{fact_at}
-use Rattle.machine_meaning.proofs.BetweenSegments.{starts_law}
-use Rattle.audited_logs.specs.Audited.{given_of}
 use Rattle.audited_logs.proofs.Beside.{Holds, Position, Between, Within, between_at, between_of, not_within}
 use Rattle.audited_logs.proofs.Choices.{chosen}
 use Rattle.audited_logs.proofs.Comings.{came}

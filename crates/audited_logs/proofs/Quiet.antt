@@ -1,18 +1,10 @@
 -- Steps of a segment of which the log has no entry, and the step of an entry.
-use Rattle.std.proofs.Common.{◌≡◌, ℕ, zero, suc, ◌+◌, List, [], ◌∷◌, ◌++◌, Some, refl, ◌∙◌, subst, arith}
-use Rattle.c_lower.specs.ProgramCode.{lowered}
+use Rattle.audited_logs.proofs.Common.{◌≡◌, ℕ, zero, suc, ◌+◌, List, [], ◌∷◌, ◌++◌, Some, refl, ◌∙◌, subst, arith, lowered, IsWellScoped, IsValid, checked_of, Setup, setting_of, KeepsWellFormed, KeepsWellFormed-step, StepReaches, IsFinishedIn}
 use Rattle.c_mean.specs.World as source
-use Rattle.c_tree.specs.WellScoped.{IsWellScoped}
-use Rattle.certificate_rules.specs.Validity.{IsValid}
-use Rattle.lawful_log.specs.Good.{checked_of}
 use Rattle.lawful_log.specs.Segments.{quiet_world, after_quiet}
-use Rattle.lawful_log.specs.Setup.{Setup, setting_of}
 use Rattle.machine_world.proofs.Counts.{Counts, Retires, StartsOne, IsOver, counts_step}
 use Rattle.machine_world.specs.Runs.{and_then}
 use Rattle.machine_world.specs.Threads.{World, Setting, Move, Goes, Puts, Spawns, Blocks, Ends, step}
-use Rattle.machine_world.specs.WellFormed.{KeepsWellFormed}
-use Rattle.machine_world.proofs.FormWorlds.{KeepsWellFormed-step}
-use Rattle.machine_meaning.specs.Reached.{StepReaches, IsFinishedIn}
 use Rattle.machine_meaning.proofs.WorldLaws as laws
 use Rattle.audited_logs.proofs.Acts.{KeepsFew, few_step, same_some, none-not}
 use Rattle.audited_logs.proofs.Beside.{Holds, Runs}

@@ -1,26 +1,9 @@
 -- The ranges of a reading's state: its clock, its nodes, the numbers of its threads, and its uses.
-use Rattle.std.proofs.Common.{◌≡◌, ℕ, zero, suc, ◌+◌, ◌-◌, ◌*◌, ◌^◌, ◌<◌, ◌≤◌, ◌||◌, Bool, true, false, cond, not, List, [], ◌∷◌, ◌++◌, length, map, Option, Some, None, find, refl, subst, arith, ⊎_elim}
-use Rattle.std.specs.Prelude.{filter, filter_map, slice_get, nat_le}
-use Rattle.std.specs.List.{AllByRecursion, range_with_len, position_or_len, list_any}
-use Rattle.std.proofs.lemmas.Bool.{cond_both, cases_lt}
-use Rattle.std.proofs.lemmas.Bool.Decides.{nat_tests}
-use Rattle.std.proofs.lemmas.List.Elements.{All-from_recursion, All-contains}
-use Rattle.blocking_graph.specs.Nodes.{same_key, keys_with, node_number}
+use Rattle.audited_logs.proofs.Common.{◌≡◌, ℕ, zero, suc, ◌+◌, ◌-◌, ◌*◌, ◌^◌, ◌<◌, ◌≤◌, ◌||◌, Bool, true, false, cond, not, List, [], ◌∷◌, ◌++◌, length, map, Option, Some, None, find, refl, subst, arith, ⊎_elim, filter, filter_map, slice_get, nat_le, AllByRecursion, range_with_len, position_or_len, list_any, cond_both, cases_lt, nat_tests, All-from_recursion, All-contains, same_key, keys_with, node_number, wakes_at, ticks_of, Rest, Blocked, is_due, event_times, IsClockBy, IsChoicePoint, Policy, wakes, any_ready, waking_times, Waiter, newcomers, IsNext, ProgramTree, Event, Segment, seen_of, All-weaker, All-append}
 use Rattle.cap_word.specs.declared.calls.Block as blocks
-use Rattle.c_mean.specs.ModelledCalls.{wakes_at, ticks_of}
 use Rattle.c_mean.specs.World as source
-use Rattle.c_mean.specs.World.{Rest, Blocked}
-use Rattle.choice_rules.specs.Clock.{is_due, event_times, IsClockBy, IsChoicePoint}
-use Rattle.choice_rules.specs.Policy.{Policy}
-use Rattle.choice_rules.specs.Readiness.{wakes, any_ready, waking_times}
-use Rattle.choice_rules.specs.Seen.{Waiter, newcomers}
-use Rattle.choice_rules.specs.Trace.{IsNext}
-use Rattle.c_tree.specs.Trees.{ProgramTree}
-use Rattle.event_trace.specs.declared.events.Event.{Event}
 use Rattle.lawful_reading.specs.State as reading
-use Rattle.lawful_reading.specs.State.{Segment, seen_of}
 use Rattle.audited_logs.proofs.EdgeFits.{FitsRecord}
-use Rattle.audited_logs.proofs.Keys.{all_both}
 use Rattle.audited_logs.proofs.Uses.{Small, FitUses}
 
 -- after so many instructions no clock is later
@@ -60,10 +43,6 @@ pub record InRange (program : ProgramTree) (caps : List ℕ) (b : reading.State)
   pub after : source.IsAfter program caps (source.start_world program) schedule b.source
 
 -- ---- lists
-
-pub all_weaker : {X : Type 0} (P Q : X → Type 0) → ((x : X) → P x → Q x) → (xs : List X) → AllByRecursion P xs → AllByRecursion Q xs
-all_weaker P Q gives [] h = tt
-all_weaker P Q gives (x ∷ xs) h = (gives x h.0, all_weaker P Q gives xs h.1)
 
 pub all_filter : {X : Type 0} (P : X → Type 0) (test : X → Bool) (xs : List X) → AllByRecursion P xs → AllByRecursion P (filter test xs)
 all_filter P test [] h = tt
@@ -179,7 +158,7 @@ clock_within program caps policy b next clock range point =
     let seen = seen_of b in
     let wake : Waiter → Option ℕ = λ w. wakes w.since (slice_get b.source.threads w.thread) in
     let waking = mapped_within (latest b.cost) wake b.waiting
-    (all_weaker (FitsWaiter b.cost) (λ (w : Waiter). WakesBy (latest b.cost) (wake w)) (λ w fits. wakes_more (w.since + 2 ^ 31) (latest b.cost) (wake w) fits.since (rest_wakes w.since (slice_get b.source.threads w.thread))) b.waiting range.waiting) in
+    (All-weaker (FitsWaiter b.cost) (λ (w : Waiter). WakesBy (latest b.cost) (wake w)) (λ w fits. wakes_more (w.since + 2 ^ 31) (latest b.cost) (wake w) fits.since (rest_wakes w.since (slice_get b.source.threads w.thread))) b.waiting range.waiting) in
     clock_by policy b next clock (latest b.cost) (is_due next b.clock || any_ready policy seen b.clock) range.clock
-    (all_both (λ time. time ≤ latest b.cost) (event_times next) (waking_times seen) (events_within (latest b.cost) b.trace next (omega arith) point.next_is) waking)
+    (All-append (λ time. time ≤ latest b.cost) (event_times next) (waking_times seen) (events_within (latest b.cost) b.trace next (omega arith) point.next_is) waking)
     point.clock_is

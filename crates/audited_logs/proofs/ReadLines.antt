@@ -1,31 +1,10 @@
 -- The lines of a log that is lawful as it is read are those of the text: line by line, beside where they have led.
-use Rattle.std.proofs.Common.{ℕ, ℤ, ◌≡◌, true, false, refl, sym, ap, subst, ◌∙◌, List, [], ◌∷◌, ◌++◌, Option, Some, None}
-use Rattle.std.specs.Prelude.{is_some}
-use Rattle.cap_word.specs.Word.{signed}
-use Rattle.cap_word.specs.declared.stops.Stop.{Stop}
-use Rattle.cap_word.specs.declared.traps.TrapKind.{TrapKind}
-use Rattle.c_hoist.specs.NestedText.{ReadsNested}
-use Rattle.c_mean.specs.ModelledCalls.{Delivery, with_delivery}
+use Rattle.audited_logs.proofs.Common.{ℕ, ℤ, ◌≡◌, true, false, refl, sym, ap, subst, ◌∙◌, List, [], ◌∷◌, ◌++◌, Option, Some, None, is_some, signed, Stop, TrapKind, ReadsNested, Delivery, with_delivery, IsWellScoped, delivery_of, received, DeepProgram, DeepRest, DeepWorld, deep_program, RunsTheSame, WorldsAlike, delivered, IsComing, IsRun, Given, IsAllowed, Leads, nowhere, by_line, IsLawful, IsOut, IsBlock, IsEnd, IsClosed, Entry, Item, StopLine, lines_of, ComesTo, HaveAllEnded, IsSomeLive, IsBlockedAt, HasEnded, ComesToTrap, ComesToCut, StopsSo, AreTextLines, IsTextLog}
 use Rattle.c_mean.specs.World as source
-use Rattle.c_tree.specs.WellScoped.{IsWellScoped}
-use Rattle.choice_rules.specs.Deliveries.{delivery_of, received}
-use Rattle.deep_mean.specs.DeepTrees.{DeepProgram}
-use Rattle.deep_mean.specs.DeepWorld.{DeepRest, DeepWorld}
-use Rattle.deep_mean.specs.Naming.{deep_program}
-use Rattle.hoist_meaning.specs.SameRuns.{RunsTheSame, WorldsAlike}
-use Rattle.lawful_log.specs.Good.{delivered}
-use Rattle.lawful_reading.specs.Choice.{IsComing, IsRun}
 use Rattle.lawful_reading.specs.Ends.{IsCut, StopsBy}
-use Rattle.lawful_reading.specs.Given.{Given}
-use Rattle.lawful_reading.specs.Reading.{IsAllowed, Leads, nowhere, by_line, IsLawful}
-use Rattle.lawful_reading.specs.Segments.{IsOut, IsBlock, IsEnd, IsClosed}
 use Rattle.lawful_reading.specs.State.{Segment, State, start_of}
-use Rattle.schedule_log.specs.declared.entries.Entry.{Entry}
-use Rattle.schedule_log.specs.declared.entries.Item.{Item}
-use Rattle.schedule_log.specs.declared.entries.StopLine.{StopLine}
 use Rattle.audited_logs.proofs.ReadRuns.{outputs_at_first, rests_on, rested_outputs, cut_there}
 use Rattle.audited_logs.proofs.ReadWorlds.{IsFollowed, after_more, delivers, follow_on, ran, start_followed}
-use Rattle.audited_logs.specs.TextLog.{lines_of, ComesTo, HaveAllEnded, IsSomeLive, IsBlockedAt, HasEnded, ComesToTrap, ComesToCut, StopsSo, AreTextLines, IsTextLog}
 use Rattle.audited_logs.proofs.TextMeaning.{program_means}
 use Rattle.audited_logs.proofs.Rests.{rest_at, blocked_in, ended_in, all_ended, some_live}
 

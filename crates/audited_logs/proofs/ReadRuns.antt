@@ -1,14 +1,6 @@
 -- The source's run of the thread whose segment is under way, as the lines of a log are read: it has come to where the last output was put.
-use Rattle.std.proofs.Common.{◌≡◌, ℕ, ◌+◌, ◌-◌, ◌<◌, ◌≤◌, List, [], ◌∷◌, length, Option, Some, refl, sym, ap, ◌∙◌, subst, arith, length-append, ⊎_elim}
-use Rattle.std.specs.Prelude.{slice_get}
-use Rattle.std.proofs.lemmas.Bool.{cases_lt}
-use Rattle.std.proofs.lemmas.Option.{none-some, same_Some}
-use Rattle.cap_word.specs.Runs.{Goes, Stops, and_then, moves}
-use Rattle.cap_word.proofs.RunLemmas.{goes_on}
-use Rattle.c_tree.specs.Trees.{ProgramTree}
+use Rattle.audited_logs.proofs.Common.{◌≡◌, ℕ, ◌+◌, ◌-◌, ◌<◌, ◌≤◌, List, [], ◌∷◌, length, Option, Some, refl, sym, ap, ◌∙◌, subst, arith, length-append, ⊎_elim, slice_get, cases_lt, none-some, same_Some, Goes, Stops, and_then, moves, goes_on, ProgramTree, Rest, SegmentMove, Rested, begun, begun_at, segment_step, segment_machine, IsCutAt, RunsTo, Fresh, Blocked, PutsNext, RestsNext}
 use Rattle.c_mean.specs.World as source
-use Rattle.c_mean.specs.World.{Rest, SegmentMove, Rested, begun, begun_at, segment_step, segment_machine, IsCutAt, RunsTo, Fresh, Blocked}
-use Rattle.lawful_reading.specs.Happenings.{PutsNext, RestsNext}
 use Rattle.audited_logs.proofs.Cuts.{later_moves, moved_from, moves_from}
 use Rattle.audited_logs.proofs.Steps.{grows, keeps_moves, keeps_step}
 

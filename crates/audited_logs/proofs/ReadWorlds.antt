@@ -1,28 +1,8 @@
 -- Where the lines of a log have led as they are read, the source's world is the one under the schedule that they print.
-use Rattle.std.proofs.Common.{◌≡◌, ℕ, ◌<◌, ◌^◌, Bool, false, true, List, [], ◌∷◌, ◌++◌, append_assoc, append-nil, map, Option, Some, None, refl, sym, ap, ◌∙◌, subst, rules}
-use Rattle.std.specs.Int.{w32, cast_unsigned}
-use Rattle.std.specs.Prelude.{is_some}
-use Rattle.std.proofs.Math.Facts.{of_z-to_z}
-use Rattle.std.proofs.lemmas.List.{map-append}
-use Rattle.std.proofs.lemmas.Option.{same_Some}
-use Rattle.blocking_graph.specs.declared.segments.SegmentRecord.{SegmentRecord}
-use Rattle.cap_word.specs.Word.{signed}
-use Rattle.cap_word.proofs.WordLemmas.{to_z-signed}
-use Rattle.c_tree.specs.Trees.{ProgramTree}
-use Rattle.c_mean.specs.ModelledCalls.{Delivery, Arrival, Message, with_delivery}
+use Rattle.audited_logs.proofs.Common.{◌≡◌, ℕ, ◌<◌, ◌^◌, Bool, false, true, List, [], ◌∷◌, ◌++◌, append_assoc, append-nil, map, Option, Some, None, refl, sym, ap, ◌∙◌, subst, is_some, map-append, same_Some, SegmentRecord, ProgramTree, Delivery, with_delivery, delivery_of, received, delivered, IsComing, Given, chunks_of, IsAllowed, Leads, nowhere, by_line, IsBlock, IsEnd, IsClosed, Entry, Item, delivered_is}
 use Rattle.c_mean.specs.World as source
-use Rattle.choice_rules.specs.Deliveries.{delivery_of, item_of, received}
-use Rattle.event_trace.specs.declared.events.EventKind.{EventKind}
 use Rattle.event_trace.specs.declared.events.EventKind.TheVariants as events
-use Rattle.event_trace.specs.Lines.{FitsKind}
-use Rattle.lawful_log.specs.Good.{delivered}
-use Rattle.lawful_reading.specs.Choice.{IsComing}
-use Rattle.lawful_reading.specs.Given.{Given, chunks_of}
-use Rattle.lawful_reading.specs.Reading.{IsAllowed, Leads, nowhere, by_line}
-use Rattle.lawful_reading.specs.Segments.{IsBlock, IsEnd, IsClosed}
 use Rattle.lawful_reading.specs.State.{Segment, State, start_of}
-use Rattle.schedule_log.specs.declared.entries.Entry.{Entry}
-use Rattle.schedule_log.specs.declared.entries.Item.{Item}
 use Rattle.audited_logs.specs.Printed.{schedule_of, costs_of, clock_after, held_after, IsPrintedChoice, AreLawfulChoices}
 use Rattle.audited_logs.proofs.ReadRuns.{IsUnderWay, at_first, puts_on, rests_on}
 
@@ -32,14 +12,6 @@ use Rattle.audited_logs.proofs.ReadRuns.{IsUnderWay, at_first, puts_on, rests_on
 pub after_more : (p : ProgramTree) (caps : List ℕ) (start world after : source.World) (schedule : List source.Entry) (entry : source.Entry) → source.IsAfter p caps start schedule world → source.IsAfterEntry p caps world entry after → source.IsAfter p caps start (schedule ++ entry ∷ []) after
 after_more p caps start world after [] entry is step = (after, subst (λ (x : source.World). source.IsAfterEntry p caps x entry after) is step, refl)
 after_more p caps start world after (first ∷ schedule) entry is step = (is.0, is.1, after_more p caps is.0 world after schedule entry is.2 step)
-
--- the item of an event's line is what the event delivers
-word_is : (value : ℕ) → value < 2 ^ 32 → cast_unsigned w32 (signed value) ≡ value
-word_is value fits = ap (cast_unsigned w32) (sym (to_z-signed value fits)) ∙ of_z-to_z {w = w32} {n = value} (search (rules, fits))
-
-pub delivered_is : (kind : EventKind) → FitsKind kind → delivered (item_of kind) ≡ delivery_of kind
-delivered_is (events.Arrive value) fits = ap Arrival (word_is value fits)
-delivered_is (events.Message channel value) fits = ap (Message channel) (word_is value fits.1)
 
 -- ---- line by line
 

@@ -1,29 +1,12 @@
 -- The end of a segment, in a lawful log and in its reading.
-use Rattle.std.proofs.Common.{◌≡◌, ℕ, ◌+◌, ◌-◌, List, [], ◌∷◌, ◌++◌, length, None, refl, sym, ap, ◌∙◌, subst, arith}
-use Rattle.blocking_graph.specs.Nodes.{keys_with}
-use Rattle.cap_word.specs.Runs.{Goes, Stops}
-use Rattle.c_lower.specs.ProgramCode.{lowered}
+use Rattle.audited_logs.proofs.Common.{◌≡◌, ℕ, ◌+◌, ◌-◌, List, [], ◌∷◌, ◌++◌, length, None, refl, sym, ap, ◌∙◌, subst, arith, keys_with, Goes, Stops, lowered, SegmentMove, Rested, RunsTo, IsWellScoped, IsValid, Waiter, uses_in, changes, newcomers, end_node, with_segment, free_count, free_bounded, checked_of, Setup, chunks_of, IsPossible, World, with_puts, StandsSettled, given_of}
 use Rattle.c_mean.specs.World as source
-use Rattle.c_mean.specs.World.{SegmentMove, Rested, RunsTo}
 use Rattle.c_mean.proofs.WorldLemmas.{one_run}
-use Rattle.c_tree.specs.WellScoped.{IsWellScoped}
-use Rattle.certificate_rules.specs.Validity.{IsValid}
-use Rattle.choice_rules.specs.Seen.{Waiter, uses_in, changes, newcomers, end_node, with_segment}
 use Rattle.choice_rules.specs.SourceRuns as rules
-use Rattle.chunk_pool.specs.Pool.{free_count}
-use Rattle.chunk_pool.proofs.FreeLaws.{free_bounded}
-use Rattle.lawful_log.specs.Good.{checked_of}
 use Rattle.lawful_log.specs.Segments as log
-use Rattle.lawful_log.specs.Setup.{Setup}
 use Rattle.lawful_log.specs.State.{Segment, State, held_chunks}
-use Rattle.lawful_reading.specs.Given.{chunks_of}
 use Rattle.lawful_reading.specs.Segments as reading
 use Rattle.lawful_reading.specs.State as reading_state
-use Rattle.lawful_reading.specs.State.{IsPossible}
-use Rattle.machine_world.specs.Threads.{World}
-use Rattle.machine_meaning.specs.Reached.{with_puts}
-use Rattle.machine_meaning.specs.UnderWay.{StandsSettled}
-use Rattle.audited_logs.specs.Audited.{given_of}
 use Rattle.audited_logs.proofs.Beside.{Holds, Runs, IsAt, Position, Between, Within, between_at, between_of, within_of, segment_of, not_both, same_segment}
 use Rattle.audited_logs.proofs.Cuts.{Rest, begun_by, moved_from, rests_next}
 use Rattle.audited_logs.proofs.Fitting.{Ran}

@@ -1,17 +1,10 @@
 -- Where a thread of the program rests, that of the text does; and as many of them live.
-use Rattle.std.proofs.Common.{ℕ, zero, suc, ◌+◌, ◌<◌, ◌≡◌, ◌≢◌, Bool, true, cond, refl, sym, ap, subst, ◌∙◌, List, [], ◌∷◌, length, count_by, Option, Some, None, arith}
-use Rattle.std.specs.Prelude.{slice_get}
-use Rattle.std.proofs.lemmas.List.Sums.{sum_by-cons}
+use Rattle.audited_logs.proofs.Common.{ℕ, zero, suc, ◌+◌, ◌<◌, ◌≡◌, ◌≢◌, Bool, true, cond, refl, sym, ap, subst, ◌∙◌, List, [], ◌∷◌, length, count_by, Option, Some, None, arith, slice_get, sum_by-cons, Waiting, key_of, Rest, DeepRest, lives, RestsAlike, BothFresh, BothBlocked, BothEnded, RestAlike}
 use Rattle.cap_word.specs.declared.calls.Block.{Block}
-use Rattle.c_mean.specs.Frames.{Waiting, key_of}
 use Rattle.c_mean.specs.World as source
-use Rattle.c_mean.specs.World.{Rest}
 use Rattle.deep_mean.specs.DeepFrames as frames
 use Rattle.deep_mean.specs.DeepFrames.{DeepWaiting}
 use Rattle.deep_mean.specs.DeepWorld as deep
-use Rattle.deep_mean.specs.DeepWorld.{DeepRest}
-use Rattle.lawful_reading.specs.Happenings.{lives}
-use Rattle.hoist_meaning.specs.SameRuns.{RestsAlike, BothFresh, BothBlocked, BothEnded, RestAlike}
 
 abbrev no_rest : Option Rest
 no_rest = None

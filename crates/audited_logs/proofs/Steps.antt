@@ -1,16 +1,6 @@
 -- What a step of the source's run of a thread keeps: the thread's number, where threads rest, and what was put.
-use Rattle.std.proofs.Common.{◌≡◌, ℕ, zero, suc, ◌+◌, ◌<◌, ◌≤◌, cond, List, [], ◌∷◌, ◌++◌, length, count_by, Option, Some, None, refl, sym, ap, ◌∙◌, subst, arith, append_assoc, append-nil, length-append}
-use Rattle.std.specs.Prelude.{slice_get}
-use Rattle.std.proofs.lemmas.List.Sums.{sum_by-append}
-use Rattle.cap_word.specs.Calls.{Call, Blocking, Immediate}
-use Rattle.cap_word.specs.Runs.{Goes, Asks, Stops, and_then, moves}
-use Rattle.cap_word.specs.declared.traps.TrapKind.{TrapKind}
-use Rattle.c_tree.specs.Trees.{ProgramTree}
-use Rattle.c_mean.specs.Frames.{Waiting}
-use Rattle.c_mean.specs.ModelledCalls.{ImmediateRow, blocking_row, immediate_row}
-use Rattle.c_mean.specs.Steps.{SourceMove, source_step, source_resume}
+use Rattle.audited_logs.proofs.Common.{◌≡◌, ℕ, zero, suc, ◌+◌, ◌<◌, ◌≤◌, cond, List, [], ◌∷◌, ◌++◌, length, count_by, Option, Some, None, refl, sym, ap, ◌∙◌, subst, arith, append_assoc, append-nil, length-append, slice_get, sum_by-append, Call, Blocking, Immediate, Goes, Asks, Stops, and_then, moves, TrapKind, ProgramTree, Waiting, ImmediateRow, blocking_row, immediate_row, SourceMove, source_step, source_resume, lives}
 use Rattle.c_mean.specs.World.{Rest, Fresh, Blocked, Ended, Segment, SegmentMove, rests, unless_trap, with_printed, with_started, after_ask, calls, segment_move, segment_step, segment_machine}
-use Rattle.lawful_reading.specs.Happenings.{lives}
 
 -- the thread is the same, threads that live have joined at the end, and so have outputs
 pub record Keeps (old new : Segment) : Type 0 where

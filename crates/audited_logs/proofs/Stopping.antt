@@ -1,31 +1,15 @@
 -- Why a step of the machine stops for fuel or for threads, and what the source's run comes to where it stops for threads.
-use Rattle.std.proofs.Common.{◌≡◌, ℕ, ◌≤◌, nat_eq, nat_le, true, List, length, Option, Some, None, sym, ◌∙◌, subst, arith}
-use Rattle.std.proofs.lemmas.Bool.{cond_both, eqb-true}
-use Rattle.std.proofs.lemmas.Bool.Decides.{nat_tests}
-use Rattle.cap_word.specs.Calls.{Call, Blocking, Immediate, most_threads}
-use Rattle.cap_word.specs.Runs.{Asks, Stops, Goes}
-use Rattle.cap_word.specs.declared.stops.Stop.{Stop}
-use Rattle.cap_word.specs.declared.traps.TrapKind.{TrapKind}
-use Rattle.c_lower.specs.ProgramCode.{lowered}
-use Rattle.c_mean.specs.ModelledCalls.{blocking_row, immediate_row}
+use Rattle.audited_logs.proofs.Common.{◌≡◌, ℕ, ◌≤◌, nat_eq, nat_le, true, List, length, Option, Some, None, sym, ◌∙◌, subst, arith, cond_both, eqb-true, nat_tests, Call, Blocking, Immediate, most_threads, Asks, Stops, Goes, Stop, TrapKind, lowered, blocking_row, immediate_row, ProgramTree, IsWellScoped, IsValid, Taken, taken_for, Checked, IsWellFormed, IsReached, step_is}
 use Rattle.c_mean.specs.World as source
-use Rattle.c_tree.specs.Trees.{ProgramTree}
-use Rattle.c_tree.specs.WellScoped.{IsWellScoped}
-use Rattle.certificate_rules.specs.Validity.{IsValid}
-use Rattle.chunk_pool.specs.Pool.{Taken, taken_for}
 use Rattle.flat_code.specs.declared.operations.Op.{Op}
 use Rattle.machine_world.specs.Local as local
 use Rattle.machine_world.specs.Local.{LocalMove, local_step, Ended, Trapped, NoRoom, Wrong}
-use Rattle.machine_world.specs.Places.{Checked}
 use Rattle.machine_world.specs.Threads as machine
 use Rattle.machine_world.specs.Threads.{Thread, World, Setting, Move, package_call, printed, spawned, unless_trap, moved, step, local_in}
-use Rattle.machine_world.specs.WellFormed.{IsWellFormed}
 use Rattle.machine_meaning.specs.AsSource.{AsksCall, IsStepAsSource}
 use Rattle.stack_certificate.specs.declared.certificates.Certificate.{Certificate}
 use Rattle.stack_image.specs.declared.images.Image.{Image}
-use Rattle.machine_meaning.specs.Reached.{IsReached}
 use Rattle.machine_meaning.proofs.SegmentSteps.{along}
-use Rattle.machine_meaning.proofs.WorldSteps.{step_is}
 use Rattle.audited_logs.proofs.Begun.{ComesToStart, comes_to_start}
 
 -- ---- the machine's step

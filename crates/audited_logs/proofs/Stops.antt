@@ -1,27 +1,9 @@
 -- The stop, in a lawful log and in its reading, and the edges before it.
-use Rattle.std.proofs.Common.{◌≡◌, ℕ, ◌+◌, ◌-◌, ◌<◌, ◌≤◌, false, List, length, Some, refl, sym, ap, ◌∙◌, subst, arith, ⊎_elim}
-use Rattle.std.proofs.lemmas.Bool.{cases_lt}
-use Rattle.cap_word.specs.Runs.{Goes, moves}
-use Rattle.cap_word.specs.declared.stops.Stop.{Stop}
-use Rattle.cap_word.proofs.RunLemmas.{goes_on}
-use Rattle.c_lower.specs.ProgramCode.{lowered}
+use Rattle.audited_logs.proofs.Common.{◌≡◌, ℕ, ◌+◌, ◌-◌, ◌<◌, ◌≤◌, false, List, length, Some, refl, sym, ap, ◌∙◌, subst, arith, ⊎_elim, cases_lt, Goes, moves, Stop, goes_on, lowered, SegmentMove, segment_machine, IsWellScoped, IsValid, Seen, IsDone, IsBadTrace, IsIdle, checked_of, Setup, setting_of, IsCause, StopsBy, IsCrowdedNext, live_in, World, StopLine, given_of}
 use Rattle.c_mean.specs.World as source
-use Rattle.c_mean.specs.World.{SegmentMove, segment_machine}
-use Rattle.c_tree.specs.WellScoped.{IsWellScoped}
-use Rattle.certificate_rules.specs.Validity.{IsValid}
-use Rattle.choice_rules.specs.Seen.{Seen}
-use Rattle.choice_rules.specs.Stops.{IsDone, IsBadTrace, IsIdle}
-use Rattle.lawful_log.specs.Good.{checked_of}
-use Rattle.lawful_log.specs.Setup.{Setup, setting_of}
 use Rattle.lawful_log.specs.State.{Segment, State, seen_of}
 use Rattle.lawful_log.specs.Stops as log
-use Rattle.lawful_reading.specs.Ends.{IsCause, StopsBy}
-use Rattle.lawful_reading.specs.Happenings.{IsCrowdedNext, live_in}
 use Rattle.lawful_reading.specs.State as reading_state
-use Rattle.lawful_reading.specs.State.{End, NotYet, Edges, Stopped, IsPossible}
-use Rattle.machine_world.specs.Threads.{World}
-use Rattle.schedule_log.specs.declared.entries.StopLine.{StopLine}
-use Rattle.audited_logs.specs.Audited.{given_of}
 use Rattle.audited_logs.proofs.Begun.{begins, still_lives, StillLives}
 use Rattle.audited_logs.proofs.Beside.{Runs, IsAt, Position, Between, Within, within_of, segment_of, same_seen, not_both, not_within, same_segment}
 use Rattle.audited_logs.proofs.Cuts.{begun_by, moved_from, later_moves}

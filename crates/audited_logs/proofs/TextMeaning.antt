@@ -1,9 +1,6 @@
 -- A well-scoped program that a source reads as does what the source means.
-use Rattle.std.proofs.Common.{ℕ, List, length}
 use Rattle.c_lex.proofs.PlaceLemmas.{tokens_stand}
-use Rattle.c_tree.specs.Trees.{ProgramTree}
-use Rattle.c_tree.specs.WellScoped.{IsWellScoped}
-use Rattle.c_hoist.specs.NestedText.{MeansText}
+use Rattle.audited_logs.proofs.Common.{ℕ, List, length, ProgramTree, IsWellScoped, MeansText}
 use Rattle.grammar_laws.specs.Nested.{is_call}
 use Rattle.grammar_laws.proofs.Trees.{program_rises}
 use Rattle.hoist_meaning.proofs.Plan.{hoisting_keeps_meaning}

@@ -1,12 +1,6 @@
 -- What is said of the text of a log whose lines are allowed, one after another.
-use Rattle.std.proofs.Common.{◌≡◌, ℕ, suc, ◌≤◌, ◌⊎◌, inl, inr, List, [], ◌∷◌, ◌++◌, length, refl, sym, ap, ◌∙◌, append_assoc, arith, ⊎_elim}
-use Rattle.schedule_log.specs.EntryRanges.{FitsEntry}
-use Rattle.schedule_log.specs.EntryText.{entry_text, log_text}
-use Rattle.schedule_log.specs.declared.entries.Entry.{Entry}
-use Rattle.lawful_reading.specs.Given.{Given}
+use Rattle.audited_logs.proofs.Common.{◌≡◌, ℕ, suc, ◌≤◌, ◌⊎◌, inl, inr, List, [], ◌∷◌, ◌++◌, length, refl, sym, ap, ◌∙◌, append_assoc, arith, ⊎_elim, FitsEntry, entry_text, log_text, Entry, Given, IsAllowed, IsBeyond, Leads, nowhere, by_line, IsLawfulOrTooLong}
 use Rattle.lawful_reading.specs.State.{State, Stopped, start_of}
-use Rattle.lawful_reading.specs.Reading.{IsAllowed, IsBeyond, Leads, nowhere, by_line}
-use Rattle.audited_logs.specs.Audited.{IsLawfulOrTooLong}
 use Rattle.audited_logs.proofs.Needed.{decided}
 
 -- these lines lead to the stop

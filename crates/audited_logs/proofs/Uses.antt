@@ -1,24 +1,9 @@
 -- The uses of the resources stay within their caps, and so in 31 bits.
-use Rattle.std.proofs.Common.{◌≡◌, ℕ, zero, suc, ◌+◌, ◌-◌, ◌^◌, ◌<◌, ◌≤◌, ◌||◌, Bool, true, false, List, [], ◌∷◌, length, Option, Some, None, refl, sym, ap, ◌∙◌, subst, arith, ⊎_elim}
-use Rattle.std.specs.Prelude.{slice_get, slice_set, slice_index, nat_le}
-use Rattle.std.specs.List.{AllByRecursion}
-use Rattle.std.proofs.lemmas.Bool.{cases_lt}
-use Rattle.std.proofs.lemmas.Bool.Decides.{nat_tests}
-use Rattle.std.proofs.lemmas.List.{length-set}
-use Rattle.cap_word.specs.Calls.{Call, Blocking, Immediate}
-use Rattle.cap_word.specs.Runs.{Goes, Asks, Stops, and_then, moves}
-use Rattle.cap_word.specs.declared.calls.Ask.{Ask}
+use Rattle.audited_logs.proofs.Common.{◌≡◌, ℕ, zero, suc, ◌+◌, ◌-◌, ◌^◌, ◌<◌, ◌≤◌, ◌||◌, Bool, true, false, List, [], ◌∷◌, length, Option, Some, None, refl, sym, ap, ◌∙◌, subst, arith, ⊎_elim, slice_get, slice_set, slice_index, nat_le, AllByRecursion, cases_lt, nat_tests, length-set, Call, Blocking, Immediate, Goes, Asks, Stops, and_then, moves, Ask, TrapKind, ProgramTree, Waiting, Exchange, cap_of, use_of, with_use, Delivery, Arrival, Message, with_delivery, blocking_row, immediate_row, SourceMove, source_step, is_ready_at, AreCapsSmall}
 use Rattle.cap_word.specs.declared.calls.Block as blocks
-use Rattle.cap_word.specs.declared.traps.TrapKind.{TrapKind}
-use Rattle.c_tree.specs.Trees.{ProgramTree}
-use Rattle.c_mean.specs.Frames.{Waiting}
-use Rattle.c_mean.specs.ModelledCalls.{Exchange, cap_of, use_of, with_use, Delivery, Arrival, Message, with_delivery, blocking_row, immediate_row}
 use Rattle.c_mean.specs.ModelledCalls as table
-use Rattle.c_mean.specs.Steps.{SourceMove, source_step}
 use Rattle.c_mean.specs.World as source
 use Rattle.c_mean.specs.World.{Rest, Fresh, Blocked, Ended, Segment, SegmentMove, Rested, rests, unless_trap, calls, segment_move, segment_step, segment_machine, begun_at, begun}
-use Rattle.choice_rules.specs.Readiness.{is_ready_at}
-use Rattle.audited_logs.specs.Audited.{AreCapsSmall}
 
 -- a use of at most 2^31, and uses of the eight resources
 abbrev pub Small : List ℕ → Type 0

@@ -1,23 +1,13 @@
 -- What a thread of the machine puts is a word.
-use Rattle.std.proofs.Common.{◌≡◌, ℕ, ◌^◌, ◌<◌, List, [], Option, Some, None, sym, subst}
-use Rattle.std.specs.Prelude.{option_map}
-use Rattle.cap_word.specs.Calls.{Call, Immediate, call_with}
+use Rattle.audited_logs.proofs.Common.{◌≡◌, ℕ, ◌^◌, ◌<◌, List, [], Option, Some, None, sym, subst, option_map, Call, Immediate, call_with, Asks, Ask, Exchange, immediate_row, Local, LocalMove, local_step, Thread, World, Setting, Move, step, local_in, AreWords, Ways, row_for, on_thread, on_printed, step_is}
 use Rattle.cap_word.specs.ModelledCalls.{call_numbered}
-use Rattle.cap_word.specs.Runs.{Asks}
-use Rattle.cap_word.specs.declared.calls.Ask.{Ask}
 use Rattle.cap_word.specs.declared.modelled_calls.ModelledCall.{ModelledCall}
-use Rattle.c_mean.specs.ModelledCalls.{Exchange, immediate_row}
 use Rattle.machine_world.specs.Local as local
 use Rattle.stack_certificate.specs.Registers.{a0, a1}
-use Rattle.machine_world.specs.Local.{Local, LocalMove, local_step}
 use Rattle.machine_world.specs.Threads as machine
-use Rattle.machine_world.specs.Threads.{Thread, World, Setting, Move, step, local_in}
-use Rattle.machine_world.specs.WellFormed.{AreWords}
 use Rattle.rv_machine.specs.Registers.{read}
 use Rattle.rv_machine.proofs.WordLaws.{read-below}
 use Rattle.machine_world.proofs.LocalCases.{on_local}
-use Rattle.machine_world.proofs.StepCases.{Ways, row_for, on_thread, on_printed}
-use Rattle.machine_meaning.proofs.WorldSteps.{step_is}
 
 -- ---- the thread's own step
 

@@ -1,9 +1,5 @@
 -- Averages, as the code computes them and as lists.
-use Rattle.std.proofs.Common.{to_z, of_z, FitsSigned, rules, ◌^◌, ◌≡◌, ℕ, suc, ◌≤◌, ◌<◌, ℤ, pos, negsuc, ◌+ℤ◌, ◌-ℤ◌, ◌*ℤ◌, unsigned_abs, List, [], ◌∷◌, map, length, get_or, refl, arith}
-use Rattle.std.proofs.Math.Nat.{div-le_self}
-use Rattle.std.proofs.lemmas.Int.{to_z-of_z}
-use Rattle.std.specs.Int.{int_div_euclid, w128}
-use Rattle.blocking_graph.specs.Averages.{floor_div, next_average, next_averages}
+use Rattle.blocking_graph.proofs.Common.{to_z, of_z, FitsSigned, rules, ◌^◌, ◌≡◌, ℕ, suc, ◌≤◌, ◌<◌, ℤ, pos, negsuc, ◌+ℤ◌, ◌-ℤ◌, ◌*ℤ◌, unsigned_abs, List, [], ◌∷◌, map, length, get_or, refl, arith, div-le_self, to_z-of_z, int_div_euclid, w128, floor_div, next_average, next_averages}
 
 -- the quotient whose remainder is not negative is the one that is rounded down
 pub floor_div_is : (z : ℤ) (d : ℕ) → int_div_euclid z (pos d) ≡ floor_div z d

@@ -1,9 +1,5 @@
 -- Where a record's edge stands among the edges.
-use Rattle.std.proofs.Common.{◌≡◌, ℕ, zero, suc, ◌+◌, ◌≤◌, ◌<◌, Bool, true, false, cond, not, List, [], ◌∷◌, length, get_or, set, refl, arith}
-use Rattle.std.specs.List.{position_or_len, insert, AllByRecursion}
-use Rattle.blocking_graph.specs.declared.edges.EdgeLine.{EdgeLine}
-use Rattle.blocking_graph.specs.declared.segments.SegmentRecord.{SegmentRecord}
-use Rattle.blocking_graph.specs.Edges.{is_before, is_of, first_edge, next_edge, edges_with}
+use Rattle.blocking_graph.proofs.Common.{◌≡◌, ℕ, zero, suc, ◌+◌, ◌≤◌, ◌<◌, Bool, true, false, cond, not, List, [], ◌∷◌, length, get_or, set, refl, arith, position_or_len, insert, AllByRecursion, EdgeLine, SegmentRecord, is_before, is_of, first_edge, next_edge, edges_with}
 
 -- a place of 0: the first edge doesn't come before
 pub zero_place : (b : Bool) (n : ℕ) → cond (not (not b)) (1 + n) 0 ≡ 0 → b ≡ false

@@ -1,15 +1,5 @@
 -- What a graph keeps when it takes in a record.
-use Rattle.std.proofs.Common.{◌≡◌, ℕ, ◌+◌, ◌*◌, ◌^◌, ◌≤◌, ◌<◌, Bool, true, false, cond, IsTrue, ℤ, pos, negsuc, ◌-ℤ◌, ◌*ℤ◌, unsigned_abs, List, [], ◌∷◌, length, get_or, map, refl, arith}
-use Rattle.std.specs.List.{AllByRecursion}
-use Rattle.std.proofs.lemmas.Bool.Decides.{nat_tests}
-use Rattle.std.proofs.lemmas.Int.{ints, unsigned_abs-mul}
-use Rattle.std.proofs.lemmas.List.{length-map}
-use Rattle.std.proofs.lemmas.List.Elements.{All-map, All-from_recursion, recursion_from_All}
-use Rattle.blocking_graph.specs.declared.edges.EdgeLine.{EdgeLine}
-use Rattle.blocking_graph.specs.declared.segments.SegmentRecord.{SegmentRecord}
-use Rattle.blocking_graph.specs.Averages.{floor_div, first_average, next_average, next_averages}
-use Rattle.blocking_graph.specs.Edges.{is_before, is_of, first_edge, next_edge, edges_with, count_of}
-use Rattle.blocking_graph.specs.Graph.{GraphState, IsGraph, IsEdge, IsSegment, IsRising, precedes}
+use Rattle.blocking_graph.proofs.Common.{◌≡◌, ℕ, ◌+◌, ◌*◌, ◌^◌, ◌≤◌, ◌<◌, Bool, true, false, cond, IsTrue, ℤ, pos, negsuc, ◌-ℤ◌, ◌*ℤ◌, unsigned_abs, List, [], ◌∷◌, length, get_or, map, refl, arith, AllByRecursion, nat_tests, ints, unsigned_abs-mul, length-map, All-map, All-from_recursion, recursion_from_All, EdgeLine, SegmentRecord, floor_div, first_average, next_average, next_averages, is_before, is_of, first_edge, next_edge, edges_with, count_of, GraphState, IsGraph, IsEdge, IsSegment, IsRising, precedes}
 use Rattle.blocking_graph.proofs.PredictionLemmas.{count_of-cons, sum-le}
 
 -- a fact of both choices

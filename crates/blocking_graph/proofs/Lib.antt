@@ -1,3 +1,4 @@
+mod Common
 pub mod AverageLemmas
 pub mod EdgeLemmas
 pub mod PredictionLemmas

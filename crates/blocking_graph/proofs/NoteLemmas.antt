@@ -1,14 +1,6 @@
 -- What a graph keeps, after a record went into its sums and its edges.
-use Rattle.std.proofs.Common.{Result, Ok, Err, OnOk, IsOk, Some, ◌≡◌, ℕ, ◌^◌, ◌<◌, List, length, sym, ap, ◌∙◌, subst, rules}
-use Rattle.std.specs.BTreeMap.{BTreeMap, Updates}
-use Rattle.std.specs.Ordering.{nat_cmp}
+use Rattle.blocking_graph.proofs.Common.{Result, Ok, Err, OnOk, IsOk, Some, ◌≡◌, ℕ, ◌^◌, ◌<◌, List, length, sym, ap, ◌∙◌, subst, rules, BTreeMap, Updates, nat_cmp, EdgeLine, SegmentRecord, NodeSums, edges_with, edges_from, count_of, GraphState, IsGraph, IsSegment, IsSumOf, AreSumsOf}
 use Rattle.std.specs.declared.alloc.AllocError.{AllocError}
-use Rattle.blocking_graph.specs.declared.edges.EdgeLine.{EdgeLine}
-use Rattle.blocking_graph.specs.declared.segments.SegmentRecord.{SegmentRecord}
-use Rattle.blocking_graph.specs.declared.sums.NodeSums.{NodeSums}
-use Rattle.blocking_graph.specs.Edges.{edges_with, edges_from, count_of}
-use Rattle.blocking_graph.specs.Graph.{GraphState, IsGraph, IsSegment}
-use Rattle.blocking_graph.specs.Sums.{IsSumOf, AreSumsOf}
 use Rattle.blocking_graph.proofs.GraphLemmas.{IsGraph-note}
 use Rattle.blocking_graph.proofs.SumLemmas.{sums_noted}
 

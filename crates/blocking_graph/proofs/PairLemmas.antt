@@ -1,15 +1,5 @@
 -- The edges of a list of records, pair by pair.
-use Rattle.std.proofs.Common.{◌≡◌, ◌≢◌, ℕ, zero, suc, ◌+◌, ◌<◌, ◌==◌, ◌&&◌, Bool, true, false, IsTrue, ℤ, pos, Option, Some, None, List, [], ◌∷◌, ◌++◌, length, map, fold, get_or, refl, sym, ap, ◌∙◌, subst, arith}
-use Rattle.std.specs.List.{AllByRecursion}
-use Rattle.std.proofs.lemmas.Bool.Decides.{nat_tests}
-use Rattle.std.proofs.lemmas.List.{append-nil, append_assoc, get_or-map, length-map}
-use Rattle.std.proofs.lemmas.List.Elements.{filter-append}
-use Rattle.blocking_graph.specs.declared.edges.EdgeLine.{EdgeLine}
-use Rattle.blocking_graph.specs.declared.segments.SegmentRecord.{SegmentRecord}
-use Rattle.blocking_graph.specs.Averages.{first_average, next_average, next_averages}
-use Rattle.blocking_graph.specs.Edges.{is_before, is_of, first_edge, next_edge, edges_with, edges_of}
-use Rattle.blocking_graph.specs.Graph.{IsRising, precedes}
-use Rattle.blocking_graph.specs.Pairs.{records_of, edge_between, average_of, TellsOf, IsEdgeOf, HasEight}
+use Rattle.blocking_graph.proofs.Common.{◌≡◌, ◌≢◌, ℕ, zero, suc, ◌+◌, ◌<◌, ◌==◌, ◌&&◌, Bool, true, false, IsTrue, ℤ, pos, Option, Some, None, List, [], ◌∷◌, ◌++◌, length, map, fold, get_or, refl, sym, ap, ◌∙◌, subst, arith, AllByRecursion, nat_tests, append-nil, append_assoc, get_or-map, length-map, filter-append, EdgeLine, SegmentRecord, first_average, next_average, next_averages, is_before, is_of, first_edge, next_edge, edges_with, edges_of, IsRising, precedes, records_of, edge_between, average_of, TellsOf, IsEdgeOf, HasEight}
 use Rattle.blocking_graph.proofs.GraphLemmas.{edges_with-rising, length-next_averages}
 
 -- a test is true or false

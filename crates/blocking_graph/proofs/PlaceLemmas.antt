@@ -1,14 +1,7 @@
 -- The place of a record among edges in order, and the edge that stands there.
-use Rattle.std.proofs.Common.{◌≡◌, ℕ, zero, suc, ◌≤◌, ◌<◌, ◌==◌, ◌&&◌, Bool, true, false, Some, None, not, List, [], ◌∷◌, length, get_or, refl, arith}
 use Rattle.std.specs.Prelude.{IsTrue}
-use Rattle.std.specs.List.{position_or_len}
+use Rattle.blocking_graph.proofs.Common.{◌≡◌, ℕ, zero, suc, ◌≤◌, ◌<◌, ◌==◌, ◌&&◌, Bool, true, false, Some, None, not, List, [], ◌∷◌, length, get_or, refl, arith, position_or_len, nat_tests, EdgeLine, SegmentRecord, is_before, is_of, IsRising, precedes, edge_between}
 use Rattle.std.specs.List.Sorted.{IsPartitionedBy, IsPartitionPoint}
-use Rattle.std.proofs.lemmas.Bool.Decides.{nat_tests}
-use Rattle.blocking_graph.specs.declared.edges.EdgeLine.{EdgeLine}
-use Rattle.blocking_graph.specs.declared.segments.SegmentRecord.{SegmentRecord}
-use Rattle.blocking_graph.specs.Edges.{is_before, is_of}
-use Rattle.blocking_graph.specs.Graph.{IsRising, precedes}
-use Rattle.blocking_graph.specs.Pairs.{edge_between}
 use Rattle.blocking_graph.proofs.EdgeLemmas.{at_index, zero_place, suc_place, next_place}
 use Rattle.blocking_graph.proofs.PairLemmas.{before_leads_not, same_leads, after_leads_not, none_later}
 

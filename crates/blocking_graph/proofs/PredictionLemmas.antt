@@ -1,14 +1,7 @@
 -- Sums of weighted averages, and their quotients.
-use Rattle.std.proofs.Common.{to_z, of_z, FitsSigned, ◌≢◌, ◌≡◌, ℕ, ◌+◌, ◌*◌, ◌^◌, ◌≤◌, ◌<◌, Bool, true, false, cond, ◌==◌, ℤ, pos, negsuc, ◌+ℤ◌, ◌*ℤ◌, unsigned_abs, List, [], ◌∷◌, refl, arith, rules}
-use Rattle.std.proofs.Math.Nat.{div-le_of_le-mul}
-use Rattle.std.proofs.lemmas.Int.{ints, unsigned_abs-mul, fits_signed_mul, to_z-of_z}
-use Rattle.std.specs.Int.{w128}
-use Rattle.std.proofs.lemmas.Bool.Decides.{nat_tests}
+use Rattle.blocking_graph.proofs.Common.{to_z, of_z, FitsSigned, ◌≢◌, ◌≡◌, ℕ, ◌+◌, ◌*◌, ◌^◌, ◌≤◌, ◌<◌, Bool, true, false, cond, ◌==◌, ℤ, pos, negsuc, ◌+ℤ◌, ◌*ℤ◌, unsigned_abs, List, [], ◌∷◌, refl, arith, rules, div-le_of_le-mul, ints, unsigned_abs-mul, fits_signed_mul, to_z-of_z, w128, nat_tests, EdgeLine, floor_div, edges_from, count_of}
 use Rattle.std.proofs.lemmas.List.Sums.{sum_by-cons}
 use Rattle.std.proofs.lemmas.Nat.{div_below, mul-le}
-use Rattle.blocking_graph.specs.declared.edges.EdgeLine.{EdgeLine}
-use Rattle.blocking_graph.specs.Averages.{floor_div}
-use Rattle.blocking_graph.specs.Edges.{edges_from, count_of}
 use Rattle.blocking_graph.proofs.AverageLemmas.{floor_div_is}
 
 -- a quotient of a sum of `count` numbers of that size is of that size

@@ -1,18 +1,6 @@
 -- The sums over the edges from a node, after one more record.
-use Rattle.std.proofs.Common.{◌≡◌, ◌≢◌, ℕ, ◌+◌, ◌*◌, ◌^◌, ◌≤◌, ◌<◌, ◌==◌, true, false, cond, ℤ, pos, ◌+ℤ◌, ◌-ℤ◌, unsigned_abs, Option, Some, None, IfSome, List, [], ◌∷◌, length, get_or, fold, refl, sym, ap, ◌∙◌, subst, arith, ⊎_elim}
-use Rattle.std.specs.List.{AllByRecursion}
-use Rattle.std.specs.BTreeMap.{BTreeMap, get, is_at, Updates}
-use Rattle.std.specs.Ordering.{nat_cmp}
+use Rattle.blocking_graph.proofs.Common.{◌≡◌, ◌≢◌, ℕ, ◌+◌, ◌*◌, ◌^◌, ◌≤◌, ◌<◌, ◌==◌, true, false, cond, ℤ, pos, ◌+ℤ◌, ◌-ℤ◌, unsigned_abs, Option, Some, None, IfSome, List, [], ◌∷◌, length, get_or, fold, refl, sym, ap, ◌∙◌, subst, arith, ⊎_elim, AllByRecursion, BTreeMap, get, is_at, Updates, nat_cmp, nat_tests, ints, EdgeLine, SegmentRecord, NodeSums, is_before, is_of, first_edge, next_edge, edges_with, edges_from, count_of, with_weight, weighted_change, IsEdge, IsSegment, IsRising, edge_between, weight, weight_or_0, edge_after, IsSumOf, IsKeptOf, AreSumsOf, IsMoved}
 use Rattle.std.proofs.lemmas.Bool.{cases_eq}
-use Rattle.std.proofs.lemmas.Bool.Decides.{nat_tests}
-use Rattle.std.proofs.lemmas.Int.{ints}
-use Rattle.blocking_graph.specs.declared.edges.EdgeLine.{EdgeLine}
-use Rattle.blocking_graph.specs.declared.segments.SegmentRecord.{SegmentRecord}
-use Rattle.blocking_graph.specs.declared.sums.NodeSums.{NodeSums}
-use Rattle.blocking_graph.specs.Edges.{is_before, is_of, first_edge, next_edge, edges_with, edges_from, count_of, with_weight, weighted_change}
-use Rattle.blocking_graph.specs.Graph.{IsEdge, IsSegment, IsRising}
-use Rattle.blocking_graph.specs.Pairs.{edge_between}
-use Rattle.blocking_graph.specs.Sums.{weight, weight_or_0, edge_after, IsSumOf, IsKeptOf, AreSumsOf, IsMoved}
 use Rattle.blocking_graph.proofs.GraphLemmas.{IsEdge-first, IsEdge-next}
 use Rattle.blocking_graph.proofs.PairLemmas.{by_test, before_leads_not, same_leads, after_leads_not, none_later, leads}
 use Rattle.blocking_graph.proofs.PlaceLemmas.{is_of_itself}
@@ -207,7 +195,7 @@ kept_elsewhere (e ∷ edges) segment node ne =
     ap (λ (es : List EdgeLine). edges_from es node) (with_new e edges segment later other)
     ∙ edges_from-no (first_edge segment) (e ∷ edges) node ne))
 
-not_at : (node other : ℕ) → node ≢ other → is_at (nat_cmp node) other ≡ false
+pub not_at : (node other : ℕ) → node ≢ other → is_at (nat_cmp node) other ≡ false
 not_at node other ne = grind (arith, nat_tests)
 
 pub sums_noted : (edges : List EdgeLine) (segment : SegmentRecord) (old new : BTreeMap ℕ NodeSums) (sums : NodeSums) → AreSumsOf edges old →

@@ -1,23 +1,13 @@
 -- The laws of source texts, where a call may stand inside an expression.
-use Rattle.std.proofs.Common.{ℕ, ◌≡◌, ◌≢◌, ◌⊎◌, sym, ◌∙◌, List, Result}
-use Rattle.std.specs.Prelude.{IfOk, IfErr, IsErrOf, MatchResult}
-use Rattle.c_tree.specs.RawTrees.{RawItemTree}
-use Rattle.c_tree.specs.Trees.{ProgramTree}
-use Rattle.c_tree.specs.ProgramView.{program_tree}
-use Rattle.c_tree.specs.declared.programs.Program.{Program}
+use Rattle.c_hoist.proofs.Common.{ℕ, ◌≡◌, ◌≢◌, ◌⊎◌, sym, ◌∙◌, List, Result, IfOk, IfErr, IsErrOf, MatchResult, RawItemTree, ProgramTree, program_tree, Program, IsNoMemory, SourceError, site_numbers, items_hoisted, IsHoistedTo, IsRefusedHoisted, ReadsNested, IsNestedSourceErrorOf}
 use Rattle.c_tree.specs.WholeForParts.{AreForPartsWhole}
 use Rattle.c_parse.specs.ForParts.{nested_in_fors}
 use Rattle.c_parse.proofs.ForWhole.{for_parts_whole, for_parts_none}
 use Rattle.scope_rules.specs.declared.errors.ScopeError.{ScopeError}
-use Rattle.scope_rules.specs.Outcomes.{IsNoMemory}
 use Rattle.scope_rules.proofs.Made.{in_order}
 use Rattle.scope_rules.proofs.OneOutcome.{never_both, one_refusal}
-use Rattle.c_scope.specs.declared.source_errors.SourceError.{SourceError}
 use Rattle.c_scope.specs.declared.source_errors.SourceError.TheVariants as refusals
 use Rattle.c_scope.proofs.SourceTexts as texts
-use Rattle.grammar_laws.specs.Ranks.{site_numbers}
-use Rattle.hoist_parts.specs.Statements.{items_hoisted}
-use Rattle.c_hoist.specs.NestedText.{IsHoistedTo, IsRefusedHoisted, ReadsNested, IsNestedSourceErrorOf}
 
 one_hoisted : (t : List RawItemTree) (p q : ProgramTree) → IsHoistedTo t p → IsHoistedTo t q → p ≡ q
 one_hoisted t p q h k = h.tree ∙ sym k.tree

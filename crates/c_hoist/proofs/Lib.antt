@@ -1,3 +1,4 @@
+mod Common
 pub mod EveryNested
 pub mod Rewriting
 pub mod SameNumbers

@@ -1,15 +1,7 @@
 -- A program that is read does what its source means.
-use Rattle.std.proofs.Common.{ℕ, List, length, Result}
-use Rattle.std.specs.Prelude.{Ok, Err, IfOk}
-use Rattle.c_lex.proofs.PlaceLemmas.{tokens_stand}
-use Rattle.c_tree.specs.ProgramView.{program_tree}
-use Rattle.c_tree.specs.declared.programs.Program.{Program}
-use Rattle.c_scope.specs.declared.source_errors.SourceError.{SourceError}
-use Rattle.grammar_laws.specs.Nested.{is_call}
-use Rattle.grammar_laws.proofs.Trees.{program_rises}
+use Rattle.c_hoist.proofs.Common.{ℕ, List, length, Result, Ok, Err, IfOk, tokens_stand, program_tree, Program, SourceError, is_call, program_rises, MeansText}
 use Rattle.hoist_meaning.proofs.Plan.{hoisting_keeps_meaning}
 use Rattle.hoist_meaning.proofs.ReadNames.{read_named}
-use Rattle.c_hoist.specs.NestedText.{MeansText}
 
 program_means : (source : List ℕ) (p : Program) → MeansText source (program_tree p)
 program_means source p = λ read.

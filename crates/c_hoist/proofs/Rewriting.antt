@@ -1,17 +1,10 @@
 -- A source that is rewritten and read item by item.
-use Rattle.std.proofs.Common.{◌≡◌, sym, ap, subst, ◌∙◌, Bool, List, [], ◌∷◌, ◌++◌, append_assoc, append-nil, None}
-use Rattle.c_tree.specs.RawTrees.{NameTree, RawStmtTree, RawStmtTrees, RawItemTree, RawFunctionItem}
-use Rattle.grammar_laws.specs.Nested.{is_call}
-use Rattle.grammar_laws.specs.Places.{stmts_places, item_places, items_places}
+use Rattle.c_hoist.proofs.Common.{◌≡◌, sym, ap, subst, ◌∙◌, Bool, List, [], ◌∷◌, ◌++◌, append_assoc, append-nil, None, NameTree, RawStmtTree, RawStmtTrees, RawItemTree, RawFunctionItem, is_call, stmts_places, item_places, items_places, definitions, at_start, items_after, items_faults, Making, IsMaking, with_statements, Agrees, HasRead, items_hoisted}
 use Rattle.grammar_laws.proofs.NoNames.{no_declared}
 use Rattle.scope_rules.specs.declared.resolver.Resolver.{Resolver}
 use Rattle.scope_rules.specs.Faults.{least_of}
-use Rattle.scope_rules.specs.Items.{definitions, at_start, items_after, items_faults}
 use Rattle.scope_rules.specs.ItemViews.{sofar_of}
-use Rattle.scope_rules.specs.Making.{Making, IsMaking, with_statements}
-use Rattle.scope_rules.specs.Reading.{Agrees, HasRead}
 use Rattle.scope_rules.proofs.Makings.{next_statements}
-use Rattle.hoist_parts.specs.Statements.{items_hoisted}
 use Rattle.hoist_meaning.proofs.SourceItems.{definitions_same}
 
 -- the rewriting keeps what a source defines

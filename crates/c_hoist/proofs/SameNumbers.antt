@@ -1,11 +1,5 @@
 -- A program whose calls are numbered by a table that counts from 0 is the program itself.
-use Rattle.std.proofs.Common.{ℕ, zero, suc, ◌+◌, ◌≡◌, refl, ap, List, [], ◌∷◌, map, Option, Some, None, arith}
-use Rattle.std.specs.Prelude.{option_map, slice_index_or}
-use Rattle.c_tree.specs.Trees.{CallTree, CallFunction, CallTable, CallSpawn, CallModelled, RightTree, Computed, Called}
-use Rattle.c_tree.specs.Trees.{SimpleTree, DeclareWith, SetLocal, SetGlobal, SetLocalElement, SetGlobalElement, Calling}
-use Rattle.c_tree.specs.Trees.{StmtTree, StmtTrees, Do, Block, If, IfElse, While, For, Return, NoStmts, Then, FunctionTree, ProgramTree}
-use Rattle.c_tree.specs.TextOrder.{counting}
-use Rattle.scope_rules.specs.Numbered.{number_at, call_numbered, right_numbered, simple_numbered, stmt_numbered, stmts_numbered, function_numbered, numbered}
+use Rattle.c_hoist.proofs.Common.{ℕ, zero, suc, ◌+◌, ◌≡◌, refl, ap, List, [], ◌∷◌, map, Option, Some, None, arith, option_map, slice_index_or, CallTree, CallFunction, CallTable, CallSpawn, CallModelled, RightTree, Computed, Called, SimpleTree, DeclareWith, SetLocal, SetGlobal, SetLocalElement, SetGlobalElement, Calling, StmtTree, StmtTrees, Do, Block, If, IfElse, While, For, Return, NoStmts, Then, FunctionTree, ProgramTree, counting, number_at, call_numbered, right_numbered, simple_numbered, stmt_numbered, stmts_numbered, function_numbered, numbered}
 
 counted_at : (ns : List ℕ) (j k d : ℕ) → counting j ns → d ≡ j + k → slice_index_or ns k d ≡ d
 counted_at [] j k d c e = refl

@@ -1,11 +1,6 @@
 -- A source in which each call is whole stays as it is.
-use Rattle.std.proofs.Common.{ℕ, ◌+◌, ◌≡◌, refl, ap, ◌∙◌, List, [], ◌∷◌, Option, Some, None}
-use Rattle.c_tree.specs.RawTrees.{RawExprTree, RawStmtTree, RawStmtTrees, RawDo, RawBlock, RawIf, RawIfElse, RawWhile, RawFor, RawReturn, NoRawStmts, RawThen}
-use Rattle.c_tree.specs.RawTrees.{RawItemTree, RawFunctionItem}
-use Rattle.c_tree.specs.RawViews.{raw_in_order}
-use Rattle.c_tree.specs.WholeCalls.{IsReturnWhole, IsStmtWhole, AreStmtsWhole, IsItemWhole, AreCallsWhole}
+use Rattle.c_hoist.proofs.Common.{ℕ, ◌+◌, ◌≡◌, refl, ap, ◌∙◌, List, [], ◌∷◌, Option, Some, None, RawExprTree, RawStmtTree, RawStmtTrees, RawDo, RawBlock, RawIf, RawIfElse, RawWhile, RawFor, RawReturn, NoRawStmts, RawThen, RawItemTree, RawFunctionItem, raw_in_order, IsReturnWhole, IsStmtWhole, AreStmtsWhole, IsItemWhole, AreCallsWhole, stmt_names, returned_before, returned_left, hoisted, all_hoisted, item_hoisted, items_hoisted}
 use Rattle.hoist_parts.specs.Expressions.{names_in}
-use Rattle.hoist_parts.specs.Statements.{stmt_names, returned_before, returned_left, hoisted, all_hoisted, item_hoisted, items_hoisted}
 use Rattle.hoist_parts.proofs.NoCalls.{no_left, no_before}
 use Rattle.hoist_parts.proofs.Kept.{held_not, value_kept, no_value_before, simple_kept, no_simple_before}
 

@@ -1,24 +1,11 @@
 -- A source in which every call is whole is read as before: as the same program, with the same numbers of its calls.
-use Rattle.std.proofs.Common.{ℕ, sym, subst, ◌∙◌, List, length}
 use Rattle.c_lex.specs.declared.tokens.Token.{Token}
 use Rattle.c_lex.specs.Tokens.{AreTokensOf}
-use Rattle.c_lex.proofs.PlaceLemmas.{tokens_stand}
-use Rattle.c_tree.specs.RawTrees.{RawItemTree}
-use Rattle.c_tree.specs.Trees.{ProgramTree}
-use Rattle.c_tree.specs.TextOrder.{counting}
-use Rattle.c_tree.specs.WholeCalls.{AreCallsWhole}
+use Rattle.c_hoist.proofs.Common.{ℕ, sym, subst, ◌∙◌, List, length, tokens_stand, RawItemTree, ProgramTree, counting, AreCallsWhole, is_call, items_places, site_numbers, program_rises, program_of, IsResolvedBy, IsResolved, IsHoistedTo, ReadsNested}
 use Rattle.c_grammar.specs.Grammar.{IsProgram}
 use Rattle.c_tree.proofs.WholeInFors.{parts_whole}
-use Rattle.grammar_laws.specs.Nested.{is_call}
-use Rattle.grammar_laws.specs.Places.{items_places}
-use Rattle.grammar_laws.specs.Ranks.{site_numbers}
-use Rattle.grammar_laws.proofs.Trees.{program_rises}
 use Rattle.grammar_laws.proofs.RankLaws.{rising_ranks}
-use Rattle.scope_rules.specs.Items.{program_of}
-use Rattle.scope_rules.specs.Numbered.{IsResolvedBy}
-use Rattle.scope_rules.specs.Outcomes.{IsResolved}
 use Rattle.c_scope.specs.SourceText.{ReadsAs}
-use Rattle.c_hoist.specs.NestedText.{IsHoistedTo, ReadsNested}
 use Rattle.c_hoist.proofs.SameNumbers.{same_numbers}
 use Rattle.c_hoist.proofs.WholeKept.{items_kept}
 

@@ -1,10 +1,5 @@
 -- Comments, by what stands at each place.
-use Rattle.std.proofs.Common.{ℕ, suc, ◌≡◌, ◌≢◌, ◌<◌, ◌≤◌, ◌+◌, inl, inr, ⊎_elim, List, [], ◌∷◌, ◌++◌, length, get_or, take, drop, codes, refl, sym, ap, ◌∙◌, subst, arith, append_assoc}
-use Rattle.std.proofs.lemmas.Bool.{cases_lt}
-use Rattle.std.proofs.lemmas.List.{get_or_at, get_or-append-add, get_or-take, length-take-le, length-append, drop_all, drop_more, take_more}
-use Rattle.c_lex.specs.Gaps.{Lacks, IsLineComment, IsBlockComment}
-use Rattle.c_lex.specs.Marks.{BeginsWith}
-use Rattle.c_lex.specs.Tokens.{IsOpenComment}
+use Rattle.c_lex.proofs.Common.{ℕ, suc, ◌≡◌, ◌≢◌, ◌<◌, ◌≤◌, ◌+◌, inl, inr, ⊎_elim, List, [], ◌∷◌, ◌++◌, length, get_or, take, drop, codes, refl, sym, ap, ◌∙◌, subst, arith, append_assoc, cases_lt, get_or_at, get_or-append-add, get_or-take, length-take-le, length-append, drop_all, drop_more, take_more, Lacks, IsLineComment, IsBlockComment, BeginsWith, IsOpenComment}
 
 -- the front of a list, up to what it lacks
 pub Lacks-byte : (text : List ℕ) (n byte : ℕ) → n ≤ length text → ((k : ℕ) → k < n → get_or text k 0 ≢ byte) → Lacks (take n text) (byte ∷ [])

@@ -1,12 +1,5 @@
 -- A text has one gap at its front.
-use Rattle.std.proofs.Common.{ℕ, ◌≡◌, ◌⊎◌, inl, inr, ⊎_elim, List, [], ◌∷◌, ◌++◌, codes, IsTrue, refl, sym, ap, ◌∙◌, subst, arith, append_assoc}
-use Rattle.std.proofs.lemmas.Bool.{both_ways}
-use Rattle.std.proofs.lemmas.List.{append-nil}
-use Rattle.c_lex.specs.Bytes.{is_white_space}
-use Rattle.c_lex.specs.Gaps.{Lacks, line_feed, IsLineComment, IsBlockComment, IsComment, IsGap}
-use Rattle.c_lex.specs.Gaps.IsGap.{nothing, space, comment}
-use Rattle.c_lex.specs.Marks.{BeginsWith}
-use Rattle.c_lex.specs.Lexemes.{BeginsComment}
+use Rattle.c_lex.proofs.Common.{ℕ, ◌≡◌, ◌⊎◌, inl, inr, ⊎_elim, List, [], ◌∷◌, ◌++◌, codes, IsTrue, refl, sym, ap, ◌∙◌, subst, arith, append_assoc, both_ways, append-nil, is_white_space, Lacks, line_feed, IsLineComment, IsBlockComment, IsComment, IsGap, nothing, space, comment, BeginsWith, BeginsComment}
 use Rattle.c_lex.proofs.Lists.{cuts_compare, same_heads, same_tails}
 
 star_no_slash : ◌≡◌ {A = ℕ} 42 47 → ⊥

@@ -1,12 +1,8 @@
 -- Each keyword has a place in the table of keywords, and each mark in that of marks.
-use Rattle.std.proofs.Common.{ℕ, ◌≡◌, ◌<◌, refl, get_or, lit<, true, List, Option, Some, sym, ap, ◌∙◌}
-use Rattle.std.specs.List.{find}
-use Rattle.std.specs.Str.{bytes_eq}
+use Rattle.c_lex.proofs.Common.{ℕ, ◌≡◌, ◌<◌, refl, get_or, lit<, true, List, Option, Some, sym, ap, ◌∙◌, find, bytes_eq, is_letter, keyword_text}
 use Rattle.c_lex.specs.declared.keywords.Keyword.{Keyword}
 use Rattle.c_lex.specs.declared.keywords.Keyword.TheVariants as keywords
 use Rattle.c_lex.specs.declared.keywords.TheConstants.{KEYWORDS}
-use Rattle.c_lex.specs.Bytes.{is_letter}
-use Rattle.c_lex.specs.Keywords.{keyword_text}
 
 -- the place of a keyword in the table
 abbrev pub keyword_place : Keyword → ℕ

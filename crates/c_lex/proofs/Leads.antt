@@ -1,17 +1,8 @@
 -- One piece more leads on.
-use Rattle.std.proofs.Common.{ℕ, ◌≡◌, ◌≤◌, ◌+◌, List, [], ◌∷◌, ◌++◌, length, take, drop, refl, sym, ap, ◌∙◌, subst, arith, append_assoc}
-use Rattle.std.proofs.lemmas.List.{append-nil, length-append, length-take-le, take-append-drop, drop-drop, drop_all}
-use Rattle.c_lex.specs.declared.tokens.Token.{Token}
-use Rattle.c_lex.specs.declared.tokens.TokenKind.{TokenKind}
-use Rattle.c_lex.specs.Gaps.{IsComment, IsGap}
-use Rattle.c_lex.specs.Gaps.IsGap.{nothing, space, comment}
-use Rattle.c_lex.specs.Lexemes.{IsTaken}
-use Rattle.c_lex.specs.declared.tokens.LexError.{LexError}
-use Rattle.c_lex.specs.Tokens.{LeadsTo, AreTokensOf, BeginsNone, IsLexErrorOf}
-use Rattle.c_lex.specs.Pieces.{IsFirstGap, IsFirstToken}
+use Rattle.c_lex.proofs.Common.{ℕ, ◌≡◌, ◌≤◌, ◌+◌, List, [], ◌∷◌, ◌++◌, length, take, drop, refl, sym, ap, ◌∙◌, subst, arith, append_assoc, append-nil, length-append, length-take-le, take-append-drop, drop-drop, drop_all, Token, TokenKind, IsComment, IsGap, nothing, space, comment, IsTaken, LexError, LeadsTo, AreTokensOf, BeginsNone, IsLexErrorOf, IsFirstGap, IsFirstToken}
 
 -- a gap and a gap are one
-IsGap-append_at : (front whole gap after : List ℕ) → whole ≡ gap ++ after → IsGap front whole → IsGap gap after → IsGap (front ++ gap) after
+pub IsGap-append_at : (front whole gap after : List ℕ) → whole ≡ gap ++ after → IsGap front whole → IsGap gap after → IsGap (front ++ gap) after
 IsGap-append_at [] whole gap after split nothing more = more
 IsGap-append_at (b ∷ front) whole gap after split (space white rest) more = space white (IsGap-append_at front whole gap after split rest more)
 IsGap-append_at front whole gap after split (comment text rest same is others) more =

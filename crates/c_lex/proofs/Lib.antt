@@ -1,3 +1,4 @@
+mod Common
 pub mod CommentLemmas
 mod Digits
 mod GapUnique

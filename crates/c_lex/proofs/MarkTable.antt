@@ -1,14 +1,7 @@
 -- The table of marks: each mark has a place in it, and longer ones come first.
-use Rattle.std.proofs.Common.{ℕ, ◌≡◌, ◌<◌, ◌≤◌, refl, get_or, lit<, length, cond, ltb, eqb, true, false, sym, ap, ◌∙◌, arith, eqb-true, List, Option, Some}
-use Rattle.std.specs.List.{find}
-use Rattle.std.specs.Str.{bytes_eq}
-use Rattle.std.proofs.lemmas.Bool.{agree_below_at}
-use Rattle.std.proofs.lemmas.Bool.Decides.{nat_tests}
-use Rattle.c_lex.specs.declared.marks.Mark.{Mark}
+use Rattle.c_lex.proofs.Common.{ℕ, ◌≡◌, ◌<◌, ◌≤◌, refl, get_or, lit<, length, cond, ltb, eqb, true, false, sym, ap, ◌∙◌, arith, eqb-true, List, Option, Some, find, bytes_eq, agree_below_at, nat_tests, Mark, is_white_space, is_word_byte, mark_text}
 use Rattle.c_lex.specs.declared.marks.Mark.TheVariants as marks
 use Rattle.c_lex.specs.declared.marks.TheConstants.{MARKS}
-use Rattle.c_lex.specs.Bytes.{is_white_space, is_word_byte}
-use Rattle.c_lex.specs.Marks.{mark_text}
 
 -- the place of a mark in the table
 abbrev pub mark_place : Mark → ℕ

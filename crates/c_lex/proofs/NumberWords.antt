@@ -1,9 +1,5 @@
 -- Which words are numbers, by what their first bytes are, and of which value.
-use Rattle.std.proofs.Common.{ℕ, ◌≡◌, ◌≢◌, ◌<◌, ◌≤◌, ◌^◌, ◌⊎◌, List, [], ◌∷◌, length, get_or, drop, refl, arith, Option, Some, None, IfSome, IfNone}
-use Rattle.std.specs.Str.Parse.{AllDigits, digits_value}
-use Rattle.std.proofs.lemmas.Slice.Eq.{text_from_reads}
-use Rattle.c_lex.specs.Numbers.{IsNumber}
-use Rattle.c_lex.specs.Numbers.IsNumber.{null, decimal, hexadecimal}
+use Rattle.c_lex.proofs.Common.{ℕ, ◌≡◌, ◌≢◌, ◌<◌, ◌≤◌, ◌^◌, ◌⊎◌, List, [], ◌∷◌, length, get_or, drop, refl, arith, Option, Some, None, IfSome, IfNone, AllDigits, digits_value, text_from_reads, IsNumber, null, decimal, hexadecimal}
 
 pub null_word : (word : List ℕ) → length word ≡ 1 → get_or word 0 0 ≡ 48 → IsNumber word 0
 null_word word one digit = null (text_from_reads word (48 ∷ []) one (digit, tt)) refl

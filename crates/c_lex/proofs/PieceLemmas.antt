@@ -1,18 +1,6 @@
 -- What a text begins with, by what was found of its bytes.
-use Rattle.std.proofs.Common.{ℕ, zero, suc, ◌≡◌, ◌<◌, ◌≤◌, ◌^◌, ◌+◌, ◌-◌, inl, inr, List, [], ◌∷◌, length, get_or, take, drop, IsTrue, refl, sym, ap, ◌∙◌, subst, arith}
-use Rattle.std.specs.Char.{is_ascii_digit}
-use Rattle.std.proofs.lemmas.List.{append-nil, length-append, length-drop, get_or-take, length-take-le, take-append-drop, take_at, drop_at, drop_more}
-use Rattle.c_lex.specs.declared.marks.Mark.{Mark}
-use Rattle.c_lex.specs.declared.tokens.TokenKind.{TokenKind}
+use Rattle.c_lex.proofs.Common.{ℕ, zero, suc, ◌≡◌, ◌<◌, ◌≤◌, ◌^◌, ◌+◌, ◌-◌, inl, inr, List, [], ◌∷◌, length, get_or, take, drop, IsTrue, refl, sym, ap, ◌∙◌, subst, arith, is_ascii_digit, append-nil, length-append, length-drop, get_or-take, length-take-le, take-append-drop, take_at, drop_at, drop_more, Mark, TokenKind, is_white_space, is_word_byte, IsComment, nothing, space, comment, mark_text, BeginsWith, IsNumber, AllWordBytes, IsWord, BeginsComment, IsTaken, IsOfKind, BeginsWithBadByte, BeginsWithBadNumber, IsFirstGap, IsFirstToken}
 use Rattle.c_lex.specs.declared.tokens.TokenKind.TheVariants as kinds
-use Rattle.c_lex.specs.Bytes.{is_white_space, is_word_byte}
-use Rattle.c_lex.specs.Gaps.{IsComment}
-use Rattle.c_lex.specs.Gaps.IsGap.{nothing, space, comment}
-use Rattle.c_lex.specs.Marks.{mark_text, BeginsWith}
-use Rattle.c_lex.specs.Numbers.{IsNumber}
-use Rattle.c_lex.specs.Lexemes.{AllWordBytes, IsWord, BeginsComment, IsTaken, IsOfKind}
-use Rattle.c_lex.specs.Tokens.{BeginsWithBadByte, BeginsWithBadNumber}
-use Rattle.c_lex.specs.Pieces.{IsFirstGap, IsFirstToken}
 use Rattle.c_lex.proofs.MarkTable.{mark_text-some}
 use Rattle.c_lex.proofs.TakenLemmas.{AllWordBytes-from, word_taken, mark_taken}
 

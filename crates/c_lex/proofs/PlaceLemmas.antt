@@ -1,11 +1,6 @@
 -- The tokens of a source stand in it, and their bytes spell them.
-use Rattle.std.proofs.Common.{ℕ, ◌≡◌, ◌<◌, ◌+◌, ⊎_elim, List, [], ◌∷◌, ◌++◌, length, take, drop, sym, ap, ◌∙◌, subst, arith, append_assoc}
-use Rattle.std.specs.List.{AllByRecursion}
-use Rattle.std.proofs.lemmas.List.{length-append, take_at, drop_at}
-use Rattle.c_lex.specs.declared.tokens.Token.{Token}
-use Rattle.c_lex.specs.Lexemes.{IsTaken, IsOfKind}
+use Rattle.c_lex.proofs.Common.{ℕ, ◌≡◌, ◌<◌, ◌+◌, ⊎_elim, List, [], ◌∷◌, ◌++◌, length, take, drop, sym, ap, ◌∙◌, subst, arith, append_assoc, AllByRecursion, length-append, take_at, drop_at, Token, IsTaken, IsOfKind, BeginsWithToken, LeadsTo, AreTokensOf}
 use Rattle.c_lex.specs.Places.{StandInOrder, lexeme_of}
-use Rattle.c_lex.specs.Tokens.{BeginsWithToken, LeadsTo, AreTokensOf}
 use Rattle.c_lex.proofs.MarkTable.{mark_text-some}
 use Rattle.c_lex.proofs.TakenLemmas.{IsWord-some}
 

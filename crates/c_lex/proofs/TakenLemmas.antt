@@ -1,12 +1,5 @@
 -- Words and marks that are taken whole.
-use Rattle.std.proofs.Common.{ℕ, suc, ◌≡◌, ◌<◌, ◌≤◌, ◌+◌, inl, inr, ⊎_elim, List, [], ◌∷◌, ◌++◌, length, get_or, false, IsTrue, refl, sym, ap, ◌∙◌, subst, arith, append_assoc}
-use Rattle.std.specs.Char.{is_ascii_digit}
-use Rattle.std.proofs.lemmas.Bool.{both_ways, or_cases}
-use Rattle.std.proofs.lemmas.List.{length-append, get_or_append_left, nil_from_length}
-use Rattle.c_lex.specs.declared.marks.Mark.{Mark}
-use Rattle.c_lex.specs.Bytes.{is_letter, is_word_byte}
-use Rattle.c_lex.specs.Marks.{mark_text, BeginsWith}
-use Rattle.c_lex.specs.Lexemes.{AllWordBytes, IsWord, IsIdentifier, IsLexeme, BeginsComment, IsTaken}
+use Rattle.c_lex.proofs.Common.{ℕ, suc, ◌≡◌, ◌<◌, ◌≤◌, ◌+◌, inl, inr, ⊎_elim, List, [], ◌∷◌, ◌++◌, length, get_or, false, IsTrue, refl, sym, ap, ◌∙◌, subst, arith, append_assoc, is_ascii_digit, both_ways, or_cases, length-append, get_or_append_left, nil_from_length, Mark, is_letter, is_word_byte, mark_text, BeginsWith, AllWordBytes, IsWord, IsIdentifier, IsLexeme, BeginsComment, IsTaken}
 use Rattle.c_lex.proofs.MarkTable.{mark_text-some, mark_no_word}
 
 pub AllWordBytes-from : (text : List ℕ) → ((k : ℕ) → k < length text → IsTrue (is_word_byte (get_or text k 0))) → AllWordBytes text
@@ -14,7 +7,7 @@ AllWordBytes-from [] each = tt
 AllWordBytes-from (b ∷ text) each = (each 0 (omega arith), AllWordBytes-from text (λ k inside. each (suc k) (omega arith)))
 
 -- a byte within a word
-AllWordBytes-inside : (front : List ℕ) (b : ℕ) (back : List ℕ) → AllWordBytes (front ++ b ∷ back) → IsTrue (is_word_byte b)
+pub AllWordBytes-inside : (front : List ℕ) (b : ℕ) (back : List ℕ) → AllWordBytes (front ++ b ∷ back) → IsTrue (is_word_byte b)
 AllWordBytes-inside [] b back all = all.0
 AllWordBytes-inside (c ∷ front) b back all = AllWordBytes-inside front b back all.1
 

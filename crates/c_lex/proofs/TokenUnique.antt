@@ -1,16 +1,6 @@
 -- What is taken at the front of a text is one lexeme, and of one kind.
-use Rattle.std.proofs.Common.{ℕ, ◌≡◌, ◌<◌, ◌^◌, inl, inr, ⊎_elim, List, [], ◌∷◌, ◌++◌, length, get_or, codes, true, false, IsTrue, refl, sym, ap, ◌∙◌, subst, arith}
-use Rattle.std.specs.Char.{digit_value, is_ascii_digit}
-use Rattle.std.proofs.lemmas.Bool.{both_ways, or_right, or_left}
-use Rattle.std.proofs.lemmas.Bool.Decides.{nat_tests}
-use Rattle.std.proofs.lemmas.List.{append-nil, get_or_append_left}
-use Rattle.c_lex.specs.declared.tokens.TokenKind.{TokenKind}
+use Rattle.c_lex.proofs.Common.{ℕ, ◌≡◌, ◌<◌, ◌^◌, inl, inr, ⊎_elim, List, [], ◌∷◌, ◌++◌, length, get_or, codes, true, false, IsTrue, refl, sym, ap, ◌∙◌, subst, arith, digit_value, is_ascii_digit, both_ways, or_right, or_left, nat_tests, append-nil, get_or_append_left, TokenKind, is_white_space, is_letter, is_word_byte, mark_text, IsDecimal, IsHexadecimal, IsNumber, null, decimal, hexadecimal, IsIdentifier, IsLexeme, BeginsComment, IsTaken, IsOfKind}
 use Rattle.c_lex.specs.declared.tokens.TokenKind.TheVariants as kinds
-use Rattle.c_lex.specs.Bytes.{is_white_space, is_letter, is_word_byte}
-use Rattle.c_lex.specs.Marks.{mark_text}
-use Rattle.c_lex.specs.Numbers.{IsDecimal, IsHexadecimal, IsNumber}
-use Rattle.c_lex.specs.Numbers.IsNumber.{null, decimal, hexadecimal}
-use Rattle.c_lex.specs.Lexemes.{IsIdentifier, IsLexeme, BeginsComment, IsTaken, IsOfKind}
 use Rattle.c_lex.proofs.GapUnique.{BeginsNoGap, comment_begins}
 use Rattle.c_lex.proofs.KeywordTable.{keyword_first, keyword_text-injective}
 use Rattle.c_lex.proofs.MarkTable.{mark_text-some, mark_no_word, mark_no_space, mark_text-injective}

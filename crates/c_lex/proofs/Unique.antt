@@ -1,18 +1,7 @@
 -- A source has one list of tokens or one refusal, and never both.
-use Rattle.std.proofs.Common.{ℕ, ◌≡◌, ◌+◌, ◌⊎◌, inl, inr, ⊎_elim, List, [], ◌∷◌, ◌++◌, length, get_or, Option, Some, None, IsTrue, refl, sym, ap, ◌∙◌, subst, arith}
-use Rattle.std.specs.Char.{is_ascii_digit}
-use Rattle.std.proofs.lemmas.Bool.{both_ways}
-use Rattle.c_lex.specs.declared.marks.Mark.{Mark}
+use Rattle.c_lex.proofs.Common.{ℕ, ◌≡◌, ◌+◌, ◌⊎◌, inl, inr, ⊎_elim, List, [], ◌∷◌, ◌++◌, length, get_or, Option, Some, None, IsTrue, refl, sym, ap, ◌∙◌, subst, arith, is_ascii_digit, both_ways, Mark, Token, TokenKind, LexError, is_white_space, mark_text, IsNumber, IsWord, IsLexeme, BeginsComment, IsTaken, IsOfKind, LeadsTo, AreTokensOf, BeginsWithBadByte, IsOpenComment, BeginsWithBadNumber, BeginsNone, IsLexErrorOf}
 use Rattle.c_lex.specs.declared.marks.Mark.TheVariants as marks
-use Rattle.c_lex.specs.declared.tokens.Token.{Token}
-use Rattle.c_lex.specs.declared.tokens.TokenKind.{TokenKind}
-use Rattle.c_lex.specs.declared.tokens.LexError.{LexError}
 use Rattle.c_lex.specs.declared.tokens.LexError.TheVariants.{BadByte, OpenComment, BadNumber, Memory}
-use Rattle.c_lex.specs.Bytes.{is_white_space}
-use Rattle.c_lex.specs.Marks.{mark_text}
-use Rattle.c_lex.specs.Numbers.{IsNumber}
-use Rattle.c_lex.specs.Lexemes.{IsWord, IsLexeme, BeginsComment, IsTaken, IsOfKind}
-use Rattle.c_lex.specs.Tokens.{LeadsTo, AreTokensOf, BeginsWithBadByte, IsOpenComment, BeginsWithBadNumber, BeginsNone, IsLexErrorOf}
 use Rattle.c_lex.proofs.GapUnique.{BeginsNoGap, gap_unique, comment_begins, open_no_comment}
 use Rattle.c_lex.proofs.Lists.{same_heads}
 use Rattle.c_lex.proofs.MarkTable.{mark_text-some}

@@ -1,10 +1,5 @@
 -- Arguments are put one after another.
-use Rattle.std.proofs.Common.{◌≡◌, ◌<◌, ◌+◌, ℕ, List, [], ◌∷◌, ◌++◌, length, append_assoc, ap, ◌∙◌, arith}
-use Rattle.c_tree.specs.Temporaries.{expr_temporaries, arguments_temporaries}
-use Rattle.c_tree.specs.Trees.{ExprTree}
-use Rattle.flat_code.specs.declared.operations.Op.{Op}
-use Rattle.c_lower.specs.ExprCode.{expr_size, expr_code}
-use Rattle.c_lower.specs.CallCode.{arguments_code, arguments_in}
+use Rattle.c_lower.proofs.Common.{◌≡◌, ◌<◌, ◌+◌, ℕ, List, [], ◌∷◌, ◌++◌, length, append_assoc, ap, ◌∙◌, arith, expr_temporaries, arguments_temporaries, ExprTree, Op, expr_size, expr_code, arguments_code, arguments_in}
 use Rattle.c_lower.proofs.CodeSizes.{expr_length}
 use Rattle.c_lower.proofs.ExprGlue.{grown}
 

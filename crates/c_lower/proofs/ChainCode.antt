@@ -1,13 +1,5 @@
 -- The code of operators one after another is that of the left operand and then of each operator with its right operand.
-use Rattle.std.proofs.Common.{◌≡◌, ◌+◌, ◌<◌, ℕ, List, [], ◌∷◌, ◌++◌, sym, ap, ◌∙◌, append_assoc, arith}
-use Rattle.std.proofs.lemmas.List.{append-nil}
-use Rattle.c_tree.specs.declared.operators.Infix.{Infix}
-use Rattle.c_tree.specs.Temporaries.{expr_temporaries, operand_temporaries}
-use Rattle.c_tree.specs.Trees.{ExprTree}
-use Rattle.c_tree.specs.Views.{joined, chained}
-use Rattle.flat_code.specs.declared.operations.Op.{Op}
-use Rattle.c_lower.specs.ExprCode.{expr_size, expr_code}
-use Rattle.c_lower.specs.Chains.{infix_size, operand_code, operands_code, operands_size}
+use Rattle.c_lower.proofs.Common.{◌≡◌, ◌+◌, ◌<◌, ℕ, List, [], ◌∷◌, ◌++◌, sym, ap, ◌∙◌, append_assoc, arith, append-nil, Infix, expr_temporaries, operand_temporaries, ExprTree, joined, chained, Op, expr_size, expr_code, infix_size, operand_code, operands_code, operands_size}
 
 joined_size : (l : ExprTree) (o : Infix) (r : ExprTree) → expr_size (joined l o r) ≡ expr_size l + (expr_size r + infix_size o)
 joined_size l (Infix.Binary op) r = omega arith

@@ -1,14 +1,5 @@
 -- Code has as many operations as its size says.
-use Rattle.std.proofs.Common.{◌≡◌, ◌+◌, ℕ, List, [], ◌∷◌, length, length-append, refl, arith}
-use Rattle.std.specs.Prelude.{Option, Some, None}
-use Rattle.c_tree.specs.declared.operators.Infix.{Infix}
-use Rattle.c_tree.specs.declared.operators.UnaryOperator.{UnaryOperator}
-use Rattle.c_tree.specs.Trees.{ExprTree, LocalElement, GlobalElement, Unary, Parenthesized, Binary, LogicalAnd, LogicalOr, Conditional, CallTree, CallFunction, CallTable, CallSpawn, CallModelled, RightTree, Computed, Called, SimpleTree, DeclareWith, SetLocal, SetGlobal, SetLocalElement, SetGlobalElement, Calling, StmtTree, StmtTrees, Do, Block, If, IfElse, While, For, Return, NoStmts, Then}
-use Rattle.c_lower.specs.Operations.{unary_code, unary_size}
-use Rattle.c_lower.specs.ExprCode.{expr_size, expr_code}
-use Rattle.c_lower.specs.Chains.{infix_size, operand_code}
-use Rattle.c_lower.specs.CallCode.{arguments_size, arguments_code, call_size, call_code, set_size, set_code, held_size, held_code}
-use Rattle.c_lower.specs.StmtCode.{simple_size, simple_code, simples_size, simples_code, step_size, step_code, test_size, test_code, return_size, return_code, stmt_size, stmt_code, stmts_size, stmts_code}
+use Rattle.c_lower.proofs.Common.{◌≡◌, ◌+◌, ℕ, List, [], ◌∷◌, length, length-append, refl, arith, Option, Some, None, Infix, UnaryOperator, ExprTree, LocalElement, GlobalElement, Unary, Parenthesized, Binary, LogicalAnd, LogicalOr, Conditional, CallTree, CallFunction, CallTable, CallSpawn, CallModelled, RightTree, Computed, Called, SimpleTree, DeclareWith, SetLocal, SetGlobal, SetLocalElement, SetGlobalElement, Calling, StmtTree, StmtTrees, Do, Block, If, IfElse, While, For, Return, NoStmts, Then, unary_code, unary_size, expr_size, expr_code, infix_size, operand_code, arguments_size, arguments_code, call_size, call_code, set_size, set_code, held_size, held_code, simple_size, simple_code, simples_size, simples_code, step_size, step_code, test_size, test_code, return_size, return_code, stmt_size, stmt_code, stmts_size, stmts_code}
 
 pub unary_length : (op : UnaryOperator) (k : ℕ) → length (unary_code op k) ≡ unary_size op
 unary_length UnaryOperator.Plus k = refl

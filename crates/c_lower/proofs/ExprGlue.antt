@@ -1,11 +1,5 @@
 -- The pieces of an expression's code make its code.
-use Rattle.std.proofs.Common.{◌≡◌, ◌+◌, ℕ, List, [], ◌∷◌, ◌++◌, length, length-append, append_assoc, sym, ap, refl, ◌∙◌, arith}
-use Rattle.c_tree.specs.declared.operators.Infix.{Infix}
-use Rattle.c_tree.specs.Trees.{ExprTree, Conditional}
-use Rattle.flat_code.specs.declared.operations.Op.{Op}
-use Rattle.c_lower.specs.ExprCode.{expr_size, expr_code}
-use Rattle.c_tree.specs.Views.{chained}
-use Rattle.c_lower.specs.Chains.{infix_size, operand_code, operands_code}
+use Rattle.c_lower.proofs.Common.{◌≡◌, ◌+◌, ℕ, List, [], ◌∷◌, ◌++◌, length, length-append, append_assoc, sym, ap, refl, ◌∙◌, arith, Infix, ExprTree, Conditional, Op, expr_size, expr_code, chained, infix_size, operand_code, operands_code}
 use Rattle.c_lower.proofs.ChainCode.{chained_code}
 use Rattle.c_lower.proofs.CodeSizes.{expr_length, operand_length}
 use Rattle.c_lower.proofs.Glue.{glued3, glued5}

@@ -1,25 +1,11 @@
 -- The code of what is well scoped is well formed.
-use Rattle.std.proofs.Common.{◌≡◌, ◌<◌, ◌≤◌, ◌+◌, ℕ, Bool, true, List, [], ◌∷◌, ◌++◌, length, refl, sym, ap, subst, ◌∙◌, lit<, arith}
-use Rattle.std.specs.Prelude.{IsTrue, false, Option, Some, None, option_map, unwrap_or, slice_index}
-use Rattle.std.specs.List.{AllByRecursion}
+use Rattle.c_lower.proofs.Common.{◌≡◌, ◌<◌, ◌≤◌, ◌+◌, ℕ, Bool, true, List, [], ◌∷◌, ◌++◌, length, refl, sym, ap, subst, ◌∙◌, lit<, arith, IsTrue, false, Option, Some, None, option_map, unwrap_or, slice_index, AllByRecursion, UnaryOperator, expr_temporaries, arguments_temporaries, call_temporaries, right_temporaries, held_temporaries, simple_temporaries, simples_temporaries, condition_temporaries, step_temporaries, returned_temporaries, stmt_temporaries, stmts_temporaries, simple_names, ExprTree, Number, Local, Global, LocalElement, GlobalElement, Unary, Parenthesized, Binary, LogicalAnd, LogicalOr, Conditional, CallTree, CallFunction, CallTable, CallSpawn, CallModelled, RightTree, Computed, Called, SimpleTree, DeclareScalar, DeclareArray, DeclareWith, SetLocal, SetGlobal, SetLocalElement, SetGlobalElement, Calling, StmtTree, StmtTrees, Do, Empty, Block, If, IfElse, While, For, Break, Continue, Return, NoStmts, Then, IsExprScoped, AreExprsScoped, IsCallScoped, call_gives, IsRightScoped, IsSimpleScoped, AreSimplesScoped, with_names, scope_after, scope_after_all, IsConditionScoped, IsStepScoped, IsReturnScoped, IsStmtScoped, AreStmtsScoped, Op, IsScalar, IsGlobalScalar, IsResultPlace, IsOperation, unary_code, expr_size, expr_code, arguments_size, arguments_code, arguments_in, call_size, call_code, set_size, set_code, held_size, held_code, simple_size, simple_code, simples_size, simples_code, step_size, step_code, test_size, test_code, return_size, return_code, stmt_size, stmt_code, stmts_size, stmts_code, All-append}
 use Rattle.cap_word.proofs.CallLemmas.{numbered}
 use Rattle.cap_word.specs.declared.modelled_calls.ModelledCall.{ModelledCall}
-use Rattle.c_tree.specs.declared.operators.UnaryOperator.{UnaryOperator}
 use Rattle.cap_word.specs.ModelledCalls.{number_of, parameters_of, gives_result}
-use Rattle.c_tree.specs.Temporaries.{expr_temporaries, arguments_temporaries, call_temporaries, right_temporaries, held_temporaries, simple_temporaries, simples_temporaries, condition_temporaries, step_temporaries, returned_temporaries, stmt_temporaries, stmts_temporaries}
-use Rattle.c_tree.specs.TextOrder.{simple_names}
-use Rattle.c_tree.specs.Trees.{ExprTree, Number, Local, Global, LocalElement, GlobalElement, Unary, Parenthesized, Binary, LogicalAnd, LogicalOr, Conditional, CallTree, CallFunction, CallTable, CallSpawn, CallModelled, RightTree, Computed, Called, SimpleTree, DeclareScalar, DeclareArray, DeclareWith, SetLocal, SetGlobal, SetLocalElement, SetGlobalElement, Calling, StmtTree, StmtTrees, Do, Empty, Block, If, IfElse, While, For, Break, Continue, Return, NoStmts, Then}
 use Rattle.c_tree.specs.WellScoped as tree
-use Rattle.c_tree.specs.WellScoped.{IsExprScoped, AreExprsScoped, IsCallScoped, call_gives, IsRightScoped, IsSimpleScoped, AreSimplesScoped, with_names, scope_after, scope_after_all, IsConditionScoped, IsStepScoped, IsReturnScoped, IsStmtScoped, AreStmtsScoped}
-use Rattle.flat_code.specs.declared.operations.Op.{Op}
 use Rattle.flat_code.specs.Modelled.{modelled_parameters, modelled_gives}
 use Rattle.flat_code.specs.WellFormed as flat
-use Rattle.flat_code.specs.WellFormed.{IsScalar, IsGlobalScalar, IsResultPlace, IsOperation}
-use Rattle.c_lower.specs.Operations.{unary_code}
-use Rattle.c_lower.specs.ExprCode.{expr_size, expr_code}
-use Rattle.c_lower.specs.CallCode.{arguments_size, arguments_code, arguments_in, call_size, call_code, set_size, set_code, held_size, held_code}
-use Rattle.c_lower.specs.StmtCode.{simple_size, simple_code, simples_size, simples_code, step_size, step_code, test_size, test_code, return_size, return_code, stmt_size, stmt_code, stmts_size, stmts_code}
-use Rattle.c_lower.proofs.Lists.{all-append}
 use Rattle.c_lower.proofs.Suits.{Suits}
 
 -- an expression has a temporary for its value
@@ -50,7 +36,7 @@ module _ (c : tree.Context) (d : flat.Context) (t n : ℕ) (suits : Suits c d t 
   AreFormed ops = AllByRecursion (IsOperation d) ops
 
   both : (xs ys : List Op) → AreFormed xs → AreFormed ys → AreFormed (xs ++ ys)
-  both xs ys a b = all-append (IsOperation d) xs ys a b
+  both xs ys a b = All-append (IsOperation d) xs ys a b
 
   scalar : (x : ℕ) → x < length c.sizes → slice_index c.sizes x ≡ 1 → IsScalar d x
   scalar x h e = (suits.local x h, suits.words x 1 h e)

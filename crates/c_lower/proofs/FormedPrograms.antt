@@ -1,25 +1,11 @@
 -- The code of a well scoped program is well formed.
-use Rattle.std.proofs.Common.{◌≡◌, ◌<◌, ◌≤◌, ◌+◌, ◌^◌, ℕ, zero, suc, Bool, true, false, List, [], ◌∷◌, ◌++◌, length, length-append, append_assoc, map, take, max, get_or, refl, sym, ap, subst, ◌∙◌, lit<, arith}
-use Rattle.std.specs.Prelude.{if◌then◌else◌, sum, replicate}
-use Rattle.std.specs.List.{AllByRecursion}
-use Rattle.std.proofs.Math.ListN.{get_or-append}
+use Rattle.c_lower.proofs.Common.{◌≡◌, ◌<◌, ◌≤◌, ◌+◌, ◌^◌, ℕ, zero, suc, Bool, true, false, List, [], ◌∷◌, ◌++◌, length, length-append, append_assoc, map, take, max, get_or, refl, sym, ap, subst, ◌∙◌, lit<, arith, if◌then◌else◌, sum, replicate, AllByRecursion, get_or-append, sum_by-cons, sum_by-append, scalars, below, declared_words, stmts_temporaries, function_temporaries, stmts_names, FunctionTree, ProgramTree, IsFunctionScoped, AreFunctionsScoped, IsWellScoped, FlatFunction, code_of, IsOperation, IsFunction, IsWellFormed, stmts_size, stmts_code, closing_code, first_temporary, function_ops, function_sizes, lowered_function, lowered_global, lowered, All-append}
 use Rattle.std.proofs.lemmas.Bool.{false≢true}
-use Rattle.std.proofs.lemmas.List.Sums.{sum_by-cons, sum_by-append}
 use Rattle.cap_word.specs.Signatures.{signature_at, IsTable}
-use Rattle.c_tree.specs.Sizes.{scalars, below, declared_words}
-use Rattle.c_tree.specs.Temporaries.{stmts_temporaries, function_temporaries}
-use Rattle.c_tree.specs.TextOrder.{stmts_names}
-use Rattle.c_tree.specs.Trees.{FunctionTree, ProgramTree}
 use Rattle.c_tree.specs.WellScoped as tree
-use Rattle.c_tree.specs.WellScoped.{IsFunctionScoped, AreFunctionsScoped, IsWellScoped}
-use Rattle.flat_code.specs.declared.functions.FlatFunction.{FlatFunction}
 use Rattle.flat_code.specs.declared.programs.FlatGlobal.{FlatGlobal}
-use Rattle.flat_code.specs.Codes.{code_of}
 use Rattle.flat_code.specs.WellFormed as flat
-use Rattle.flat_code.specs.WellFormed.{IsOperation, IsFunction, IsWellFormed}
-use Rattle.c_lower.specs.StmtCode.{stmts_size, stmts_code}
-use Rattle.c_lower.specs.ProgramCode.{closing_code, first_temporary, function_ops, function_sizes, lowered_function, lowered_global, lowered}
-use Rattle.c_lower.proofs.Lists.{all-append, map-map}
+use Rattle.c_lower.proofs.Lists.{map-map}
 use Rattle.c_lower.proofs.Suits.{Suits}
 use Rattle.c_lower.proofs.CodeSizes.{stmts_length}
 use Rattle.c_lower.proofs.Formed.{stmts_formed}
@@ -32,11 +18,11 @@ scalars_count : (n : ℕ) → length (scalars n) ≡ n
 scalars_count zero = refl
 scalars_count (suc n) = omega (arith, scalars_count n)
 
-scalars_words : (n : ℕ) → sum (scalars n) ≡ n
+pub scalars_words : (n : ℕ) → sum (scalars n) ≡ n
 scalars_words zero = refl
 scalars_words (suc n) = omega (arith, scalars_words n, sum_by-cons (λ (x : ℕ). x) 1 (scalars n))
 
-sum_both : (xs ys : List ℕ) → sum (xs ++ ys) ≡ sum xs + sum ys
+pub sum_both : (xs ys : List ℕ) → sum (xs ++ ys) ≡ sum xs + sum ys
 sum_both xs ys = sum_by-append (λ (x : ℕ). x) xs ys
 
 pub scalars_push : (n : ℕ) → scalars n ++ (1 ∷ []) ≡ scalars (n + 1)
@@ -50,7 +36,7 @@ scalar_word zero k h = absurd (omega arith)
 scalar_word (suc n) zero h = refl
 scalar_word (suc n) (suc k) h = scalar_word n k (omega arith)
 
-temporary_word : (xs : List ℕ) (n k : ℕ) → length xs ≤ k → k < length xs + n → get_or (xs ++ scalars n) k 0 ≡ 1
+pub temporary_word : (xs : List ℕ) (n k : ℕ) → length xs ≤ k → k < length xs + n → get_or (xs ++ scalars n) k 0 ≡ 1
 temporary_word [] n k low high = scalar_word n k (omega arith)
 temporary_word (x ∷ xs) n zero low high = absurd (omega arith)
 temporary_word (x ∷ xs) n (suc k) low high = temporary_word xs n k (omega arith) (omega arith)
@@ -94,7 +80,7 @@ closing_formed c d t n m true suits e h =
     ((s, lit< tt), ((e, s), tt))
 closing_formed c d t n m false suits e h = (e, tt)
 
-closing_size : (gives : Bool) (t : ℕ) → 1 ≤ length (closing_code gives t)
+pub closing_size : (gives : Bool) (t : ℕ) → 1 ≤ length (closing_code gives t)
 closing_size true t = omega arith
 closing_size false t = omega arith
 
@@ -118,7 +104,7 @@ function_formed p f h short =
       parameters = ap (λ xs. take f.params (xs ++ scalars n)) h.sizes ∙ (ap (take f.params) (append_assoc (scalars f.params) (declared_words f) (scalars n)) ∙ parameters_first f.params (declared_words f ++ scalars n));
       words = function_words p f h;
       count = short;
-      ops = all-append (IsOperation d) (stmts_code f.body 0 t 0 0) (closing_code f.gives t)
+      ops = All-append (IsOperation d) (stmts_code f.body 0 t 0 0) (closing_code f.gives t)
           (stmts_formed c d t n suits false (below f.params) f.body 0 0 0 h.body (omega arith) (omega (arith, within)) (λ y. absurd (false≢true y)))
           (closing_formed c d t n (stmts_temporaries f.body) f.gives suits refl refl);
     }

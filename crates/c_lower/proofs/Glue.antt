@@ -1,6 +1,5 @@
 -- What is put in several pieces at the end of a list stands there as one.
 use Rattle.std.proofs.Common.{◌≡◌, List, ◌++◌, ap, ◌∙◌, append_assoc}
-use Rattle.std.specs.Prelude.{Result, Ok, Err, OnOk}
 
 pub glued2 : {A : Type 0} (s t u a b : List A) → t ≡ s ++ a → u ≡ t ++ b → u ≡ s ++ (a ++ b)
 glued2 s t u a b e f = f ∙ ap (λ x. x ++ b) e ∙ append_assoc s a b
@@ -13,8 +12,3 @@ glued4 s t u v w a b c d e f g h = glued2 s v w ((a ++ b) ++ c) d (glued3 s t u 
 
 pub glued5 : {A : Type 0} (s t u v w x a b c d i : List A) → t ≡ s ++ a → u ≡ t ++ b → v ≡ u ++ c → w ≡ v ++ d → x ≡ w ++ i → x ≡ s ++ ((((a ++ b) ++ c) ++ d) ++ i)
 glued5 s t u v w x a b c d i e f g h j = glued2 s w x (((a ++ b) ++ c) ++ d) i (glued4 s t u v w a b c d e f g h) j
-
--- what a call ensures where it succeeds leads to what is to be ensured then
-pub then_on_ok : {T E P Q : Type 0} (r : Result T E) → (P → Q) → OnOk r P → OnOk r Q
-then_on_ok (Ok v) f h = f h
-then_on_ok (Err e) f h = h

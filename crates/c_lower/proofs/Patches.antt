@@ -1,13 +1,6 @@
 -- A jump that is put with no target, and replaced when its target is known.
-use Rattle.std.proofs.Common.{◌≡◌, ◌+◌, ℕ, List, [], ◌∷◌, ◌++◌, length, length-append, append_assoc, sym, ap, refl, ◌∙◌, arith}
-use Rattle.std.proofs.lemmas.List.{length-set}
-use Rattle.std.proofs.Math.ListN.{set}
+use Rattle.c_lower.proofs.Common.{◌≡◌, ◌+◌, ℕ, List, [], ◌∷◌, ◌++◌, length, length-append, append_assoc, sym, ap, refl, ◌∙◌, arith, length-set, set, Infix, ExprTree, Conditional, Op, expr_size, expr_code, truth_code, operand_code}
 use Rattle.std.proofs.Math.Seq.{set-append_seam}
-use Rattle.c_tree.specs.declared.operators.Infix.{Infix}
-use Rattle.c_tree.specs.Trees.{ExprTree, Conditional}
-use Rattle.flat_code.specs.declared.operations.Op.{Op}
-use Rattle.c_lower.specs.ExprCode.{expr_size, expr_code}
-use Rattle.c_lower.specs.Chains.{truth_code, operand_code}
 use Rattle.c_lower.proofs.CodeSizes.{expr_length}
 use Rattle.c_lower.proofs.ExprGlue.{grown, conditional_glued}
 use Rattle.c_lower.proofs.Glue.{glued3}

@@ -1,15 +1,5 @@
 -- The code of an expression has no site, and resets no variable.
-use Rattle.std.proofs.Common.{◌≡◌, ◌+◌, ℕ, Bool, true, false, List, [], ◌∷◌, ◌++◌, refl}
-use Rattle.std.specs.Prelude.{None}
-use Rattle.std.specs.List.{AllByRecursion}
-use Rattle.c_tree.specs.declared.operators.UnaryOperator.{UnaryOperator}
-use Rattle.c_tree.specs.Trees.{ExprTree, LocalElement, GlobalElement, Unary, Parenthesized, Binary, LogicalAnd, LogicalOr, Conditional}
-use Rattle.flat_code.specs.declared.operations.Op.{Op}
-use Rattle.flat_code.specs.Codes.{site_of}
-use Rattle.c_lower.specs.Operations.{unary_code}
-use Rattle.c_lower.specs.ExprCode.{expr_size, expr_code}
-use Rattle.c_lower.specs.CallCode.{arguments_code}
-use Rattle.c_lower.proofs.Lists.{all-append}
+use Rattle.c_lower.proofs.Common.{◌≡◌, ◌+◌, ℕ, Bool, true, false, List, [], ◌∷◌, ◌++◌, refl, None, AllByRecursion, UnaryOperator, ExprTree, LocalElement, GlobalElement, Unary, Parenthesized, Binary, LogicalAnd, LogicalOr, Conditional, Op, site_of, unary_code, expr_size, expr_code, arguments_code, All-append}
 
 abbrev pub is_reset : Op → Bool
 is_reset (Op.Zero a) = true
@@ -22,7 +12,7 @@ abbrev pub ArePlain : List Op → Type 0
 ArePlain ops = AllByRecursion IsPlain ops
 
 both : (xs ys : List Op) → ArePlain xs → ArePlain ys → ArePlain (xs ++ ys)
-both xs ys a b = all-append IsPlain xs ys a b
+both xs ys a b = All-append IsPlain xs ys a b
 
 unary_plain : (op : UnaryOperator) (k : ℕ) → ArePlain (unary_code op k)
 unary_plain UnaryOperator.Plus k = tt

@@ -1,23 +1,11 @@
 -- The code of a program has the sites of its tree, each once; those of a `for`'s step come after those of its body.
-use Rattle.std.proofs.Common.{◌≡◌, ◌+◌, ℕ, Bool, true, false, List, [], ◌∷◌, ◌++◌, map, refl, sym, ap, subst, ◌∙◌, append_assoc, eqb, arith}
 use Rattle.std.proofs.lemmas.Bool.Decides.{nat_tests}
-use Rattle.std.specs.Prelude.{Option, Some, None}
-use Rattle.std.specs.List.{IsDistinct, filter_map, flat_map}
+use Rattle.c_lower.proofs.Common.{◌≡◌, ◌+◌, ℕ, Bool, true, false, List, [], ◌∷◌, ◌++◌, map, refl, sym, ap, subst, ◌∙◌, append_assoc, eqb, arith, Option, Some, None, IsDistinct, filter_map, flat_map, map-append, append-nil, call_site, right_sites, returned_sites, simple_sites, simples_sites, step_sites, stmt_sites, stmts_sites, functions_sites, program_sites, ExprTree, CallTree, CallFunction, CallTable, CallSpawn, CallModelled, RightTree, Computed, Called, SimpleTree, DeclareWith, SetLocal, SetGlobal, SetLocalElement, SetGlobalElement, Calling, StmtTree, StmtTrees, Do, Block, If, IfElse, While, For, Return, NoStmts, Then, FunctionTree, ProgramTree, Op, site_of, site_numbers, expr_size, expr_code, arguments_code, call_code, set_code, held_code, simple_size, simple_code, simples_size, simples_code, step_size, step_code, test_size, test_code, return_code, stmt_size, stmt_code, stmts_code, closing_code, first_temporary, lowered_function, lowered}
 use Rattle.std.specs.List.Sorted.{IsPermutation}
-use Rattle.std.proofs.lemmas.List.{map-append, append-nil}
 use Rattle.std.proofs.lemmas.List.Elements.{filter_map-append}
 use Rattle.std.proofs.lemmas.List.Sorted.{IsPermutation-refl, IsPermutation-trans, IsPermutation-append, IsPermutation-append_comm, IsPermutation-append_left}
 use Rattle.std.proofs.lemmas.Map.Keys.{IsDistinct-IsPermutation}
 use Rattle.c_tree.specs.declared.facts.Site.{Site}
-use Rattle.c_tree.specs.TextOrder.{call_site, right_sites, returned_sites, simple_sites, simples_sites, step_sites, stmt_sites, stmts_sites, functions_sites, program_sites}
-use Rattle.c_tree.specs.Trees.{ExprTree, CallTree, CallFunction, CallTable, CallSpawn, CallModelled, RightTree, Computed, Called, SimpleTree, DeclareWith, SetLocal, SetGlobal, SetLocalElement, SetGlobalElement, Calling, StmtTree, StmtTrees, Do, Block, If, IfElse, While, For, Return, NoStmts, Then, FunctionTree, ProgramTree}
-use Rattle.flat_code.specs.declared.operations.Op.{Op}
-use Rattle.flat_code.specs.Codes.{site_of}
-use Rattle.flat_code.specs.WellFormed.{site_numbers}
-use Rattle.c_lower.specs.ExprCode.{expr_size, expr_code}
-use Rattle.c_lower.specs.CallCode.{arguments_code, call_code, set_code, held_code}
-use Rattle.c_lower.specs.StmtCode.{simple_size, simple_code, simples_size, simples_code, step_size, step_code, test_size, test_code, return_code, stmt_size, stmt_code, stmts_code}
-use Rattle.c_lower.specs.ProgramCode.{closing_code, first_temporary, lowered_function, lowered}
 use Rattle.c_lower.proofs.PlainCode.{ArePlain, expr_plain, arguments_plain}
 
 -- the numbers of the sites of operations, and of sites of a tree

@@ -1,10 +1,5 @@
 -- The pieces of a statement's code make its code.
-use Rattle.std.proofs.Common.{◌≡◌, ◌+◌, ℕ, List, [], ◌∷◌, ◌++◌, length, length-append, append_assoc, ap, ◌∙◌, arith}
-use Rattle.std.specs.Prelude.{Option}
-use Rattle.c_tree.specs.Trees.{ExprTree, SimpleTree, StmtTree, StmtTrees, If, IfElse, While, For, Then}
-use Rattle.flat_code.specs.declared.operations.Op.{Op}
-use Rattle.c_lower.specs.ExprCode.{expr_size, expr_code}
-use Rattle.c_lower.specs.StmtCode.{simple_size, simple_code, simples_size, simples_code, step_size, step_code, test_size, test_code, stmt_size, stmt_code, stmts_code}
+use Rattle.c_lower.proofs.Common.{◌≡◌, ◌+◌, ℕ, List, [], ◌∷◌, ◌++◌, length, length-append, append_assoc, ap, ◌∙◌, arith, Option, ExprTree, SimpleTree, StmtTree, StmtTrees, If, IfElse, While, For, Then, Op, expr_size, expr_code, simple_size, simple_code, simples_size, simples_code, step_size, step_code, test_size, test_code, stmt_size, stmt_code, stmts_code}
 use Rattle.c_lower.proofs.CodeSizes.{expr_length, simple_length, simples_length, test_length, stmt_length}
 use Rattle.c_lower.proofs.ExprGlue.{grown}
 use Rattle.c_lower.proofs.Glue.{glued2, glued3, glued4, glued5}

@@ -1,11 +1,5 @@
 -- The sizes of what jumps pass over are taken from the end of a list while a statement's code is put.
-use Rattle.std.proofs.Common.{◌≡◌, ◌+◌, ℕ, List, [], ◌∷◌, ◌++◌, length, sym, ap, ◌∙◌, append_assoc}
-use Rattle.std.specs.Prelude.{Option}
-use Rattle.c_tree.specs.Trees.{ExprTree, SimpleTree, StmtTree, StmtTrees, If, IfElse, While, For, Then}
-use Rattle.flat_code.specs.declared.operations.Op.{Op}
-use Rattle.c_lower.specs.ExprCode.{expr_size}
-use Rattle.c_lower.specs.StmtCode.{simples_code, step_size, step_code, test_size, test_code, stmt_size, stmt_code, stmts_code}
-use Rattle.c_lower.specs.StmtSizes.{stmt_sizes, stmts_sizes}
+use Rattle.c_lower.proofs.Common.{◌≡◌, ◌+◌, ℕ, List, [], ◌∷◌, ◌++◌, length, sym, ap, ◌∙◌, append_assoc, Option, ExprTree, SimpleTree, StmtTree, StmtTrees, If, IfElse, While, For, Then, Op, expr_size, simples_code, step_size, step_code, test_size, test_code, stmt_size, stmt_code, stmts_code, stmt_sizes, stmts_sizes}
 use Rattle.c_lower.proofs.StmtGlue.{condition_code, stmts_turn, if_glued, if_else_glued, while_glued, for_glued}
 
 -- a statement's code is put at the end of c1, and its sizes are taken from the end of s1

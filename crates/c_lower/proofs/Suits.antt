@@ -1,6 +1,5 @@
 -- What flat code may name is what its function's tree may name, and the function's temporaries.
-use Rattle.std.proofs.Common.{◌≡◌, ◌<◌, ◌≤◌, ◌+◌, ℕ, length}
-use Rattle.std.specs.Prelude.{slice_index}
+use Rattle.c_lower.proofs.Common.{◌≡◌, ◌<◌, ◌≤◌, ◌+◌, ℕ, length, slice_index}
 use Rattle.c_tree.specs.WellScoped as tree
 use Rattle.flat_code.specs.WellFormed as flat
 

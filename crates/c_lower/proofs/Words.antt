@@ -1,10 +1,5 @@
 -- A function's declared names have a word each at least, so that there are at most as many names as words.
-use Rattle.std.proofs.Common.{◌≤◌, ℕ, Bool, true, List, [], ◌∷◌, ◌++◌, length, map, arith}
-use Rattle.std.specs.Prelude.{sum, Option, Some, None}
-use Rattle.std.proofs.lemmas.List.Sums.{sum_by-cons}
-use Rattle.c_tree.specs.TextOrder.{Declared, simple_names, simples_names, step_names, stmt_names, stmts_names}
-use Rattle.c_tree.specs.Trees.{SimpleTree, DeclareScalar, DeclareArray, DeclareWith, StmtTree, StmtTrees, Do, Block, If, IfElse, While, For, NoStmts, Then}
-use Rattle.c_tree.specs.WellScoped.{Context, IsSimpleScoped, AreSimplesScoped, with_names, scope_after, scope_after_all, IsStepScoped, IsStmtScoped, AreStmtsScoped}
+use Rattle.c_lower.proofs.Common.{◌≤◌, ℕ, Bool, true, List, [], ◌∷◌, ◌++◌, length, map, arith, sum, Option, Some, None, sum_by-cons, Declared, simple_names, simples_names, step_names, stmt_names, stmts_names, SimpleTree, DeclareScalar, DeclareArray, DeclareWith, StmtTree, StmtTrees, Do, Block, If, IfElse, While, For, NoStmts, Then, Context, IsSimpleScoped, AreSimplesScoped, with_names, scope_after, scope_after_all, IsStepScoped, IsStmtScoped, AreStmtsScoped}
 
 -- each name has a word
 abbrev pub HaveWords : List Declared → Type 0

@@ -1,16 +1,7 @@
 -- Modelled calls and their arguments, and after how long a thread is ready that is blocked at one.
-use Rattle.std.proofs.Common.{◌≡◌, ℕ, suc, List, [], ◌∷◌, length, refl, sym, ap, subst, ◌∙◌, ◌⊎◌, inl, inr, nat_eq}
-use Rattle.std.specs.Prelude.{IsSome, Option, Some, None, option_and_then, slice_index_or, Result, Ok}
-use Rattle.std.proofs.lemmas.Bool.{cases_eq, cond-true, cond-false, eq-eqb, ne_eqb}
+use Rattle.c_mean.proofs.Common.{◌≡◌, ℕ, suc, List, [], ◌∷◌, length, refl, sym, ap, subst, ◌∙◌, ◌⊎◌, inl, inr, nat_eq, IsSome, Option, Some, None, option_and_then, slice_index_or, Result, Ok, cases_eq, cond-true, cond-false, eq-eqb, ne_eqb, Call, call_of, call_on, call_with, Block, TrapKind, call_numbered, number_of, parameters_of, ExprTree, Exchange, blocking_row, wake_of, wakes_at, Value, value, values, with_first}
 use Rattle.cap_word.proofs.CallLemmas.{numbered, number_is}
-use Rattle.cap_word.specs.Calls.{Call, call_of, call_on, call_with}
-use Rattle.cap_word.specs.declared.calls.Block.{Block}
-use Rattle.cap_word.specs.declared.traps.TrapKind.{TrapKind}
-use Rattle.cap_word.specs.ModelledCalls.{call_numbered, number_of, parameters_of}
-use Rattle.c_tree.specs.Trees.{ExprTree}
 use Rattle.cap_word.specs.declared.modelled_calls.ModelledCall.{ModelledCall}
-use Rattle.c_mean.specs.ModelledCalls.{Exchange, blocking_row, wake_of, wakes_at}
-use Rattle.c_mean.specs.Values.{Value, value, values, with_first}
 
 -- a call of the table with as many arguments as it takes
 call_there : (call : ModelledCall) (arguments : List ℕ) → length arguments ≡ parameters_of call →

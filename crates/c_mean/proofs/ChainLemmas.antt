@@ -1,12 +1,7 @@
 -- Operators one after another, from the left.
-use Rattle.std.proofs.Common.{◌≡◌, ℕ, List, [], ◌∷◌, refl, sym, ap, subst, ◌∙◌}
-use Rattle.std.specs.Prelude.{Ok, Err}
-use Rattle.cap_word.specs.declared.traps.TrapKind.{TrapKind}
+use Rattle.c_mean.proofs.Common.{◌≡◌, ℕ, List, [], ◌∷◌, refl, sym, ap, subst, ◌∙◌, Ok, Err, TrapKind, ExprTree, Value, value, IsInRange}
 use Rattle.c_tree.specs.declared.operators.Infix.{Infix}
-use Rattle.c_tree.specs.Trees.{ExprTree}
 use Rattle.c_tree.specs.Views.{joined, chained}
-use Rattle.c_mean.specs.Values.{Value, value}
-use Rattle.c_mean.specs.Layout.{IsInRange}
 use Rattle.c_mean.specs.Chains.{joined_value, chain_value, IsOpen}
 
 module _ (names globals : List (List ℕ)) where

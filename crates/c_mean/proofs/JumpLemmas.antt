@@ -1,7 +1,6 @@
 -- A jump passes over each statement whole, so it comes to the end of the loop in whose body it stands.
-use Rattle.std.proofs.Common.{◌≡◌, ◌∙◌, ℕ, suc, List, [], ◌∷◌, ◌++◌, map, Option, Some, None, refl}
 use Rattle.c_tree.specs.Trees.{SimpleTree, StmtTree, StmtTrees, Block, For, NoStmts, Then}
-use Rattle.c_mean.specs.ToDo.{Item, Simply, Test, Enter, Back, Loop, WhileLoop, ForLoop, step_item, before, all_before, body_before, after_leave, after_skip, skipped}
+use Rattle.c_mean.proofs.Common.{◌≡◌, ◌∙◌, ℕ, suc, List, [], ◌∷◌, ◌++◌, map, Option, Some, None, refl, Item, Simply, Test, Enter, Back, Loop, WhileLoop, ForLoop, step_item, before, all_before, body_before, after_leave, after_skip, skipped}
 
 -- ---- `break`
 

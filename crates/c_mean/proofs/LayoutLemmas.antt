@@ -1,14 +1,8 @@
 -- Rows that are cut from words one after another.
-use Rattle.std.proofs.Common.{◌≡◌, ℕ, zero, suc, ◌+◌, ◌<◌, ◌≤◌, List, [], ◌∷◌, length, take, drop, sym, ap, ◌∙◌, arith, get_or, refl}
-use Rattle.std.specs.Prelude.{true, false, sum, nat_lt, slice_index, Ok, Err}
-use Rattle.std.proofs.lemmas.Bool.{lt-ltb, le-ltb}
-use Rattle.std.proofs.lemmas.List.{length-take-le, length-drop, length-map, get_or-take, get_or-drop}
+use Rattle.c_mean.proofs.Common.{◌≡◌, ℕ, zero, suc, ◌+◌, ◌<◌, ◌≤◌, List, [], ◌∷◌, length, take, drop, sym, ap, ◌∙◌, arith, get_or, refl, true, false, sum, nat_lt, slice_index, Ok, Err, lt-ltb, le-ltb, length-take-le, length-drop, length-map, get_or-take, get_or-drop, TrapKind, rows_of, widths_of, in_range}
 use Rattle.std.proofs.lemmas.List.Sums.{sum_by-cons, sum_by-take-le, sum_by_more_le, sum_by_more}
 use Rattle.cap_word.specs.Rows.{width, word_at}
-use Rattle.cap_word.specs.declared.traps.TrapKind.{TrapKind}
 use Rattle.c_tree.specs.declared.facts.GlobalFact.{GlobalFact}
-use Rattle.c_mean.specs.Layout.{rows_of, widths_of}
-use Rattle.c_mean.specs.Values.{in_range}
 
 nat_lt-true : (a b : ℕ) → a < b → nat_lt a b ≡ true
 nat_lt-true a b h = lt-ltb a b h
@@ -16,7 +10,7 @@ nat_lt-true a b h = lt-ltb a b h
 nat_lt-false : (a b : ℕ) → b ≤ a → nat_lt a b ≡ false
 nat_lt-false a b h = le-ltb a b h
 
-sum-cons : (n : ℕ) (ns : List ℕ) → sum (n ∷ ns) ≡ n + sum ns
+pub sum-cons : (n : ℕ) (ns : List ℕ) → sum (n ∷ ns) ≡ n + sum ns
 sum-cons n ns = sum_by-cons (λ x. x) n ns
 
 pub sum-take-le : (ns : List ℕ) (k : ℕ) → sum (take k ns) ≤ sum ns

@@ -1,13 +1,5 @@
 -- A thread that runs in a world makes the steps that it makes alone.
-use Rattle.std.proofs.Common.{◌≡◌, ℕ, zero, suc, ◌≤◌, List, length, Option, Some, None, refl, ap, subst, ◌∙◌, arith}
-use Rattle.cap_word.specs.Calls.{Call, Blocking, Immediate, Question, Finish}
-use Rattle.cap_word.specs.Runs.{Goes, Asks, Stops, and_then, moves}
-use Rattle.cap_word.specs.declared.traps.TrapKind.{TrapKind}
-use Rattle.c_tree.specs.Trees.{ProgramTree}
-use Rattle.c_mean.specs.Frames.{Running, Waiting}
-use Rattle.c_mean.specs.Steps.{SourceMove, source_step, source_resume, source_machine}
-use Rattle.c_mean.specs.ModelledCalls.{ImmediateRow, blocking_row, immediate_row}
-use Rattle.c_mean.specs.World.{Ended, Segment, SegmentMove, rests, unless_trap, after_ask, calls, segment_move, segment_step, segment_machine}
+use Rattle.c_mean.proofs.Common.{◌≡◌, ℕ, zero, suc, ◌≤◌, List, length, Option, Some, None, refl, ap, subst, ◌∙◌, arith, Call, Blocking, Immediate, Question, Finish, Goes, Asks, Stops, and_then, moves, TrapKind, ProgramTree, Running, Waiting, SourceMove, source_step, source_resume, source_machine, ImmediateRow, blocking_row, immediate_row, Ended, Segment, SegmentMove, rests, unless_trap, after_ask, calls, segment_move, segment_step, segment_machine}
 
 module _ (program : ProgramTree) (caps : List ℕ) where
   abbrev at : Segment → Running → Segment

@@ -1,23 +1,11 @@
 -- Every frame of a source thread that waits does so at a call of its function's text.
-use Rattle.std.proofs.Common.{◌≡◌, ℕ, zero, suc, ◌<◌, Bool, true, false, List, [], ◌∷◌, ◌++◌, length, Option, Some, None, refl, sym, subst, arith, append_assoc, length-append}
-use Rattle.std.specs.Prelude.{Result, Ok, Err, slice_index_or}
-use Rattle.std.specs.List.{Contains, AllByRecursion}
+use Rattle.c_mean.proofs.Common.{◌≡◌, ℕ, zero, suc, ◌<◌, Bool, true, false, List, [], ◌∷◌, ◌++◌, length, Option, Some, None, refl, sym, subst, arith, append_assoc, length-append, Result, Ok, Err, slice_index_or, Contains, AllByRecursion, Call, Question, Answer, Finish, call_of, Goes, Asks, Stops, Progress, Unfinished, Over, on_from, played, run, TrapKind, number_of, call_site, CallTree, CallFunction, CallTable, CallSpawn, CallModelled, RightTree, Computed, Called, SimpleTree, DeclareWith, SetLocal, SetGlobal, SetLocalElement, SetGlobalElement, Calling, ProgramTree, Item, Simply, Choose, Test, Enter, Back, Leave, Skip, GiveBack, GiveBackWord, Fail, all_before, Place, Nowhere, InLocal, InGlobal, InLocalElement, InGlobalElement, Returned, WaitingFrame, Running, Waiting, function_at, SourceMove, to_do, valued, all_valued, on_value, stored_where, stored, assigned, delivered_or, delivered, waits_at, entered, entered_where, asks_if, called, assigns, does, branched, returned, gives_back, performs, performs_first, source_step, source_resume, source_machine, started, target_of, CallInText, right_calls, simple_calls, returned_calls, function_calls, WaitsInText}
 use Rattle.std.proofs.Math.Seq.{get_or-append_seam}
-use Rattle.cap_word.specs.Calls.{Call, Question, Answer, Finish, call_of}
-use Rattle.cap_word.specs.Runs.{Goes, Asks, Stops, Progress, Unfinished, Over, on_from, played, run}
-use Rattle.cap_word.specs.declared.traps.TrapKind.{TrapKind}
-use Rattle.cap_word.specs.ModelledCalls.{number_of}
 use Rattle.c_tree.specs.Sizes.{below}
-use Rattle.c_tree.specs.TextOrder.{call_site}
-use Rattle.c_tree.specs.Trees.{CallTree, CallFunction, CallTable, CallSpawn, CallModelled, RightTree, Computed, Called, SimpleTree, DeclareWith, SetLocal, SetGlobal, SetLocalElement, SetGlobalElement, Calling, ProgramTree}
-use Rattle.c_mean.specs.ToDo.{Item, Simply, Choose, Test, Enter, Back, Leave, Skip, GiveBack, GiveBackWord, Fail, all_before}
-use Rattle.c_mean.specs.Frames.{Place, Nowhere, InLocal, InGlobal, InLocalElement, InGlobalElement, Returned, WaitingFrame, Running, Waiting, function_at}
-use Rattle.c_mean.specs.Steps.{SourceMove, to_do, valued, all_valued, on_value, stored_where, stored, assigned, delivered_or, delivered, waits_at, entered, entered_where, asks_if, called, assigns, does, branched, returned, gives_back, performs, performs_first, source_step, source_resume, source_machine, started}
-use Rattle.c_mean.specs.Sites.{target_of, CallInText, right_calls, simple_calls, returned_calls, function_calls, WaitsInText}
 use Rattle.c_mean.proofs.TextLemmas.{AllIn, IsRest, ItemIn, RestsIn, before_rest, all_before_rest, body_rest, turn_rest, leave_rest, skip_rest, stmts_rests}
 
 -- an element in the midst of a list is in it
-contains_seam : {A : Type 0} (a : List A) (x : A) (b : List A) → Contains (a ++ x ∷ b) x
+pub contains_seam : {A : Type 0} (a : List A) (x : A) (b : List A) → Contains (a ++ x ∷ b) x
 contains_seam a x b = (length a, omega (arith, length-append a (x ∷ b)), get_or-append_seam a x b x)
 
 all_in_self : (a b : List CallInText) → AllIn (a ++ b) b

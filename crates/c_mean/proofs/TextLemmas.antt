@@ -1,11 +1,6 @@
 -- What a frame has still to do is always a rest of its function's text, so every frame that waits does so at a call of it.
-use Rattle.std.proofs.Common.{ℕ, zero, suc, List, [], ◌∷◌, ◌++◌, map, Option, Some, None}
-use Rattle.std.specs.List.{Contains}
+use Rattle.c_mean.proofs.Common.{ℕ, zero, suc, List, [], ◌∷◌, ◌++◌, map, Option, Some, None, Contains, simple_names, with_names, scope_after, scope_after_all, Item, Simply, Choose, Test, Enter, Back, Leave, Skip, GiveBack, GiveBackWord, Fail, Loop, WhileLoop, ForLoop, step_item, begun, before, all_before, body_before, turn_before, after_leave, after_skip, skipped, Target, ToLocal, ToGlobal, ToLocalElement, ToGlobalElement, ToCaller, CallInText, right_calls, simple_calls, simples_calls, step_calls, returned_calls, stmt_calls, stmts_calls}
 use Rattle.c_tree.specs.Trees.{ExprTree, RightTree, Computed, Called, SimpleTree, DeclareWith, SetLocal, SetGlobal, SetLocalElement, SetGlobalElement, Calling, StmtTree, StmtTrees, Do, Empty, Block, If, IfElse, While, For, Break, Continue, Return, NoStmts, Then}
-use Rattle.c_tree.specs.TextOrder.{simple_names}
-use Rattle.c_tree.specs.WellScoped.{with_names, scope_after, scope_after_all}
-use Rattle.c_mean.specs.ToDo.{Item, Simply, Choose, Test, Enter, Back, Leave, Skip, GiveBack, GiveBackWord, Fail, Loop, WhileLoop, ForLoop, step_item, begun, before, all_before, body_before, turn_before, after_leave, after_skip, skipped}
-use Rattle.c_mean.specs.Sites.{Target, ToLocal, ToGlobal, ToLocalElement, ToGlobalElement, ToCaller, CallInText, right_calls, simple_calls, simples_calls, step_calls, returned_calls, stmt_calls, stmts_calls}
 
 -- each of these calls is one of the text
 abbrev pub AllIn : List CallInText → List CallInText → Type 0

@@ -1,24 +1,12 @@
 -- Runs of a thread in a world: they have one end, and leave the others alone.
-use Rattle.std.proofs.Common.{◌≡◌, ◌≢◌, ℕ, zero, suc, ◌+◌, ◌<◌, ◌≤◌, List, [], ◌∷◌, ◌++◌, map, length, Option, Some, None, option_map, refl, sym, ap, ◌∙◌, subst, arith, append_assoc, append-nil, length-append, length-set}
-use Rattle.std.specs.Prelude.{slice_get, slice_set}
-use Rattle.std.proofs.lemmas.List.{map-append}
-use Rattle.cap_word.specs.Calls.{Call, Blocking, Immediate}
-use Rattle.cap_word.specs.Runs.{Goes, Asks, Stops, and_then, moves}
-use Rattle.cap_word.specs.declared.traps.TrapKind.{TrapKind}
+use Rattle.c_mean.proofs.Common.{◌≡◌, ◌≢◌, ℕ, zero, suc, ◌+◌, ◌<◌, ◌≤◌, List, [], ◌∷◌, ◌++◌, map, length, Option, Some, None, option_map, refl, sym, ap, ◌∙◌, subst, arith, append_assoc, append-nil, length-append, length-set, slice_get, slice_set, map-append, Call, Blocking, Immediate, Goes, Asks, Stops, and_then, moves, TrapKind, Block, ExprTree, Number, Local, Global, LocalElement, GlobalElement, Unary, Parenthesized, Binary, LogicalAnd, LogicalOr, Conditional, ProgramTree, Context, IsExprScoped, IsInRange, Running, Waiting, SourceMove, source_step, Exchange, blocking_row, ImmediateRow, immediate_row}
 use Rattle.cap_word.proofs.RunLemmas.{stops_stay}
 use Rattle.cap_word.specs.declared.calls.Ask.{Ask}
-use Rattle.cap_word.specs.declared.calls.Block.{Block}
-use Rattle.c_tree.specs.Trees.{ExprTree, Number, Local, Global, LocalElement, GlobalElement, Unary, Parenthesized, Binary, LogicalAnd, LogicalOr, Conditional, ProgramTree}
-use Rattle.c_tree.specs.WellScoped.{Context, IsExprScoped}
-use Rattle.c_mean.specs.Layout.{IsInRange}
-use Rattle.c_mean.specs.Frames.{Running, Waiting}
-use Rattle.c_mean.specs.Steps.{SourceMove, source_step}
-use Rattle.c_mean.specs.ModelledCalls.{Exchange, blocking_row, ImmediateRow, immediate_row}
 use Rattle.c_mean.specs.World.{Rest, Fresh, Blocked, Ended, World, Segment, Rested, SegmentMove, traps, rests, unless_trap, with_printed, with_started, after_ask, calls, segment_move, segment_step, segment_machine, begun_at, begun, RunsTo, IsCutAt, Entry, Deliver, Run, IsAfterEntry, IsAfter}
 use Rattle.c_mean.specs.Kept.{LeavesAlone}
 
 -- a list with one element set has the others where they stood
-slice_get-set_other : {A : Type 0} (xs : List A) (i u : ℕ) (a : A) → u ≢ i → slice_get (slice_set xs i a) u ≡ slice_get xs u
+pub slice_get-set_other : {A : Type 0} (xs : List A) (i u : ℕ) (a : A) → u ≢ i → slice_get (slice_set xs i a) u ≡ slice_get xs u
 slice_get-set_other (x ∷ xs) zero zero a ne = absurd (ne refl)
 slice_get-set_other (x ∷ xs) (suc i) (suc u) a ne = slice_get-set_other xs i u a (λ e. ne (ap suc e))
 slice_get-set_other _ _ _ a ne = refl

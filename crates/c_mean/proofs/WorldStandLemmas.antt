@@ -1,27 +1,11 @@
 -- Every thread of a world that is blocked waits, in all its frames, at calls of its functions' texts.
-use Rattle.std.proofs.Common.{◌≡◌, ℕ, zero, suc, List, [], ◌∷◌, ◌++◌, length, Option, Some, None, option_map, refl, sym, subst}
-use Rattle.std.specs.Prelude.{slice_get, slice_set}
-use Rattle.std.specs.List.{AllByRecursion}
-use Rattle.cap_word.specs.Calls.{Call, Blocking, Immediate}
-use Rattle.cap_word.specs.Runs.{Goes, Asks, Stops, and_then, moves}
-use Rattle.cap_word.specs.declared.calls.Block.{Block}
-use Rattle.cap_word.specs.declared.traps.TrapKind.{TrapKind}
-use Rattle.c_tree.specs.Trees.{ProgramTree}
-use Rattle.c_mean.specs.Frames.{Waiting}
-use Rattle.c_mean.specs.Steps.{SourceMove, source_step}
-use Rattle.c_mean.specs.Sites.{WaitsInText}
-use Rattle.c_mean.specs.ModelledCalls.{blocking_row, immediate_row}
-use Rattle.c_mean.specs.World.{Rest, Fresh, Blocked, Ended, World, Segment, SegmentMove, rests, unless_trap, with_started, calls, segment_move, segment_step, segment_machine, begun_at, Entry, Deliver, Run, IsAfterEntry, IsAfter, start_world}
+use Rattle.c_mean.proofs.Common.{◌≡◌, ℕ, zero, suc, List, [], ◌∷◌, ◌++◌, length, Option, Some, None, option_map, refl, sym, subst, slice_get, slice_set, AllByRecursion, Call, Blocking, Immediate, Goes, Asks, Stops, and_then, moves, Block, TrapKind, ProgramTree, Waiting, SourceMove, source_step, WaitsInText, blocking_row, immediate_row, Rest, Fresh, Blocked, Ended, World, Segment, SegmentMove, rests, unless_trap, with_started, calls, segment_move, segment_step, segment_machine, begun_at, Entry, Deliver, Run, IsAfterEntry, IsAfter, start_world, All-push}
 use Rattle.c_mean.proofs.StandLemmas.{Stands, MoveStands, step_stands, resume_stands, started_stands}
 
-all_set : {A : Type 0} (P : A → Type 0) (xs : List A) (i : ℕ) (a : A) → AllByRecursion P xs → P a → AllByRecursion P (slice_set xs i a)
+pub all_set : {A : Type 0} (P : A → Type 0) (xs : List A) (i : ℕ) (a : A) → AllByRecursion P xs → P a → AllByRecursion P (slice_set xs i a)
 all_set P [] i a h k = tt
 all_set P (x ∷ xs) zero a h k = (k, h.1)
 all_set P (x ∷ xs) (suc i) a h k = (h.0, all_set P xs i a h.1 k)
-
-all_push : {A : Type 0} (P : A → Type 0) (xs : List A) (a : A) → AllByRecursion P xs → P a → AllByRecursion P (xs ++ a ∷ [])
-all_push P [] a h k = (k, tt)
-all_push P (x ∷ xs) a h k = (h.0, all_push P xs a h.1 k)
 
 all_at : {A : Type 0} (P : A → Type 0) (xs : List A) (i : ℕ) (a : A) → AllByRecursion P xs → slice_get xs i ≡ Some a → P a
 all_at P [] i a h e = cc
@@ -51,7 +35,7 @@ module _ (program : ProgramTree) (caps : List ℕ) where
 
   starts_stand : (threads : List Rest) (start : Option (ℕ × ℕ)) → AllByRecursion RestStands threads → AllByRecursion RestStands (with_started threads start)
   starts_stand threads None h = h
-  starts_stand threads (Some start) h = all_push RestStands threads (Fresh start.0 (start.1 ∷ [])) h tt
+  starts_stand threads (Some start) h = All-push RestStands threads (Fresh start.0 (start.1 ∷ [])) h tt
 
   call_stands : (segment : Segment) (globals : List (List ℕ)) (waiting : Waiting) (call : Call) → SegmentStands segment → RestStands (Blocked Block.Yield waiting) → SegmentMoveStands (calls caps segment globals waiting call)
   call_stands segment globals waiting (Blocking block) h k =

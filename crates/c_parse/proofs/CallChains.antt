@@ -1,9 +1,6 @@
 -- The first call of operators one after another, looked for from the left.
-use Rattle.std.proofs.Common.{◌≡◌, ℕ, List, [], ◌∷◌, Option, refl, ap, ◌∙◌}
 use Rattle.c_tree.specs.declared.operators.Infix.{Infix}
-use Rattle.c_tree.specs.RawTrees.{RawExprTree}
-use Rattle.c_tree.specs.RawViews.{raw_joined, raw_chained}
-use Rattle.c_parse.specs.NestedCalls.{earlier, first_call, nested_in_value}
+use Rattle.c_parse.proofs.Common.{◌≡◌, ℕ, List, [], ◌∷◌, Option, refl, ap, ◌∙◌, RawExprTree, raw_joined, raw_chained, earlier, first_call, nested_in_value}
 
 abbrev pub chain_call : Option ℕ → List (Infix × RawExprTree) → Option ℕ
 chain_call found [] = found

@@ -1,9 +1,5 @@
 -- No call in the parentheses of a `for` that isn't whole is there exactly where every one is whole.
-use Rattle.std.proofs.Common.{ℕ, ◌≡◌, refl, List, [], ◌∷◌, None}
-use Rattle.c_tree.specs.RawTrees.{RawStmtTree, RawStmtTrees, RawBlock, RawIf, RawIfElse, RawWhile, RawFor, NoRawStmts, RawThen, RawItemTree, RawFunctionItem}
-use Rattle.c_parse.specs.NestedCalls.{earlier, nested_in_simples, nested_in_condition, nested_in_step}
-use Rattle.c_tree.specs.WholeForParts.{IsForWhole, AreForsWhole, IsItemForWhole, AreForPartsWhole}
-use Rattle.c_parse.specs.ForParts.{nested_in_for, nested_in_all_for, nested_in_item_for, nested_in_fors}
+use Rattle.c_parse.proofs.Common.{◌≡◌, refl, List, [], ◌∷◌, None, RawStmtTree, RawStmtTrees, RawBlock, RawIf, RawIfElse, RawWhile, RawFor, NoRawStmts, RawThen, RawItemTree, RawFunctionItem, earlier, nested_in_simples, nested_in_condition, nested_in_step, IsForWhole, AreForsWhole, IsItemForWhole, AreForPartsWhole, nested_in_for, nested_in_all_for, nested_in_item_for, nested_in_fors}
 use Rattle.c_parse.proofs.NestedWhole.{neither_left, neither_right, neither, simples_whole, simples_none, condition_whole, condition_none, step_whole, step_none}
 
 mutual

@@ -1,3 +1,4 @@
+mod Common
 pub mod NestedWhole
 pub mod ForWhole
 pub mod CallChains

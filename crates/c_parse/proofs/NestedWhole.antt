@@ -1,8 +1,5 @@
 -- There is no call that is not whole exactly where every call is whole.
-use Rattle.std.proofs.Common.{ℕ, ◌≡◌, refl, ap, ◌∙◌, List, [], ◌∷◌, Option, Some, None}
-use Rattle.c_tree.specs.RawTrees.{RawExprTree, RawExprTrees, RawElement, RawUnary, RawParenthesized, RawBinary, RawLogicalAnd, RawLogicalOr, RawConditional, RawCall, RawTableCall, NoExprs, And, RawSimpleTree, RawDeclareWith, RawSet, RawSetElement, RawCalling, RawTableCalling, RawStmtTree, RawStmtTrees, RawDo, RawBlock, RawIf, RawIfElse, RawWhile, RawFor, RawReturn, NoRawStmts, RawThen, RawItemTree, RawFunctionItem}
-use Rattle.c_tree.specs.WholeCalls.{HasNoCall, HaveNoCall, IsValueWhole, IsSimpleWhole, AreSimplesWhole, IsConditionWhole, IsStepWhole, IsReturnWhole, IsStmtWhole, AreStmtsWhole, IsItemWhole, AreCallsWhole}
-use Rattle.c_parse.specs.NestedCalls.{earlier, first_call, first_call_of, nested_in_value, nested_in_simple, nested_in_simples, nested_in_condition, nested_in_step, nested_in_return, nested_in_stmt, nested_in_stmts, nested_in_item, nested_in_items}
+use Rattle.c_parse.proofs.Common.{ℕ, ◌≡◌, refl, ap, ◌∙◌, List, [], ◌∷◌, Option, Some, None, RawExprTree, RawExprTrees, RawElement, RawUnary, RawParenthesized, RawBinary, RawLogicalAnd, RawLogicalOr, RawConditional, RawCall, RawTableCall, NoExprs, And, RawSimpleTree, RawDeclareWith, RawSet, RawSetElement, RawCalling, RawTableCalling, RawStmtTree, RawStmtTrees, RawDo, RawBlock, RawIf, RawIfElse, RawWhile, RawFor, RawReturn, NoRawStmts, RawThen, RawItemTree, RawFunctionItem, HasNoCall, HaveNoCall, IsValueWhole, IsSimpleWhole, AreSimplesWhole, IsConditionWhole, IsStepWhole, IsReturnWhole, IsStmtWhole, AreStmtsWhole, IsItemWhole, AreCallsWhole, earlier, first_call, first_call_of, nested_in_value, nested_in_simple, nested_in_simples, nested_in_condition, nested_in_step, nested_in_return, nested_in_stmt, nested_in_stmts, nested_in_item, nested_in_items}
 
 pub neither_left : (a b : Option ℕ) → earlier a b ≡ None → a ≡ None
 neither_left None b e = refl

@@ -1,8 +1,7 @@
 -- What the machine's run from the start says of the tokens of a source, and that they have one tree or one refusal.
-use Rattle.std.proofs.Common.{ℕ, ◌≡◌, ◌≢◌, ◌⊎◌, inl, inr, refl, ap, subst, ◌∙◌, List, [], ◌∷◌, length, Option, Some, None, Result, Ok, Err}
 use Rattle.std.specs.Prelude.{IfOk, IfErr, IsErrOf, MatchResult}
 use Rattle.c_lex.specs.declared.tokens.Token.{Token}
-use Rattle.c_tree.specs.RawTrees.{RawItemTree}
+use Rattle.c_parse.proofs.Common.{ℕ, ◌≡◌, ◌≢◌, ◌⊎◌, inl, inr, refl, ap, subst, ◌∙◌, List, [], ◌∷◌, length, Option, Some, None, Result, Ok, Err, RawItemTree}
 use Rattle.c_tree.specs.RawProgramView.{raw_program_tree}
 use Rattle.c_tree.specs.declared.raw_programs.RawProgram.{RawProgram}
 use Rattle.c_grammar.specs.declared.errors.ParseError.{ParseError}

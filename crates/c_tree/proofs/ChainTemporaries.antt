@@ -1,9 +1,5 @@
 -- The temporaries of operators one after another, counted from the left.
-use Rattle.std.proofs.Common.{◌≡◌, ℕ, max, List, [], ◌∷◌, refl, arith}
-use Rattle.c_tree.specs.declared.operators.Infix.{Infix}
-use Rattle.c_tree.specs.Trees.{ExprTree}
-use Rattle.c_tree.specs.Views.{joined, chained}
-use Rattle.c_tree.specs.Temporaries.{expr_temporaries, operand_temporaries, capped}
+use Rattle.c_tree.proofs.Common.{◌≡◌, ℕ, max, List, [], ◌∷◌, refl, arith, Infix, ExprTree, joined, chained, expr_temporaries, operand_temporaries, capped}
 
 abbrev pub chain_count : ℕ → List (Infix × ExprTree) → ℕ
 chain_count n [] = n

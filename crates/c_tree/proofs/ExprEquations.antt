@@ -1,16 +1,9 @@
 -- The tree of an expression, form by form.
-use Rattle.std.proofs.Common.{◌≡◌, ℕ, map, refl, sym, ap, ◌∙◌}
-use Rattle.std.specs.Prelude.{Box, Vec}
-use Rattle.std.specs.declared.alloc.Global.{Global}
-use Rattle.c_tree.specs.declared.operators.Infix.{Infix}
-use Rattle.c_tree.specs.declared.operators.UnaryOperator.{UnaryOperator}
-use Rattle.c_tree.specs.declared.expressions.Expr.{Expr}
+use Rattle.c_tree.proofs.Common.{◌≡◌, ℕ, map, refl, sym, ap, ◌∙◌, Box, Vec, Global, Infix, UnaryOperator, Expr, ExprTree, chained, expr_step, expr_tree}
 use Rattle.c_tree.specs.declared.expressions.Expr.TheViews as code
 use Rattle.c_tree.specs.declared.expressions.Expr.TheFolds.{fold-roll-Expr}
 use Rattle.c_tree.specs.declared.expressions.Expr.TheVariants.{rolls-Number, rolls-Local, rolls-LocalElement, rolls-GlobalElement, rolls-Unary, rolls-Chain, rolls-Conditional}
 use Rattle.c_tree.specs.Trees as plain
-use Rattle.c_tree.specs.Trees.{ExprTree}
-use Rattle.c_tree.specs.Views.{chained, expr_step, expr_tree}
 use Rattle.c_tree.proofs.Maps.{map_same}
 
 -- an operator and its operand

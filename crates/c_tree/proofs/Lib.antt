@@ -1,3 +1,4 @@
+mod Common
 pub mod ChainTemporaries
 pub mod Maps
 pub mod ExprEquations

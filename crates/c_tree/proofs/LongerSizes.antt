@@ -1,10 +1,6 @@
 -- What is well scoped stays so where its function has more variables: names are declared one after another.
-use Rattle.std.proofs.Common.{◌≡◌, ◌<◌, ℕ, Bool, true, List, [], ◌∷◌, ◌++◌, length, length-append, ◌∙◌, Option, Some, None, arith}
-use Rattle.std.specs.Prelude.{slice_index}
+use Rattle.c_tree.proofs.Common.{◌≡◌, ◌<◌, ℕ, Bool, true, List, [], ◌∷◌, ◌++◌, length, length-append, ◌∙◌, Option, Some, None, arith, slice_index, ExprTree, Local, LocalElement, GlobalElement, Unary, Parenthesized, Binary, LogicalAnd, LogicalOr, Conditional, CallTree, CallFunction, CallTable, CallSpawn, CallModelled, RightTree, Computed, Called, SimpleTree, DeclareScalar, DeclareArray, DeclareWith, SetLocal, SetGlobal, SetLocalElement, SetGlobalElement, Calling, StmtTree, StmtTrees, Do, Empty, Block, If, IfElse, While, For, Return, NoStmts, Then, simple_names, Context, IsExprScoped, AreExprsScoped, IsCallScoped, IsRightScoped, IsSimpleScoped, with_names, scope_after, scope_after_all, AreSimplesScoped, IsConditionScoped, IsStepScoped, IsReturnScoped, IsStmtScoped, AreStmtsScoped}
 use Rattle.std.proofs.Math.ListN.{get_or-append}
-use Rattle.c_tree.specs.Trees.{ExprTree, Local, LocalElement, GlobalElement, Unary, Parenthesized, Binary, LogicalAnd, LogicalOr, Conditional, CallTree, CallFunction, CallTable, CallSpawn, CallModelled, RightTree, Computed, Called, SimpleTree, DeclareScalar, DeclareArray, DeclareWith, SetLocal, SetGlobal, SetLocalElement, SetGlobalElement, Calling, StmtTree, StmtTrees, Do, Empty, Block, If, IfElse, While, For, Return, NoStmts, Then}
-use Rattle.c_tree.specs.TextOrder.{simple_names}
-use Rattle.c_tree.specs.WellScoped.{Context, IsExprScoped, AreExprsScoped, IsCallScoped, IsRightScoped, IsSimpleScoped, with_names, scope_after, scope_after_all, AreSimplesScoped, IsConditionScoped, IsStepScoped, IsReturnScoped, IsStmtScoped, AreStmtsScoped}
 
 abbrev pub with_sizes : Context → List ℕ → Context
 with_sizes c more = record c { sizes = c.sizes ++ more }

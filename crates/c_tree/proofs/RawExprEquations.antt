@@ -1,16 +1,9 @@
 -- The tree of an expression as it is read, form by form.
-use Rattle.std.proofs.Common.{◌≡◌, ℕ, map, refl, sym, ap, ◌∙◌}
-use Rattle.std.specs.Prelude.{Box, Vec}
-use Rattle.std.specs.declared.alloc.Global.{Global}
-use Rattle.c_tree.specs.declared.operators.Infix.{Infix}
-use Rattle.c_tree.specs.declared.operators.UnaryOperator.{UnaryOperator}
+use Rattle.c_tree.proofs.Common.{◌≡◌, ℕ, map, refl, sym, ap, ◌∙◌, Box, Vec, Global, Infix, UnaryOperator, RawExpr, RawExprTree, RawNumber, RawName, RawElement, RawUnary, RawParenthesized, RawConditional, RawCall, RawTableCall, name_tree, raw_chained, raw_expr_step, raw_expr_tree, raw_expr_trees}
 use Rattle.c_tree.specs.declared.raw_expressions.Name.{Name}
-use Rattle.c_tree.specs.declared.raw_expressions.RawExpr.{RawExpr}
 use Rattle.c_tree.specs.declared.raw_expressions.RawExpr.TheViews as code
 use Rattle.c_tree.specs.declared.raw_expressions.RawExpr.TheFolds.{fold-roll-RawExpr}
 use Rattle.c_tree.specs.declared.raw_expressions.RawExpr.TheVariants.{rolls-Number, rolls-Name, rolls-Element, rolls-Unary, rolls-Parenthesized, rolls-Chain, rolls-Conditional, rolls-Call, rolls-TableCall}
-use Rattle.c_tree.specs.RawTrees.{RawExprTree, RawNumber, RawName, RawElement, RawUnary, RawParenthesized, RawConditional, RawCall, RawTableCall}
-use Rattle.c_tree.specs.RawViews.{name_tree, raw_chained, raw_expr_step, raw_expr_tree, raw_expr_trees}
 use Rattle.c_tree.proofs.Maps.{map_same}
 
 -- an operator and its operand

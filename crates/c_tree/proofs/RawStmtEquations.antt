@@ -1,16 +1,11 @@
 -- The tree of a statement as it is read, form by form.
-use Rattle.std.proofs.Common.{◌≡◌, ℕ, map, sym, ap, ◌∙◌}
-use Rattle.std.specs.Prelude.{Box, Vec, Option, option_map}
-use Rattle.std.specs.declared.alloc.Global.{Global}
-use Rattle.c_tree.specs.declared.raw_expressions.RawExpr.{RawExpr}
+use Rattle.c_tree.proofs.Common.{◌≡◌, ℕ, map, sym, ap, ◌∙◌, Box, Vec, Option, option_map, Global, RawExpr, RawStmtTree, RawDo, RawEmpty, RawBlock, RawIf, RawIfElse, RawWhile, RawFor, RawBreak, RawContinue, RawReturn, raw_expr_tree, raw_simple_tree, raw_stmt_step, raw_stmt_tree, raw_stmt_trees}
 use Rattle.c_tree.specs.declared.raw_statements.RawForParts.{RawForParts}
 use Rattle.c_tree.specs.declared.raw_statements.RawSimple.{RawSimple}
 use Rattle.c_tree.specs.declared.raw_statements.RawStmt.{RawStmt}
 use Rattle.c_tree.specs.declared.raw_statements.RawStmt.TheViews as code
 use Rattle.c_tree.specs.declared.raw_statements.RawStmt.TheFolds.{fold-roll-RawStmt}
 use Rattle.c_tree.specs.declared.raw_statements.RawStmt.TheVariants.{rolls-Simple, rolls-Empty, rolls-Block, rolls-If, rolls-IfElse, rolls-While, rolls-For, rolls-Break, rolls-Continue, rolls-Return}
-use Rattle.c_tree.specs.RawTrees.{RawStmtTree, RawDo, RawEmpty, RawBlock, RawIf, RawIfElse, RawWhile, RawFor, RawBreak, RawContinue, RawReturn}
-use Rattle.c_tree.specs.RawViews.{raw_expr_tree, raw_simple_tree, raw_stmt_step, raw_stmt_tree, raw_stmt_trees}
 
 pub raw_stmt_tree-Simple : (s : RawSimple) → raw_stmt_tree (RawStmt.Simple s) ≡ RawDo (raw_simple_tree s)
 raw_stmt_tree-Simple s = ap raw_stmt_tree (sym (rolls-Simple s)) ∙ fold-roll-RawStmt RawStmtTree raw_stmt_step _

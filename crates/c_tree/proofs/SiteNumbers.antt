@@ -1,9 +1,7 @@
 -- Numbers that rise by one from 0 are numbers of sites.
-use Rattle.std.proofs.Common.{◌≡◌, ◌+◌, ◌<◌, ◌≤◌, ℕ, false, eqb, List, [], ◌∷◌, ◌++◌, length, suc, subst, add-zero, arith}
 use Rattle.std.specs.List.{AllByRecursion, IsDistinct}
 use Rattle.std.proofs.lemmas.Grind.{common_steps}
-use Rattle.c_tree.specs.TextOrder.{counting}
-use Rattle.c_tree.specs.WellScoped.{AreSiteNumbers}
+use Rattle.c_tree.proofs.Common.{◌≡◌, ◌+◌, ◌<◌, ◌≤◌, ℕ, false, eqb, List, [], ◌∷◌, ◌++◌, length, suc, subst, add-zero, arith, counting, AreSiteNumbers}
 
 apart : (m n : ℕ) → m < n → eqb m n ≡ false
 apart m n h = grind (arith, common_steps)

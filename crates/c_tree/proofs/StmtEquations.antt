@@ -1,8 +1,5 @@
 -- The tree of a statement, form by form.
-use Rattle.std.proofs.Common.{◌≡◌, map, sym, ap, ◌∙◌}
-use Rattle.std.specs.Prelude.{Box, Vec, Option, option_map}
-use Rattle.std.specs.declared.alloc.Global.{Global}
-use Rattle.c_tree.specs.declared.expressions.Expr.{Expr}
+use Rattle.c_tree.proofs.Common.{◌≡◌, map, sym, ap, ◌∙◌, Box, Vec, Option, option_map, Global, Expr, StmtTree, expr_tree, right_tree, simple_tree, stmt_step, stmt_tree, stmt_trees}
 use Rattle.c_tree.specs.declared.statements.ForParts.{ForParts}
 use Rattle.c_tree.specs.declared.statements.RightSide.{RightSide}
 use Rattle.c_tree.specs.declared.statements.Simple.{Simple}
@@ -11,8 +8,6 @@ use Rattle.c_tree.specs.declared.statements.Stmt.TheViews as code
 use Rattle.c_tree.specs.declared.statements.Stmt.TheFolds.{fold-roll-Stmt}
 use Rattle.c_tree.specs.declared.statements.Stmt.TheVariants.{rolls-Simple, rolls-Block, rolls-If, rolls-IfElse, rolls-While, rolls-For, rolls-Break, rolls-Continue, rolls-Return}
 use Rattle.c_tree.specs.Trees as plain
-use Rattle.c_tree.specs.Trees.{StmtTree}
-use Rattle.c_tree.specs.Views.{expr_tree, right_tree, simple_tree, stmt_step, stmt_tree, stmt_trees}
 
 pub stmt_tree-Simple : (s : Simple) → stmt_tree (Stmt.Simple s) ≡ plain.Do (simple_tree s)
 stmt_tree-Simple s = ap stmt_tree (sym (rolls-Simple s)) ∙ fold-roll-Stmt StmtTree stmt_step _

@@ -1,6 +1,5 @@
 -- Where every call of a source is whole, each in the parentheses of a `for` is whole too.
-use Rattle.std.proofs.Common.{List, [], ◌∷◌}
-use Rattle.c_tree.specs.RawTrees.{RawStmtTree, RawStmtTrees, RawBlock, RawIf, RawIfElse, RawWhile, RawFor, NoRawStmts, RawThen, RawItemTree, RawFunctionItem}
+use Rattle.c_tree.proofs.Common.{List, [], ◌∷◌, RawStmtTree, RawStmtTrees, RawBlock, RawIf, RawIfElse, RawWhile, RawFor, NoRawStmts, RawThen, RawItemTree, RawFunctionItem}
 use Rattle.c_tree.specs.WholeCalls.{IsStmtWhole, AreStmtsWhole, IsItemWhole, AreCallsWhole}
 use Rattle.c_tree.specs.WholeForParts.{IsForWhole, AreForsWhole, IsItemForWhole, AreForPartsWhole}
 

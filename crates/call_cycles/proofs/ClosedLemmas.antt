@@ -1,15 +1,6 @@
 -- Functions that are marked together with all that they call, and those that are found to lie on no cycle.
-use Rattle.std.proofs.Common.{◌≡◌, inl, inr, ⊎_elim, ◌⊎◌, ℕ, ◌<◌, Bool, true, false, not, List, [], ◌∷◌, ◌++◌, length, replicate, set, refl, sym, ◌∙◌, subst, arith}
-use Rattle.std.proofs.lemmas.Bool.{cases_lt}
-use Rattle.std.proofs.lemmas.List.{get_or-replicate, get_or-set_same, get_or-set_other, get_or_past, length-replicate}
-use Rattle.flat_code.specs.Codes.{FlatCode}
-use Rattle.call_graph.specs.Lists.{has}
-use Rattle.call_graph.proofs.IndexLemmas.{by_eq}
-use Rattle.cycle_break.proofs.NumberLemmas.{true_false}
-use Rattle.call_cycles.specs.Cycles.{Calls, IsWay, IsOnCycle}
-use Rattle.call_cycles.specs.Marks.{AreOffCycles, IsClosed, Marks}
-use Rattle.cycle_break.specs.Trail.{is_marked}
-use Rattle.call_cycles.proofs.MarkLemmas.{has-either, has-left, mark-stays}
+use Rattle.call_cycles.proofs.Common.{◌≡◌, inl, inr, ⊎_elim, ◌⊎◌, ℕ, ◌<◌, Bool, true, false, List, [], ◌∷◌, ◌++◌, length, replicate, set, refl, sym, ◌∙◌, subst, arith, cases_lt, get_or-replicate, get_or-set_same, get_or-set_other, get_or_past, length-replicate, FlatCode, has, by_eq, true_false, Calls, IsWay, IsOnCycle, AreOffCycles, IsClosed, Marks, is_marked, mark-stays}
+use Rattle.call_cycles.proofs.MarkLemmas.{has-either, has-left}
 
 pub none-marked : (n g : ℕ) → is_marked (replicate n false) g ≡ true → ⊥
 none-marked n g h =
@@ -17,10 +8,6 @@ none-marked n g h =
     (λ lt. true_false (is_marked (replicate n false) g) h (get_or-replicate n g false false lt))
     (λ le. true_false (is_marked (replicate n false) g) h (get_or_past (replicate n false) g false (let e = length-replicate n false in omega (arith, e, le))))
     (cases_lt g n)
-
-pub not-true : (b : Bool) → not b ≡ true → b ≡ false
-not-true true e = sym e
-not-true false e = refl
 
 -- ---- the walk from a function, where marked functions lead to marked ones alone
 

@@ -1,3 +1,4 @@
+mod Common
 pub mod ClosedLemmas
 pub mod MarkLemmas
 pub mod OrderLemmas

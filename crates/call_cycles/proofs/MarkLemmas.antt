@@ -1,19 +1,6 @@
 -- Marks that are set, and the list of what was marked.
-use Rattle.std.proofs.Common.{◌≡◌, inl, inr, ⊎_elim, ◌⊎◌, ℕ, zero, suc, ◌+◌, ◌<◌, ◌≤◌, ◌==◌, Bool, true, false, List, [], ◌∷◌, ◌++◌, length, length-append, set, refl, sym, ap, ◌∙◌, subst, arith}
-use Rattle.std.specs.Prelude.{Some, slice_get}
-use Rattle.std.proofs.lemmas.Bool.{cases_lt}
-use Rattle.std.proofs.lemmas.List.{length-set, get_or-set_same, get_or-set_other, get_or_past}
+use Rattle.call_cycles.proofs.Common.{◌≡◌, inl, inr, ⊎_elim, ◌⊎◌, ℕ, ◌+◌, ◌<◌, ◌≤◌, ◌==◌, Bool, true, false, List, [], ◌∷◌, ◌++◌, length, length-append, set, refl, sym, ap, ◌∙◌, subst, arith, Some, slice_get, cases_lt, length-set, get_or-set_same, get_or-set_other, get_or_past, slice_get_within, same_Some, Op, FlatCode, function_at, members_of, has, by_test, by_eq, has-head, has-cases, true_false, functions_called, Calls, AreSeen, Marks, is_marked, unmarked-set, mark-stays}
 use Rattle.std.proofs.lemmas.List.Folds.{list_any-append}
-use Rattle.std.proofs.lemmas.Option.{slice_get_within, same_Some}
-use Rattle.flat_code.specs.declared.operations.Op.{Op}
-use Rattle.flat_code.specs.Codes.{FlatCode, function_at, members_of}
-use Rattle.call_graph.specs.Lists.{has}
-use Rattle.call_graph.proofs.ListLemmas.{by_test}
-use Rattle.call_graph.proofs.IndexLemmas.{by_eq}
-use Rattle.cycle_break.proofs.NumberLemmas.{has-head, has-cases, true_false}
-use Rattle.call_cycles.specs.Cycles.{functions_called, Calls}
-use Rattle.call_cycles.specs.Marks.{unmarked, AreSeen, Marks}
-use Rattle.cycle_break.specs.Trail.{is_marked}
 
 -- ---- numbers in lists
 
@@ -33,17 +20,6 @@ has-either n x xs h =
 
 pub marked-below : (marks : List Bool) (g : ℕ) → is_marked marks g ≡ true → g < length marks
 marked-below marks g h = ⊎_elim (λ lt. lt) (λ le. true_false (is_marked marks g) h (get_or_past marks g false le)) (cases_lt g (length marks))
-
-unmarked-set : (marks : List Bool) (g : ℕ) → g < length marks → is_marked marks g ≡ false → unmarked marks ≡ suc (unmarked (set marks g true))
-unmarked-set [] g within out = absurd (omega arith)
-unmarked-set (b ∷ bs) zero within out = rw out (omega arith)
-unmarked-set (b ∷ bs) (suc g) within out = let rest : unmarked bs ≡ suc (unmarked (set bs g true)) = unmarked-set bs g (omega arith) out in omega (arith, rest)
-
-pub mark-stays : (marks : List Bool) (f g : ℕ) → f < length marks → is_marked marks g ≡ true → is_marked (set marks f true) g ≡ true
-mark-stays marks f g within was =
-    by_eq g f
-    (λ e. subst (λ (n : ℕ). is_marked (set marks f true) n ≡ true) (sym e) (get_or-set_same marks f true false within))
-    (λ ne. get_or-set_other marks f g true false ne ∙ was)
 
 -- nothing is marked
 pub marks-none : (P : ℕ → Type 0) (marks : List Bool) (left : List ℕ) → ((g : ℕ) → P g → is_marked marks g ≡ true) → Marks P marks left marks left

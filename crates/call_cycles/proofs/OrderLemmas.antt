@@ -1,31 +1,14 @@
 -- The order of the call graph's walk, and what it says of the code.
-use Rattle.std.proofs.Common.{◌≡◌, inl, inr, ⊎_elim, ◌⊎◌, ℕ, zero, suc, ◌+◌, ◌<◌, true, false, List, [], ◌∷◌, ◌++◌, length, take, reverse, get_or, refl, sym, ap, ◌∙◌, subst, arith}
-use Rattle.std.specs.Prelude.{Option, Some, None, slice_get, slice_index_or}
-use Rattle.std.specs.List.{AllByRecursion, filter_map, cons_option}
+use Rattle.call_cycles.proofs.Common.{◌≡◌, inl, inr, ⊎_elim, ◌⊎◌, ℕ, zero, suc, ◌+◌, ◌<◌, true, false, List, [], ◌∷◌, ◌++◌, length, take, reverse, get_or, refl, sym, ap, ◌∙◌, subst, arith, Option, Some, None, slice_get, slice_index_or, AllByRecursion, filter_map, cons_option, cases_lt, get_or_past, take_all, none-some, same_Some, Op, FlatCode, function_at, operation_at, GraphSite, Function, Table, CallGraphState, has, IsAmong, Call, IsCallBy, IsPath, BreaksEveryCycle, CallsOnly, IsBottomUp, all-has, has-cases, true_false, has-reverse, functions_called, Calls, IsWay, IsOnCycle, IsGraph, StandsBefore, IsFromBottom}
 use Rattle.std.specs.List.Sorted.{IsPermutation}
-use Rattle.std.proofs.lemmas.Bool.{cases_lt}
-use Rattle.std.proofs.lemmas.List.{get_or_past, take_all}
 use Rattle.std.proofs.lemmas.List.Elements.{All-from_recursion, recursion_from_All}
 use Rattle.std.proofs.lemmas.List.Sorted.{All-permutation, IsPermutation-sym}
-use Rattle.std.proofs.lemmas.Option.{none-some, same_Some}
-use Rattle.flat_code.specs.declared.operations.Op.{Op}
 use Rattle.flat_code.specs.declared.functions.FlatFunction.{FlatFunction}
-use Rattle.flat_code.specs.Codes.{FlatCode, function_at, operation_at}
-use Rattle.call_graph.specs.declared.sites.GraphSite.{GraphSite}
-use Rattle.call_graph.specs.declared.sites.Target.TheVariants.{Function, Table}
 use Rattle.call_graph.specs.Callees.{callees}
 use Rattle.call_graph.specs.FlatCalls.{call_site, call_sites_from}
-use Rattle.call_graph.specs.Graph.{CallGraphState}
 use Rattle.call_graph.specs.Index.{sites_of}
-use Rattle.call_graph.specs.Lists.{has}
-use Rattle.call_graph.specs.Paths.{IsAmong, Call, IsCallBy, IsPath, BreaksEveryCycle}
-use Rattle.cycle_break.specs.BottomUp.{CallsOnly, IsBottomUp}
-use Rattle.cycle_break.proofs.NumberLemmas.{all-has, has-cases, true_false}
-use Rattle.cycle_break.proofs.RankLemmas.{has-reverse}
 use Rattle.cycle_break.proofs.SiteLemmas.{all-among, among-all, own-among}
 use Rattle.checkpoint_place.proofs.BoundLemmas.{next-calls}
-use Rattle.call_cycles.specs.Cycles.{functions_called, Calls, IsWay, IsOnCycle}
-use Rattle.call_cycles.specs.Orders.{IsGraph, StandsBefore, IsFromBottom}
 
 -- ---- the sites of operations
 

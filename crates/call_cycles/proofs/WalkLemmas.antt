@@ -1,13 +1,5 @@
 -- What is marked when the walk from a function ends is what calls lead to.
-use Rattle.std.proofs.Common.{◌≡◌, inl, inr, ⊎_elim, ◌⊎◌, ℕ, ◌<◌, Bool, true, false, List, [], ◌∷◌, ◌++◌, length, refl, sym, ◌∙◌, subst, arith}
-use Rattle.std.specs.Prelude.{Some}
-use Rattle.std.proofs.lemmas.Bool.{cases_lt}
-use Rattle.flat_code.specs.Codes.{FlatCode}
-use Rattle.call_graph.specs.Lists.{has}
-use Rattle.cycle_break.proofs.NumberLemmas.{true_false}
-use Rattle.call_cycles.specs.Cycles.{Calls, IsWay, Reaches, IsOnCycle, IsLeastOf}
-use Rattle.call_cycles.specs.Marks.{Marks}
-use Rattle.cycle_break.specs.Trail.{is_marked}
+use Rattle.call_cycles.proofs.Common.{◌≡◌, inl, inr, ⊎_elim, ◌⊎◌, ℕ, ◌<◌, Bool, true, false, List, [], ◌∷◌, ◌++◌, length, refl, sym, ◌∙◌, subst, arith, Some, cases_lt, FlatCode, has, true_false, Calls, IsWay, Reaches, IsOnCycle, IsLeastOf, Marks, is_marked}
 use Rattle.call_cycles.proofs.MarkLemmas.{has-either, has-left}
 
 -- one call more

@@ -1,14 +1,9 @@
 -- Functions that are marked once, and kept in a list until they are visited.
-use Rattle.std.specs.Prelude.{ℕ, ◌≡◌, ◌⊎◌, ◌+◌, Bool, true, if◌then◌else◌, List, [], ◌∷◌, length}
+use Rattle.std.specs.Prelude.{ℕ, ◌≡◌, ◌⊎◌, ◌+◌, Bool, true, List, length}
 use Rattle.call_graph.specs.Lists.{has}
-use Rattle.cycle_break.specs.Trail.{is_marked}
+use Rattle.cycle_break.specs.Trail.{is_marked, unmarked}
 use Rattle.flat_code.specs.Codes.{FlatCode, members_of}
 use Rattle.call_cycles.specs.Cycles.{Calls, IsOnCycle}
-
--- the number of functions that aren't marked
-abbrev pub unmarked : List Bool → ℕ
-unmarked [] = 0
-unmarked (b ∷ bs) = (if b then 0 else 1) + unmarked bs
 
 -- each function with P is marked, and those that weren't are added to a list
 pub record Marks (P : ℕ → Type 0) (marks : List Bool) (left : List ℕ) (marks' : List Bool) (left' : List ℕ) : Type 0 where

@@ -1,36 +1,17 @@
 -- The call graph of a flat program keeps what a graph keeps.
-use Rattle.std.proofs.Common.{◌≡◌, ℕ, suc, ◌+◌, ◌<◌, ◌≤◌, ◌^◌, false, List, [], ◌∷◌, ◌++◌, length, map, get_or, refl, sym, ap, subst, arith}
-use Rattle.std.proofs.lemmas.Bool.Decides.{nat_tests}
-use Rattle.std.proofs.lemmas.List.{length-map, get_or-map}
-use Rattle.std.proofs.lemmas.List.Elements.{All-from_recursion, recursion_from_All}
-use Rattle.std.proofs.lemmas.List.Kept.{AllPairs-from_increasing}
-use Rattle.std.proofs.lemmas.List.Sorted.{All-permutation, IsPermutation-map}
+use Rattle.call_graph.proofs.Common.{◌≡◌, ℕ, suc, ◌+◌, ◌<◌, ◌≤◌, ◌^◌, false, List, [], ◌∷◌, ◌++◌, length, map, get_or, refl, sym, ap, subst, arith, nat_tests, length-map, get_or-map, All-from_recursion, recursion_from_All, AllPairs-from_increasing, All-permutation, IsPermutation-map, AllByRecursion, IsDistinct, filter_map, cons_option, flat_map, IsPermutation, IsNonDecreasingBy, IsNonDecreasing, eqb, GraphSite, Function, Table, call_site, call_sites_from, All-weaker, All-append}
 use Rattle.std.proofs.lemmas.Map.Keys.{IsDistinct-head, IsDistinct-tail, IsDistinct-cons, IsDistinct-IsPermutation, IsStrictlyIncreasing-from_distinct}
-use Rattle.std.specs.List.{AllByRecursion, IsDistinct, filter_map, cons_option, flat_map}
-use Rattle.std.specs.List.Sorted.{IsPermutation, IsNonDecreasingBy, IsNonDecreasing}
-use Rattle.std.specs.Prelude.{eqb}
 use Rattle.flat_code.specs.declared.operations.Op.{Op}
 use Rattle.flat_code.specs.declared.functions.FlatFunction.{FlatFunction}
 use Rattle.flat_code.specs.Codes.{FlatCode, site_of}
 use Rattle.flat_code.specs.WellFormed.{context_of, signature_of, IsOperation, IsFunction, IsWellFormed, site_numbers}
 use Rattle.cap_word.specs.Signatures.{IsMember, IsTable}
-use Rattle.call_graph.specs.declared.sites.GraphSite.{GraphSite}
-use Rattle.call_graph.specs.declared.sites.Target.TheVariants.{Function, Table}
-use Rattle.call_graph.specs.FlatCalls.{call_site, call_sites_from}
 use Rattle.call_graph.specs.Graph.{IsTargetOf, IsSiteOf, IsRising, IsCallGraph, IsUnsortedGraph}
 use Rattle.call_graph.proofs.ListLemmas.{all-at}
 
-all-map : {X : Type 0} (P Q : X → Type 0) → ((x : X) → P x → Q x) → (xs : List X) → AllByRecursion P xs → AllByRecursion Q xs
-all-map P Q f [] all = tt
-all-map P Q f (x ∷ xs) all = (f x all.0, all-map P Q f xs all.1)
-
-all-append : {X : Type 0} (P : X → Type 0) (xs ys : List X) → AllByRecursion P xs → AllByRecursion P ys → AllByRecursion P (xs ++ ys)
-all-append P [] ys a b = b
-all-append P (x ∷ xs) ys a b = (a.0, all-append P xs ys a.1 b)
-
 -- ---- numbers that are some of others, in their order
 
-data IsPart : List ℕ → List ℕ → Type 0 where
+pub data IsPart : List ℕ → List ℕ → Type 0 where
   none : IsPart [] []
   keep : {x : ℕ} {xs ys : List ℕ} → IsPart xs ys → IsPart (x ∷ xs) (x ∷ ys)
   skip : {y : ℕ} {xs ys : List ℕ} → IsPart xs ys → IsPart xs (y ∷ ys)
@@ -41,7 +22,7 @@ part-all P (x ∷ xs) (x' ∷ ys) (keep part) all = (all.0, part-all P xs ys par
 part-all P xs (y ∷ ys) (skip part) all = part-all P xs ys part all.1
 part-all P (x ∷ xs) [] part all = elim part [ ]
 
-part-distinct : (xs ys : List ℕ) → IsPart xs ys → IsDistinct eqb ys → IsDistinct eqb xs
+pub part-distinct : (xs ys : List ℕ) → IsPart xs ys → IsDistinct eqb ys → IsDistinct eqb xs
 part-distinct [] [] none distinct = distinct
 part-distinct (x ∷ xs) (x' ∷ ys) (keep part) distinct =
     IsDistinct-cons eqb x xs (part-all (λ y. eqb x y ≡ false) xs ys part (IsDistinct-head eqb x ys distinct)) (part-distinct xs ys part (IsDistinct-tail eqb x ys distinct))
@@ -54,26 +35,26 @@ part-append (x ∷ xs) (x' ∷ ys) us vs (keep part) more = keep (part-append xs
 part-append xs (y ∷ ys) us vs (skip part) more = skip (part-append xs ys us vs part more)
 part-append (x ∷ xs) [] us vs part more = elim part [ ]
 
-abbrev numbers : List GraphSite → List ℕ
+abbrev pub numbers : List GraphSite → List ℕ
 numbers ss = map (λ s. s.number) ss
 
-numbers-append : (xs ys : List GraphSite) → numbers (xs ++ ys) ≡ numbers xs ++ numbers ys
+pub numbers-append : (xs ys : List GraphSite) → numbers (xs ++ ys) ≡ numbers xs ++ numbers ys
 numbers-append [] ys = refl
 numbers-append (x ∷ xs) ys = ap (λ (ns : List ℕ). x.number ∷ ns) (numbers-append xs ys)
 
 -- the numbers of a caller's call sites are some of those of its sites
-part-op : (caller : ℕ) (op : Op) (ss : List GraphSite) (ns : List ℕ) → IsPart (numbers ss) ns → IsPart (numbers (cons_option (call_site caller op) ss)) (cons_option (site_of op) ns)
+pub part-op : (caller : ℕ) (op : Op) (ss : List GraphSite) (ns : List ℕ) → IsPart (numbers ss) ns → IsPart (numbers (cons_option (call_site caller op) ss)) (cons_option (site_of op) ns)
 part-op caller (Op.Call site d f args) ss ns part = keep part
 part-op caller (Op.CallTable site d t i s) ss ns part = keep part
 part-op caller (Op.Model site d n args) ss ns part = skip part
 part-op caller (Op.Spawn site d f s) ss ns part = skip part
 part-op caller _ ss ns part = part
 
-part-ops : (caller : ℕ) (ops : List Op) → IsPart (numbers (filter_map (call_site caller) ops)) (filter_map site_of ops)
+pub part-ops : (caller : ℕ) (ops : List Op) → IsPart (numbers (filter_map (call_site caller) ops)) (filter_map site_of ops)
 part-ops caller [] = none
 part-ops caller (op ∷ ops) = part-op caller op (filter_map (call_site caller) ops) (filter_map site_of ops) (part-ops caller ops)
 
-part-functions : (caller : ℕ) (fs : List FlatFunction) → IsPart (numbers (call_sites_from caller fs)) (flat_map (λ f. filter_map site_of f.ops) fs)
+pub part-functions : (caller : ℕ) (fs : List FlatFunction) → IsPart (numbers (call_sites_from caller fs)) (flat_map (λ f. filter_map site_of f.ops) fs)
 part-functions caller [] = none
 part-functions caller (f ∷ fs) =
     rw (numbers-append (filter_map (call_site caller) f.ops) (call_sites_from (caller + 1) fs))
@@ -90,10 +71,10 @@ module _ (code : FlatCode) (formed : IsWellFormed code) where
   signatures-count = length-map code.functions signature_of
 
   members-below : (row : List ℕ) → AllByRecursion (IsMember (map signature_of code.functions)) row → AllByRecursion (λ f. f < count) row
-  members-below row all = all-map (IsMember (map signature_of code.functions)) (λ f. f < count) (λ f member. omega (arith, member.0, signatures-count)) row all
+  members-below row all = All-weaker (IsMember (map signature_of code.functions)) (λ f. f < count) (λ f member. omega (arith, member.0, signatures-count)) row all
 
   tables-below : (tables : List (List ℕ)) → AllByRecursion (IsTable (map signature_of code.functions)) tables → AllByRecursion (λ row. AllByRecursion (λ f. f < count) row) tables
-  tables-below tables all = all-map (IsTable (map signature_of code.functions)) (λ row. AllByRecursion (λ f. f < count) row) (λ row table. members-below row table.1) tables all
+  tables-below tables all = All-weaker (IsTable (map signature_of code.functions)) (λ row. AllByRecursion (λ f. f < count) row) (λ row table. members-below row table.1) tables all
 
   table-target : (t : ℕ) → t < length code.tables → IsTargetOf count code.tables (Table t)
   table-target t lt =
@@ -115,7 +96,7 @@ module _ (code : FlatCode) (formed : IsWellFormed code) where
   functions-sites : (caller : ℕ) (fs : List FlatFunction) → caller + length fs ≡ count → AllByRecursion (IsFunction code) fs → AllByRecursion (IsSiteOf count code.tables) (call_sites_from caller fs)
   functions-sites caller [] e all = tt
   functions-sites caller (f ∷ fs) e all =
-      all-append (IsSiteOf count code.tables) (filter_map (call_site caller) f.ops) (call_sites_from (caller + 1) fs)
+      All-append (IsSiteOf count code.tables) (filter_map (call_site caller) f.ops) (call_sites_from (caller + 1) fs)
       (ops-sites f caller f.ops (omega arith) all.0.ops) (functions-sites (caller + 1) fs (omega arith) all.1)
 
 -- ---- numbers that rise
@@ -134,7 +115,7 @@ rising-from (s ∷ ss) apart = (
   rising-from ss (λ i j lt within. apart (suc i) (suc j) (omega arith) (omega arith)),
 )
 
-eqb-flips : (x y : ℕ) → eqb x y ≡ eqb y x
+pub eqb-flips : (x y : ℕ) → eqb x y ≡ eqb y x
 eqb-flips x y = grind (arith, nat_tests)
 
 numbers-rise : (xs ss : List GraphSite) → IsDistinct eqb (numbers xs) → IsPermutation xs ss → IsNonDecreasingBy (λ s. s.number) ss → IsRising ss

@@ -1,11 +1,6 @@
 -- One site more in the index, at its front.
-use Rattle.std.proofs.Common.{◌≡◌, ◌≢◌, ℕ, zero, suc, ◌+◌, ◌-◌, ◌<◌, ◌≤◌, ◌==◌, ◌&&◌, Bool, true, false, not, List, ◌∷◌, length, get_or, drop, set, refl, sym, ◌∙◌, arith}
-use Rattle.std.proofs.lemmas.Bool.Decides.{nat_tests}
-use Rattle.std.proofs.lemmas.List.{drop_more, get_or_default, length-set, get_or-set_same, get_or-set_other}
-use Rattle.call_graph.specs.declared.sites.GraphSite.{GraphSite}
-use Rattle.call_graph.specs.declared.sites.Target.TheVariants.{Function}
+use Rattle.call_graph.proofs.Common.{◌≡◌, ◌≢◌, ℕ, zero, suc, ◌+◌, ◌-◌, ◌<◌, ◌≤◌, ◌==◌, ◌&&◌, Bool, true, false, not, List, ◌∷◌, length, get_or, drop, set, refl, sym, ◌∙◌, arith, nat_tests, drop_more, get_or_default, length-set, get_or-set_same, get_or-set_other, GraphSite, Function, has}
 use Rattle.call_graph.specs.Index.{is_call_of, sites_of, LeadsTo}
-use Rattle.call_graph.specs.Lists.{has}
 use Rattle.call_graph.proofs.ListLemmas.{by_test}
 
 and_false : (b : Bool) → (b && false) ≡ false

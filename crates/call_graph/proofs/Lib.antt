@@ -1,3 +1,4 @@
+mod Common
 pub mod FlatLemmas
 pub mod IndexLemmas
 pub mod ListLemmas

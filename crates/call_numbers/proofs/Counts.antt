@@ -5,6 +5,7 @@ use Rattle.std.proofs.Math.ListN.{set, drop_of_length-le}
 use Rattle.std.proofs.lemmas.Bool.{cases_lt}
 use Rattle.std.proofs.lemmas.Bool.Decides.{nat_tests}
 use Rattle.std.proofs.lemmas.List.{get_or-set_other, get_or-set_same, length-set, length-drop}
+use Rattle.grammar_laws.proofs.RankLaws.{lesser_few, no_greater_few}
 use Rattle.grammar_laws.specs.Ranks.{lesser, no_greater, ranks_after}
 
 -- how many of these places are this one
@@ -32,12 +33,6 @@ lt_next p at = grind (arith, nat_tests)
 eq_one : (p q : ℕ) → (if nat_eq p q then 1 else 0) ≤ 1
 eq_one p q = grind (arith, nat_tests)
 
-lt_one : (p q : ℕ) → (if nat_lt p q then 1 else 0) ≤ 1
-lt_one p q = grind (arith, nat_tests)
-
-le_one : (p q : ℕ) → (if nat_le p q then 1 else 0) ≤ 1
-le_one p q = grind (arith, nat_tests)
-
 lt_zero : (p : ℕ) → ◌≡◌ {A = ℕ} (if nat_lt p 0 then 1 else 0) 0
 lt_zero p = grind (arith, nat_tests)
 
@@ -54,14 +49,6 @@ lesser_none (p ∷ ps) = let one = lt_zero p in let rest = lesser_none ps in ome
 equal_few : (at : ℕ) (ps : List ℕ) → equal at ps ≤ length ps
 equal_few at [] = omega arith
 equal_few at (p ∷ ps) = let one = eq_one p at in let rest = equal_few at ps in omega (arith, one, rest)
-
-pub lesser_few : (at : ℕ) (ps : List ℕ) → lesser at ps ≤ length ps
-lesser_few at [] = omega arith
-lesser_few at (p ∷ ps) = let one = lt_one p at in let rest = lesser_few at ps in omega (arith, one, rest)
-
-no_greater_few : (at : ℕ) (ps : List ℕ) → no_greater at ps ≤ length ps
-no_greater_few at [] = omega arith
-no_greater_few at (p ∷ ps) = let one = le_one p at in let rest = no_greater_few at ps in omega (arith, one, rest)
 
 -- ---- at the i-th place p
 

@@ -1,11 +1,7 @@
 -- The places of the calls of operators one after another.
-use Rattle.std.proofs.Common.{◌≡◌, ℕ, List, [], ◌∷◌, ◌++◌, append_assoc, refl, sym, ap, ◌∙◌}
-use Rattle.std.proofs.lemmas.List.{append-nil}
+use Rattle.call_places.proofs.Common.{◌≡◌, ℕ, List, [], ◌∷◌, ◌++◌, append_assoc, refl, sym, ap, ◌∙◌, append-nil, raw_joined, raw_chained, is_call, expr_places}
 use Rattle.c_tree.specs.declared.operators.Infix.{Infix}
 use Rattle.c_tree.specs.RawTrees.{RawExprTree}
-use Rattle.c_tree.specs.RawViews.{raw_joined, raw_chained}
-use Rattle.grammar_laws.specs.Nested.{is_call}
-use Rattle.grammar_laws.specs.Places.{expr_places}
 
 abbrev pub operands_places : List (Infix × RawExprTree) → List ℕ
 operands_places [] = []

@@ -4,24 +4,13 @@ use Rattle.std.specs.Prelude.{Option, None, Some}
 use Rattle.std.specs.Io.KnownBytes.{Appends, Keeps}
 use Rattle.std.proofs.lemmas.List.{append-nil, take-append-drop, take_all}
 use Rattle.std.proofs.Math.Seq.{take-append_seam}
+use Rattle.std.proofs.KnownBytes.{Appends-trans, Appends-kept}
 
 -- told bytes grew by a beginning of the piece, whose rest is left
 pub record PutSoFar (old new : Option (List ℕ)) (piece rest : List ℕ) : Type 0 where
   pub put : List ℕ
   pub whole : put ++ rest ≡ piece
   pub bytes : Appends old new put
-
-pub appends_more : (old mid new : Option (List ℕ)) (xs ys : List ℕ) → Appends old mid xs → Appends mid new ys → Appends old new (xs ++ ys)
-appends_more None mid new xs ys before now = tt
-appends_more (Some a) None new xs ys before now = absurd before
-appends_more (Some a) (Some b) None xs ys before now = absurd now
-appends_more (Some a) (Some b) (Some c) xs ys before now = now ∙ rw before (append_assoc a xs ys)
-
-pub appends_kept : (old mid new : Option (List ℕ)) (xs : List ℕ) → Appends old mid xs → Keeps mid new → Appends old new xs
-appends_kept None mid new xs before now = tt
-appends_kept (Some a) None new xs before now = absurd before
-appends_kept (Some a) (Some b) None xs before now = absurd now
-appends_kept (Some a) (Some b) (Some c) xs before now = now ∙ before
 
 pub keeps_by_none : (old new : Option (List ℕ)) → Appends old new [] → Keeps old new
 keeps_by_none None new none = tt
@@ -37,7 +26,7 @@ PutSoFar-more old mid new piece rest n m all s now =
     in rw same (record {
       put = s.put ++ take n rest;
       whole = append_assoc s.put (take n rest) (drop n rest) ∙ rw take-append-drop s.whole;
-      bytes = appends_more old mid new s.put (take n rest) s.bytes now;
+      bytes = Appends-trans old mid new s.put (take n rest) s.bytes now;
     })
 
 pub PutSoFar-prefix : (old mid new : Option (List ℕ)) (piece rest : List ℕ) → PutSoFar old mid piece rest → Keeps mid new
@@ -47,5 +36,5 @@ PutSoFar-prefix old mid new piece rest s now =
     in (
       length s.put,
       rw (← s.whole) (omega (arith, length-append s.put rest)),
-      rw front (appends_kept old mid new s.put s.bytes now),
+      rw front (Appends-kept old mid new s.put s.bytes now),
     )

@@ -1,19 +1,9 @@
 -- The laws of canonical decimals.
-use Rattle.std.proofs.Common.{◌≡◌, ℕ, zero, suc, ◌+◌, ◌*◌, ◌/◌, ◌%◌, ◌^◌, ◌<◌, ◌≤◌, cond, List, [], ◌∷◌, ◌++◌, length, get_or, map, ℤ, pos, negsuc, FitsSigned, to_z, of_z, refl, ap, sym, subst, ◌∙◌, inl, inr, ◌⊎◌, arith, eq-zero-or-pos, append_assoc, append-nil, length-append}
 use Rattle.std.specs.Int.Digits.{digits_of, number_from_digits, number_from_digits_after, AllBelowBase}
 use Rattle.std.specs.Fmt.{decimal, signed_decimal}
-use Rattle.std.specs.Str.Parse.{AllDigits, digits_value}
-use Rattle.std.specs.Char.{digit_value}
-use Rattle.std.specs.Int.{IsInRange, w128}
+use Rattle.cap_text.proofs.Common.{◌≡◌, ℕ, zero, suc, ◌+◌, ◌*◌, ◌/◌, ◌%◌, ◌^◌, ◌<◌, ◌≤◌, cond, List, [], ◌∷◌, ◌++◌, length, get_or, map, ℤ, pos, negsuc, FitsSigned, to_z, of_z, refl, ap, sym, subst, ◌∙◌, inl, inr, ◌⊎◌, arith, eq-zero-or-pos, append_assoc, append-nil, length-append, AllDigits, digits_value, digit_value, IsInRange, w128, map_push, length-map, get_or-map, digit_from_value, digits_of_step, number_digits_of, all_below_base_digits_of, first_digits_of, digits_value_is, all_below_base_from_digits, number_after_ge, to_z-of_z, canonical_decimal, canonical_integer, ne_eqb, nat_tests}
 use Rattle.std.proofs.lemmas.Fmt.{decimal_by_steps_wide}
-use Rattle.std.proofs.lemmas.List.{map_push, length-map, get_or-map}
-use Rattle.std.proofs.lemmas.Str.Parse.{digit_from_value}
-use Rattle.std.proofs.lemmas.Int.Digits.{digits_of_step, number_digits_of, all_below_base_digits_of, first_digits_of, digits_value_is, all_below_base_from_digits, number_after_ge}
-use Rattle.std.proofs.lemmas.Int.{to_z-of_z}
 use Rattle.std.proofs.Math.Nat.{pow-suc}
-use Rattle.cap_text.specs.Decimals.{canonical_decimal, canonical_integer}
-use borrow.Author.Tests.{ne_eqb}
-use Rattle.std.proofs.lemmas.Bool.Decides.{nat_tests}
 
 pub decimal_zero : canonical_decimal 0 ≡ 48 ∷ []
 unfolding canonical_decimal

@@ -1,8 +1,5 @@
 -- What a refused field says of the fields that were left.
-use Rattle.std.proofs.Common.{◌≡◌, ℕ, ℤ, ◌≤◌, List, ◌∷◌, FitsSigned, Result, Ok, Err, Option, Some, None, is_ok, is_some, IfNone}
-use mir.Syntax.{Width}
-use Rattle.cap_text.specs.Decimals.{canonical_decimal, canonical_integer}
-use Rattle.cap_text.specs.declared.numbers.NumberError.{NumberError}
+use Rattle.cap_text.proofs.Common.{◌≡◌, ℕ, ℤ, ◌≤◌, List, ◌∷◌, FitsSigned, Result, Ok, Err, Option, Some, None, is_ok, is_some, IfNone, Width, canonical_decimal, canonical_integer, NumberError}
 
 pub no_number : (old mid : List (List ℕ)) (field : List ℕ) (max : ℕ) (r : Result ℕ NumberError) (o : Option ℕ) → is_some o ≡ is_ok r → old ≡ field ∷ mid
     → ((n : ℕ) → n ≤ max → field ≡ canonical_decimal n → r ≡ Ok n)

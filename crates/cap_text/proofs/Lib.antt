@@ -1,3 +1,4 @@
+mod Common
 pub mod DecimalLaws
 pub mod FieldRefusals
 pub mod LineLaws

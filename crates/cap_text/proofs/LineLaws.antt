@@ -1,13 +1,7 @@
 -- The laws of the lines of a text.
-use Rattle.std.proofs.Common.{◌≡◌, ℕ, ◌+◌, ◌<◌, ◌≤◌, Bool, true, false, cond, List, [], ◌∷◌, ◌++◌, length, take, drop, refl, ap, sym, ◌∙◌, arith, All, ◌==◌, Option, Some, None, nat_lt, append_assoc}
-use Rattle.std.specs.List.{slice_split, position, position_or_len, before_first, after_first}
-use Rattle.std.proofs.lemmas.List.Splits.{slice_split_none, slice_split_at, slice_split_first, length-slice_split}
-use Rattle.std.proofs.lemmas.List.Sums.{fails_before_first}
-use borrow.Author.Tests.{ne_eqb, ltb-true, ltb-false}
-use Rattle.std.specs.List.{AllByRecursion}
-use Rattle.cap_text.specs.Pieces.{Lacks}
-use Rattle.cap_text.specs.TextLines.{lines_of, without_empty_last, ended_lines}
+use Rattle.cap_text.proofs.Common.{◌≡◌, ℕ, ◌+◌, ◌<◌, ◌≤◌, Bool, true, false, cond, List, [], ◌∷◌, ◌++◌, length, take, drop, refl, ap, sym, ◌∙◌, arith, All, ◌==◌, Option, Some, None, append_assoc, slice_split, position, position_or_len, before_first, after_first, slice_split_none, slice_split_at, slice_split_first, length-slice_split, fails_before_first, ne_eqb, AllByRecursion, Lacks, lines_of, without_empty_last, ended_lines}
 use Rattle.cap_text.proofs.PieceLaws.{all_by}
+use Rattle.cap_text.proofs.PieceSteps.{found, lost}
 
 abbrev pub is_line_feed : ℕ → Bool
 is_line_feed byte = byte == 10
@@ -51,22 +45,8 @@ at_first : (bytes : List ℕ) → position_or_len is_line_feed bytes < length by
 unfolding lines_of
 at_first bytes h = ap without_empty_last (slice_split_first is_line_feed bytes 0 h) ∙ not_last _ (slice_split is_line_feed (after_first is_line_feed bytes)) (some_piece (after_first is_line_feed bytes))
 
-found : (n most at : ℕ) → Some at ≡ cond (nat_lt n most) (Some n) None → (n < most) × (at ≡ n)
-found n most at e = decided (nat_lt n most) refl e
-  where
-    decided : (b : Bool) → b ≡ nat_lt n most → Some at ≡ cond b (Some n) None → (n < most) × (at ≡ n)
-    decided true is eq = (let t : nat_lt n most ≡ true = sym is in omega (arith, ltb-true), cc)
-    decided false is eq = absurd (cc)
-
 abbrev nothing : Option ℕ
 nothing = None
-
-lost : (n most : ℕ) → nothing ≡ cond (nat_lt n most) (Some n) None → most ≤ n
-lost n most e = decided (nat_lt n most) refl e
-  where
-    decided : (b : Bool) → b ≡ nat_lt n most → nothing ≡ cond b (Some n) None → most ≤ n
-    decided true is eq = absurd (cc)
-    decided false is eq = let t : nat_lt n most ≡ false = sym is in omega (arith, ltb-false)
 
 pub line_at : (bytes : List ℕ) (at : ℕ) → Some at ≡ position is_line_feed bytes → (at < length bytes) × (lines_of bytes ≡ take at bytes ∷ lines_of (drop (at + 1) bytes))
 line_at bytes at e =

@@ -1,12 +1,5 @@
 -- Fields with a separator between, and the pieces of their text.
-use Rattle.std.proofs.Common.{◌≡◌, ℕ, ℤ, pos, negsuc, ◌<◌, nat_lt, zero, suc, ◌≤◌, Bool, true, false, cond, List, [], ◌∷◌, ◌++◌, refl, ap, sym, ◌∙◌, arith, All, ◌==◌, append-nil}
-use Rattle.std.specs.List.{AllByRecursion, join_with_byte, onto_first}
-use Rattle.std.proofs.lemmas.List.Splits.{slice_split_none, slice_split_at, join_with_byte-slice_split}
-use Rattle.std.specs.Str.Parse.{AllDigits}
-use Rattle.std.proofs.lemmas.Str.Parse.{digit_from_value}
-use borrow.Author.Tests.{eq-eqb, ne_eqb, ltb-true}
-use Rattle.cap_text.specs.Decimals.{canonical_decimal, canonical_integer}
-use Rattle.cap_text.specs.Pieces.{pieces, Lacks, after_each}
+use Rattle.cap_text.proofs.Common.{◌≡◌, ℕ, ℤ, pos, negsuc, ◌<◌, nat_lt, zero, suc, ◌≤◌, Bool, true, false, cond, List, [], ◌∷◌, ◌++◌, refl, ap, sym, ◌∙◌, arith, All, ◌==◌, append-nil, AllByRecursion, join_with_byte, onto_first, slice_split_none, slice_split_at, join_with_byte-slice_split, AllDigits, digit_from_value, eq-eqb, ne_eqb, ltb-true, canonical_decimal, canonical_integer, pieces, Lacks, after_each}
 use Rattle.cap_text.proofs.DecimalLaws.{decimal_digits}
 
 pub all_by : (P : ℕ → Type 0) (xs : List ℕ) → AllByRecursion P xs → All P xs

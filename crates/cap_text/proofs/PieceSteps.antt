@@ -1,12 +1,6 @@
 -- The pieces of a text, one after another.
-use Rattle.std.proofs.Common.{◌≡◌, ℕ, ◌+◌, ◌-◌, ◌<◌, ◌≤◌, Bool, true, false, cond, List, [], ◌∷◌, length, take, drop, refl, sym, arith, ◌==◌, Option, Some, None, is_some, not, nat_lt}
-use Rattle.std.specs.List.{position, position_or_len}
-use Rattle.std.proofs.lemmas.List.{take_rest}
-use Rattle.std.proofs.lemmas.List.Splits.{slice_split_none, slice_split_first, length-slice_split}
-use Rattle.std.proofs.lemmas.List.Sums.{fails_before_first}
-use borrow.Author.Tests.{ne_eqb, ltb-true, ltb-false}
+use Rattle.cap_text.proofs.Common.{◌≡◌, ℕ, ◌+◌, ◌-◌, ◌<◌, ◌≤◌, Bool, true, false, cond, List, [], ◌∷◌, length, take, drop, refl, sym, arith, ◌==◌, Option, Some, None, is_some, not, nat_lt, position, position_or_len, take_rest, slice_split_none, slice_split_first, length-slice_split, fails_before_first, ne_eqb, ltb-true, ltb-false, pieces, pieces_left}
 use denote.Ref.{Bor}
-use Rattle.cap_text.specs.Pieces.{pieces, pieces_left}
 
 abbrev pub nothing : Option ℕ
 nothing = None

@@ -1,12 +1,5 @@
 -- From what a reader of numbers answers for a part of its bytes to what it answers for the whole.
-use Rattle.std.proofs.Common.{◌≡◌, ℕ, suc, ◌+◌, ◌-◌, ◌^◌, ◌<◌, ◌≤◌, List, ◌∷◌, refl, ap, sym, subst, ◌∙◌, arith, ◌↔◌, ℤ, pos, negsuc, FitsSigned, to_z, of_z, int_le, true, ◌-ℤ◌, Result, Ok, Err, IfOk, length}
-use Rattle.std.specs.Int.{w32, w128}
-use mir.Syntax.{Width}
-use Rattle.std.proofs.lemmas.Int.{ints, to_z-of_z}
-use Rattle.std.specs.Str.Parse.{AllDigits}
-use Rattle.std.proofs.lemmas.Str.Parse.{digit_from_value}
-use Rattle.cap_text.specs.Decimals.{canonical_decimal, canonical_integer, IsDecimal, IsInteger}
-use Rattle.cap_text.specs.declared.numbers.NumberError.{NumberError}
+use Rattle.cap_text.proofs.Common.{◌≡◌, ℕ, suc, ◌+◌, ◌-◌, ◌^◌, ◌<◌, ◌≤◌, List, ◌∷◌, refl, ap, sym, subst, ◌∙◌, arith, ◌↔◌, ℤ, pos, negsuc, FitsSigned, to_z, of_z, int_le, true, ◌-ℤ◌, Result, Ok, Err, IfOk, length, w32, w128, Width, ints, to_z-of_z, AllDigits, digit_from_value, canonical_decimal, canonical_integer, IsDecimal, IsInteger, NumberError}
 use Rattle.cap_text.specs.declared.numbers.NumberError.TheVariants.{NotANumber, TooLarge}
 use Rattle.cap_text.proofs.DecimalLaws.{decimal_unique, decimal_digits, length_integer, integer_unique}
 

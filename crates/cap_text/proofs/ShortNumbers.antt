@@ -1,15 +1,8 @@
 -- Numbers of at most 19 digits, which fit 64 bits.
-use Rattle.std.proofs.Common.{◌≡◌, ℕ, ◌+◌, ◌-◌, ◌*◌, ◌^◌, ◌<◌, ◌≤◌, List, [], ◌∷◌, length, get_or, take, ap, sym, subst, ◌∙◌, arith, true, false, ◌==◌}
-use Rattle.std.specs.Str.Parse.{AllDigits, digits_value}
-use Rattle.std.specs.Char.{digit_value}
-use Rattle.std.proofs.lemmas.Bool.Decides.{nat_tests}
-use Rattle.std.proofs.lemmas.Str.Parse.{digit_from_value}
-use Rattle.std.proofs.lemmas.Int.Digits.{digits_more, digits_value_more, digits_value-lt}
-use borrow.Author.Tests.{ne_eqb}
+use Rattle.cap_text.proofs.Common.{◌≡◌, ℕ, ◌+◌, ◌-◌, ◌*◌, ◌^◌, ◌<◌, ◌≤◌, List, [], ◌∷◌, length, get_or, take, ap, sym, subst, ◌∙◌, arith, true, false, ◌==◌, AllDigits, digits_value, digit_value, nat_tests, digit_from_value, digits_more, digits_value_more, digits_value-lt, ne_eqb, canonical_decimal}
 use native.Mathlib.Nat.{pow-le-pow_right}
 use lib.Dec.{lit<}
 use lib.ListN.{length-take}
-use Rattle.cap_text.specs.Decimals.{canonical_decimal}
 use Rattle.cap_text.proofs.DecimalLaws.{decimal_zero, decimal_from_digits, glyph_back}
 
 small_digit : (c : ℕ) → 48 ≤ c → c ≤ 57 → digit_value c < 10

@@ -1,14 +1,6 @@
 -- Which bytes are a canonical decimal, and of which number.
-use Rattle.std.proofs.Common.{◌≡◌, ℕ, zero, suc, ◌+◌, ◌-◌, ◌*◌, ◌<◌, ◌≤◌, List, [], ◌∷◌, length, get_or, take, refl, ap, sym, subst, ◌∙◌, inl, inr, arith, eq-zero-or-pos, All, IsTrue, true, false, Bool, ◌==◌, ◌↔◌}
 use Rattle.std.specs.Bool.{MatchBool}
-use Rattle.std.specs.Str.Parse.{AllDigits, digits_value}
-use Rattle.std.specs.Char.{digit_value}
-use Rattle.std.specs.Int.{IsInRange}
-use Rattle.std.proofs.lemmas.Bool.Decides.{nat_tests}
-use Rattle.std.proofs.lemmas.Str.Parse.{digit_from_value, digit_at, digits_value-take-le}
-use Rattle.std.proofs.lemmas.Int.Digits.{digits_value_more}
-use borrow.Author.Tests.{ne_eqb}
-use Rattle.cap_text.specs.Decimals.{canonical_decimal, IsDecimal}
+use Rattle.cap_text.proofs.Common.{◌≡◌, ℕ, zero, suc, ◌+◌, ◌-◌, ◌*◌, ◌<◌, ◌≤◌, List, [], ◌∷◌, length, get_or, take, refl, ap, sym, subst, ◌∙◌, inl, inr, arith, eq-zero-or-pos, All, IsTrue, true, false, Bool, ◌==◌, ◌↔◌, AllDigits, digits_value, digit_value, IsInRange, nat_tests, digit_from_value, digit_at, digits_value-take-le, digits_value_more, ne_eqb, canonical_decimal, IsDecimal}
 use Rattle.cap_text.proofs.DecimalLaws.{decimal_zero, decimal_digits, decimal_value, length_decimal, decimal_unique, first_of_decimal, decimal_from_digits, glyph_back}
 
 abbrev pub Digits : List ℕ → Type 0

@@ -1,12 +1,6 @@
 -- Runs of machines: steps add up.
-use Rattle.std.proofs.Common.{◌≡◌, ℕ, zero, suc, ◌+◌, List, refl, ap, ◌∙◌, arith}
+use Rattle.std.proofs.Common.{◌≡◌, ℕ, zero, suc, ◌+◌, List, refl, ap, ◌∙◌, suc-add, zero-add}
 use Rattle.cap_word.specs.Runs.{Move, Goes, Asks, Stops, Machine, and_then, moves, Progress, Unfinished, Over, on_from, played, run}
-
-suc_front : (m n : ℕ) → suc m + n ≡ suc (m + n)
-suc_front m n = omega arith
-
-zero_front : (n : ℕ) → zero + n ≡ n
-zero_front n = omega arith
 
 module _ {S W Q A E : Type 0} (machine : Machine S W Q A E) where
   -- three moves one after another group either way
@@ -20,9 +14,9 @@ module _ {S W Q A E : Type 0} (machine : Machine S W Q A E) where
   and_then_alike _ f g alike = refl
 
   pub moves_add : (m n : ℕ) (state : S) → moves machine (m + n) state ≡ and_then (moves machine m state) (moves machine n)
-  moves_add zero n state = ap (λ k. moves machine k state) (zero_front n)
+  moves_add zero n state = ap (λ k. moves machine k state) (zero-add n)
   moves_add (suc m) n state =
-      ap (λ k. moves machine k state) (suc_front m n)
+      ap (λ k. moves machine k state) (suc-add m n)
       ∙ and_then_alike (machine.step state) (moves machine (m + n)) (λ s. and_then (moves machine m s) (moves machine n)) (λ s. moves_add m n s)
       ∙ and_then_assoc (machine.step state) (moves machine m) (moves machine n)
 
@@ -45,9 +39,9 @@ module _ {S W Q A E : Type 0} (machine : Machine S W Q A E) where
     on_from_alike (Over asked end) f g alike = refl
 
     pub run_adds : (m n : ℕ) (asked : List Q) (state : S) → run machine world (m + n) asked state ≡ on_from (run machine world m asked state) (run machine world n)
-    run_adds zero n asked state = ap (λ k. run machine world k asked state) (zero_front n)
+    run_adds zero n asked state = ap (λ k. run machine world k asked state) (zero-add n)
     run_adds (suc m) n asked state =
-        ap (λ k. run machine world k asked state) (suc_front m n)
+        ap (λ k. run machine world k asked state) (suc-add m n)
         ∙ on_from_alike (played machine world asked (machine.step state)) (run machine world (m + n)) (λ a s. on_from (run machine world m a s) (run machine world n)) (λ a s. run_adds m n a s)
         ∙ on_from_assoc (played machine world asked (machine.step state)) (run machine world m) (run machine world n)
 

@@ -15,6 +15,6 @@ signature_at ss f = slice_index_or ss f (record { params = 0; gives = false })
 abbrev pub IsMember : List Signature → ℕ → Type 0
 IsMember ss f = (f < length ss) × ((signature_at ss f).params ≡ 1) × ((signature_at ss f).gives ≡ true)
 
--- a table has a member
+-- a table has a member, and each of its members is one
 abbrev pub IsTable : List Signature → List ℕ → Type 0
 IsTable ss row = (1 ≤ length row) × AllByRecursion (IsMember ss) row

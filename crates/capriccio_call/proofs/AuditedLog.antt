@@ -1,42 +1,16 @@
 -- An audit doesn't say of a lawful log that it is unlawful; and what it says to be lawful is the source's, with the choices of the priority rule.
-use Rattle.std.proofs.Common.{◌≡◌, ◌⊎◌, ℕ, ◌≤◌, List, Option, Some, Result, Ok, Err, refl, sym, ap, subst, ◌∙◌, arith, inl, inr, ⊎_elim}
-use Rattle.std.specs.Prelude.{slice_index}
-use Rattle.std.specs.Io.KnownBytes.{Appends}
+use Rattle.capriccio_call.proofs.Common.{◌≡◌, ◌⊎◌, ℕ, ◌≤◌, List, Option, Some, Result, Ok, Err, refl, sym, ap, subst, ◌∙◌, arith, inl, inr, ⊎_elim, slice_index, Appends, ProgramTree, Files, Policy, Audit, IsLawfulLog, Setup, World, most_fuel, log_text, Entry, StopLine, Held, Fault, Read, Write, Memory, Outside, IsDone, IsThisCase, IsTold, NoFault, line_of, status_of, fault_status, Outcome, AfterLoad, IsSourceText, AreAuditOptions, Audits, AuditsBytes, AuditsProgram, judged_outcome, judgement_status, reading_of, IsDue, IsVerdictOf, audit-options, IsAnswer}
 use Rattle.audited_logs.specs.Audited.{AreCapsSmall, IsLawfulOrTooLong}
 use Rattle.audited_logs.proofs.Logs.{log_judged}
 use Rattle.audited_logs.proofs.ReadWorlds.{choices_are_lawful}
-use Rattle.c_tree.specs.Trees.{ProgramTree}
-use Rattle.cap_io.specs.Files.{Files}
-use Rattle.choice_rules.specs.Policy.{Policy}
-use Rattle.command_words.specs.WordList.{Audit}
 use Rattle.command_words.specs.declared.options.Audit.{Audit as AuditOptions}
-use Rattle.lawful_log.specs.Lawful.{IsLawfulLog}
-use Rattle.lawful_log.specs.Setup.{Setup}
 use Rattle.lawful_reading.specs.Given.{Given}
 use Rattle.lawful_reading.specs.Reading.{IsLawful}
-use Rattle.machine_world.specs.Threads.{World}
-use Rattle.machine_world.specs.WellFormed.{most_fuel}
-use Rattle.schedule_log.specs.EntryText.{log_text}
-use Rattle.schedule_log.specs.declared.entries.Entry.{Entry}
-use Rattle.schedule_log.specs.declared.entries.StopLine.{StopLine}
 use Rattle.audited_logs.proofs.ReadLines.{log_of_source}
-use Rattle.thread_core.specs.Worlds.{Held}
 use Rattle.command_outcomes.specs.declared.documents.Document.TheVariants as document
-use Rattle.command_outcomes.specs.declared.faults.Fault.{Fault}
-use Rattle.command_outcomes.specs.declared.faults.Fault.TheVariants.{Read, Write, Memory}
-use Rattle.command_outcomes.specs.Done.{Outside, IsDone, IsThisCase, IsTold, NoFault, line_of, status_of}
-use Rattle.command_outcomes.specs.FaultLines.{fault_status}
-use Rattle.command_outcomes.specs.Outcome.{Outcome}
-use Rattle.command_files.specs.Loads.{AfterLoad, IsSourceText}
-use Rattle.command_options.specs.Options.{AreAuditOptions}
-use Rattle.command_audit.specs.Audits.{Audits, AuditsBytes, AuditsProgram, judged_outcome, judgement_status, reading_of}
-use Rattle.capriccio_call.specs.Due.{IsDue}
-use Rattle.lawful_reading.specs.Verdicts.{IsVerdictOf}
 use Rattle.lawful_reading.specs.declared.judgement.Verdict.{Verdict}
 use Rattle.lawful_reading.specs.declared.judgement.Verdict.TheVariants.{Lawful, Steps, Unlawful}
-use Rattle.command_options.proofs.Options.{audit-options}
 use Rattle.capriccio_call.specs.Audited.{AsksForAudit, IsAudited, IsRunUnder, IsSourcesLog, SaysOf}
-use Rattle.capriccio_call.specs.Headline.{IsAnswer}
 use Rattle.capriccio_call.proofs.GoodRun.{status-told}
 use Rattle.capriccio_call.proofs.OneRun.{pooled-areas}
 use Rattle.capriccio_call.proofs.OutcomeKinds.{IsFree}

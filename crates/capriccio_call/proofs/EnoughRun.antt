@@ -1,47 +1,17 @@
 -- A run that has enough chunks doesn't stop for want of one.
-use Rattle.std.proofs.Common.{◌≡◌, ◌≢◌, ℕ, ◌*◌, ◌≤◌, List, [], Option, Some, Ok, Err, refl, sym, ap, subst, ◌∙◌, arith, inr, ⊎_elim}
 use Rattle.accepted_pairs.specs.Accepting.{accepted_tree}
 use Rattle.log_laws.specs.Lives.{live}
 use Rattle.log_laws.specs.Rooms.{roomy}
 use Rattle.log_laws.proofs.LogLemmas.{IsReady, enough-at-stop, enough-in-new}
 use Rattle.log_laws.proofs.RoomLemmas.{first_roomy}
-use Rattle.c_lower.specs.ProgramCode.{lowered}
-use Rattle.c_tree.specs.Trees.{ProgramTree}
-use Rattle.c_tree.specs.WellScoped.{IsWellScoped}
-use Rattle.cap_io.specs.Files.{Files}
+use Rattle.capriccio_call.proofs.Common.{◌≡◌, ◌≢◌, ℕ, ◌*◌, ◌≤◌, List, [], Option, Some, Ok, Err, refl, sym, ap, subst, ◌∙◌, arith, inr, ⊎_elim, lowered, ProgramTree, IsWellScoped, Files, Request, Serve, Run, Build, Check, Graph, Demo, Audit, Budget, Policy, Options, IsLawfulLog, Setup, setting_of, start_areas, World, Setting, Entry, StopLine, IsLaidOut, Certificate, Image, Held, IsRunPolicy, sizes_of, serve-policy, serve-pool, run-policy, refusal, Outcome, Ran, Outside, IsLast, IsWorldOf, AfterLoad, AfterSource, AfterImage, AfterCertificate, IsUnbuilt, IsAccepted, RunsOn, RunsBytes, RunsPair, ServesProgram, Serves, Runs, policy_of, pool_bytes, setup_of, stop_status, plans-are-one, ShowsRun, IsDue, trace_text, IsAnswer}
 use Rattle.cap_word.specs.declared.stops.Stop.TheVariants as cut
 use Rattle.chunk_budget.specs.declared.budgets.Budget as budgets
 use Rattle.chunk_budget.specs.Budgets.{IsBudget}
-use Rattle.command_words.specs.WordList.{Request, Serve, Run, Build, Check, Graph, Demo, Audit, Budget}
 use Rattle.command_words.specs.declared.options.Policy.{Policy as RunOptions}
-use Rattle.choice_rules.specs.Policy.{Policy}
-use Rattle.codegen_link.specs.declared.options.Options.{Options}
-use Rattle.lawful_log.specs.Lawful.{IsLawfulLog}
-use Rattle.lawful_log.specs.Setup.{Setup, setting_of, start_areas}
-use Rattle.machine_world.specs.Threads.{World, Setting}
-use Rattle.schedule_log.specs.declared.entries.Entry.{Entry}
-use Rattle.schedule_log.specs.declared.entries.StopLine.{StopLine}
-use Rattle.stack_build.specs.Builds.{IsLaidOut}
-use Rattle.stack_certificate.specs.declared.certificates.Certificate.{Certificate}
-use Rattle.stack_image.specs.declared.images.Image.{Image}
-use Rattle.thread_core.specs.Worlds.{Held}
-use Rattle.command_options.specs.Options.{IsRunPolicy, sizes_of}
-use Rattle.command_options.proofs.Options.{serve-policy, serve-pool, run-policy}
 use Rattle.command_outcomes.specs.declared.documents.Document.TheVariants as document
 use Rattle.command_outcomes.specs.declared.stops.Cause.TheVariants as cause
-use Rattle.command_outcomes.specs.CauseLines.{refusal}
-use Rattle.command_outcomes.specs.Outcome.{Outcome, Ran}
-use Rattle.command_outcomes.specs.Done.{Outside}
-use Rattle.capriccio_commands.specs.Ends.{IsLast, IsWorldOf}
-use Rattle.command_files.specs.Loads.{AfterLoad, AfterSource, AfterImage, AfterCertificate}
-use Rattle.pair_commands.specs.BuildsFiles.{IsUnbuilt}
-use Rattle.pair_commands.specs.Runs.{IsAccepted, RunsOn, RunsBytes, RunsPair, ServesProgram, Serves, Runs, policy_of, pool_bytes, setup_of, stop_status}
-use Rattle.pair_commands.proofs.OneBuild.{plans-are-one}
-use Rattle.capriccio_commands.specs.Demos.{ShowsRun}
-use Rattle.capriccio_call.specs.Due.{IsDue}
-use Rattle.workload.specs.Traces.{trace_text}
 use Rattle.capriccio_call.specs.EnoughChunks.{AsksForRun, HasEnoughChunks, HasRoom, LivesWithin, RunsFiles, ServesSource, no_chunk}
-use Rattle.capriccio_call.specs.Headline.{IsAnswer}
 use Rattle.capriccio_call.proofs.GoodRun.{of-due, status-told}
 use Rattle.capriccio_call.proofs.OneCase.{IsWithinPool, in-range}
 use Rattle.capriccio_call.proofs.OnePair.{pairs-are-one}

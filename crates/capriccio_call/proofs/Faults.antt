@@ -1,22 +1,10 @@
 -- What holds after a fault follows from what was done and told.
-use Rattle.std.proofs.Common.{◌≡◌, ◌≢◌, ◌⊎◌, ℕ, true≢false, List, [], ◌∷◌, length, Option, Some, None, Result, Ok, Err, refl, sym, ap, subst, ◌∙◌, ⊎_elim, inl, inr, arith}
-use Rattle.std.proofs.lemmas.List.{take_all}
-use Rattle.std.specs.Io.KnownBytes.{Appends}
-use Rattle.cap_io.specs.Files.{Files, KeepsFiles, KeepsOthers}
+use Rattle.capriccio_call.proofs.Common.{◌≡◌, ◌≢◌, ◌⊎◌, ℕ, true≢false, List, [], ◌∷◌, length, Option, Some, None, Result, Ok, Err, refl, sym, ap, subst, ◌∙◌, ⊎_elim, inl, inr, arith, take_all, Appends, Files, KeepsFiles, KeepsOthers, IsWordList, Request, Serve, Run, Build, Check, Graph, Demo, Audit, Budget, Fault, Read, Write, Memory, fault_status, Outcome, Outside, WhereTold, AreStored, AreCutShort, IsCutShort, NoneCounted, IsDone, IsTold, status_of, line_of, IsDue, Held, IsAnswer}
 use Rattle.cap_io.specs.Shelves.{HoldsPrefix}
-use Rattle.command_words.specs.WordList.{IsWordList, Request, Serve, Run, Build, Check, Graph, Demo, Audit, Budget}
 use Rattle.command_words.specs.declared.options.Placement.{Placement}
-use Rattle.command_outcomes.specs.declared.faults.Fault.{Fault}
-use Rattle.command_outcomes.specs.declared.faults.Fault.TheVariants.{Read, Write, Memory}
 use Rattle.command_outcomes.specs.declared.stops.Cause.TheVariants as cause
-use Rattle.command_outcomes.specs.FaultLines.{fault_status}
-use Rattle.command_outcomes.specs.Outcome.{Outcome}
 use Rattle.schedule_log.specs.Writing.{TakesPrefix}
-use Rattle.command_outcomes.specs.Done.{Outside, WhereTold, AreStored, AreCutShort, IsCutShort, NoneCounted, IsDone, IsTold, status_of, line_of}
-use Rattle.capriccio_call.specs.Due.{IsDue}
-use Rattle.thread_core.specs.Worlds.{Held}
 use Rattle.capriccio_call.specs.AfterFault.{HasCounted, IsLineOf, TookLine, TookPart, TookDue, HoldsPart, IsPairInPart, BuildsInPart, HoldsAfterFault}
-use Rattle.capriccio_call.specs.Headline.{IsAnswer}
 use Rattle.capriccio_call.proofs.OutcomeKinds.{IsFree, IsPlain, IsPair, IsPairFor, IsKind, free-apart, refusal-plain, kind-of, run-for-free}
 use Rattle.capriccio_call.proofs.Told.{stored-none}
 

@@ -1,22 +1,7 @@
 -- The run was good whose world is handed out.
-use Rattle.std.proofs.Common.{◌≡◌, ◌⊎◌, ℕ, List, [], Option, IfSome, Some, None, Ok, Err, sym, ap, subst, ◌∙◌, ⊎_elim, inl, inr}
-use Rattle.std.specs.Io.KnownBytes.{Appends}
-use Rattle.command_words.specs.WordList.{IsWordList, Request, Serve, Run, Build, Check, Graph, Demo, Audit, Budget}
-use Rattle.lawful_log.specs.Setup.{Setup}
-use Rattle.thread_core.specs.Worlds.{Held}
-use Rattle.command_outcomes.specs.Outcome.{Outcome, Ran}
-use Rattle.command_files.specs.Loads.{IsSourceText}
-use Rattle.pair_commands.specs.Runs.{IsRun, IsRunOfSome, RunsOn, run_outcome}
-use Rattle.capriccio_commands.specs.Demos.{ShowsRun, shown_outcome}
-use Rattle.capriccio_call.specs.Due.{IsDue}
-use Rattle.workload.specs.Traces.{trace_text}
-use Rattle.workload.specs.Programs.{program_text}
-use Rattle.schedule_log.specs.EntryText.{log_text}
-use Rattle.command_outcomes.specs.Done.{Outside, IsTold}
-use Rattle.capriccio_commands.specs.Ends.{IsLast}
+use Rattle.capriccio_call.proofs.Common.{◌≡◌, ◌⊎◌, ℕ, List, [], Option, IfSome, Some, None, Ok, Err, sym, ap, subst, ◌∙◌, ⊎_elim, inl, inr, Appends, IsWordList, Request, Serve, Run, Build, Check, Graph, Demo, Audit, Budget, Setup, Held, Outcome, Ran, IsSourceText, IsRun, IsRunOfSome, RunsOn, run_outcome, ShowsRun, shown_outcome, IsDue, trace_text, program_text, log_text, Outside, IsTold, IsLast, IsAnswer, IsLogFor, RanWell, WasGood}
 use Rattle.capriccio_call.proofs.OutcomeKinds.{IsRunFor, IsPairFor, kind-of}
 use Rattle.capriccio_call.proofs.TheText.{IsRunOfSource, run-of-source, log-of-text}
-use Rattle.capriccio_call.specs.Headline.{IsAnswer, IsLogFor, RanWell, WasGood}
 
 -- the same for what the words ask for; the run is that of the source that they ask for
 abbrev pub IsAskedFor : (words : List (List ℕ)) → Outside → Outcome → Type 0

@@ -1,11 +1,5 @@
 -- A command that runs nothing ends as one that might run something and hands out no world.
-use Rattle.std.proofs.Common.{Option, None, Result, Ok, Err, ℕ, sym, subst}
-use Rattle.command_outcomes.specs.declared.stops.Stop.{Stop}
-use Rattle.command_outcomes.specs.declared.stops.Stop.TheVariants.{Refused, Failed}
-use Rattle.command_outcomes.specs.Done.{Outside}
-use Rattle.command_outcomes.specs.Outcome.{Outcome, Ran}
-use Rattle.command_outcomes.specs.Steps.{EndsAs, IsStatus}
-use Rattle.capriccio_commands.specs.Ends.{IsEnd, IsLast}
+use Rattle.capriccio_call.proofs.Common.{Option, None, Result, Ok, Err, ℕ, sym, subst, Stop, Refused, Failed, Outside, Outcome, Ran, EndsAs, IsStatus, IsEnd, IsLast}
 use Rattle.capriccio_call.specs.Handing.{without_world}
 
 pub ends-without : (due : Outcome → Type 0) (before after : Outside) (r : Result ℕ Stop) → EndsAs IsStatus due before after r → EndsAs IsEnd due before after (without_world r)

@@ -1,3 +1,4 @@
+mod Common
 pub mod OneBudget
 pub mod Handed
 pub mod Told

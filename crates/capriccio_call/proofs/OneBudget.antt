@@ -1,9 +1,5 @@
 -- A program with its certificate has one least budget.
-use Rattle.std.proofs.Common.{◌≡◌, ℕ, zero, suc, ◌≤◌, List, [], ◌∷◌, length, refl, sym, ◌∙◌, arith}
-use Rattle.std.specs.Prelude.{slice_index}
-use Rattle.flat_code.specs.Codes.{FlatCode}
-use Rattle.stack_certificate.specs.declared.certificates.Certificate.{Certificate}
-use Rattle.call_cycles.specs.Cycles.{IsLeast}
+use Rattle.capriccio_call.proofs.Common.{◌≡◌, ℕ, zero, suc, ◌≤◌, List, [], ◌∷◌, length, refl, sym, ◌∙◌, arith, slice_index, FlatCode, Certificate, IsLeast}
 use Rattle.chunk_budget.specs.declared.budgets.Budget.{Budget}
 use Rattle.chunk_budget.specs.LeastBudgets.{IsLeastBudget}
 

@@ -1,63 +1,25 @@
 -- One outcome is due at most: two that are due for the same words, files and trace are one.
-use Rattle.std.proofs.Common.{◌≡◌, ◌⊎◌, ℕ, ◌+◌, ◌<◌, ◌≤◌, ◌*◌, List, [], ◌∷◌, ◌++◌, Option, Some, None, Result, Ok, Err, refl, sym, ap, subst, ◌∙◌, arith, inl, inr, ⊎_elim}
 use Rattle.std.proofs.lemmas.Bool.{cases_order}
 use Rattle.cap_io.specs.Faults.{IsRisen, Rose, Stayed}
-use Rattle.cap_io.specs.Files.{Files}
-use Rattle.c_tree.specs.Trees.{ProgramTree}
-use Rattle.c_tree.specs.WellScoped.{IsWellScoped}
+use Rattle.capriccio_call.proofs.Common.{◌≡◌, ◌⊎◌, ℕ, ◌+◌, ◌<◌, ◌≤◌, ◌*◌, List, [], ◌∷◌, ◌++◌, Option, Some, None, Result, Ok, Err, refl, sym, ap, subst, ◌∙◌, arith, inl, inr, ⊎_elim, Files, ProgramTree, IsWellScoped, lowered, FlatCode, Image, Certificate, spelling_unique, first_refused_unique, spelling_unrefused, frame_refusal, IsLaidOut, IsTooLarge, IsWordList, Request, Serve, Run, Build, Check, Graph, Demo, Audit, Budget, one_request, Document, Fault, Read, Write, Memory, Verdict, Accepted, Rejected, Outcome, refused, printed, refusal, frame_words, cycle_words, OfFile, AfterLoad, AfterThree, AfterSource, AfterImage, AfterCertificate, IsImageText, IsCertificateText, Graphs, GraphsProgram, HasFittingFrames, IsFrameRefused, names_of, Checks, ChecksBytes, ChecksPair, IsVerdict, verdict_outcome, IsOnCycle, Budgets, BudgetsBytes, BudgetsPair, IsCycleRefused, IsBudgetPrinted, budget_text, Options, Builds, BuildsProgram, HasFittingCode, IsUnbuilt, built, RunsOn, Serves, ServesProgram, Runs, RunsBytes, RunsPair, pool_bytes, setup_of, IsRunPolicy, sizes_of, Demos, ShowsProgram, ShowsRun, demo_sizes, demo_policy, Audits, AuditsBytes, AuditsProgram, judged_outcome, reading_of, Does, IsDue, program_text, trace_text, Outside, IsDone, IsTraceTold, IsExact, one_program, one_source_error, never, plans-are-one, words-are-one, texts-are-one, IsVerdictOf, serve-policy, serve-pool, run-policy, demo-run-policy, demo-pool}
 use Rattle.c_scope.specs.declared.source_errors.SourceError.{SourceError}
-use Rattle.c_lower.specs.ProgramCode.{lowered}
-use Rattle.flat_code.specs.Codes.{FlatCode}
 use Rattle.certificate_rules.specs.Validity.{IsFirstFailure}
-use Rattle.stack_image.specs.declared.images.Image.{Image}
 use Rattle.stack_image.specs.declared.refusals.ImageError.{ImageError}
 use Rattle.stack_image.specs.Refusal.{refusal_of}
 use Rattle.stack_image.specs.Reading.{image_of}
 use Rattle.stack_image.proofs.ReadAgain.{spelling_not_refused, image_of-spelling}
-use Rattle.stack_certificate.specs.declared.certificates.Certificate.{Certificate}
 use Rattle.certificate_text.specs.FirstRefused.{IsFirstRefused}
-use Rattle.certificate_text.proofs.Spellings.{spelling_unique, first_refused_unique, spelling_unrefused}
-use Rattle.stack_build.specs.Builds.{frame_refusal, IsLaidOut, IsTooLarge}
 use Rattle.stack_build.specs.declared.refusals.BuildError.TheVariants.{FrameTooLarge, CodeTooLarge}
-use Rattle.command_words.specs.WordList.{IsWordList, Request, Serve, Run, Build, Check, Graph, Demo, Audit, Budget}
-use Rattle.command_words.proofs.OneRequest.{one_request}
 use Rattle.analysis_lines.specs.Lines.{name_at}
-use Rattle.command_outcomes.specs.declared.documents.Document.{Document}
 use Rattle.command_outcomes.specs.declared.documents.Document.TheVariants as document
 use Rattle.command_outcomes.specs.declared.stops.Cause.TheVariants as cause
-use Rattle.command_outcomes.specs.declared.faults.Fault.{Fault}
-use Rattle.command_outcomes.specs.declared.faults.Fault.TheVariants.{Read, Write, Memory}
-use Rattle.pair_commands.specs.declared.check_command.Verdict.{Verdict}
-use Rattle.pair_commands.specs.declared.check_command.Verdict.TheVariants.{Accepted, Rejected}
-use Rattle.command_outcomes.specs.Outcome.{Outcome, refused, printed}
-use Rattle.command_outcomes.specs.CauseLines.{refusal, frame_words, cycle_words}
-use Rattle.command_files.specs.Loads.{OfFile, AfterLoad, AfterThree, AfterSource, AfterImage, AfterCertificate, IsImageText, IsCertificateText}
-use Rattle.pair_commands.specs.Graphs.{Graphs, GraphsProgram, HasFittingFrames, IsFrameRefused, names_of}
-use Rattle.pair_commands.specs.Checks.{Checks, ChecksBytes, ChecksPair, IsVerdict, verdict_outcome}
-use Rattle.call_cycles.specs.Cycles.{IsOnCycle}
 use Rattle.chunk_budget.specs.declared.budgets.Budget as budgets
-use Rattle.pair_commands.specs.Budgets.{Budgets, BudgetsBytes, BudgetsPair, IsCycleRefused, IsBudgetPrinted, budget_text}
-use Rattle.codegen_link.specs.declared.options.Options.{Options}
 use Rattle.command_words.specs.declared.options.Audit.{Audit as AuditOptions}
 use Rattle.command_words.specs.declared.options.Policy.{Policy as RunOptions}
-use Rattle.pair_commands.specs.BuildsFiles.{Builds, BuildsProgram, HasFittingCode, IsUnbuilt, built}
-use Rattle.pair_commands.specs.Runs.{RunsOn, Serves, ServesProgram, Runs, RunsBytes, RunsPair, pool_bytes, setup_of}
-use Rattle.command_options.specs.Options.{IsRunPolicy, sizes_of}
-use Rattle.capriccio_commands.specs.Demos.{Demos, ShowsProgram, ShowsRun, demo_sizes, demo_policy}
-use Rattle.command_audit.specs.Audits.{Audits, AuditsBytes, AuditsProgram, judged_outcome, reading_of}
-use Rattle.capriccio_call.specs.Due.{Does, IsDue}
-use Rattle.workload.specs.Programs.{program_text}
-use Rattle.workload.specs.Traces.{trace_text}
-use Rattle.command_outcomes.specs.Done.{Outside, IsDone, IsTraceTold, IsExact}
-use Rattle.c_hoist.proofs.EveryNested.{one_program, one_source_error, never}
-use Rattle.pair_commands.proofs.OneBuild.{plans-are-one, words-are-one, texts-are-one}
 use Rattle.capriccio_call.proofs.OneBudget.{one-budget, one-least}
-use Rattle.lawful_reading.specs.Verdicts.{IsVerdictOf}
 use Rattle.lawful_reading.proofs.OneVerdict.{one_verdict}
 use Rattle.capriccio_call.proofs.OnePair.{pairs-are-one}
 use Rattle.capriccio_call.proofs.OneRun.{IsInRange, one-outcome, one-shown}
-use Rattle.command_options.proofs.Options.{serve-policy, serve-pool, run-policy}
-use Rattle.capriccio_commands.proofs.Workloads.{demo-run-policy, demo-pool}
 
 alike : (a b o : Outcome) → a ≡ o → b ≡ o → a ≡ b
 alike a b o p q = p ∙ sym q
@@ -381,10 +343,10 @@ due-case words f before a b told reads h k =
 
 -- Exactly there.
 
-not-risen : {P : Type 0} (old new : ℕ) → IsRisen old new → Stayed old new → P
+pub not-risen : {P : Type 0} (old new : ℕ) → IsRisen old new → Stayed old new → P
 not-risen old new risen stayed = let less = risen.rose stayed.1 in let same = stayed.0 in absurd (omega arith)
 
-not-rose : {P : Type 0} (old new : ℕ) → Rose old new → Stayed old new → P
+pub not-rose : {P : Type 0} (old new : ℕ) → Rose old new → Stayed old new → P
 not-rose old new rose stayed = let less = rose stayed.1 in let same = stayed.0 in absurd (omega arith)
 
 pub exact : (words : List (List ℕ)) (before after : Outside) (given : Result Outcome Fault) → IsDone (IsDue words before) before after given → IsExact (IsDue words) before after given

@@ -1,18 +1,12 @@
 -- A placement has one pair.
-use Rattle.std.proofs.Common.{◌≡◌, ℕ, suc, ◌<◌, List, [], ◌∷◌, length, map, get_or, sym, subst, ◌∙◌, arith}
 use Rattle.std.specs.List.{AllByRecursion}
 use Rattle.std.specs.List.Sorted.{IsStrictlyIncreasing}
-use Rattle.std.proofs.lemmas.List.{length-map}
+use Rattle.capriccio_call.proofs.Common.{◌≡◌, ℕ, suc, ◌<◌, List, [], ◌∷◌, length, map, get_or, sym, subst, ◌∙◌, arith, length-map, FlatCode, Options, Certificate, Image, IsLaidOut}
 use Rattle.std.proofs.lemmas.List.Kept.{AllPairs-from_increasing}
-use Rattle.flat_code.specs.Codes.{FlatCode}
 use Rattle.checkpoint_place.specs.declared.plans.Plan.{Plan}
-use Rattle.codegen_link.specs.declared.options.Options.{Options}
 use Rattle.codegen_link.specs.Layout.{IsCertificateOf, IsImageOf}
 use Rattle.codegen_link.specs.Links.{site_facts}
-use Rattle.stack_certificate.specs.declared.certificates.Certificate.{Certificate}
 use Rattle.stack_certificate.specs.declared.sites.SiteFact.{SiteFact}
-use Rattle.stack_image.specs.declared.images.Image.{Image}
-use Rattle.stack_build.specs.Builds.{IsLaidOut}
 use Rattle.one_plan.proofs.RisingLists.{Rises, orders-are-one}
 
 later-all : (n : ℕ) (facts : List SiteFact) → ((k : ℕ) → k < length facts → n < get_or (map (λ (fact : SiteFact). fact.number) facts) k 0) → AllByRecursion (λ (fact : SiteFact). n < fact.number) facts

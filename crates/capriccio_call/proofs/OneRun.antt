@@ -1,21 +1,12 @@
 -- A run of an accepted pair does one thing.
-use Rattle.std.proofs.Common.{◌≡◌, ℕ, ◌+◌, ◌*◌, ◌/◌, ◌%◌, ◌≤◌, List, Some, refl, sym, ◌∙◌, arith}
-use Rattle.c_lower.specs.ProgramCode.{lowered}
+use Rattle.capriccio_call.proofs.Common.{◌≡◌, ℕ, ◌+◌, ◌*◌, ◌/◌, ◌%◌, ◌≤◌, List, Some, refl, sym, ◌∙◌, lowered, Setup, start_areas, AreWellFormed, Outcome, ShowsRun, shown_outcome, IsAccepted, RunsOn, run_outcome, chunk_fours}
 use Rattle.chunk_pool.specs.Pool.{IsPool}
 use Rattle.chunk_pool.proofs.PoolStart.{IsPool-start_bytes}
 use Rattle.lawful_log.specs.Good.{checked_of}
-use Rattle.lawful_log.specs.Setup.{Setup, start_areas}
-use Rattle.machine_world.specs.WellFormed.{AreWellFormed}
 use Rattle.log_laws.specs.One.{HasOneLog}
 use Rattle.log_laws.proofs.Starting.{one_log}
 use Rattle.segment_run.proofs.Forming.{areas_formed}
-use Rattle.command_outcomes.specs.Outcome.{Outcome}
-use Rattle.capriccio_commands.specs.Demos.{ShowsRun, shown_outcome}
-use Rattle.pair_commands.specs.Runs.{IsAccepted, RunsOn, run_outcome}
 use Rattle.chunk_pool.proofs.ShapeLaws.{first_bytes-start}
-
-fours : (bytes : ℕ) → bytes % 16 ≡ 0 → 4 * (bytes / 4) ≡ bytes
-fours bytes h = omega arith
 
 -- the policy is in its ranges, and the pool in its limit
 pub record IsInRange (g : Setup) : Type 0 where
@@ -33,7 +24,7 @@ pub pooled-areas : (g : Setup) → IsAccepted g → IsPool (start_areas g).pool 
 pooled-areas g ok pool =
     let sizes = ((ok.valid.holds 1 0 1).v1 refl).chunk refl in
     areas_formed (lowered g.program) g.image g.certificate (start_areas g) ok.valid pool ok.globals
-    (first_bytes-start g.policy.chunks (g.certificate.chunk / 4) g.policy.extra (g.policy.extra_bytes / 4) ∙ fours g.certificate.chunk sizes.0) refl refl
+    (first_bytes-start g.policy.chunks (g.certificate.chunk / 4) g.policy.extra (g.policy.extra_bytes / 4) ∙ chunk_fours g.certificate.chunk sizes.0) refl refl
 
 pub areas-formed : (g : Setup) → IsAccepted g → IsInRange g → AreWellFormed (checked_of g) (start_areas g)
 areas-formed g ok range =

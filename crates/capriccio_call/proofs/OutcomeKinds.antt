@@ -1,46 +1,16 @@
 -- Each outcome that can be due is plain, with no file and no run, or is the run that its request asks for, or a pair that is built. None has the
 -- status of a fault.
-use Rattle.std.proofs.Common.{◌≡◌, ◌⊎◌, ◌<◌, ◌≤◌, ℕ, List, [], ◌∷◌, false, Option, Some, None, refl, sym, ap, subst, ⊎_elim, inl, inr, arith}
-use Rattle.cap_io.specs.Files.{Files}
+use Rattle.capriccio_call.proofs.Common.{◌≡◌, ◌⊎◌, ◌<◌, ◌≤◌, ℕ, List, [], ◌∷◌, false, Option, Some, None, refl, sym, ap, subst, ⊎_elim, inl, inr, arith, Files, ProgramTree, Options, Request, Serve, Run, Build, Check, Graph, Demo, Audit, Budget, Setup, StopLine, Certificate, Image, Document, Fault, Read, Write, Memory, Cause, cause_status, refusal, fault_status, Outcome, IsSourceText, OfFile, AfterLoad, AfterThree, AfterSource, AfterImage, AfterCertificate, Outside, Verdict, Accepted, Rejected, AuditsBytes, AuditsProgram, judged_outcome, judgement_status, GraphsProgram, BudgetsBytes, BudgetsPair, ChecksBytes, ChecksPair, verdict_status, verdict_outcome, BuildsProgram, IsUnbuilt, RunsOn, ServesProgram, RunsBytes, RunsPair, stop_status, setup_of, pool_bytes, ShowsRun, demo_policy, Does, sizes_of, trace_text, program_text}
 use Rattle.cap_word.specs.declared.stops.Stop.TheVariants as cut
-use Rattle.c_tree.specs.Trees.{ProgramTree}
-use Rattle.codegen_link.specs.declared.options.Options.{Options}
-use Rattle.command_words.specs.WordList.{Request, Serve, Run, Build, Check, Graph, Demo, Audit, Budget}
 use Rattle.command_words.specs.declared.options.Audit.{Audit as AuditOptions}
 use Rattle.command_words.specs.declared.options.Policy.{Policy as RunOptions}
-use Rattle.lawful_log.specs.Setup.{Setup}
-use Rattle.schedule_log.specs.declared.entries.StopLine.{StopLine}
 use Rattle.schedule_log.specs.declared.entries.StopLine.TheVariants as stop
-use Rattle.stack_certificate.specs.declared.certificates.Certificate.{Certificate}
-use Rattle.stack_image.specs.declared.images.Image.{Image}
 use Rattle.stack_image.specs.Spelling as image
 use Rattle.certificate_text.specs.Text as certificate
-use Rattle.command_outcomes.specs.declared.documents.Document.{Document}
 use Rattle.command_outcomes.specs.declared.documents.Document.TheVariants as document
-use Rattle.command_outcomes.specs.declared.faults.Fault.{Fault}
-use Rattle.command_outcomes.specs.declared.faults.Fault.TheVariants.{Read, Write, Memory}
-use Rattle.command_outcomes.specs.declared.stops.Cause.{Cause}
 use Rattle.command_outcomes.specs.declared.stops.Cause.TheVariants as cause
-use Rattle.command_outcomes.specs.CauseLines.{cause_status, refusal}
-use Rattle.command_outcomes.specs.FaultLines.{fault_status}
-use Rattle.command_outcomes.specs.Outcome.{Outcome}
-use Rattle.command_files.specs.Loads.{IsSourceText, OfFile, AfterLoad, AfterThree, AfterSource, AfterImage, AfterCertificate}
-use Rattle.command_outcomes.specs.Done.{Outside}
 use Rattle.lawful_reading.specs.declared.judgement.Verdict as said
 use Rattle.lawful_reading.specs.declared.judgement.Verdict.TheVariants as judgement
-use Rattle.pair_commands.specs.declared.check_command.Verdict.{Verdict}
-use Rattle.pair_commands.specs.declared.check_command.Verdict.TheVariants.{Accepted, Rejected}
-use Rattle.command_audit.specs.Audits.{AuditsBytes, AuditsProgram, judged_outcome, judgement_status}
-use Rattle.pair_commands.specs.Graphs.{GraphsProgram}
-use Rattle.pair_commands.specs.Budgets.{BudgetsBytes, BudgetsPair}
-use Rattle.pair_commands.specs.Checks.{ChecksBytes, ChecksPair, verdict_status, verdict_outcome}
-use Rattle.pair_commands.specs.BuildsFiles.{BuildsProgram, IsUnbuilt}
-use Rattle.pair_commands.specs.Runs.{RunsOn, ServesProgram, RunsBytes, RunsPair, stop_status, setup_of, pool_bytes}
-use Rattle.capriccio_commands.specs.Demos.{ShowsRun, demo_policy}
-use Rattle.capriccio_call.specs.Due.{Does}
-use Rattle.command_options.specs.Options.{sizes_of}
-use Rattle.workload.specs.Traces.{trace_text}
-use Rattle.workload.specs.Programs.{program_text}
 
 -- a status that no fault has
 abbrev pub IsFree : ℕ → Type 0

@@ -1,35 +1,9 @@
 -- The run that a request asks for is one of the source that it names, and its log is that source's.
-use Rattle.std.proofs.Common.{◌≡◌, ◌⊎◌, ℕ, ◌≤◌, List, length, Option, IfSome, Some, None, refl, sym, ap, subst, ◌∙◌, ⊎_elim}
-use Rattle.c_tree.specs.Trees.{ProgramTree}
-use Rattle.cap_io.specs.Files.{Files}
-use Rattle.codegen_link.specs.declared.options.Options.{Options}
-use Rattle.command_words.specs.WordList.{IsWordList, Request, Serve, Run, Build, Check, Graph, Demo, Audit, Budget}
+use Rattle.capriccio_call.proofs.Common.{◌≡◌, ◌⊎◌, ℕ, ◌≤◌, List, length, Option, IfSome, Some, None, refl, sym, ap, subst, ◌∙◌, ⊎_elim, ProgramTree, Files, Options, IsWordList, Request, Serve, Run, Build, Check, Graph, Demo, Audit, Budget, IsLawfulLog, Setup, World, Entry, StopLine, Certificate, Image, Document, Cause, most_bytes, refusal, Outside, Outcome, Ran, IsLoaded, IsSourceText, OfFile, AfterLoad, AfterSource, AfterImage, AfterCertificate, IsRunPolicy, sizes_of, IsAccepted, RunsOn, ServesProgram, RunsBytes, RunsPair, policy_of, pool_bytes, setup_of, demo_policy, Does, program_text, demo-run-policy, demo-pool, serve-policy, serve-pool, run-policy, IsPolicyFor}
 use Rattle.command_words.specs.declared.options.Policy.{Policy as RunOptions}
-use Rattle.lawful_log.specs.Lawful.{IsLawfulLog}
-use Rattle.lawful_log.specs.Setup.{Setup}
-use Rattle.machine_world.specs.Threads.{World}
-use Rattle.schedule_log.specs.declared.entries.Entry.{Entry}
-use Rattle.schedule_log.specs.declared.entries.StopLine.{StopLine}
-use Rattle.stack_certificate.specs.declared.certificates.Certificate.{Certificate}
-use Rattle.stack_image.specs.declared.images.Image.{Image}
-use Rattle.command_outcomes.specs.declared.documents.Document.{Document}
 use Rattle.command_outcomes.specs.declared.documents.Document.TheVariants as document
-use Rattle.command_outcomes.specs.declared.stops.Cause.{Cause}
 use Rattle.command_outcomes.specs.declared.stops.Cause.TheVariants as cause
-use Rattle.command_outcomes.specs.CauseLines.{most_bytes, refusal}
-use Rattle.command_outcomes.specs.Done.{Outside}
-use Rattle.command_outcomes.specs.Outcome.{Outcome, Ran}
-use Rattle.command_files.specs.Loaded.{IsLoaded}
-use Rattle.command_files.specs.Loads.{IsSourceText, OfFile, AfterLoad, AfterSource, AfterImage, AfterCertificate}
-use Rattle.command_options.specs.Options.{IsRunPolicy, sizes_of}
-use Rattle.pair_commands.specs.Runs.{IsAccepted, RunsOn, ServesProgram, RunsBytes, RunsPair, policy_of, pool_bytes, setup_of}
-use Rattle.capriccio_commands.specs.Demos.{demo_policy}
-use Rattle.capriccio_call.specs.Due.{Does}
 use Rattle.audited_logs.proofs.OfText.{log_of_text}
-use Rattle.workload.specs.Programs.{program_text}
-use Rattle.capriccio_commands.proofs.Workloads.{demo-run-policy, demo-pool}
-use Rattle.command_options.proofs.Options.{serve-policy, serve-pool, run-policy}
-use Rattle.capriccio_call.specs.Headline.{IsPolicyFor}
 use Rattle.capriccio_call.specs.TheText.{IsSourceOf, IsLogOfText}
 use Rattle.capriccio_call.proofs.OneCase.{IsWithinPool, in-range}
 use Rattle.capriccio_call.proofs.OneRun.{IsInRange, areas-formed}

@@ -1,37 +1,15 @@
 -- What is told of how a command ended.
-use Rattle.std.proofs.Common.{◌≡◌, ℕ, List, [], Option, Some, None, Result, Ok, Err, refl, sym, ◌∙◌, subst, inl, ⊎_elim}
-use Rattle.std.proofs.lemmas.List.{append-nil}
-use Rattle.std.specs.Io.KnownBytes.{Keeps, Appends}
-use Rattle.cap_io.specs.Files.{Files, KeepsFiles}
-use Rattle.command_outcomes.specs.declared.stops.Cause.{Cause}
-use Rattle.command_outcomes.specs.declared.stops.Stop.{Stop}
-use Rattle.command_outcomes.specs.declared.stops.Stop.TheVariants.{Refused, Failed}
-use Rattle.command_outcomes.specs.declared.faults.Fault.{Fault}
-use Rattle.command_outcomes.specs.declared.faults.Fault.TheVariants.{Memory}
-use Rattle.capriccio_commands.specs.declared.ended.Ended.{Ended}
-use Rattle.command_outcomes.specs.Outcome.{Outcome}
-use Rattle.command_outcomes.specs.CauseLines.{refusal}
-use Rattle.thread_core.specs.Worlds.{Held}
-use Rattle.command_outcomes.specs.Done.{Outside, WhereTold, AreStored, IsDone, IsExact, IsTold}
-use Rattle.capriccio_commands.specs.Ends.{IsEnd, IsLast}
-use Rattle.command_outcomes.specs.Steps.{EndsAs, IsFinished}
-use Rattle.command_outcomes.proofs.Ending.{append-nothing}
-use Rattle.capriccio_call.specs.Headline.{IsAnswerOf}
+use Rattle.capriccio_call.proofs.Common.{◌≡◌, ℕ, List, [], Option, Some, None, Result, Ok, Err, refl, sym, ◌∙◌, subst, inl, ⊎_elim, Keeps, Files, KeepsFiles, Cause, Stop, Refused, Failed, Fault, Memory, Ended, Outcome, refusal, Held, Outside, WhereTold, AreStored, IsDone, IsExact, IsTold, IsEnd, IsLast, EndsAs, IsFinished, append-nothing, IsAnswerOf, keeps_by_none}
 
 pub stored-none : (old new : Option Files) → WhereTold (AreStored []) old new → KeepsFiles old new
 stored-none None new h = tt
 stored-none (Some old) None h = absurd h
 stored-none (Some old) (Some new) h = h
 
-appended-none : (old new : Option (List ℕ)) → Appends old new [] → Keeps old new
-appended-none None new h = tt
-appended-none (Some old) None h = absurd h
-appended-none (Some old) (Some new) h = h ∙ append-nil old
-
 refused-without : (due : Outcome → Type 0) (before after : Outside) (cause : Cause) → IsDone due before after (Ok (refusal cause)) → IsDone due before after (Err Memory)
 refused-without due before after cause h =
     let whole = h.1 in
-    inl (inl (record { files = stored-none before.files after.files whole.files; trace = whole.trace; out = appended-none before.taken after.taken whole.out }), h.2)
+    inl (inl (record { files = stored-none before.files after.files whole.files; trace = whole.trace; out = keeps_by_none before.taken after.taken whole.out }), h.2)
 
 told-again : (status : ℕ) (o : Outcome) (old new : Option (List ℕ)) (faults faults' answer : ℕ) → o.status ≡ status → o.line ≡ [] → IsTold status [] old new faults faults' answer → IsTold o.status o.line old new faults faults' answer
 told-again status o old new faults faults' answer same none h =

@@ -1,23 +1,5 @@
 -- What is due of told files is due of what they are read as; and an answer whose status no fault has is what is due.
-use Rattle.std.proofs.Common.{◌≡◌, ℕ, List, Option, Some, Ok, Err, sym, subst, ◌∙◌, arith, ⊎_elim}
-use Rattle.c_tree.specs.Trees.{ProgramTree}
-use Rattle.cap_io.specs.Files.{Files}
-use Rattle.certificate_text.proofs.Spellings.{spelling_unique}
-use Rattle.command_words.specs.WordList.{IsWordList, Request}
-use Rattle.command_words.proofs.OneRequest.{one_request}
-use Rattle.stack_certificate.specs.declared.certificates.Certificate.{Certificate}
-use Rattle.stack_image.specs.declared.images.Image.{Image}
-use Rattle.thread_core.specs.Worlds.{Held}
-use Rattle.c_hoist.proofs.EveryNested.{one_program, never}
-use Rattle.command_outcomes.specs.declared.documents.Document.{Document}
-use Rattle.command_outcomes.specs.declared.faults.Fault.TheVariants.{Memory}
-use Rattle.command_outcomes.specs.FaultLines.{fault_status}
-use Rattle.command_outcomes.specs.Outcome.{Outcome}
-use Rattle.command_outcomes.specs.Done.{Outside, line_of}
-use Rattle.command_files.specs.Loads.{OfFile, AfterLoad, AfterSource, AfterImage, AfterCertificate, IsSourceText, IsImageText, IsCertificateText}
-use Rattle.command_files.specs.Loaded.{IsLoaded}
-use Rattle.capriccio_call.specs.Due.{Does, IsDue}
-use Rattle.capriccio_call.specs.Headline.{IsAnswer}
+use Rattle.capriccio_call.proofs.Common.{◌≡◌, ℕ, List, Option, Some, Ok, Err, sym, subst, ◌∙◌, arith, ⊎_elim, ProgramTree, Files, spelling_unique, IsWordList, Request, one_request, Certificate, Image, Held, one_program, never, Document, Memory, fault_status, Outcome, Outside, line_of, OfFile, AfterLoad, AfterSource, AfterImage, AfterCertificate, IsSourceText, IsImageText, IsCertificateText, IsLoaded, Does, IsDue, IsAnswer}
 use Rattle.capriccio_call.proofs.Faults.{answer-of}
 use Rattle.capriccio_call.proofs.OneCase.{certificate-never, image-is, image-never}
 use Rattle.capriccio_call.proofs.OutcomeKinds.{IsFree, free-apart}

@@ -1,22 +1,11 @@
 -- What is counted over the lines of a log is what is counted over its entries.
-use Rattle.std.proofs.Common.{◌≡◌, ℕ, ◌+◌, ◌*◌, ◌<◌, List, [], ◌∷◌, ◌++◌, length, get_or, map, refl, ap, sym, ◌∙◌, arith}
 use Rattle.cap_text.specs.Pieces.{pieces}
-use Rattle.cap_text.specs.TextLines.{lines_of}
-use Rattle.cap_text.proofs.DecimalLaws.{decimal_unique, integer_unique}
+use Rattle.capriccio_commands.proofs.Common.{◌≡◌, ℕ, ◌+◌, ◌*◌, ◌<◌, List, [], ◌∷◌, ◌++◌, length, get_or, map, refl, ap, sym, ◌∙◌, arith, lines_of, decimal_unique, integer_unique, StopLine, Done, Idle, Trace, Cut, Entry, entry_word, entry_fields, entry_text, stop_fields, log_text, log_lines, Setup, World, Tally, counted, with_cost, no_tally, tally_from, tally_of, last_from}
 use Rattle.cap_word.specs.declared.stops.Stop.{Stop as Cause}
 use Rattle.cap_word.specs.declared.stops.Stop.TheVariants.{Trap, NoChunk, Fuel, Threads}
-use Rattle.schedule_log.specs.declared.entries.StopLine.{StopLine}
-use Rattle.schedule_log.specs.declared.entries.StopLine.TheVariants.{Done, Idle, Trace, Cut}
-use Rattle.schedule_log.specs.declared.entries.Entry.{Entry}
 use Rattle.schedule_log.specs.declared.entries.Entry.TheVariants.{Out, Block, End, Stop, Event, Dropped, Run, Edge}
-use Rattle.schedule_log.specs.EntryText.{entry_word, entry_fields, entry_text, stop_fields, log_text}
 use Rattle.schedule_log.proofs.EntryPieces.{entry_pieces}
-use Rattle.schedule_log.proofs.LogLines.{log_lines}
 use Rattle.lawful_log.specs.Lawful.{IsLawfulLog}
-use Rattle.lawful_log.specs.Setup.{Setup}
-use Rattle.machine_world.specs.Threads.{World}
-use Rattle.capriccio_commands.specs.declared.summaries.Tally.{Tally}
-use Rattle.capriccio_commands.specs.Summary.{counted, with_cost, no_tally, tally_from, tally_of, last_from}
 
 -- the first letters of a word, which tell the words of one place apart
 abbrev sign : List ℕ → ℕ

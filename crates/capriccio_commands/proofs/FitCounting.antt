@@ -1,28 +1,10 @@
 -- Every line of a log whose entries fit their types is read back, and what is counted over it fits the types of a tally.
-use Rattle.std.proofs.Common.{◌≡◌, ℕ, suc, ◌+◌, ◌^◌, ◌<◌, ◌≤◌, ℤ, ◌+ℤ◌, List, [], ◌∷◌, ◌++◌, length, map, Option, Some, Result, Ok, Err, FitsSigned, unsigned_abs, ap, sym, ◌∙◌, subst, arith, length-append}
-use Rattle.std.specs.Prelude.{OnOk}
-use Rattle.std.specs.Int.{w32}
+use Rattle.capriccio_commands.proofs.Common.{◌≡◌, ℕ, suc, ◌+◌, ◌^◌, ◌<◌, ◌≤◌, ℤ, ◌+ℤ◌, List, [], ◌∷◌, ◌++◌, length, map, Option, Some, Result, Ok, Err, FitsSigned, unsigned_abs, ap, sym, ◌∙◌, subst, arith, length-append, OnOk, w32, ints, lines_of, Setup, entry_text, log_text, Entry, Done, Idle, Cut, log_lines, CameTo, IsRunEnd, IsFitText, RunEnd, Held, Ended, IsClosed, HasRoom, TakesFit, counted, no_tally, Tally}
 use Rattle.std.specs.List.{AllByRecursion}
-use Rattle.std.proofs.lemmas.Int.{ints}
-use Rattle.cap_text.specs.TextLines.{lines_of}
-use Rattle.lawful_log.specs.Setup.{Setup}
 use Rattle.schedule_log.specs.EntryRanges.{FitsEntry, IsLogLine}
-use Rattle.schedule_log.specs.EntryText.{entry_text, log_text}
-use Rattle.schedule_log.specs.declared.entries.Entry.{Entry}
 use Rattle.schedule_log.specs.declared.entries.Entry.TheVariants.{Run, Out, Block, End, Stop}
-use Rattle.schedule_log.specs.declared.entries.StopLine.TheVariants.{Done, Idle, Cut}
-use Rattle.schedule_log.proofs.LogLines.{log_lines}
-use Rattle.runner.specs.Answers.{CameTo, IsRunEnd}
-use Rattle.run_course.specs.Output.{IsFitText}
-use Rattle.runner.specs.declared.ends.RunEnd.{RunEnd}
 use Rattle.runner.specs.declared.ends.RunEnd.TheVariants as end
-use Rattle.thread_core.specs.Worlds.{Held}
-use Rattle.capriccio_commands.specs.declared.ended.Ended.{Ended}
 use Rattle.command_outcomes.specs.declared.stops.Stop.{Stop as LastStep}
-use Rattle.capriccio_commands.specs.Closings.{IsClosed}
-use Rattle.capriccio_commands.specs.FitLogs.{HasRoom, TakesFit}
-use Rattle.capriccio_commands.specs.Summary.{counted, no_tally}
-use Rattle.capriccio_commands.specs.declared.summaries.Tally.{Tally}
 
 -- ---- the log of a run
 

@@ -1,3 +1,4 @@
+mod Common
 pub mod Stopped
 pub mod Making
 pub mod Counting

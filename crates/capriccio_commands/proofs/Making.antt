@@ -1,29 +1,16 @@
 -- What is known of a world that was just made, and of the world of a run at its end.
-use Rattle.std.proofs.Common.{◌≡◌, ℕ, ◌+◌, ◌≤◌, Option, Some, None, refl, sym, ap, subst, ◌∙◌}
-use Rattle.c_lower.specs.ProgramCode.{lowered}
-use Rattle.accepted_pairs.specs.Accepting.{accepted_tree}
-use Rattle.accepted_pairs.specs.Acceptance.{Acceptance}
+use Rattle.capriccio_commands.proofs.Common.{◌≡◌, ℕ, ◌+◌, ◌≤◌, Option, Some, None, refl, sym, ap, subst, ◌∙◌, lowered, accepted_tree, Acceptance, Rule, checked_of, IsSound, World, with_thread, Held, IsAccepted, pool_bytes, rule_of, IsMade, setup_in, world_policy_of, IsNewMonitor, IsRunPolicy, IsReachable, IsWorldOf}
 use Rattle.certificate_rules.specs.Validity.{IsValid}
-use Rattle.choice_rules.specs.Policy.{Rule}
 use Rattle.chunk_pool.specs.Pool.{Taken, taken_for}
 use Rattle.command_words.specs.declared.options.Policy.{Policy as RunOptions}
-use Rattle.lawful_log.specs.Good.{checked_of}
 use Rattle.machine_world.specs.Areas.{Areas}
 use Rattle.machine_world.specs.Runs.{empty_world, started_on, start_world}
-use Rattle.machine_world.specs.Stretches.{IsSound}
-use Rattle.machine_world.specs.Threads.{World, with_thread}
 use Rattle.machine_world.specs.WellFormed.{AreWords}
 use Rattle.resource_monitor.specs.Monitor.{MonitorState}
 use Rattle.run_course.specs.Starts.{IsAtStartBy, KeepsRun}
 use Rattle.stack_certificate.specs.Certificates.{fact_at}
 use Rattle.thread_core.specs.Making.{IsPolicy, IsStart, start_areas}
-use Rattle.thread_core.specs.Worlds.{Held}
-use Rattle.command_outcomes.specs.Done.{}
-use Rattle.pair_commands.specs.Runs.{IsAccepted, pool_bytes, rule_of}
-use Rattle.capriccio_commands.specs.MadeWorlds.{IsMade, setup_in, world_policy_of}
-use Rattle.command_options.specs.Options.{IsNewMonitor, IsRunPolicy}
 use Rattle.chunk_pool.proofs.NeedLaws.{taken_for-count}
-use Rattle.capriccio_commands.specs.Ends.{IsReachable, IsWorldOf}
 
 started : (areas : Areas) (entry : ℕ) (found : Option Taken) (w : World) → ((taken : Taken) → found ≡ Some taken → taken.pool.count ≡ areas.pool.count) → started_on (empty_world areas) entry found ≡ Some w →
     (w.areas.globals ≡ areas.globals) × (w.areas.pool.count ≡ areas.pool.count)

@@ -1,39 +1,14 @@
 -- How `demo` ends: what its run did, and what is shown of it.
-use Rattle.std.proofs.Common.{◌≡◌, ℕ, ◌≤◌, Bool, false, List, [], ◌++◌, Option, Some, None, Result, Ok, Err, refl, sym, ap, subst, ◌∙◌, inl, inr, ⊎_elim, append_assoc, arith}
-use Rattle.std.specs.Prelude.{MatchResult, OnOk}
+use Rattle.capriccio_commands.proofs.Common.{◌≡◌, ℕ, ◌≤◌, Bool, false, List, [], ◌++◌, Option, Some, None, Result, Ok, Err, refl, sym, ap, subst, ◌∙◌, inl, inr, ⊎_elim, append_assoc, arith, MatchResult, OnOk, on_ok_weaker, KeepsFiles, ProgramTree, accepted_tree, Acceptance, Setup, entry_text, log_text, Entry, Held, program_text, trace_text, Read, Write, Memory, Stop, Refused, Failed, Ended, Outcome, Ran, NoMore, Outside, WhereTold, AreStored, IsTraceLeft, IsSourceText, IsStop, IsPrinted, EndsAs, RunEnds, kept-are-stored, refused-at-once, memory-at-once, RunsOn, ServesProgram, run_outcome, setup_of, census_of, tally_of, last_from, summary_text, Demos, ShowsRun, IsAcceptedWorkload, IsShown, ShowsDue, ShowsEnd, shown_outcome, demo_sizes, demo_policy, IsEnd, IsLast}
 use Rattle.std.specs.Io.KnownBytes.{Keeps, Appends}
-use Rattle.std.proofs.lemmas.Result.{on_ok_weaker}
 use Rattle.cap_io.specs.Faults.{IsRisen, Rose}
-use Rattle.cap_io.specs.Files.{KeepsFiles}
-use Rattle.c_tree.specs.Trees.{ProgramTree}
-use Rattle.accepted_pairs.specs.Accepting.{accepted_tree}
-use Rattle.accepted_pairs.specs.Acceptance.{Acceptance}
-use Rattle.lawful_log.specs.Setup.{Setup}
-use Rattle.schedule_log.specs.EntryText.{entry_text, log_text}
-use Rattle.schedule_log.specs.declared.entries.Entry.{Entry}
 use Rattle.schedule_log.specs.declared.entries.Entry.TheVariants.{Stop as StopEntry}
-use Rattle.thread_core.specs.Worlds.{Held}
-use Rattle.workload.specs.Programs.{program_text}
-use Rattle.workload.specs.Traces.{trace_text}
-use Rattle.command_outcomes.specs.declared.faults.Fault.TheVariants.{Read, Write, Memory}
-use Rattle.command_outcomes.specs.declared.stops.Stop.{Stop}
-use Rattle.command_outcomes.specs.declared.stops.Stop.TheVariants.{Refused, Failed}
-use Rattle.capriccio_commands.specs.declared.ended.Ended.{Ended}
-use Rattle.command_outcomes.specs.Outcome.{Outcome, Ran, NoMore}
 use Rattle.command_outcomes.specs.CauseLines.{refusal}
-use Rattle.command_outcomes.specs.Done.{Outside, WhereTold, AreStored, IsTraceLeft}
 use Rattle.schedule_log.specs.Writing.{TakesPrefix}
-use Rattle.command_files.specs.Loads.{IsSourceText}
-use Rattle.command_outcomes.specs.Steps.{IsStop, IsPrinted, EndsAs, RunEnds}
-use Rattle.command_outcomes.proofs.Ending.{kept-are-stored, refused-at-once, memory-at-once}
 use Rattle.capriccio_commands.specs.declared.demo_command.Shown.{Shown}
 use Rattle.capriccio_commands.specs.declared.summaries.Census.{Census}
-use Rattle.pair_commands.specs.Runs.{RunsOn, ServesProgram, run_outcome, setup_of}
-use Rattle.capriccio_commands.specs.Summary.{census_of, tally_of, last_from, summary_text}
-use Rattle.capriccio_commands.specs.Demos.{Demos, ShowsRun, IsAcceptedWorkload, IsShown, ShowsDue, ShowsEnd, shown_outcome, demo_sizes, demo_policy}
 use Rattle.capriccio_commands.proofs.Counting.{last-is-stop}
 use Rattle.capriccio_commands.proofs.Workloads.{always-built}
-use Rattle.capriccio_commands.specs.Ends.{IsEnd, IsLast}
 
 regroup : (start a b c d : List ℕ) → (((start ++ a) ++ b) ++ c) ++ d ≡ start ++ (((a ++ b) ++ c) ++ d)
 regroup start a b c d = simp append_assoc

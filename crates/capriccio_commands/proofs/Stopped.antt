@@ -1,28 +1,6 @@
 -- How a command ends whose run came to its stop, or could not go on.
-use Rattle.std.proofs.Common.{◌≡◌, ℕ, List, Option, Some, None, Result, Ok, Err, refl, sym, ap, subst, inl, inr}
-use Rattle.std.specs.Prelude.{IfSome}
-use Rattle.cap_io.specs.Files.{KeepsFiles}
-use Rattle.lawful_log.specs.Good.{checked_of}
-use Rattle.lawful_log.specs.Setup.{Setup}
-use Rattle.machine_world.specs.Stretches.{IsSound}
-use Rattle.machine_world.specs.Threads.{World}
-use Rattle.runner.specs.Answers.{HasLog, IsEndAt, CameTo, IsRunEnd}
-use Rattle.runner.specs.declared.ends.RunEnd.{RunEnd}
+use Rattle.capriccio_commands.proofs.Common.{◌≡◌, ℕ, List, Option, Some, None, Result, Ok, Err, refl, sym, ap, subst, inl, inr, IfSome, KeepsFiles, checked_of, Setup, IsSound, World, HasLog, IsEndAt, CameTo, IsRunEnd, RunEnd, Entry, StopLine, Held, Read, Write, Memory, Stop, Failed, Ended, Outcome, Outside, IsWhole, IsCutInOut, NoneCounted, TraceCounted, WriteCounted, IsAccepted, IsRun, RunsOn, run_outcome, stop_status, EndsAs, IsClosed, kept-are-stored, IsEnd, IsReachable, IsWorldOf}
 use Rattle.runner.specs.declared.ends.RunEnd.TheVariants as end
-use Rattle.schedule_log.specs.declared.entries.Entry.{Entry}
-use Rattle.schedule_log.specs.declared.entries.StopLine.{StopLine}
-use Rattle.thread_core.specs.Worlds.{Held}
-use Rattle.command_outcomes.specs.declared.faults.Fault.TheVariants.{Read, Write, Memory}
-use Rattle.command_outcomes.specs.declared.stops.Stop.{Stop}
-use Rattle.command_outcomes.specs.declared.stops.Stop.TheVariants.{Failed}
-use Rattle.capriccio_commands.specs.declared.ended.Ended.{Ended}
-use Rattle.command_outcomes.specs.Outcome.{Outcome}
-use Rattle.command_outcomes.specs.Done.{Outside, IsWhole, IsCutInOut, NoneCounted, TraceCounted, WriteCounted}
-use Rattle.pair_commands.specs.Runs.{IsAccepted, IsRun, RunsOn, run_outcome, stop_status}
-use Rattle.command_outcomes.specs.Steps.{EndsAs}
-use Rattle.capriccio_commands.specs.Closings.{IsClosed}
-use Rattle.command_outcomes.proofs.Ending.{kept-are-stored}
-use Rattle.capriccio_commands.specs.Ends.{IsEnd, IsReachable, IsWorldOf}
 use Rattle.cap_word.specs.declared.stops.Stop.TheVariants as cut
 
 -- the status that goes with the end of a run

@@ -1,32 +1,17 @@
 -- The source of the workload isn't too long and isn't refused, what is built of it neither, and the options of `demo` are in their ranges.
-use Rattle.std.proofs.Common.{◌≡◌, ℕ, zero, suc, ◌+◌, ◌*◌, ◌<◌, ◌≤◌, List, ◌++◌, length, Some, None, refl, ap, sym, subst, ◌∙◌, ⊎_elim, arith, eq-zero-or-pos, length-append}
-use Rattle.std.specs.Prelude.{codes}
+use Rattle.capriccio_commands.proofs.Common.{◌≡◌, ℕ, zero, suc, ◌+◌, ◌*◌, ◌<◌, ◌≤◌, List, ◌++◌, length, Some, None, refl, ap, sym, subst, ◌∙◌, ⊎_elim, arith, eq-zero-or-pos, length-append, codes, canonical_decimal, decimal_some, decimal_zero, ProgramTree, lowered, reads_nested, line_feed, first_line, link_line, chain_text, worker_line, main_line, program_text, Memory, Stop, Refused, Failed, Outcome, NoMore, AfterSource, IsStop, demo_sizes, demo_policy, IsRunPolicy}
 use Rattle.std.specs.Int.Digits.{digits_of}
 use Rattle.std.proofs.lemmas.List.{length-map}
 use Rattle.std.proofs.lemmas.Int.Digits.{length-digits_of-le}
-use Rattle.cap_text.specs.Decimals.{canonical_decimal}
-use Rattle.cap_text.proofs.DecimalLaws.{decimal_some, decimal_zero}
-use Rattle.c_tree.specs.Trees.{ProgramTree}
-use Rattle.c_lower.specs.ProgramCode.{lowered}
 use Rattle.c_hoist.specs.NestedText.{ReadsNested}
 use Rattle.c_hoist.proofs.EveryNested.{never, one_program}
-use Rattle.c_hoist.proofs.WholeReads.{reads_nested}
 use Rattle.codegen_link.specs.Layout.{code_words}
 use Rattle.codegen_link.specs.Plans.{AreInRange}
 use Rattle.stack_build.specs.declared.refusals.BuildError.TheVariants.{FrameTooLarge}
 use Rattle.workload.proofs.Reading.{program_read}
 use Rattle.workload.specs.Sizes.{HasFittingSizes}
 use Rattle.workload.proofs.Built.{workload_fits}
-use Rattle.workload.specs.Programs.{line_feed, first_line, link_line, chain_text, worker_line, main_line, program_text}
-use Rattle.command_outcomes.specs.declared.faults.Fault.TheVariants.{Memory}
-use Rattle.command_outcomes.specs.declared.stops.Stop.{Stop}
-use Rattle.command_outcomes.specs.declared.stops.Stop.TheVariants.{Refused, Failed}
-use Rattle.command_outcomes.specs.Outcome.{Outcome, NoMore}
-use Rattle.command_files.specs.Loads.{AfterSource}
-use Rattle.command_outcomes.specs.Steps.{IsStop}
 use Rattle.pair_commands.specs.BuildsFiles.{IsUnbuilt}
-use Rattle.capriccio_commands.specs.Demos.{demo_sizes, demo_policy}
-use Rattle.command_options.specs.Options.{IsRunPolicy}
 use Rattle.command_options.proofs.Options.{none-most}
 
 -- ---- how long it is

@@ -1,18 +1,6 @@
 -- What is known once the lower rules hold, and where the rules say nothing.
-use Rattle.std.proofs.Common.{◌≡◌, false, ℕ, zero, ◌+◌, ◌<◌, ◌≤◌, [], length, arith, refl, sym, ap, ◌∙◌, subst, Some, None, inl, inr}
-use Rattle.std.specs.Prelude.{slice_get}
-use Rattle.std.proofs.lemmas.Bool.{cases_lt}
+use Rattle.certificate_check.proofs.Common.{◌≡◌, false, ℕ, zero, ◌+◌, ◌<◌, ◌≤◌, [], length, arith, refl, sym, ap, ◌∙◌, subst, Some, None, inl, inr, slice_get, cases_lt, Op, FlatCode, function_at, operation_at, Image, Certificate, V1, Holds, IsValid, IsFirstFailure, holds_v1, holds_outside, HoldBelow, IsFirstSpot, IsFunctionRule, Spot}
 use Rattle.std.proofs.lemmas.List.{get_or_past}
-use Rattle.flat_code.specs.declared.operations.Op.{Op}
-use Rattle.flat_code.specs.Codes.{FlatCode, function_at, operation_at}
-use Rattle.stack_image.specs.declared.images.Image.{Image}
-use Rattle.stack_certificate.specs.declared.certificates.Certificate.{Certificate}
-use Rattle.certificate_rules.specs.Rules.{V1}
-use Rattle.certificate_rules.specs.Validity.{Holds, IsValid, IsFirstFailure}
-use Rattle.certificate_rules.proofs.HoldsLemmas.{holds_v1, holds_outside}
-use Rattle.rule_failures.specs.First.{HoldBelow, IsFirstSpot}
-use Rattle.certificate_check.specs.Answers.{IsFunctionRule}
-use Rattle.rule_failures.specs.declared.spots.Spot.{Spot}
 
 -- ---- functions that aren't there
 

@@ -1,3 +1,4 @@
+mod Common
 pub mod SiteLemmas
 pub mod RuleLemmas
 pub mod BelowLemmas

@@ -1,16 +1,7 @@
 -- The least site of a function at which V9 or V10 fails, one operation after another.
-use Rattle.std.proofs.Common.{◌≡◌, ℕ, ◌+◌, ◌<◌, ◌≤◌, min, length, arith, sym, ap, ◌∙◌, subst, Option, Some, None, inl, inr}
-use Rattle.std.specs.Prelude.{MatchOption}
-use Rattle.std.proofs.lemmas.Bool.{cases_lt}
+use Rattle.certificate_check.proofs.Common.{◌≡◌, ℕ, ◌+◌, ◌<◌, ◌≤◌, min, length, arith, sym, ap, ◌∙◌, subst, Option, Some, None, inl, inr, MatchOption, cases_lt, Op, FlatCode, function_at, operation_at, Certificate, V9, V10, certified_site, IsFirst, HoldsAtSite, HoldsBelow, Fails, IsLeastSite}
 use Rattle.std.proofs.lemmas.Option.{same_Some, slice_get_within}
-use Rattle.flat_code.specs.declared.operations.Op.{Op}
-use Rattle.flat_code.specs.Codes.{FlatCode, function_at, operation_at}
-use Rattle.stack_certificate.specs.declared.certificates.Certificate.{Certificate}
-use Rattle.certificate_rules.specs.Rules.{V9, V10}
-use Rattle.certificate_rules.specs.Sites.{certified_site}
 use Rattle.certificate_check.specs.declared.site_rules.SiteRule.{SiteRule}
-use Rattle.rule_failures.specs.First.{IsFirst}
-use Rattle.certificate_check.specs.LeastSite.{HoldsAtSite, HoldsBelow, Fails, IsLeastSite}
 
 -- what is said of one operation more
 step : (rule : SiteRule) (code : FlatCode) (certificate : Certificate) (f n site : ℕ) (op : Op) → operation_at code f n ≡ Some op → (certified_site op ≡ Some site → HoldsAtSite rule code certificate f op) →

@@ -1,16 +1,7 @@
 -- From where a part of the text breaks off to the line that is refused.
-use Rattle.std.proofs.Common.{◌≡◌, ℕ, ◌+◌, ◌-◌, ◌^◌, ◌<◌, ◌≤◌, List, [], ◌∷◌, ◌++◌, length, map, refl, ap, sym, subst, ◌∙◌, arith, ◌==◌, Bool, true, false, None, Result, Ok, Err, IfOk, IfErr, MatchResult, ◌⊎◌, inl, inr}
-use Rattle.std.specs.List.{AllByRecursion}
-use borrow.Author.Tests.{ne_eqb}
-use Rattle.cap_text.specs.TextLines.{ended_lines}
-use Rattle.stack_certificate.specs.declared.certificates.Certificate.{Certificate}
+use Rattle.certificate_text.proofs.Common.{◌≡◌, ℕ, ◌+◌, ◌-◌, ◌^◌, ◌<◌, ◌≤◌, List, [], ◌∷◌, ◌++◌, length, map, refl, ap, sym, subst, ◌∙◌, arith, ◌==◌, Bool, true, false, None, Result, Ok, Err, IfOk, IfErr, MatchResult, ◌⊎◌, inl, inr, AllByRecursion, ne_eqb, ended_lines, Certificate, FunctionFact, SiteFact, title_line, chunk_line, max_path_line, functions_line, sites_line, function_line, site_line, spelling, HasFewPlaces, HoldsFunctionWords, HoldsSiteWords, Rises, IsWithinLimits, HoldsWords, Due, BeginsOtherwise, IsFirstRefused, IsCauseOf, Title, Functions, Sites}
 use Rattle.certificate_text.specs.declared.errors.CertError.{CertError}
 use Rattle.certificate_text.specs.declared.errors.CertError.TheVariants.{Line, Memory}
-use Rattle.stack_certificate.specs.declared.functions.FunctionFact.{FunctionFact}
-use Rattle.stack_certificate.specs.declared.sites.SiteFact.{SiteFact}
-use Rattle.certificate_text.specs.Text.{title_line, chunk_line, max_path_line, functions_line, sites_line, function_line, site_line, spelling, HasFewPlaces, HoldsFunctionWords, HoldsSiteWords, Rises, IsWithinLimits, HoldsWords}
-use Rattle.certificate_text.specs.FirstRefused.{Due, BeginsOtherwise, IsFirstRefused, IsCauseOf}
-use Rattle.certificate_text.specs.FirstRefused.{Title, Functions, Sites}
 use Rattle.certificate_text.specs.Reading.{BreaksIn}
 use Rattle.certificate_text.proofs.Passing.{Passes, passes_on, breaks_behind, functions_pass, sites_pass, last_number}
 use Rattle.certificate_text.proofs.Spellings.{head_passes, spelling_parts, spelling_unique, spelling_unrefused, first_refused_unique}

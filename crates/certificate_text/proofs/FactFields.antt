@@ -1,17 +1,8 @@
 -- The fields of a line of a function or of a site.
-use Rattle.std.proofs.Common.{◌≡◌, ℕ, ◌^◌, ◌<◌, ◌≤◌, false, true, List, ◌∷◌, ◌++◌, map, ap, sym, subst, ◌∙◌, arith, codes, Option, Some, None, Result, Ok, IfOk, IfSome, IfNone, is_ok}
-use Rattle.std.proofs.lemmas.List.{append_cancel_left}
-use Rattle.cap_text.specs.Decimals.{canonical_decimal}
-use Rattle.cap_text.specs.Pieces.{pieces, after_each}
+use Rattle.certificate_text.proofs.Common.{◌≡◌, ℕ, ◌^◌, ◌<◌, ◌≤◌, false, true, List, ◌∷◌, ◌++◌, map, ap, sym, subst, ◌∙◌, arith, codes, Option, Some, None, Result, Ok, IfOk, IfSome, IfNone, is_ok, append_cancel_left, canonical_decimal, pieces, after_each, decimal_unique, text_of_pieces, FunctionFact, SiteFact, LinkKind, function_line, function_numbers, site_line, kind_fields, HasFewPlaces, HoldsFunctionWords, HoldsSiteWords, HoldsKindWords, AreWords, IsAbove}
 use Rattle.cap_text.specs.declared.numbers.NumberError.{NumberError}
-use Rattle.cap_text.proofs.DecimalLaws.{decimal_unique}
-use Rattle.cap_text.proofs.PieceLaws.{text_of_pieces}
 use Rattle.certificate_text.specs.declared.fact_lines.FunctionHead.{FunctionHead}
-use Rattle.stack_certificate.specs.declared.functions.FunctionFact.{FunctionFact}
-use Rattle.stack_certificate.specs.declared.sites.SiteFact.{SiteFact}
-use Rattle.stack_certificate.specs.declared.sites.LinkKind.{LinkKind}
 use Rattle.certificate_text.specs.Heads.{head_numbers}
-use Rattle.certificate_text.specs.Text.{function_line, function_numbers, site_line, kind_fields, HasFewPlaces, HoldsFunctionWords, HoldsSiteWords, HoldsKindWords, AreWords, IsAbove}
 use Rattle.certificate_text.proofs.LineTexts.{function_pieces, site_pieces}
 
 pub if_none_map : {T P Q : Type 0} (o : Option T) → (P → Q) → IfNone o P → IfNone o Q

@@ -1,7 +1,5 @@
 -- Where the lines before the functions' break off.
-use Rattle.std.proofs.Common.{◌≡◌, ℕ, ◌≤◌, List, ◌∷◌, ◌++◌, refl, arith}
-use Rattle.certificate_text.specs.Text.{title_line, chunk_line, max_path_line, functions_line}
-use Rattle.certificate_text.specs.FirstRefused.{BreaksAfter, Title, Chunk, MaxPath, FunctionCount}
+use Rattle.certificate_text.proofs.Common.{◌≡◌, ℕ, ◌≤◌, List, ◌∷◌, ◌++◌, refl, arith, title_line, chunk_line, max_path_line, functions_line, BreaksAfter, Title, Chunk, MaxPath, FunctionCount}
 use Rattle.certificate_text.proofs.Otherwise.{other_title, other_chunk, other_max_path, other_count}
 use Rattle.certificate_text.proofs.TitleLine.{NoTitle}
 

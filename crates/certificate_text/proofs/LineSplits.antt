@@ -1,13 +1,7 @@
 -- Where a line ends: at the first LF.
-use Rattle.std.proofs.Common.{◌≡◌, ℕ, suc, ◌+◌, ◌<◌, ◌≤◌, Bool, true, false, cond, List, [], ◌∷◌, ◌++◌, length, get_or, take, drop, refl, ap, sym, ◌∙◌, arith, ◌==◌, Some, None, length-append}
-use Rattle.std.specs.List.{position, position_or_len}
-use Rattle.std.proofs.lemmas.List.{get_or-take, length-take-le}
+use Rattle.certificate_text.proofs.Common.{◌≡◌, ℕ, suc, ◌+◌, ◌<◌, ◌≤◌, Bool, true, false, cond, List, [], ◌∷◌, ◌++◌, length, get_or, take, drop, refl, ap, sym, ◌∙◌, arith, ◌==◌, Some, None, length-append, position, position_or_len, get_or-take, length-take-le, eq-eqb, canonical_decimal, Lacks, lacks-append, visible_lacks, visible_decimal}
 use Rattle.std.proofs.lemmas.List.Sums.{split_at_first, passes_at_first, fails_before_first}
 use Rattle.std.proofs.lemmas.Bool.{eqb-true}
-use borrow.Author.Tests.{eq-eqb}
-use Rattle.cap_text.specs.Decimals.{canonical_decimal}
-use Rattle.cap_text.specs.Pieces.{Lacks}
-use Rattle.cap_text.proofs.PieceLaws.{lacks-append, visible_lacks, visible_decimal}
 use Rattle.cap_text.proofs.PieceSteps.{found, lost}
 
 -- a text has one first line

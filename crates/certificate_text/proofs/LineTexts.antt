@@ -1,15 +1,6 @@
 -- The lines of a certificate: no LF in them, and each has one meaning.
-use Rattle.std.proofs.Common.{◌≡◌, ℕ, List, [], ◌∷◌, ◌++◌, map, refl, ap, sym, ◌∙◌, arith, get_or, codes}
-use Rattle.std.specs.List.{AllByRecursion}
-use Rattle.cap_text.specs.Decimals.{canonical_decimal}
-use Rattle.cap_text.specs.Pieces.{pieces, Lacks, after_each}
-use Rattle.cap_text.proofs.DecimalLaws.{decimal_unique}
-use Rattle.cap_text.proofs.PieceLaws.{pieces_joined, lacks-append, lacks_after_each, Visible, visible_lacks, all_lack, visible_decimal, from_shown}
-use Rattle.stack_certificate.specs.declared.functions.FunctionFact.{FunctionFact}
-use Rattle.stack_certificate.specs.declared.sites.SiteFact.{SiteFact}
-use Rattle.stack_certificate.specs.declared.sites.LinkKind.{LinkKind}
+use Rattle.certificate_text.proofs.Common.{◌≡◌, ℕ, List, [], ◌∷◌, ◌++◌, map, refl, ap, sym, ◌∙◌, arith, get_or, codes, AllByRecursion, canonical_decimal, pieces, Lacks, after_each, decimal_unique, pieces_joined, lacks-append, lacks_after_each, Visible, visible_lacks, all_lack, visible_decimal, from_shown, FunctionFact, SiteFact, LinkKind, title_line, chunk_line, max_path_line, functions_line, sites_line, function_numbers, function_line, kind_fields, site_line}
 use Rattle.stack_certificate.specs.declared.sites.LinkKind.TheVariants.{Plain, Linked, Spawned}
-use Rattle.certificate_text.specs.Text.{title_line, chunk_line, max_path_line, functions_line, sites_line, function_numbers, function_line, kind_fields, site_line}
 use Rattle.certificate_text.proofs.LineSplits.{from_unbroken}
 
 -- visible fields

@@ -1,7 +1,5 @@
 -- A list of numbers, of which the first were read and the fields of the others are left.
-use Rattle.std.proofs.Common.{◌≡◌, ℕ, zero, suc, ◌^◌, ◌<◌, List, [], ◌∷◌, ◌++◌, length, drop, map, ap, sym, ◌∙◌, arith, Bool, false, ◌==◌}
-use Rattle.cap_text.specs.Decimals.{canonical_decimal}
-use Rattle.certificate_text.specs.Text.{AreWords}
+use Rattle.certificate_text.proofs.Common.{◌≡◌, ℕ, zero, suc, ◌^◌, ◌<◌, List, [], ◌∷◌, ◌++◌, length, drop, map, ap, sym, ◌∙◌, arith, Bool, false, ◌==◌, canonical_decimal, AreWords}
 
 left_of : (read : List ℕ) (left : List (List ℕ)) (all : List ℕ) → map canonical_decimal read ++ left ≡ map canonical_decimal all → left ≡ map canonical_decimal (drop (length read) all)
 left_of [] left all e = e

@@ -1,11 +1,5 @@
 -- Where the next line isn't as said.
-use Rattle.std.proofs.Common.{◌≡◌, ℕ, zero, suc, ◌<◌, ◌≤◌, List, [], ◌∷◌, ◌++◌, ap, sym, ◌∙◌, arith, Option}
-use Rattle.cap_text.specs.Pieces.{Lacks}
-use Rattle.stack_certificate.specs.declared.functions.FunctionFact.{FunctionFact}
-use Rattle.stack_certificate.specs.declared.sites.SiteFact.{SiteFact}
-use Rattle.certificate_text.specs.Text.{title_line, chunk_line, max_path_line, functions_line, sites_line, function_line, site_line, HasFewPlaces, HoldsFunctionWords, HoldsSiteWords, IsAbove}
-use Rattle.certificate_text.specs.FirstRefused.{BeginsOtherwise}
-use Rattle.certificate_text.specs.FirstRefused.{Title, Chunk, MaxPath, FunctionCount, Functions, Sites}
+use Rattle.certificate_text.proofs.Common.{◌≡◌, ℕ, zero, suc, ◌<◌, ◌≤◌, List, [], ◌∷◌, ◌++◌, ap, sym, ◌∙◌, arith, Option, Lacks, FunctionFact, SiteFact, title_line, chunk_line, max_path_line, functions_line, sites_line, function_line, site_line, HasFewPlaces, HoldsFunctionWords, HoldsSiteWords, IsAbove, BeginsOtherwise, Title, Chunk, MaxPath, FunctionCount, Functions, Sites}
 use Rattle.certificate_text.proofs.LineSplits.{split_same}
 use Rattle.certificate_text.proofs.LineTexts.{function_lacks, site_lacks}
 

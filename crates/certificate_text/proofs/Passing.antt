@@ -1,13 +1,5 @@
 -- Lines that are as said, and where a text breaks off from the format.
-use Rattle.std.proofs.Common.{◌≡◌, ℕ, zero, suc, ◌+◌, List, [], ◌∷◌, ◌++◌, length, map, refl, ap, sym, subst, ◌∙◌, arith, append_assoc, Option, Some, None}
-use Rattle.std.specs.List.{AllByRecursion}
-use Rattle.cap_text.specs.Pieces.{Lacks}
-use Rattle.cap_text.specs.TextLines.{ended_lines}
-use Rattle.stack_certificate.specs.declared.functions.FunctionFact.{FunctionFact}
-use Rattle.stack_certificate.specs.declared.sites.SiteFact.{SiteFact}
-use Rattle.certificate_text.specs.Text.{function_line, site_line, HasFewPlaces, HoldsFunctionWords, HoldsSiteWords, Rises}
-use Rattle.certificate_text.specs.FirstRefused.{Due, IsAsSaid, IsOver, BreaksAfter}
-use Rattle.certificate_text.specs.FirstRefused.{Title, Chunk, MaxPath, FunctionCount, Functions, Sites}
+use Rattle.certificate_text.proofs.Common.{◌≡◌, ℕ, zero, suc, ◌+◌, List, [], ◌∷◌, ◌++◌, length, map, refl, ap, sym, subst, ◌∙◌, arith, append_assoc, Option, Some, None, AllByRecursion, Lacks, ended_lines, FunctionFact, SiteFact, function_line, site_line, HasFewPlaces, HoldsFunctionWords, HoldsSiteWords, Rises, Due, IsAsSaid, IsOver, BreaksAfter, Title, Chunk, MaxPath, FunctionCount, Functions, Sites}
 use Rattle.certificate_text.proofs.LineSplits.{split_same}
 use Rattle.certificate_text.proofs.LineTexts.{title_lacks, chunk_lacks, max_path_lacks, functions_lacks, sites_lacks, function_lacks, site_lacks, functions_number, sites_number, site_unique}
 

@@ -1,9 +1,5 @@
 -- The numbers of sites, one more at a time.
-use Rattle.std.proofs.Common.{◌≡◌, ℕ, ◌+◌, List, [], ◌∷◌, ◌++◌, length, map, refl, ap, sym, subst, ◌∙◌, arith, append_assoc, length-append, Option, Some, None}
-use Rattle.std.specs.List.{AllByRecursion}
-use Rattle.cap_text.specs.TextLines.{ended_lines}
-use Rattle.stack_certificate.specs.declared.sites.SiteFact.{SiteFact}
-use Rattle.certificate_text.specs.Text.{IsAbove, Rises, site_line, HoldsSiteWords}
+use Rattle.certificate_text.proofs.Common.{◌≡◌, ℕ, ◌+◌, List, [], ◌∷◌, ◌++◌, length, map, refl, ap, sym, subst, ◌∙◌, arith, append_assoc, length-append, Option, Some, None, AllByRecursion, ended_lines, SiteFact, IsAbove, Rises, site_line, HoldsSiteWords, All-push}
 use Rattle.certificate_text.proofs.Passing.{last_number}
 
 pub rises_push : (last : Option ℕ) (facts : List SiteFact) (fact : SiteFact) → Rises last facts → IsAbove (last_number last facts) fact.number → Rises last (facts ++ fact ∷ [])
@@ -13,10 +9,6 @@ rises_push last (first ∷ facts) fact h above = (h.0, rises_push (Some first.nu
 pub last_push : (last : Option ℕ) (facts : List SiteFact) (fact : SiteFact) → last_number last (facts ++ fact ∷ []) ≡ Some fact.number
 last_push last [] fact = refl
 last_push last (first ∷ facts) fact = last_push (Some first.number) facts fact
-
-pub all_push : {A : Type 0} (P : A → Type 0) (xs : List A) (x : A) → AllByRecursion P xs → P x → AllByRecursion P (xs ++ x ∷ [])
-all_push P [] x h p = (p, tt)
-all_push P (y ∷ xs) x h p = (h.0, all_push P xs x h.1 p)
 
 ended_push : {A : Type 0} (f : A → List ℕ) (xs : List A) (x : A) (rest : List ℕ) → ended_lines (map f (xs ++ x ∷ [])) ++ rest ≡ ended_lines (map f xs) ++ (f x ++ 10 ∷ rest)
 ended_push f [] x rest = append_assoc (f x ++ 10 ∷ []) [] rest ∙ append_assoc (f x) (10 ∷ []) rest
@@ -34,7 +26,7 @@ pub one_site_more : (first number : ℕ) (text rest left line : List ℕ) (last 
 one_site_more first number text rest left line last facts fact count rises words whole before next above small is = (
   omega (arith, length-append facts (fact ∷ [])),
   rises_push None facts fact rises (subst (λ (l : Option ℕ). IsAbove l fact.number) before above),
-  all_push HoldsSiteWords facts fact words small,
+  All-push HoldsSiteWords facts fact words small,
   whole ∙ ap (λ (x : List ℕ). ended_lines (map site_line facts) ++ x) (next ∙ ap (λ (l : List ℕ). l ++ 10 ∷ left) is) ∙ sym (ended_push site_line facts fact left),
   sym (last_push None facts fact),
 )

@@ -1,16 +1,7 @@
 -- Certificates and their texts.
-use Rattle.std.proofs.Common.{◌≡◌, ℕ, suc, ◌+◌, ◌≤◌, List, [], ◌∷◌, ◌++◌, length, map, refl, ap, sym, subst, ◌∙◌, arith, append-nil, append_assoc, ◌^◌, ◌<◌, Option, None}
-use Rattle.std.specs.List.{AllByRecursion}
+use Rattle.certificate_text.proofs.Common.{◌≡◌, ℕ, suc, ◌+◌, ◌≤◌, List, [], ◌∷◌, ◌++◌, length, map, refl, ap, sym, subst, ◌∙◌, arith, append-nil, append_assoc, ◌^◌, ◌<◌, Option, None, AllByRecursion, Lacks, lines_of, ended_lines, Certificate, FunctionFact, SiteFact, title_line, chunk_line, max_path_line, functions_line, sites_line, function_line, site_line, certificate_lines, spelling, IsWithinLimits, HoldsWords, IsFirstRefused, Title, Chunk, MaxPath, FunctionCount, Functions, Sites}
 use Rattle.std.proofs.lemmas.Grind.{flat_map-append}
-use Rattle.cap_text.specs.Pieces.{Lacks}
-use Rattle.cap_text.specs.TextLines.{lines_of, ended_lines}
 use Rattle.cap_text.proofs.LineLaws.{ended_lines_back}
-use Rattle.stack_certificate.specs.declared.certificates.Certificate.{Certificate}
-use Rattle.stack_certificate.specs.declared.functions.FunctionFact.{FunctionFact}
-use Rattle.stack_certificate.specs.declared.sites.SiteFact.{SiteFact}
-use Rattle.certificate_text.specs.Text.{title_line, chunk_line, max_path_line, functions_line, sites_line, function_line, site_line, certificate_lines, spelling, IsWithinLimits, HoldsWords}
-use Rattle.certificate_text.specs.FirstRefused.{IsFirstRefused}
-use Rattle.certificate_text.specs.FirstRefused.{Title, Chunk, MaxPath, FunctionCount, Functions, Sites}
 use Rattle.certificate_text.proofs.LineTexts.{title_lacks, chunk_lacks, max_path_lacks, functions_lacks, sites_lacks, function_lacks, site_lacks, chunk_number, max_path_number, functions_number, function_unique, site_unique}
 use Rattle.certificate_text.proofs.Passing.{Passes, passes_on, functions_pass, sites_pass, last_number, passed_whole, breaks_once, ended_first}
 

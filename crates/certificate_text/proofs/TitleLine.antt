@@ -1,8 +1,6 @@
 -- The first line of a certificate.
-use Rattle.std.proofs.Common.{◌≡◌, ℕ, Bool, true, false, List, ◌∷◌, ◌++◌, ap, sym, ◌∙◌}
 use Rattle.std.specs.Bool.{MatchBool}
-use Rattle.cap_text.specs.Pieces.{Lacks}
-use Rattle.certificate_text.specs.Text.{title_line}
+use Rattle.certificate_text.proofs.Common.{◌≡◌, ℕ, Bool, true, false, List, ◌∷◌, ◌++◌, ap, sym, ◌∙◌, Lacks, title_line}
 use Rattle.certificate_text.proofs.LineSplits.{split_same}
 use Rattle.certificate_text.proofs.LineTexts.{title_lacks}
 

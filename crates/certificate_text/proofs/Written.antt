@@ -1,15 +1,7 @@
 -- What a text has after each line or field that is appended.
-use Rattle.std.proofs.Common.{◌≡◌, ℕ, ℤ, pos, ◌+◌, ◌^◌, ◌<◌, List, [], ◌∷◌, ◌++◌, length, get_or, take, map, refl, ap, ◌∙◌, sym, subst, arith, to_z, of_z, FitsSigned}
 use Rattle.std.specs.Int.{w128}
-use Rattle.std.specs.List.{AllByRecursion}
+use Rattle.certificate_text.proofs.Common.{◌≡◌, ℕ, ℤ, pos, ◌+◌, ◌^◌, ◌<◌, List, [], ◌∷◌, ◌++◌, length, get_or, take, map, refl, ap, ◌∙◌, sym, subst, arith, to_z, of_z, FitsSigned, AllByRecursion, flat_map_more, map_more, canonical_decimal, canonical_integer, after_each, ended_lines, FunctionFact, function_line, HoldsFunctionWords, All-more}
 use Rattle.std.proofs.lemmas.Int.{to_z-of_z}
-use Rattle.std.proofs.lemmas.List.{flat_map_more, map_more, take_more}
-use Rattle.cap_text.specs.Decimals.{canonical_decimal, canonical_integer}
-use Rattle.cap_text.specs.Pieces.{after_each}
-use Rattle.cap_text.specs.TextLines.{ended_lines}
-use Rattle.stack_certificate.specs.declared.functions.FunctionFact.{FunctionFact}
-use Rattle.certificate_text.specs.Text.{function_line, HoldsFunctionWords}
-use Rattle.certificate_text.proofs.Rising.{all_push}
 
 decimal_of_pos : (n : ℕ) → canonical_integer (pos n) ≡ canonical_decimal n
 unfolding canonical_integer
@@ -35,14 +27,11 @@ lines_more f start text facts i d l e =
     ∙ flat_map_more (λ line. line ++ 10 ∷ []) start (map f (take i facts)) (f (get_or facts i d))
     ∙ ap (λ x. start ++ ended_lines x) (sym (map_more f facts i d l))
 
-pub all_more : {A : Type 0} (P : A → Type 0) (facts : List A) (i : ℕ) (d : A) → i < length facts → AllByRecursion P (take i facts) → P (get_or facts i d) → AllByRecursion P (take (i + 1) facts)
-all_more P facts i d l h p = subst (AllByRecursion P) (sym (take_more facts i d l)) (all_push P (take i facts) (get_or facts i d) h p)
-
 -- the line of one function more
 pub one_function_more : (start text new : List ℕ) (facts : List FunctionFact) (i : ℕ) (d fact : FunctionFact) → new ≡ text ++ (function_line fact ++ 10 ∷ []) → HoldsFunctionWords fact
     → i < length facts → (text ≡ start ++ ended_lines (map function_line (take i facts))) × AllByRecursion HoldsFunctionWords (take i facts) → fact ≡ get_or facts i d
     → (new ≡ start ++ ended_lines (map function_line (take (i + 1) facts))) × AllByRecursion HoldsFunctionWords (take (i + 1) facts)
 one_function_more start text new facts i d fact line words l before is = (
   line ∙ (ap (λ (x : FunctionFact). text ++ (function_line x ++ 10 ∷ [])) is ∙ lines_more function_line start text facts i d l before.0),
-  all_more HoldsFunctionWords facts i d l before.1 (subst HoldsFunctionWords is words),
+  All-more HoldsFunctionWords facts i d l before.1 (subst HoldsFunctionWords is words),
 )

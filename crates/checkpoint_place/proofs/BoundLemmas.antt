@@ -1,17 +1,5 @@
 -- One function more has its bound.
-use Rattle.std.proofs.Common.{◌≡◌, ℕ, ◌+◌, ◌<◌, nat_le, true, false, List, [], ◌∷◌, ◌++◌, length, take, drop, set, get_or, filter, reverse, slice_index, refl, sym, ap, ◌∙◌, subst}
-use Rattle.std.proofs.lemmas.List.{get_or-set_same, get_or-set_other, take_more, reverse-append, take-append-drop}
-use Rattle.std.specs.List.{AllByRecursion}
-use Rattle.call_graph.specs.declared.sites.GraphSite.{GraphSite}
-use Rattle.call_graph.specs.Callees.{callees, greatest}
-use Rattle.call_graph.specs.Graph.{CallGraphState}
-use Rattle.call_graph.specs.Index.{sites_of}
-use Rattle.call_graph.specs.Lists.{has}
-use Rattle.call_graph.proofs.ListLemmas.{by_test}
-use Rattle.call_graph.proofs.IndexLemmas.{by_eq}
-use Rattle.cycle_break.specs.BottomUp.{CallsOnly, IsBottomUp}
-use Rattle.cycle_break.proofs.NumberLemmas.{all-map, has-tail, has-cases, true_false}
-use Rattle.checkpoint_place.specs.Placement.{callee_bound, is_within, bound_over}
+use Rattle.checkpoint_place.proofs.Common.{◌≡◌, ℕ, ◌+◌, ◌<◌, nat_le, true, false, List, [], ◌∷◌, ◌++◌, length, take, drop, set, get_or, filter, reverse, slice_index, refl, sym, ap, ◌∙◌, subst, get_or-set_same, get_or-set_other, take_more, reverse-append, take-append-drop, AllByRecursion, GraphSite, callees, greatest, CallGraphState, sites_of, has, by_test, by_eq, CallsOnly, IsBottomUp, has-tail, has-cases, true_false, callee_bound, is_within, bound_over, All-weaker}
 
 -- ---- a bound hangs only on the bounds of the callees
 
@@ -38,8 +26,8 @@ up-suffix graph back (x ∷ xs) ys up = up-suffix graph back xs ys up.1
 
 weaker : (graph : CallGraphState) (back xs ys : List ℕ) (f : ℕ) → ((c : ℕ) → has c xs ≡ true → has c ys ≡ true) → CallsOnly graph back xs f → CallsOnly graph back ys f
 weaker graph back xs ys f sub calls =
-    all-map (λ s. AllByRecursion (λ c. has c xs ≡ true) (callees graph.tables s.target)) (λ s. AllByRecursion (λ c. has c ys ≡ true) (callees graph.tables s.target))
-    (λ s all. all-map (λ c. has c xs ≡ true) (λ c. has c ys ≡ true) sub (callees graph.tables s.target) all) (sites_of graph.sites back f) calls
+    All-weaker (λ s. AllByRecursion (λ c. has c xs ≡ true) (callees graph.tables s.target)) (λ s. AllByRecursion (λ c. has c ys ≡ true) (callees graph.tables s.target))
+    (λ s all. All-weaker (λ c. has c xs ≡ true) (λ c. has c ys ≡ true) sub (callees graph.tables s.target) all) (sites_of graph.sites back f) calls
 
 pub calls-within : (graph : CallGraphState) (back xs : List ℕ) (f : ℕ) → IsBottomUp graph back xs → has f xs ≡ true → CallsOnly graph back xs f
 calls-within graph back [] f up h = true_false false h refl
@@ -70,8 +58,8 @@ module _ (graph : CallGraphState) (back : List ℕ) (max_path : ℕ) where
   bound_by-agree p q f others same calls =
       ap (λ n. slice_index graph.weights f + n)
       (most-agree graph.tables p q max_path (slice_index graph.weights f) (sites_of graph.sites back f)
-      (all-map (λ s. AllByRecursion (λ c. has c others ≡ true) (callees graph.tables s.target)) (λ s. AllByRecursion (λ c. p c ≡ q c) (callees graph.tables s.target))
-      (λ s all. all-map (λ c. has c others ≡ true) (λ c. p c ≡ q c) same (callees graph.tables s.target) all) (sites_of graph.sites back f) calls))
+      (All-weaker (λ s. AllByRecursion (λ c. has c others ≡ true) (callees graph.tables s.target)) (λ s. AllByRecursion (λ c. p c ≡ q c) (callees graph.tables s.target))
+      (λ s all. All-weaker (λ c. has c others ≡ true) (λ c. p c ≡ q c) same (callees graph.tables s.target) all) (sites_of graph.sites back f) calls))
 
   -- what is written for the next function changes no bound that there is
   pub bounds-kept : (order bounds : List ℕ) (i value : ℕ) → get_or order i 0 < length bounds →

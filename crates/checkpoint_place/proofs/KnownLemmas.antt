@@ -1,10 +1,5 @@
 -- What is known of tables stays so while bounds are written.
-use Rattle.std.proofs.Common.{◌≡◌, ℕ, zero, suc, ◌+◌, ◌<◌, Bool, true, Option, List, [], ◌∷◌, length, get_or, take, reverse, filter, ◌∙◌, arith}
-use Rattle.std.specs.List.{AllByRecursion}
-use Rattle.call_graph.specs.Lists.{has}
-use Rattle.call_graph.proofs.ListLemmas.{by_test}
-use Rattle.cycle_break.proofs.NumberLemmas.{all-map, has-tail}
-use Rattle.checkpoint_place.specs.KnownTables.{AreAmong, AreKnownAmong, IsKnown}
+use Rattle.checkpoint_place.proofs.Common.{◌≡◌, ℕ, zero, suc, ◌+◌, ◌<◌, Bool, true, Option, List, [], ◌∷◌, length, get_or, take, reverse, filter, ◌∙◌, arith, AllByRecursion, has, by_test, has-tail, AreAmong, AreKnownAmong, IsKnown, All-weaker}
 use Rattle.checkpoint_place.proofs.BoundLemmas.{greatest-agree, reverse-more}
 
 -- ---- other bounds that are the same where it matters
@@ -16,7 +11,7 @@ IsKnown-agree tables p q others known same among was = record {
   most = λ table value is.
       was.most table value is
       ∙ greatest-agree p q (get_or tables table [])
-      (all-map (λ c. has c others ≡ true) (λ c. p c ≡ q c) same (get_or tables table []) (among table value is));
+      (All-weaker (λ c. has c others ≡ true) (λ c. p c ≡ q c) same (get_or tables table []) (among table value is));
 }
 
 -- one function more
@@ -24,7 +19,7 @@ pub AreKnownAmong-more : (tables : List (List ℕ)) (order : List ℕ) (i : ℕ)
     AreKnownAmong tables (reverse (take i order)) known → AreKnownAmong tables (reverse (take (i + 1) order)) known
 AreKnownAmong-more tables order i known within among table value is =
     let more : AreAmong (get_or order i 0 ∷ reverse (take i order)) (get_or tables table []) =
-    all-map (λ c. has c (reverse (take i order)) ≡ true) (λ c. has c (get_or order i 0 ∷ reverse (take i order)) ≡ true)
+    All-weaker (λ c. has c (reverse (take i order)) ≡ true) (λ c. has c (get_or order i 0 ∷ reverse (take i order)) ≡ true)
     (λ c. has-tail c (get_or order i 0) (reverse (take i order))) (get_or tables table []) (among table value is) in
     rw (reverse-more order i within) more
 

@@ -1,3 +1,4 @@
+mod Common
 pub mod BoundLemmas
 pub mod KnownLemmas
 pub mod PlanLemmas

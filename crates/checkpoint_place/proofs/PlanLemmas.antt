@@ -1,10 +1,6 @@
 -- Where no frame is too large, every weight is at most max path.
-use Rattle.std.proofs.Common.{◌≡◌, ℕ, ◌+◌, ◌≤◌, Some, None, List, [], ◌∷◌, arith}
-use Rattle.std.proofs.lemmas.Bool.Decides.{nat_tests}
-use Rattle.std.specs.List.{AllByRecursion}
-use Rattle.call_graph.proofs.ListLemmas.{by_test}
+use Rattle.checkpoint_place.proofs.Common.{◌≡◌, ℕ, ◌+◌, ◌≤◌, Some, None, List, [], ◌∷◌, arith, nat_tests, AllByRecursion, by_test, is_too_large, refusal_from}
 use Rattle.checkpoint_place.specs.declared.refusals.PlaceError.TheVariants.{FrameTooLarge}
-use Rattle.checkpoint_place.specs.Refusal.{is_too_large, refusal_from}
 
 pub all-fit : (max_path function : ℕ) (weights : List ℕ) → refusal_from max_path function weights ≡ None → AllByRecursion (λ weight. weight ≤ max_path) weights
 all-fit max_path function [] h = tt

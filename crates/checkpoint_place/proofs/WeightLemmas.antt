@@ -1,19 +1,8 @@
 -- A bound is the greatest weight of a path of calls that passes no checkpoint.
-use Rattle.std.proofs.Common.{◌≡◌, inl, inr, ℕ, ◌+◌, ◌<◌, ◌≤◌, nat_le, Bool, true, false, List, [], ◌∷◌, length, map, filter, slice_index, refl, sym, ap, ◌∙◌, subst, arith}
-use Rattle.std.proofs.lemmas.Bool.Decides.{nat_tests}
-use Rattle.std.specs.List.{AllByRecursion}
-use Rattle.call_graph.specs.declared.sites.GraphSite.{GraphSite}
-use Rattle.call_graph.specs.Callees.{callees, greatest}
-use Rattle.call_graph.specs.Graph.{CallGraphState, function_count, IsSiteOf, IsCallGraph}
-use Rattle.call_graph.specs.Index.{sites_of}
-use Rattle.call_graph.specs.Lists.{has}
+use Rattle.checkpoint_place.proofs.Common.{◌≡◌, inl, inr, ℕ, ◌+◌, ◌<◌, ◌≤◌, nat_le, Bool, true, false, List, [], ◌∷◌, length, map, filter, slice_index, refl, sym, ap, ◌∙◌, subst, arith, nat_tests, AllByRecursion, GraphSite, callees, greatest, CallGraphState, function_count, IsSiteOf, IsCallGraph, sites_of, has, by_test, CallsOnly, IsBottomUp, all-has, has-cases, has-head, has-tail, true_false, callee_bound, is_within, is_checkpointed, IsPlacement}
 use Rattle.call_graph.specs.Paths.{Call, IsAmong, IsCallBy, IsPath, weight_along}
-use Rattle.call_graph.proofs.ListLemmas.{by_test}
-use Rattle.cycle_break.specs.BottomUp.{CallsOnly, IsBottomUp}
-use Rattle.cycle_break.proofs.NumberLemmas.{all-has, has-cases, has-head, has-tail, true_false}
 use Rattle.cycle_break.proofs.SiteLemmas.{IsOwn, all-own, own-among, among-all, among-filter, same-number}
 use Rattle.checkpoint_place.specs.declared.plans.Plan.{Plan}
-use Rattle.checkpoint_place.specs.Placement.{callee_bound, is_within, is_checkpointed, IsPlacement}
 use Rattle.checkpoint_place.specs.Weights.{IsWeightOfPath, IsGreatestWeight}
 
 -- ---- the greatest of some values
@@ -25,7 +14,7 @@ greatest-has v (d ∷ cs) c h =
     (λ e. subst (λ n. v n ≤ greatest v (d ∷ cs)) e (omega arith))
     (λ rest. omega (arith, greatest-has v cs c rest))
 
-greatest-among : (v : GraphSite → ℕ) (ss : List GraphSite) (s : GraphSite) → IsAmong ss s → v s ≤ greatest v ss
+pub greatest-among : (v : GraphSite → ℕ) (ss : List GraphSite) (s : GraphSite) → IsAmong ss s → v s ≤ greatest v ss
 greatest-among v [] s h = absurd h
 greatest-among v (t ∷ ss) s h = elim h [
   | inl e ↦ subst (λ x. v x ≤ greatest v (t ∷ ss)) e (omega arith)

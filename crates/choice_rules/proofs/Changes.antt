@@ -1,8 +1,6 @@
 -- The uses of the eight resources, and their changes.
-use Rattle.std.proofs.Common.{◌≡◌, ℕ, zero, suc, ◌<◌, ◌≤◌, ◌^◌, ℤ, pos, List, [], ◌∷◌, length, drop, refl, sym, ap, ◌∙◌, subst, arith}
 use Rattle.std.proofs.lemmas.Int.{ints}
-use Rattle.std.specs.Prelude.{slice_index, slice_index_or, ◌-ℤ◌, unsigned_abs, All}
-use Rattle.choice_rules.specs.Seen.{changes}
+use Rattle.choice_rules.proofs.Common.{◌≡◌, ℕ, zero, suc, ◌<◌, ◌≤◌, ◌^◌, ℤ, pos, List, [], ◌∷◌, length, drop, refl, sym, ap, ◌∙◌, subst, arith, slice_index, slice_index_or, ◌-ℤ◌, unsigned_abs, All, changes}
 
 pub at_drop : (xs : List ℕ) (r : ℕ) → slice_index (drop 1 xs) r ≡ slice_index xs (suc r)
 at_drop [] r = refl

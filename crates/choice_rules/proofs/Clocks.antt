@@ -1,13 +1,6 @@
 -- The clock of a choice point, and the times at which threads wake.
-use Rattle.std.proofs.Common.{◌≡◌, ℕ, ◌<◌, ◌||◌, Bool, true, false, ◌++◌, Option, Some, None, subst, arith}
-use Rattle.std.specs.Prelude.{nat_le}
-use Rattle.std.proofs.lemmas.Bool.Decides.{nat_tests}
+use Rattle.choice_rules.proofs.Common.{◌≡◌, ℕ, ◌<◌, ◌||◌, Bool, true, false, ◌++◌, Option, Some, None, subst, arith, nat_le, nat_tests, Event, event_times, IsClockBy, IsLeastOf, waking_times, Seen, or_right, or_parts}
 use Rattle.c_mean.specs.ModelledCalls.{is_past}
-use Rattle.event_trace.specs.declared.events.Event.{Event}
-use Rattle.choice_rules.specs.Clock.{event_times, IsClockBy, IsLeastOf}
-use Rattle.choice_rules.specs.Readiness.{waking_times}
-use Rattle.choice_rules.specs.Seen.{Seen}
-use Rattle.choice_rules.proofs.Tests.{not_both, right_true}
 
 -- ---- the clock stays or is moved
 
@@ -30,10 +23,10 @@ past_not time clock e = grind (arith, nat_tests, e)
 
 pub awake_by : (ready : Bool) (clock : ℕ) (o : Option ℕ) → o ≡ Some clock → (ready || is_past clock o) ≡ true
 awake_by ready clock None e = absurd (cc)
-awake_by ready clock (Some time) e = let is : time ≡ clock = cc in right_true ready (nat_le time clock) (past_at time clock is)
+awake_by ready clock (Some time) e = let is : time ≡ clock = cc in or_right ready (nat_le time clock) (past_at time clock is)
 
 pub later_by : (ready : Bool) (clock : ℕ) (o : Option ℕ) (time : ℕ) → (ready || is_past clock o) ≡ false → o ≡ Some time → clock < time
 later_by ready clock None time e is = absurd (cc)
 later_by ready clock (Some t) time e is =
     let same : t ≡ time = cc in
-    subst (λ (n : ℕ). clock < n) same (past_not t clock (not_both ready (nat_le t clock) e).1)
+    subst (λ (n : ℕ). clock < n) same (past_not t clock (or_parts ready (nat_le t clock) e).1)

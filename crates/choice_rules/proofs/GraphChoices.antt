@@ -1,25 +1,12 @@
 -- The scheduler's choice is the lawful one by the graph.
-use Rattle.std.proofs.Common.{◌≡◌, ℕ, ◌&&◌, ◌||◌, Bool, true, false, nat_eq, not, List, [], ◌∷◌, Option, Some, None, find, refl, sym, ap, ◌∙◌, subst, cond}
-use Rattle.std.specs.Prelude.{IsSome, IsTrue, ℤ}
-use Rattle.std.specs.List.{AllByRecursion, list_any}
-use Rattle.std.proofs.lemmas.Bool.{cond-true, cond-false, eq-eqb, eqb-true}
-use Rattle.blocking_graph.specs.Edges.{edges_of}
+use Rattle.choice_rules.proofs.Common.{◌≡◌, ℕ, ◌&&◌, ◌||◌, Bool, true, false, nat_eq, not, List, [], ◌∷◌, Option, Some, None, find, refl, sym, ap, ◌∙◌, subst, cond, IsSome, IsTrue, ℤ, AllByRecursion, list_any, cond-true, cond-false, eq-eqb, eqb-true, edges_of, ThreadId, IsGraphChoice, monitor_of, score_of, queue_at, Policy, is_ready, at_accept, any_ready, any_elsewhere, Seen, Waiter, last_choice, at_node, IsPlaced, AreQueued, Choice, score, comes_before, ranks_below, SchedulerState, queue_of, last_of, or_right, or_left}
 use Rattle.blocking_graph.specs.declared.edges.EdgeLine.{EdgeLine}
-use Rattle.cap_word.specs.declared.threads.ThreadId.{ThreadId}
 use Rattle.choice_rules.specs.Choice as rules
-use Rattle.choice_rules.specs.Choice.{IsGraphChoice, monitor_of, score_of, queue_at}
-use Rattle.choice_rules.specs.Policy.{Policy}
-use Rattle.choice_rules.specs.Readiness.{is_ready, at_accept, any_ready, any_elsewhere}
-use Rattle.choice_rules.specs.Seen.{Seen, Waiter, last_choice}
-use Rattle.choice_rules.specs.Waiting.{at_node, IsPlaced, AreQueued}
 use Rattle.choice_rules.proofs.Queues.{find_same, some_eligible, all_at_node}
 use Rattle.choice_rules.proofs.Strides.{all_found}
-use Rattle.choice_rules.proofs.Tests.{either, left_true, right_true}
+use Rattle.choice_rules.proofs.Tests.{either}
 use Rattle.resource_monitor.specs.Monitor.{MonitorState}
-use Rattle.scheduler.specs.declared.choices.Choice.{Choice}
 use Rattle.scheduler.specs.LawfulChoice.{is_eligible, IsLeast, IsLawfulChoice}
-use Rattle.scheduler.specs.Scores.{score, comes_before, ranks_below}
-use Rattle.scheduler.specs.State.{SchedulerState, queue_of, last_of}
 
 -- ---- a waiter of a queue
 
@@ -64,8 +51,8 @@ passes_at (x ∷ xs) test e = either (test x) (list_any test xs) e _
 weaker : (xs : List Waiter) (test other : Waiter → Bool) → ((x : Waiter) → test x ≡ true → other x ≡ true) → list_any test xs ≡ true → list_any other xs ≡ true
 weaker [] test other implies e = e
 weaker (x ∷ xs) test other implies e = either (test x) (list_any test xs) e _
-    (λ here. left_true (other x) (list_any other xs) (implies x here))
-    (λ later. right_true (other x) (list_any other xs) (weaker xs test other implies later))
+    (λ here. or_left (other x) (list_any other xs) (implies x here))
+    (λ later. or_right (other x) (list_any other xs) (weaker xs test other implies later))
 
 -- ---- eligible
 

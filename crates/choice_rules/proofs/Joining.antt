@@ -1,11 +1,6 @@
 -- A thread joins the queue of a node.
-use Rattle.std.proofs.Common.{◌≡◌, ◌≢◌, ℕ, List, [], ◌∷◌, ◌++◌, Option, Bool, cond, ⊎_elim, refl, sym, ap, ◌∙◌, subst, append-nil}
-use Rattle.std.proofs.lemmas.Bool.{cases_eq, eq-eqb, ne_eqb}
-use Rattle.cap_word.specs.declared.threads.ThreadId.{ThreadId}
-use Rattle.choice_rules.specs.Seen.{Waiter}
-use Rattle.choice_rules.specs.Waiting.{IsPlaced, IsQueue, AreQueued, at_node}
+use Rattle.choice_rules.proofs.Common.{◌≡◌, ◌≢◌, ℕ, List, [], ◌∷◌, ◌++◌, Option, Bool, cond, ⊎_elim, refl, sym, ap, ◌∙◌, subst, append-nil, cases_eq, eq-eqb, ne_eqb, ThreadId, Waiter, IsPlaced, IsQueue, AreQueued, at_node, SchedulerState, queue_of, IsJoined}
 use Rattle.choice_rules.proofs.Queues.{at_node-append, queue_append}
-use Rattle.scheduler.specs.State.{SchedulerState, queue_of, IsJoined}
 
 at_own : (x : Waiter) (node : ℕ) → x.node ≡ node → at_node (x ∷ []) node ≡ x ∷ []
 at_own x node e = ap (λ (b : Bool). cond b (x ∷ []) []) (eq-eqb x.node node e)

@@ -1,16 +1,8 @@
 -- The queues after a choice.
-use Rattle.std.proofs.Common.{◌≡◌, ◌≢◌, ℕ, Bool, true, false, nat_eq, List, [], ◌∷◌, Option, Some, find, sym, ap, ◌∙◌, subst, cond, ⊎_elim}
-use Rattle.std.specs.List.{AllByRecursion}
-use Rattle.std.proofs.lemmas.Bool.{cases_eq, cond-true, cond-false, eq-eqb, ne_eqb}
-use Rattle.cap_word.specs.declared.threads.ThreadId.{ThreadId}
-use Rattle.choice_rules.specs.Seen.{Waiter}
-use Rattle.choice_rules.specs.Waiting.{IsOnce, IsQueue, AreQueued, at_node}
+use Rattle.choice_rules.proofs.Common.{◌≡◌, ◌≢◌, ℕ, Bool, true, false, nat_eq, List, [], ◌∷◌, Option, Some, find, sym, ap, ◌∙◌, subst, cond, ⊎_elim, AllByRecursion, cases_eq, cond-true, cond-false, eq-eqb, ne_eqb, ThreadId, Waiter, IsOnce, IsQueue, AreQueued, at_node, without, SchedulerState, queue_of, IsNoted, Choice}
 use Rattle.choice_rules.proofs.Queues.{all_at_node, at_node-but, but_none, without_found}
 use Rattle.choice_rules.proofs.Strides.{all_found}
 use Rattle.choice_rules.proofs.Waiters.{but}
-use Rattle.scheduler.specs.Queues.{without}
-use Rattle.scheduler.specs.State.{SchedulerState, queue_of, IsNoted}
-use Rattle.scheduler.specs.declared.choices.Choice.{Choice}
 
 once_on : (t : Bool) (x : Waiter) (xs : List Waiter) → AllByRecursion (λ y. y.thread ≢ x.thread) xs → IsOnce xs → IsOnce (cond t (x ∷ xs) xs)
 once_on true x xs apart once = (apart, once)

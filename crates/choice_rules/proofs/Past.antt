@@ -1,11 +1,7 @@
 -- The gate and the edges after one segment more.
-use Rattle.std.proofs.Common.{◌≡◌, ℕ, List, [], ◌∷◌, ◌++◌}
 use Rattle.std.proofs.lemmas.List.Sums.{fold-append}
-use Rattle.blocking_graph.specs.Edges.{edges_of, edges_with}
+use Rattle.choice_rules.proofs.Common.{◌≡◌, ℕ, List, [], ◌∷◌, ◌++◌, edges_of, edges_with, is_open, Policy, all_caps, Past}
 use Rattle.blocking_graph.specs.declared.segments.SegmentRecord.{SegmentRecord}
-use Rattle.choice_rules.specs.Choice.{is_open}
-use Rattle.choice_rules.specs.Policy.{Policy, all_caps}
-use Rattle.choice_rules.specs.Seen.{Past}
 use Rattle.resource_monitor.specs.Gate.{gate, gate_after}
 use Rattle.resource_monitor.specs.Pressure.{pressures}
 

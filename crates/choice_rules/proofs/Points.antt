@@ -1,25 +1,12 @@
 -- At a choice point the next line of the trace, the clock and the lawful choice are one, and the run goes on or stops.
-use Rattle.std.proofs.Common.{◌≡◌, ◌≢◌, ℕ, ◌+◌, ◌<◌, ◌≤◌, Bool, true, false, ◌||◌, inl, inr, List, [], length, Option, Some, None, refl, sym, ◌∙◌, ap, subst, arith}
-use Rattle.std.specs.Prelude.{Contains, IsTrue, IsSome, find, ℤ, nat_eq}
-use Rattle.std.proofs.lemmas.Bool.Decides.{nat_tests}
-use Rattle.std.proofs.lemmas.Bool.{eqb-true}
+use Rattle.choice_rules.proofs.Common.{◌≡◌, ◌≢◌, ℕ, ◌+◌, ◌<◌, ◌≤◌, Bool, true, false, ◌||◌, inl, inr, List, [], length, Option, Some, None, refl, sym, ◌∙◌, ap, subst, arith, Contains, IsTrue, IsSome, find, ℤ, nat_eq, nat_tests, eqb-true, Event, comes_before, Rule, by_graph, by_stride, Policy, Waiter, Seen, last_choice, any_ready, waking_times, is_due, IsLeastOf, IsClockBy, IsChoicePoint, is_eligible, queue_at, score_of, IsGraphChoice, goes_before_at, IsStrideChoice, IsLawfulBy, IsLawful, IsChoice, pass_of, goes_before-asym, by_test}
 use Rattle.std.proofs.lemmas.List.Elements.{All-contains}
-use Rattle.event_trace.specs.declared.events.Event.{Event}
 use Rattle.schedule_log.specs.declared.entries.Item.{Item}
-use Rattle.scheduler.specs.Scores.{comes_before}
-use Rattle.scheduler.proofs.ChoiceLemmas.{by_test}
 use Rattle.scheduler.proofs.OrderLemmas.{comes_before-asym}
-use Rattle.choice_rules.specs.Policy.{Rule, by_graph, by_stride, Policy}
 use Rattle.choice_rules.specs.Trace.{Trace, IsNext, IsRefused}
-use Rattle.choice_rules.specs.Seen.{Waiter, Seen, last_choice}
-use Rattle.choice_rules.specs.Readiness.{any_ready, waking_times}
-use Rattle.choice_rules.specs.Clock.{is_due, IsLeastOf, IsClockBy, IsChoicePoint}
 use Rattle.choice_rules.specs.Deliveries.{IsDelivery}
-use Rattle.choice_rules.specs.Choice.{is_eligible, queue_at, score_of, IsGraphChoice, goes_before_at, IsStrideChoice, IsLawfulBy, IsLawful, IsChoice}
 use Rattle.choice_rules.specs.Stops.{IsDone, IsBadTrace, IsIdle}
-use Rattle.choice_rules.specs.Strides.{pass_of}
 use Rattle.choice_rules.proofs.Strides.{all_found, first_passes, one_thread}
-use Rattle.stride_rule.proofs.OrderLemmas.{goes_before-asym}
 
 -- ---- tests
 

@@ -1,12 +1,5 @@
 -- Queues of a scheduler beside the threads that wait.
-use Rattle.std.proofs.Common.{◌≡◌, ◌≢◌, ℕ, ◌==◌, ◌&&◌, Bool, true, false, nat_eq, not, List, [], ◌∷◌, ◌++◌, Option, Some, find, refl, sym, ap, ◌∙◌, subst, cond}
-use Rattle.std.specs.Prelude.{IsSome}
-use Rattle.std.specs.List.{AllByRecursion}
-use Rattle.std.proofs.lemmas.Bool.{cond-true, cond-false, eq-eqb, ne_eqb}
-use Rattle.cap_word.specs.declared.threads.ThreadId.{ThreadId}
-use Rattle.choice_rules.specs.Seen.{Waiter}
-use Rattle.scheduler.specs.Queues.{is_same, without}
-use Rattle.choice_rules.specs.Waiting.{IsOnce, at_node, IsPlaced, IsQueue}
+use Rattle.choice_rules.proofs.Common.{◌≡◌, ◌≢◌, ℕ, ◌==◌, ◌&&◌, Bool, true, false, nat_eq, not, List, [], ◌∷◌, ◌++◌, Option, Some, find, refl, sym, ap, ◌∙◌, subst, cond, IsSome, AllByRecursion, cond-true, cond-false, eq-eqb, ne_eqb, ThreadId, Waiter, is_same, without, IsOnce, at_node, IsPlaced, IsQueue, and_from, and_right}
 use Rattle.choice_rules.proofs.Waiters.{but}
 
 -- ---- more at the end
@@ -105,19 +98,11 @@ but_none number [] all = refl
 but_none number (x ∷ xs) all =
     ap (λ (v : Bool). cond (not v) (x ∷ but number xs) (but number xs)) (ne_eqb x.thread number all.0) ∙ ap (λ (l : List Waiter). x ∷ l) (but_none number xs all.1)
 
-both : (a b : Bool) → a ≡ true → b ≡ true → (a && b) ≡ true
-both true b p q = q
-both false b p q = absurd (cc)
-
 is_same_self : (t : ThreadId) → is_same t t ≡ true
-is_same_self t = both (t.slot == t.slot) (t.number == t.number) (eq-eqb t.slot t.slot refl) (eq-eqb t.number t.number refl)
-
-not_right : (a b : Bool) → b ≡ false → (a && b) ≡ false
-not_right true b e = e
-not_right false b e = refl
+is_same_self t = and_from (t.slot == t.slot) (t.number == t.number) (eq-eqb t.slot t.slot refl) (eq-eqb t.number t.number refl)
 
 other_number : (t u : ThreadId) → t.number ≢ u.number → is_same t u ≡ false
-other_number t u apart = not_right (t.slot == u.slot) (t.number == u.number) (ne_eqb t.number u.number apart)
+other_number t u apart = and_right (t.slot == u.slot) (t.number == u.number) (ne_eqb t.number u.number apart)
 
 number_on : (a : Bool) (u : ThreadId) (ts : List ThreadId) (eligible : ThreadId → Bool) (t : ThreadId) (number : ℕ) (x : Waiter) → u.number ≡ x.thread → eligible u ≡ a → cond a (Some u) (find eligible ts) ≡ Some t →
     x.thread ≢ number → (find eligible ts ≡ Some t → ⊥) → t.number ≡ number → ⊥

@@ -1,8 +1,5 @@
 -- The lawful choice where the rule is known.
-use Rattle.std.proofs.Common.{◌≡◌, ℕ, List, sym, subst}
-use Rattle.choice_rules.specs.Policy.{Rule, by_graph, by_stride, Policy}
-use Rattle.choice_rules.specs.Seen.{Waiter, Seen}
-use Rattle.choice_rules.specs.Choice.{IsGraphChoice, IsStrideChoice, IsLawfulBy, IsLawful}
+use Rattle.choice_rules.proofs.Common.{◌≡◌, ℕ, List, sym, subst, Rule, by_graph, by_stride, Policy, Waiter, Seen, IsGraphChoice, IsStrideChoice, IsLawfulBy, IsLawful}
 
 module _ (policy : Policy) (seen : Seen) (clock : ℕ) (chosen : Waiter) (rule_is : policy.rule ≡ by_graph) where
   pub lawful_by_graph : IsGraphChoice policy seen clock chosen → IsLawful policy seen clock chosen

@@ -1,14 +1,7 @@
 -- The choice by strides: the waiters that are found, the first of the eligible ones, and the passes after one more choice.
-use Rattle.std.proofs.Common.{◌≡◌, ◌≢◌, ℕ, ◌+◌, ◌<◌, ◌≤◌, ◌&&◌, Bool, true, false, IsTrue, List, [], ◌∷◌, Some, refl, sym, ◌∙◌, subst, arith}
-use Rattle.std.specs.Prelude.{find, nat_eq, nat_le}
-use Rattle.std.specs.List.{AllByRecursion, list_any}
-use Rattle.std.proofs.lemmas.Bool.Decides.{nat_tests}
-use Rattle.choice_rules.specs.Seen.{Waiter, PastChoice}
-use Rattle.choice_rules.specs.Strides.{pass_of, latest_pass}
-use Rattle.scheduler.proofs.ChoiceLemmas.{by_test}
+use Rattle.choice_rules.proofs.Common.{◌≡◌, ◌≢◌, ℕ, ◌+◌, ◌<◌, ◌≤◌, ◌&&◌, Bool, true, false, IsTrue, List, [], ◌∷◌, Some, refl, sym, ◌∙◌, subst, arith, find, nat_eq, nat_le, AllByRecursion, list_any, nat_tests, Waiter, PastChoice, pass_of, latest_pass, goes_before-asym, goes_before-total, goes_before-cotrans, by_test}
 use Rattle.stride_rule.specs.Clients.{goes_before}
 use Rattle.stride_rule.specs.Tickets.{stride_of}
-use Rattle.stride_rule.proofs.OrderLemmas.{goes_before-asym, goes_before-total, goes_before-cotrans}
 
 -- ---- what is found
 
@@ -27,7 +20,7 @@ found_passes test (x ∷ xs) w e =
     (λ here. let it : Some x ≡ Some w = rw here at e in let is : x ≡ w = cc in subst (λ (v : Waiter). test v ≡ true) is here)
     (λ later. let rest : find test xs ≡ Some w = rw later at e in found_passes test xs w rest)
 
-both_left : (a b : Bool) → (a && b) ≡ true → a ≡ true
+pub both_left : (a b : Bool) → (a && b) ≡ true → a ≡ true
 both_left true b e = refl
 both_left false b e = absurd (let failing : false ≡ true = e in cc)
 

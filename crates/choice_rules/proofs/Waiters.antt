@@ -1,17 +1,7 @@
 -- Lists of waiting threads.
-use Rattle.std.proofs.Common.{◌≡◌, ◌≢◌, ℕ, ◌+◌, ◌-◌, ◌≤◌, ◌||◌, Bool, true, false, nat_eq, not, List, [], ◌∷◌, ◌++◌, length, map, refl, sym, ap, ◌∙◌, cond, ⊎_elim, arith}
-use Rattle.std.specs.Prelude.{filter}
-use Rattle.std.specs.List.{AllByRecursion, range_with_len}
-use Rattle.std.proofs.lemmas.Bool.{cases_eq, eq-eqb, ne_eqb}
+use Rattle.choice_rules.proofs.Common.{◌≡◌, ◌≢◌, ℕ, ◌+◌, ◌-◌, ◌≤◌, ◌||◌, Bool, true, false, nat_eq, not, List, [], ◌∷◌, ◌++◌, length, map, refl, sym, ap, ◌∙◌, cond, ⊎_elim, arith, filter, AllByRecursion, range_with_len, cases_eq, eq-eqb, ne_eqb, Waiter, newcomers, IsOnce, waits, All-append, or_left, or_parts, or_from}
 use Rattle.std.proofs.lemmas.List.FromFn.{map-range_with_len_more}
 use Rattle.c_mean.specs.World as source
-use Rattle.choice_rules.specs.Seen.{Waiter, newcomers}
-use Rattle.choice_rules.specs.Waiting.{IsOnce, waits}
-use Rattle.choice_rules.proofs.Tests.{left_true, not_both, one_false}
-
-pub all_append : {X : Type 0} (P : X → Type 0) (a b : List X) → AllByRecursion P a → AllByRecursion P b → AllByRecursion P (a ++ b)
-all_append P [] b p q = q
-all_append P (x ∷ a) b p q = (p.0, all_append P a b p.1 q)
 
 joined : (t a b c : Bool) → c ≡ (a || b) → (t || c) ≡ ((t || a) || b)
 joined true a b c e = refl
@@ -25,26 +15,26 @@ pub self : (n : ℕ) → nat_eq n n ≡ true
 self n = eq-eqb n n refl
 
 pub waits_one : (x : Waiter) → waits (x ∷ []) x.thread ≡ true
-waits_one x = left_true (nat_eq x.thread x.thread) false (self x.thread)
+waits_one x = or_left (nat_eq x.thread x.thread) false (self x.thread)
 
 pub waits_other : (x : Waiter) (number : ℕ) → x.thread ≢ number → waits (x ∷ []) number ≡ false
-waits_other x number apart = one_false (nat_eq x.thread number) false (ne_eqb x.thread number apart) refl
+waits_other x number apart = or_from (nat_eq x.thread number) false (ne_eqb x.thread number apart) refl
 
 -- no thread of that number waits
 pub none_waits : (waiting : List Waiter) (number : ℕ) → AllByRecursion (λ w. w.thread ≢ number) waiting → waits waiting number ≡ false
 none_waits [] number all = refl
-none_waits (x ∷ waiting) number all = one_false (nat_eq x.thread number) (waits waiting number) (ne_eqb x.thread number all.0) (none_waits waiting number all.1)
+none_waits (x ∷ waiting) number all = or_from (nat_eq x.thread number) (waits waiting number) (ne_eqb x.thread number all.0) (none_waits waiting number all.1)
 
 pub differ_all : (waiting : List Waiter) (number : ℕ) → waits waiting number ≡ false → AllByRecursion (λ w. w.thread ≢ number) waiting
 differ_all [] number e = tt
 differ_all (x ∷ waiting) number e =
-    let both : (nat_eq x.thread number ≡ false) × (waits waiting number ≡ false) = not_both (nat_eq x.thread number) (waits waiting number) e in
+    let both : (nat_eq x.thread number ≡ false) × (waits waiting number ≡ false) = or_parts (nat_eq x.thread number) (waits waiting number) e in
     ((λ same. let yes : nat_eq x.thread number ≡ true = eq-eqb x.thread number same in absurd (let no : true ≡ false = sym yes ∙ both.0 in cc)), differ_all waiting number both.1)
 
 once_last : (a : List Waiter) (x : Waiter) → IsOnce a → AllByRecursion (λ w. w.thread ≢ x.thread) a → IsOnce (a ++ x ∷ [])
 once_last [] x once apart = (tt, tt)
 once_last (y ∷ a) x once apart =
-    (all_append (λ w. w.thread ≢ y.thread) a (x ∷ []) once.0 ((λ e. apart.0 (sym e)), tt), once_last a x once.1 apart.1)
+    (All-append (λ w. w.thread ≢ y.thread) a (x ∷ []) once.0 ((λ e. apart.0 (sym e)), tt), once_last a x once.1 apart.1)
 
 pub once_append : (a : List Waiter) (x : Waiter) → IsOnce a → waits a x.thread ≡ false → IsOnce (a ++ x ∷ [])
 once_append a x once none = once_last a x once (differ_all a x.thread none)
@@ -76,7 +66,7 @@ waits_but_self number [] = refl
 waits_but_self number (x ∷ waiting) = ⊎_elim
     (λ (same : x.thread ≡ number). ap (λ (t : Bool). waits (cond (not t) (x ∷ but number waiting) (but number waiting)) number) (eq-eqb x.thread number same) ∙ waits_but_self number waiting)
     (λ apart. ap (λ (t : Bool). waits (cond (not t) (x ∷ but number waiting) (but number waiting)) number) (ne_eqb x.thread number apart)
-    ∙ one_false (nat_eq x.thread number) (waits (but number waiting) number) (ne_eqb x.thread number apart) (waits_but_self number waiting))
+    ∙ or_from (nat_eq x.thread number) (waits (but number waiting) number) (ne_eqb x.thread number apart) (waits_but_self number waiting))
     (cases_eq x.thread number)
 
 pub waits_but_other : (number other : ℕ) (waiting : List Waiter) → other ≢ number → waits (but number waiting) other ≡ waits waiting other

@@ -1,12 +1,6 @@
 -- What the checker answers, from the two least numbers that it takes.
-use Rattle.std.proofs.Common.{◌≡◌, ℕ, ◌≤◌, length, Some, None}
-use Rattle.flat_code.specs.Codes.{FlatCode}
-use Rattle.flat_code.specs.WellFormed.{IsWellFormed}
-use Rattle.stack_certificate.specs.declared.certificates.Certificate.{Certificate}
-use Rattle.chunk_budget.specs.declared.budgets.Budget.{Budget}
+use Rattle.chunk_budget.proofs.Common.{◌≡◌, ℕ, ◌≤◌, length, Some, None, FlatCode, IsWellFormed, Certificate, Budget, IsLeastOf, IsBudget, IsRefusal, IsLow, IsHighRoot}
 use Rattle.chunk_budget.specs.declared.budgets.BudgetError.TheVariants.{Low, Root}
-use Rattle.call_cycles.specs.Cycles.{IsLeastOf}
-use Rattle.chunk_budget.specs.Budgets.{IsBudget, IsRefusal, IsLow, IsHighRoot}
 use Rattle.chunk_budget.proofs.CoverLemmas.{all_covered}
 use Rattle.chunk_budget.proofs.RootLemmas.{all_low}
 

@@ -1,22 +1,7 @@
 -- The least site that the checker takes is the least at which a call isn't covered.
-use Rattle.std.proofs.Common.{◌≡◌, ℕ, ◌+◌, ◌<◌, ◌≤◌, ◌⊎◌, List, [], ◌∷◌, length, refl, sym, ap, ◌∙◌, subst, arith, Some, None, inl, inr, ⊎_elim, leb-true, leb-false}
-use Rattle.std.specs.Prelude.{Option, nat_le, nat_lt, map}
-use Rattle.std.proofs.lemmas.Bool.{ltb-false, le-ltb}
-use Rattle.std.specs.List.{AllByRecursion}
-use Rattle.std.proofs.lemmas.Option.{none-some, same_Some}
-use Rattle.call_graph.proofs.ListLemmas.{by_test, all-at}
-use Rattle.flat_code.specs.declared.operations.Op.{Op}
-use Rattle.flat_code.specs.Codes.{FlatCode, function_at, operation_at, members_of}
-use Rattle.flat_code.specs.WellFormed.{IsFunction, IsOperation, IsWellFormed, context_of, signature_of}
+use Rattle.chunk_budget.proofs.Common.{◌≡◌, ℕ, ◌+◌, ◌<◌, ◌≤◌, ◌⊎◌, List, [], ◌∷◌, length, refl, sym, ap, ◌∙◌, subst, arith, Some, None, inl, inr, ⊎_elim, leb-true, leb-false, Option, nat_le, nat_lt, map, ltb-false, le-ltb, AllByRecursion, none-some, same_Some, by_test, all-at, Op, FlatCode, function_at, operation_at, members_of, IsFunction, IsOperation, IsWellFormed, context_of, signature_of, Certificate, kind_of, slice_get_within, get_or_from_slice_get, IsLeastOf, height_of, chunks_added, IsCovered, AreCovered, IsLow, least_below, highest, unless, low_site}
 use Rattle.cap_word.specs.Signatures.{IsTable}
-use Rattle.stack_certificate.specs.declared.certificates.Certificate.{Certificate}
-use Rattle.stack_certificate.specs.Templates.{kind_of}
 use Rattle.certificate_rules.specs.Sites.{certified_site}
-use Rattle.std.proofs.lemmas.Option.{slice_get_within, get_or_from_slice_get}
-use Rattle.call_cycles.specs.Cycles.{IsLeastOf}
-use Rattle.chunk_budget.specs.Budgets.{height_of, chunks_added, IsCovered, AreCovered, IsLow}
-use Rattle.chunk_budget.specs.Least.{least_below}
-use Rattle.chunk_budget.specs.Tests.{highest, unless, low_site}
 use Rattle.chunk_budget.proofs.LeastLemmas.{IsHeldBelow, same_least, below_least, inside}
 
 -- ---- what a test tells

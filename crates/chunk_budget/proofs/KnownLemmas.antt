@@ -1,10 +1,6 @@
 -- What is kept of tables.
-use Rattle.std.proofs.Common.{ℕ, zero, suc, List, [], ◌∷◌, set, replicate}
-use Rattle.std.specs.Prelude.{Option, None}
-use Rattle.std.specs.List.{AllByRecursion}
-use Rattle.flat_code.specs.Codes.{FlatCode}
+use Rattle.chunk_budget.proofs.Common.{ℕ, zero, suc, List, [], ◌∷◌, set, replicate, Option, None, AllByRecursion, FlatCode, IsRight}
 use Rattle.chunk_budget.specs.declared.heights.Highest.{Highest}
-use Rattle.chunk_budget.specs.Known.{IsRight}
 
 pub none-right : (code : FlatCode) (heights : List ℕ) (n : ℕ) → AllByRecursion (IsRight code heights) (replicate n None)
 none-right code heights zero = tt

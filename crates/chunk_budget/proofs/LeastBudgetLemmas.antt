@@ -1,16 +1,7 @@
 -- The budget that is made is the least.
-use Rattle.std.proofs.Common.{◌≡◌, inl, inr, ⊎_elim, ℕ, zero, suc, ◌+◌, ◌-◌, ◌<◌, ◌≤◌, max, List, [], ◌∷◌, length, drop, drop-cons, add-one, refl, sym, ap, ◌∙◌, arith}
 use Rattle.std.specs.Ordering.{nat_cmp, ord_max}
-use Rattle.std.proofs.lemmas.Grind.{common_steps}
-use Rattle.std.specs.Prelude.{Some, slice_index_or}
-use Rattle.flat_code.specs.declared.operations.Op.{Op}
-use Rattle.flat_code.specs.Codes.{FlatCode, function_at, operation_at}
-use Rattle.stack_certificate.specs.declared.certificates.Certificate.{Certificate}
-use Rattle.call_graph.specs.Callees.{greatest}
-use Rattle.chunk_budget.specs.declared.budgets.Budget.{Budget}
-use Rattle.chunk_budget.specs.Budgets.{height_of, AreCovered, IsRoot, IsSpawned}
+use Rattle.chunk_budget.proofs.Common.{◌≡◌, inl, inr, ⊎_elim, ℕ, zero, suc, ◌+◌, ◌-◌, ◌<◌, ◌≤◌, max, List, [], ◌∷◌, length, drop, drop-cons, add-one, refl, sym, ap, ◌∙◌, arith, common_steps, Some, slice_index_or, Op, FlatCode, function_at, operation_at, Certificate, greatest, Budget, height_of, AreCovered, IsRoot, IsSpawned, height_spawned, greatest_below}
 use Rattle.chunk_budget.specs.LeastBudgets.{IsLeastBudget}
-use Rattle.chunk_budget.specs.Made.{height_spawned, greatest_below}
 use Rattle.chunk_budget.proofs.LeastLemmas.{inside}
 use Rattle.chunk_budget.proofs.MadeLemmas.{greatest-at, greatest-within, below-at, below-within, AreLeast}
 

@@ -1,13 +1,5 @@
 -- The least of the numbers that a program's operations have is the least that some operation has.
-use Rattle.std.proofs.Common.{◌≡◌, ℕ, zero, suc, ◌+◌, ◌<◌, ◌≤◌, ◌⊎◌, false, min, List, [], ◌∷◌, length, refl, sym, ap, ◌∙◌, subst, arith, Some, None, inl, inr, ⊎_elim, drop, drop-cons, add-one}
-use Rattle.std.specs.Prelude.{Option, slice_get, slice_index_or}
-use Rattle.std.proofs.lemmas.Bool.{cases_lt}
-use Rattle.std.proofs.lemmas.Option.{none-some, same_Some}
-use Rattle.std.proofs.lemmas.List.{get_or_past}
-use Rattle.flat_code.specs.declared.operations.Op.{Op}
-use Rattle.flat_code.specs.Codes.{FlatCode, function_at, operation_at}
-use Rattle.call_cycles.specs.Cycles.{IsLeast, IsLeastOf}
-use Rattle.chunk_budget.specs.Least.{lesser, least_in, least_below}
+use Rattle.chunk_budget.proofs.Common.{◌≡◌, ℕ, zero, suc, ◌+◌, ◌<◌, ◌≤◌, ◌⊎◌, false, min, List, [], ◌∷◌, length, refl, sym, ap, ◌∙◌, subst, arith, Some, None, inl, inr, ⊎_elim, drop, drop-cons, add-one, Option, slice_get, slice_index_or, cases_lt, none-some, same_Some, get_or_past, Op, FlatCode, function_at, operation_at, IsLeast, IsLeastOf, lesser, least_in, least_below}
 
 pub same_least : (P Q : ℕ → Type 0) (r : Option ℕ) → ((n : ℕ) → P n → Q n) → ((n : ℕ) → Q n → P n) → IsLeastOf P r → IsLeastOf Q r
 same_least P Q None to from h = λ n q. h n (from n q)

@@ -1,3 +1,4 @@
+mod Common
 pub mod LeastLemmas
 pub mod CoverLemmas
 pub mod RootLemmas

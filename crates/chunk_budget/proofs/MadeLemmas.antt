@@ -1,24 +1,9 @@
 -- The heights that are made cover each call, and are at most those of any other heights that do.
-use Rattle.std.proofs.Common.{◌≡◌, ◌≢◌, inl, inr, ◌⊎◌, ℕ, zero, suc, ◌+◌, ◌<◌, ◌≤◌, max, true, List, [], ◌∷◌, length, set, refl, sym, ap, ◌∙◌, subst, arith}
-use Rattle.std.specs.Prelude.{Some, slice_get, slice_index}
-use Rattle.std.specs.List.{AllByRecursion}
-use Rattle.std.proofs.lemmas.Bool.{cases_lt}
-use Rattle.std.proofs.lemmas.List.{get_or-set_same, get_or-set_other}
-use Rattle.std.proofs.lemmas.Option.{none-some, same_Some}
-use Rattle.flat_code.specs.declared.operations.Op.{Op}
-use Rattle.flat_code.specs.Codes.{FlatCode, function_at, operation_at, members_of}
-use Rattle.flat_code.specs.WellFormed.{IsWellFormed}
-use Rattle.stack_certificate.specs.declared.certificates.Certificate.{Certificate}
-use Rattle.stack_certificate.specs.Templates.{kind_of}
-use Rattle.call_graph.specs.Callees.{greatest}
+use Rattle.chunk_budget.proofs.Common.{◌≡◌, ◌≢◌, inl, inr, ◌⊎◌, ℕ, zero, suc, ◌+◌, ◌<◌, ◌≤◌, max, true, List, [], ◌∷◌, length, set, refl, sym, ap, ◌∙◌, subst, arith, Some, slice_get, slice_index, AllByRecursion, cases_lt, get_or-set_same, get_or-set_other, none-some, same_Some, Op, FlatCode, function_at, operation_at, members_of, IsWellFormed, Certificate, kind_of, greatest, functions_called, Calls, height_of, chunks_added, IsCovered, AreCovered, highest, height_asked, greatest_below}
 use Rattle.call_graph.specs.Lists.{has}
 use Rattle.call_graph.proofs.IndexLemmas.{by_eq}
 use Rattle.cycle_break.proofs.NumberLemmas.{has-head, has-tail, all-has}
-use Rattle.call_cycles.specs.Cycles.{functions_called, Calls}
 use Rattle.call_cycles.specs.Orders.{StandsBefore, IsFromBottom}
-use Rattle.chunk_budget.specs.Budgets.{height_of, chunks_added, IsCovered, AreCovered}
-use Rattle.chunk_budget.specs.Tests.{highest}
-use Rattle.chunk_budget.specs.Made.{height_asked, greatest_below}
 use Rattle.chunk_budget.proofs.CoverLemmas.{all_within, highest_within, HasMember, has_member}
 use Rattle.chunk_budget.proofs.LeastLemmas.{inside}
 

@@ -1,15 +1,5 @@
 -- The least function that the checker takes is the least first function of a thread that is too high.
-use Rattle.std.proofs.Common.{◌≡◌, ℕ, ◌-◌, ◌≤◌, ◌⊎◌, List, length, sym, ap, ◌∙◌, subst, arith, Some, inl, inr, ⊎_elim}
-use Rattle.std.specs.Prelude.{Option}
-use Rattle.std.proofs.lemmas.Bool.{cases_lt}
-use Rattle.std.proofs.lemmas.Option.{none-some}
-use Rattle.flat_code.specs.declared.operations.Op.{Op}
-use Rattle.flat_code.specs.Codes.{FlatCode}
-use Rattle.chunk_budget.specs.declared.budgets.Budget.{Budget}
-use Rattle.call_cycles.specs.Cycles.{IsLeastOf}
-use Rattle.chunk_budget.specs.Budgets.{height_of, IsRoot, IsHighRoot}
-use Rattle.chunk_budget.specs.Least.{least_below}
-use Rattle.chunk_budget.specs.Tests.{high_function, high_root}
+use Rattle.chunk_budget.proofs.Common.{◌≡◌, ℕ, ◌-◌, ◌≤◌, ◌⊎◌, List, length, sym, ap, ◌∙◌, subst, arith, Some, inl, inr, ⊎_elim, Option, cases_lt, none-some, Op, FlatCode, Budget, IsLeastOf, height_of, IsRoot, IsHighRoot, least_below, high_function, high_root}
 use Rattle.chunk_budget.proofs.LeastLemmas.{IsHeldBelow, same_least, own_least, below_least, inside}
 use Rattle.chunk_budget.proofs.CoverLemmas.{refused_below, rejected}
 

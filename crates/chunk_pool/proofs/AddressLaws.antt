@@ -1,10 +1,6 @@
 -- Each address belongs to one chunk at most, and where the chunks stand.
-use Rattle.std.proofs.Common.{◌≡◌, ℕ, ◌+◌, ◌-◌, ◌*◌, ◌/◌, ◌%◌, ◌<◌, ◌≤◌, ◌⊎◌, inl, inr, sym, ◌∙◌, ap, subst, arith, nat_lt, Option, Some, None, IfSome, IfNone, Bool, cond}
 use Rattle.std.specs.Option.{SomeIff}
-use Rattle.std.proofs.lemmas.Bool.{cases_lt, lt-ltb, le-ltb}
-use Rattle.std.proofs.lemmas.Nat.{mul-add-lt, div-mul-add, mod-mul-add, div_below, mod_below, div-add-mod'}
-use Rattle.chunk_pool.specs.declared.shape.Shape.{Shape}
-use Rattle.chunk_pool.specs.Pool.{Pool, shape_of, first_place, place_of, payload_place_of, bytes_of, words_of, start_of, size_in, HasAddress, IsHeld, chunk_at, IsPool, chunk_in, first_end, last_end, first_size, start_in}
+use Rattle.chunk_pool.proofs.Common.{◌≡◌, ℕ, ◌+◌, ◌-◌, ◌*◌, ◌/◌, ◌%◌, ◌<◌, ◌≤◌, ◌⊎◌, inl, inr, sym, ◌∙◌, ap, subst, arith, nat_lt, Option, Some, None, IfSome, IfNone, Bool, cond, cases_lt, lt-ltb, le-ltb, mul-add-lt, div-mul-add, mod-mul-add, div_below, mod_below, div-add-mod', Shape, Pool, shape_of, first_place, place_of, payload_place_of, bytes_of, words_of, start_of, size_in, HasAddress, IsHeld, chunk_at, IsPool, chunk_in, first_end, last_end, first_size, start_in}
 use Rattle.chunk_pool.proofs.Shapes.{words_in-first, words_in-extra, start_in-first, start_in-extra, start_in-aligned, start_fits}
 
 -- ---- the four parts of the addresses

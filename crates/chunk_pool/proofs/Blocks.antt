@@ -1,27 +1,8 @@
 -- What the walks of a block share: where it begins as a machine value, and its words taken out and put back. Assumes `Logic`.
-use Rattle.std.proofs.Common.{◌≡◌, ℕ, zero, suc, ◌+◌, ◌*◌, ◌<◌, List, [], ◌∷◌, ◌++◌, length, get_or, set, take, refl, sym, ◌∙◌, subst, arith, lit<}
-use seplogic.Ra.Ura.{Ura}
-use base.Fraction.{full_share}
-use base.Fml.{Fml, Lft, ftrue, fat, froom}
-use base.Logic.{ent, sep, emp, id⊢, via, snd∗, mono_r}
-use mir.Syntax.{ty_int, ty_ptr, ty_struct, tcons, tnil, Sym, w32}
-use mir.Val.{Val, vint, vstruct, vcons, vnil, of_list}
-use types.Logic.{Logic, sem}
-use types.Kit.{‵, ⋆, ◌⊛◌, ◌$◌, ◌∵◌, !, qed, by, move, keep, use1, use2, split, fsplit, fjoin, fpack, feq_i, rewrite, done}
-use denote.Builtin.{u32}
+use Rattle.chunk_pool.proofs.Common.{◌≡◌, ℕ, zero, suc, ◌+◌, ◌*◌, ◌<◌, List, [], ◌∷◌, ◌++◌, length, get_or, set, take, refl, sym, ◌∙◌, subst, arith, lit<, Ura, full_share, Fml, Lft, ftrue, fat, froom, ent, sep, emp, id⊢, via, snd∗, mono_r, ty_int, ty_ptr, ty_struct, tcons, tnil, Sym, w32, Val, vint, vstruct, vcons, vnil, of_list, Logic, sem, ‵, ⋆, ◌⊛◌, ◌$◌, ◌∵◌, !, qed, by, move, keep, use1, use2, split, fsplit, fjoin, fpack, feq_i, rewrite, done, u32, part_at, shares, shared_of, uint_in, uint_out, Ptr, RawPtr, block_ptr, null_ptr, ptr_val, RattleType, Valss, elements_shared, nothing, Struct, within, Tuple, tuple_type, Good, words_type}
 use denote.Index.{row, others, takes, puts, place_is, place as nth}
-use denote.Memory.{part_at, shares, shared_of}
-use denote.Plain.{uint_in, uint_out}
-use denote.RawPtr.{Ptr, RawPtr, block_ptr, null_ptr, ptr_val}
-use denote.RattleType.{RattleType, Valss}
 use denote.Shadow.{shadow, makes_shadow}
-use denote.Slice.{elements_shared}
-use denote.Steps.{nothing}
 use denote.Struct.Declared as Declared
-use denote.Struct.Struct.{Struct, within}
-use denote.Struct.Tuple.{Tuple, tuple_type}
-use Rattle.core.proofs.cell.Inside.{Good}
-use Rattle.chunk_pool.specs.Block.{words_type}
 
 -- ---- where a block begins
 

@@ -1,12 +1,7 @@
 -- Free and held chunks.
-use Rattle.std.proofs.Common.{◌≡◌, ◌≢◌, ℕ, zero, suc, ◌+◌, ◌<◌, ◌≤◌, ◌⊎◌, inl, inr, false, List, [], ◌∷◌, ◌++◌, get_or, refl, sym, ◌∙◌, ap, arith, nat_eq, All, Contains, Bool, true, cond, count_by}
-use Rattle.std.specs.List.{IsDistinct}
-use Rattle.std.proofs.lemmas.Bool.{cases_eq, eqb-true, ne_eqb, eq-eqb, eqb-false}
-use Rattle.std.proofs.lemmas.List.Elements.{All-head, All-tail, All-append, All-contains, All-from_recursion, Contains-append_cases}
+use Rattle.chunk_pool.proofs.Common.{◌≡◌, ◌≢◌, ℕ, zero, suc, ◌+◌, ◌<◌, ◌≤◌, ◌⊎◌, inl, inr, false, List, [], ◌∷◌, ◌++◌, get_or, refl, sym, ◌∙◌, ap, arith, nat_eq, All, Contains, Bool, true, cond, count_by, IsDistinct, cases_eq, eqb-true, ne_eqb, eq-eqb, eqb-false, All-head, All-tail, All-append, All-contains, All-from_recursion, Contains-append_cases, Contains-from_any, Pool, all_free, free_count, IsFree, IsPool}
 use Rattle.std.proofs.lemmas.List.Sums.{sum_by-cons, sum_by-append}
 use Rattle.std.proofs.lemmas.Map.Steps.{length-le_from_distinct_below}
-use Rattle.std.proofs.lemmas.Map.Views.{Contains-from_any}
-use Rattle.chunk_pool.specs.Pool.{Pool, all_free, free_count, IsFree, IsPool}
 use Rattle.chunk_pool.proofs.PoolLaws.{apart_from, different_by_test}
 
 -- ---- the free chunks of both sizes

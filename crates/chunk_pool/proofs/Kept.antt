@@ -1,13 +1,7 @@
 -- A pool that lies in one region, as its parts change.
 use Rattle.std.proofs.Common.{◌≡◌, ◌≢◌, ℕ, ◌+◌, ◌-◌, ◌/◌, ◌^◌, ◌<◌, ◌≤◌, ◌⊎◌, inl, inr, List, [], ◌∷◌, length, map, take, drop, get_or, set, nat_le, refl, sym, ◌∙◌, ap, subst, arith, All, Contains}
-use Rattle.std.specs.List.{range_with_len}
-use Rattle.std.proofs.lemmas.Bool.{cases_eq, cases_lt}
-use Rattle.std.proofs.lemmas.List.{length-set, length-append}
-use Rattle.std.proofs.lemmas.List.Elements.{All-head}
+use Rattle.chunk_pool.proofs.Common.{range_with_len, cases_eq, cases_lt, length-set, length-append, All-head, Shape, Pool, first_place, HasAddress, shape_of, word_of, payload_of, contents_with, with_word, words_of, words_in, start_of, start_in, size_in, free_count, after_give, first_or, IsHeld, IsLinked, IsShape, IsPool, offers, choice, class_for, next_in, start_chunk, start_shape, start_pool, chunks_in, followed, pool_of, IsKept}
 use Rattle.chunk_pool.specs.declared.pool.ChunkPool.TheInside.{Inside}
-use Rattle.chunk_pool.specs.declared.shape.Shape.{Shape}
-use Rattle.chunk_pool.specs.Pool.{Pool, first_place, HasAddress, shape_of, word_of, payload_of, contents_with, with_word, words_of, words_in, start_of, start_in, size_in, free_count, after_give, first_or, IsHeld, IsLinked, IsShape, IsPool, offers, choice, class_for, next_in, start_chunk, start_shape, start_pool}
-use Rattle.chunk_pool.specs.Chunks.{chunks_in, followed, pool_of, IsKept}
 use Rattle.chunk_pool.proofs.AddressLaws.{position_within}
 use Rattle.chunk_pool.proofs.Shapes.{start-before, words_in-some}
 use Rattle.chunk_pool.proofs.PoolLaws.{same_pool, apart_from, absent-first, absent-extra, word_of-with_word_same, IsPool-with_word, IsPool-taken_first, IsPool-taken_extra, IsPool-given_first, IsPool-given_extra, given_first, given_extra, after_give-first, after_give-extra}

@@ -1,3 +1,4 @@
+mod Common
 pub mod Shapes
 pub mod PoolLaws
 pub mod NeedLaws

@@ -1,14 +1,9 @@
 -- What a need takes of the free chunks, and when it takes nothing.
 use Rattle.std.proofs.Common.{◌≡◌, ℕ, zero, suc, ◌+◌, ◌-◌, ◌*◌, ◌<◌, ◌≤◌, List, [], ◌∷◌, ◌++◌, length, drop, get_or, refl, sym, ◌∙◌, ap, subst, inl, inr, ◌⊎◌, arith, nat_eq, nat_le, nat_lt, All, Option, Some, None, IfSome, IsNone, IsTrue, Bool, true, false, cond, ◌&&◌, count_by, Contains}
-use Rattle.std.proofs.lemmas.Bool.{cases_Bool, le-leb, leb-true, lt-ltb, ltb-true, and_from, and_parts, false≢true, leb-false, eq-eqb}
-use Rattle.std.proofs.lemmas.List.{get_or_default}
+use Rattle.chunk_pool.proofs.Common.{cases_Bool, le-leb, leb-true, lt-ltb, ltb-true, and_from, and_parts, false≢true, leb-false, eq-eqb, get_or_default, All-append, All-contains, Contains-append_left, Contains-append_right, Contains-append_cases, ◌↔◌, is_some, Shape, Pool, Taken, shape_of, bytes_of, all_free, with_free_of, first_or, fits, FitsNone, offers, choice, class_for, taken_of, taken_for, IsTaken, IsFree, IsHeld, IsPool, start_pool}
 use Rattle.std.proofs.Math.Bool.{and-false}
-use Rattle.std.proofs.lemmas.List.Elements.{All-append, All-contains, Contains-append_left, Contains-append_right, Contains-append_cases}
-use Rattle.std.specs.Prelude.{◌↔◌, is_some}
 use Rattle.chunk_pool.specs.declared.shape.Class.{Class}
 use Rattle.chunk_pool.specs.declared.shape.Class.TheVariants.{First, Extra}
-use Rattle.chunk_pool.specs.declared.shape.Shape.{Shape}
-use Rattle.chunk_pool.specs.Pool.{Pool, Taken, shape_of, bytes_of, all_free, with_free_of, first_or, fits, FitsNone, offers, choice, class_for, taken_of, taken_for, IsTaken, IsFree, IsHeld, IsPool, start_pool}
 use Rattle.chunk_pool.proofs.Shapes.{words_in-first, words_in-extra}
 use Rattle.chunk_pool.proofs.PoolLaws.{IsPool-taken_first, IsPool-taken_extra}
 use Rattle.chunk_pool.proofs.FreeLaws.{free_first, free_extra, free_below_count, copies-cons, copies-append, copies-free, absent_from_copies}

@@ -1,13 +1,7 @@
 -- What a step leaves of the words, and that each step keeps a pool sound.
 use Rattle.std.proofs.Common.{◌≡◌, ◌≢◌, ℕ, ◌^◌, ◌<◌, ◌≤◌, ◌⊎◌, inl, inr, Bool, false, List, [], ◌∷◌, length, drop, get_or, set, sym, ◌∙◌, ap, subst, arith, nat_eq, cond, All, Contains}
-use Rattle.std.specs.List.{IsDistinct, AllByRecursion, range_with_len}
+use Rattle.chunk_pool.proofs.Common.{IsDistinct, AllByRecursion, cases_Bool, cases_eq, cases_lt, eqb-true, ne_eqb, false≢true, lt-ltb, le-ltb, length-set, get_or-set_same, get_or-set_other, get_or_default, set_past, drop-set-lt, All-cons, All-head, All-tail, All-set, All-drop, Contains-append_left, Contains-append_right, Contains-from_any, list_any-from_Contains, Shape, Pool, shape_of, word_of, payload_of, contents_with, with_word, words_of, KeepsOthers, free_beside, after_give, first_or, IsFree, IsHeld, IsChunk, IsLinked, IsFreeList, IsPool}
 use Rattle.std.specs.Cmp.{nat_eq_equiv}
-use Rattle.std.proofs.lemmas.Bool.{cases_Bool, cases_eq, cases_lt, eqb-true, ne_eqb, false≢true, lt-ltb, le-ltb}
-use Rattle.std.proofs.lemmas.List.{length-set, get_or-set_same, get_or-set_other, get_or_default, set_past, drop-set-lt}
-use Rattle.std.proofs.lemmas.List.Elements.{All-cons, All-head, All-tail, All-set, All-drop, Contains-append_left, Contains-append_right}
-use Rattle.std.proofs.lemmas.Map.Views.{Contains-from_any, list_any-from_Contains}
-use Rattle.chunk_pool.specs.declared.shape.Shape.{Shape}
-use Rattle.chunk_pool.specs.Pool.{Pool, shape_of, word_of, payload_of, contents_with, with_word, words_of, KeepsOthers, free_beside, after_give, first_or, IsFree, IsHeld, IsChunk, IsLinked, IsFreeList, IsPool}
 use Rattle.chunk_pool.proofs.Shapes.{words_in-some}
 
 -- ---- a pool by its parts

@@ -1,12 +1,5 @@
 -- The start is a sound pool.
-use Rattle.std.proofs.Common.{◌≡◌, ℕ, zero, suc, ◌+◌, ◌-◌, ◌*◌, ◌/◌, ◌%◌, ◌^◌, ◌<◌, ◌≤◌, false, List, [], length, map, get_or, replicate, refl, sym, ◌∙◌, ap, subst, inl, inr, arith, nat_eq, cond, Bool, All}
-use Rattle.std.specs.List.{IsDistinct, AllByRecursion, range_with_len}
-use Rattle.std.proofs.lemmas.Bool.{ne_eqb, eq-eqb, cases_eq}
-use Rattle.std.proofs.lemmas.List.{length-map, length-replicate, get_or-map}
-use Rattle.std.proofs.lemmas.List.Elements.{All-cons, All-replicate}
-use Rattle.std.proofs.lemmas.List.FromFn.{length-range_with_len, get_or-range_with_len}
-use Rattle.chunk_pool.specs.declared.shape.Shape.{Shape}
-use Rattle.chunk_pool.specs.Pool.{first_or, words_in, next_in, IsChunk, IsLinked, IsFreeList, IsShape, IsPool, start_chunk, start_shape, start_pool}
+use Rattle.chunk_pool.proofs.Common.{◌≡◌, ℕ, zero, suc, ◌+◌, ◌-◌, ◌*◌, ◌/◌, ◌%◌, ◌^◌, ◌<◌, ◌≤◌, false, List, [], length, map, get_or, replicate, refl, sym, ◌∙◌, ap, subst, inl, inr, arith, nat_eq, cond, Bool, All, IsDistinct, AllByRecursion, range_with_len, ne_eqb, eq-eqb, cases_eq, length-map, length-replicate, get_or-map, All-cons, All-replicate, length-range_with_len, get_or-range_with_len, Shape, first_or, words_in, next_in, IsChunk, IsLinked, IsFreeList, IsShape, IsPool, start_chunk, start_shape, start_pool}
 use Rattle.chunk_pool.proofs.Shapes.{words_in-some}
 
 -- ---- the start

@@ -1,12 +1,6 @@
 -- How the chunks and the free list lie in a region of words.
 use Rattle.std.proofs.Common.{◌≡◌, ◌≢◌, ℕ, zero, suc, ◌+◌, ◌-◌, ◌<◌, ◌≤◌, List, [], ◌∷◌, length, map, take, drop, get_or, set, replicate, refl, sym, ◌∙◌, ap, subst, inl, inr, arith, All}
-use Rattle.std.specs.List.{range_with_len}
-use Rattle.std.proofs.lemmas.Bool.{cases_eq, cases_lt}
-use Rattle.std.proofs.lemmas.List.{length-set, length-replicate, get_or-take, get_or-drop, get_or-set_same, get_or-set_other, take-set-le, take-replicate, drop-replicate, drop-set-lt, drop-set-add, drop-take, same_lists}
-use Rattle.std.proofs.lemmas.List.Elements.{All-head, All-tail}
-use Rattle.std.proofs.lemmas.List.FromFn.{length-map-range_with_len, get_or-map-range_with_len}
-use Rattle.chunk_pool.specs.declared.shape.Shape.{Shape}
-use Rattle.chunk_pool.specs.Pool.{contents_with, start_chunk, next_in, words_in, start_in, size_in, IsShape}
+use Rattle.chunk_pool.proofs.Common.{range_with_len, cases_eq, cases_lt, length-set, length-replicate, get_or-take, get_or-drop, get_or-set_same, get_or-set_other, take-set-le, take-replicate, drop-replicate, drop-set-lt, drop-set-add, drop-take, same_lists, All-head, All-tail, length-map-range_with_len, get_or-map-range_with_len, Shape, contents_with, start_chunk, next_in, words_in, start_in, size_in, IsShape}
 use Rattle.chunk_pool.specs.Chunks.{chunk_in, chunks_in, followed}
 use Rattle.chunk_pool.proofs.Shapes.{start-before, start_fits, words_in-some}
 

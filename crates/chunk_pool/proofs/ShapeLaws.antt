@@ -1,9 +1,5 @@
 -- How long a chunk is and where it stands: what holds of every pool, and that pools of one shape agree on it.
-use Rattle.std.proofs.Common.{◌≡◌, ℕ, ◌+◌, ◌*◌, ◌/◌, ◌%◌, ◌<◌, nat_eq, ◌∷◌, inl, inr, refl, ◌∙◌, ap, arith, cond, count_by}
-use Rattle.std.proofs.lemmas.Bool.{cases_lt}
-use Rattle.std.proofs.lemmas.Nat.{mod-mul-add}
-use Rattle.chunk_pool.specs.declared.shape.Shape.{Shape}
-use Rattle.chunk_pool.specs.Pool.{Pool, shape_of, words_of, chunk_of, all_free, after_give, first_place, bytes_of, first_bytes, place_of, end_of, payload_place_of, chunk_at, IsChunk, IsPool, start_pool, chunk_in, first_bytes_in, start_in, words_in}
+use Rattle.chunk_pool.proofs.Common.{◌≡◌, ℕ, ◌+◌, ◌*◌, ◌/◌, ◌%◌, ◌<◌, nat_eq, ◌∷◌, inl, inr, refl, ◌∙◌, ap, arith, cond, count_by, cases_lt, mod-mul-add, Shape, Pool, shape_of, words_of, chunk_of, all_free, after_give, first_place, bytes_of, first_bytes, place_of, end_of, payload_place_of, chunk_at, IsChunk, IsPool, start_pool, chunk_in, first_bytes_in, start_in, words_in}
 use Rattle.chunk_pool.proofs.PoolLaws.{after_give-first, after_give-extra, given_extra}
 use Rattle.chunk_pool.proofs.FreeLaws.{copies-cons, copies-append}
 use Rattle.chunk_pool.proofs.Shapes.{words_in-first, words_in-some, words_in-aligned}

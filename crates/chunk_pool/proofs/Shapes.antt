@@ -1,9 +1,5 @@
 -- Where chunks stand in a shape: one behind another, those of the first size in front.
-use Rattle.std.proofs.Common.{◌≡◌, ℕ, ◌+◌, ◌-◌, ◌*◌, ◌/◌, ◌%◌, ◌<◌, ◌≤◌, inl, inr, sym, ◌∙◌, ap, arith, Bool, true, false, cond}
-use Rattle.std.proofs.lemmas.Bool.{cases_lt, lt-ltb, le-ltb}
-use Rattle.std.proofs.lemmas.Nat.{row_fits}
-use Rattle.chunk_pool.specs.declared.shape.Shape.{Shape}
-use Rattle.chunk_pool.specs.Pool.{words_in, start_in, size_in, first_size, IsShape}
+use Rattle.chunk_pool.proofs.Common.{◌≡◌, ℕ, ◌+◌, ◌-◌, ◌*◌, ◌/◌, ◌%◌, ◌<◌, ◌≤◌, inl, inr, sym, ◌∙◌, ap, arith, Bool, cond, cases_lt, lt-ltb, le-ltb, row_fits, Shape, words_in, start_in, size_in, first_size, IsShape}
 
 pub words_in-first : (s : Shape) (id : ℕ) → id < s.first_count → words_in s id ≡ s.words
 unfolding words_in

@@ -1,31 +1,6 @@
 -- Where functions and operations begin in code that is laid out, and that all of it is near.
-use Rattle.std.proofs.Common.{◌≡◌, ℕ, zero, suc, ◌+◌, ◌*◌, ◌<◌, ◌≤◌, false, List, [], ◌∷◌, length, map, take, Option, Some, None, refl, sym, ap, subst, ◌∙◌, arith}
-use Rattle.std.specs.Prelude.{min, slice_get, slice_index, slice_index_or, sum, sum_by}
-use Rattle.std.specs.List.{range_with_len}
-use Rattle.std.proofs.lemmas.List.{take_all, length-map, length-take, length-replicate}
-use Rattle.std.proofs.lemmas.List.FromFn.{get_or-map-range_with_len}
-use Rattle.std.proofs.lemmas.List.Sums.{sum_by-cons, sum_by_more, sum_by-take-le}
-use Rattle.std.proofs.lemmas.Option.{slice_get_within, slice_get-get_or, get_or_from_slice_get}
-use Rattle.flat_code.specs.declared.operations.Op.{Op}
-use Rattle.flat_code.specs.declared.functions.FlatFunction.{FlatFunction}
+use Rattle.codegen_link.proofs.Common.{◌≡◌, ℕ, zero, suc, ◌+◌, ◌*◌, ◌<◌, ◌≤◌, false, List, [], ◌∷◌, length, map, take, Option, Some, None, refl, sym, ap, subst, ◌∙◌, arith, min, slice_get, slice_index, slice_index_or, sum, sum_by, range_with_len, take_all, length-map, length-take, length-replicate, get_or-map-range_with_len, sum_by-cons, sum_by_more, sum_by-take-le, slice_get_within, slice_get-get_or, get_or_from_slice_get, Op, FlatFunction, FlatCode, function_at, operation_at, weight_of, context_of, signature_of, IsOperation, IsWellFormed, Plan, Certificate, FunctionFact, Setting, LinkKind, fact_at, HavePlaces, begin, goes_to, kind_of, named_address, named_count, named_entry, prologue, row, row_at, setting, setting_at, size, size_at, template, words_before, function_formed, operation_formed, operation_places, length-row, JumpsInside, NamesThere, target_in, HasFacts, code_words, fact_of, function_words, places_from, words_to, link, IsPlanFor}
 use Rattle.flat_code.specs.declared.programs.FlatGlobal.{FlatGlobal}
-use Rattle.flat_code.specs.Codes.{FlatCode, function_at, operation_at}
-use Rattle.flat_code.specs.Weight.{weight_of}
-use Rattle.flat_code.specs.WellFormed.{context_of, signature_of, IsOperation, IsWellFormed}
-use Rattle.checkpoint_place.specs.declared.plans.Plan.{Plan}
-use Rattle.stack_certificate.specs.declared.certificates.Certificate.{Certificate}
-use Rattle.stack_certificate.specs.declared.functions.FunctionFact.{FunctionFact}
-use Rattle.stack_certificate.specs.declared.settings.Setting.{Setting}
-use Rattle.stack_certificate.specs.declared.sites.LinkKind.{LinkKind}
-use Rattle.stack_certificate.specs.Certificates.{fact_at}
-use Rattle.stack_certificate.specs.Places.{HavePlaces}
-use Rattle.stack_certificate.specs.Templates.{begin, goes_to, kind_of, named_address, named_count, named_entry, prologue, row, row_at, setting, setting_at, size, size_at, template, words_before}
-use Rattle.stack_certificate.proofs.PlaceLemmas.{function_formed, operation_formed, operation_places}
-use Rattle.stack_certificate.proofs.SizeLemmas.{length-row}
-use Rattle.codegen_link.specs.Emission.{JumpsInside, NamesThere, target_in}
-use Rattle.codegen_link.specs.Layout.{HasFacts, code_words, fact_of, function_words, places_from, words_to}
-use Rattle.codegen_link.specs.Links.{link}
-use Rattle.codegen_link.specs.Plans.{IsPlanFor}
 use Rattle.codegen_link.proofs.FactLemmas.{fact-is, length-places}
 use Rattle.codegen_link.proofs.InstructionLemmas.{Fit}
 use Rattle.codegen_link.proofs.RowLemmas.{IsPlacedIn, IsNearby, prologue-fits, row-fits}

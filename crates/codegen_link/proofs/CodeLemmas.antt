@@ -1,24 +1,5 @@
 -- Where the words of functions and operations stand in code that is laid out.
-use Rattle.std.proofs.Common.{◌≡◌, ℕ, zero, suc, ◌+◌, ◌*◌, ◌-◌, ◌/◌, ◌<◌, ◌≤◌, inl, inr, List, [], ◌∷◌, ◌++◌, length, Option, Some, refl, sym, ap, subst, ◌∙◌, add-one, length-append, arith}
-use Rattle.std.specs.Prelude.{slice_get, slice_index_or, option_map}
-use Rattle.std.proofs.lemmas.Bool.{cases_lt}
-use Rattle.std.proofs.lemmas.List.{length-map}
-use Rattle.std.proofs.lemmas.Option.{slice_get-get_or, slice_get-map}
-use Rattle.rv_code.specs.Table.{encoding}
-use Rattle.rv_code.specs.declared.instructions.Instr.{Instr}
-use Rattle.flat_code.specs.declared.operations.Op.{Op}
-use Rattle.flat_code.specs.Codes.{FlatCode, function_at, operation_at}
-use Rattle.flat_code.specs.WellFormed.{IsWellFormed}
-use Rattle.checkpoint_place.specs.declared.plans.Plan.{Plan}
-use Rattle.stack_image.specs.declared.images.Image.{Image}
-use Rattle.stack_certificate.specs.declared.certificates.Certificate.{Certificate}
-use Rattle.stack_certificate.specs.Certificates.{fact_at}
-use Rattle.stack_certificate.specs.Templates.{begin, end_stub, kind_of, prologue, setting_at, size_at, template, words_before}
-use Rattle.stack_certificate.proofs.AddressLemmas.{words_step}
-use Rattle.stack_certificate.proofs.SizeLemmas.{length-prologue}
-use Rattle.certificate_rules.specs.Ranges.{Stands}
-use Rattle.codegen_link.specs.Layout.{HasFacts, IsImageOf, code_words, function_code, function_words, functions_before, operations_before, words_to}
-use Rattle.codegen_link.specs.Plans.{IsPlanFor}
+use Rattle.codegen_link.proofs.Common.{◌≡◌, ℕ, zero, suc, ◌+◌, ◌*◌, ◌-◌, ◌/◌, ◌<◌, ◌≤◌, inl, inr, List, [], ◌∷◌, ◌++◌, length, Option, Some, refl, sym, ap, subst, ◌∙◌, add-one, length-append, arith, slice_get, slice_index_or, option_map, cases_lt, length-map, slice_get-get_or, slice_get-map, encoding, Instr, Op, FlatCode, function_at, operation_at, IsWellFormed, Plan, Image, Certificate, fact_at, begin, end_stub, kind_of, prologue, setting_at, size_at, template, words_before, words_step, length-prologue, Stands, HasFacts, IsImageOf, code_words, function_code, function_words, functions_before, operations_before, words_to, IsPlanFor}
 use Rattle.codegen_link.proofs.AddressLemmas.{length-template, prologue-fit, template-fits-at, words-next, words-over}
 use Rattle.codegen_link.proofs.FactLemmas.{fact-is}
 use Rattle.codegen_link.proofs.InstructionLemmas.{Fit, fit-append}

@@ -1,13 +1,5 @@
 -- What a certificate that is laid out says of a function.
-use Rattle.std.proofs.Common.{◌≡◌, ℕ, suc, ◌+◌, ◌*◌, ◌<◌, false, List, [], ◌∷◌, length, get_or, refl, ap, ◌∙◌, arith}
-use Rattle.std.proofs.lemmas.List.FromFn.{length-map-range_with_len, get_or-map-range_with_len}
-use Rattle.flat_code.specs.declared.functions.FlatFunction.{FlatFunction}
-use Rattle.flat_code.specs.Codes.{FlatCode, function_at}
-use Rattle.checkpoint_place.specs.declared.plans.Plan.{Plan}
-use Rattle.stack_certificate.specs.declared.certificates.Certificate.{Certificate}
-use Rattle.stack_certificate.specs.declared.functions.FunctionFact.{FunctionFact}
-use Rattle.stack_certificate.specs.Templates.{HasPlaces, IsFor}
-use Rattle.codegen_link.specs.Layout.{HasFacts, fact_of, places_from}
+use Rattle.codegen_link.proofs.Common.{◌≡◌, ℕ, suc, ◌+◌, ◌*◌, ◌<◌, false, List, [], ◌∷◌, length, get_or, refl, ap, ◌∙◌, arith, length-map-range_with_len, get_or-map-range_with_len, FlatFunction, FlatCode, function_at, Plan, Certificate, FunctionFact, HasPlaces, IsFor, HasFacts, fact_of, places_from}
 
 pub facts-count : (code : FlatCode) (plan : Plan) (certificate : Certificate) → HasFacts code plan certificate → length certificate.functions ≡ length code.functions
 facts-count code plan certificate has = ap length has.functions ∙ length-map-range_with_len (fact_of code plan) 0 (length code.functions)

@@ -1,17 +1,8 @@
 -- The numbers of the instructions of templates fit their fields, where places, frames and distances are small.
-use Rattle.std.proofs.Common.{◌≡◌, ℕ, zero, suc, ◌+◌, ◌*◌, ◌%◌, ◌^◌, ◌<◌, ◌≤◌, List, [], ◌∷◌, ◌++◌, length, pos, Option, Some, None, refl, arith}
-use Rattle.std.specs.Prelude.{slice_index, ◌-ℤ◌}
-use Rattle.std.specs.List.{AllByRecursion}
-use Rattle.std.proofs.lemmas.Int.{ints}
-use Rattle.rv_code.specs.Operands.{IsInRange}
+use Rattle.codegen_link.proofs.Common.{◌≡◌, ℕ, zero, suc, ◌+◌, ◌*◌, ◌%◌, ◌^◌, ◌<◌, ◌≤◌, List, [], ◌∷◌, ◌++◌, length, pos, Option, Some, None, refl, arith, slice_index, ◌-ℤ◌, AllByRecursion, ints, IsInRange, Instr, FunctionFact, LinkKind, upper_part, lower_part, load, store, system_call, guard, middle, zeroes, arguments, result, jump, call_instruction, transfer, saves, epilogue, zero_, ra, sp, tp, t0, t1, a0, a7}
 use Rattle.rv_code.specs.Range.{IsImmediate, IsJumpOffset}
-use Rattle.rv_code.specs.declared.instructions.Instr.{Instr}
 use Rattle.rv_code.proofs.Complements.{IsImmediate-signed}
 use Rattle.flat_code.specs.declared.operators.BinOp.{BinOp}
-use Rattle.stack_certificate.specs.declared.functions.FunctionFact.{FunctionFact}
-use Rattle.stack_certificate.specs.declared.sites.LinkKind.{LinkKind}
-use Rattle.stack_certificate.specs.Parts.{upper_part, lower_part, load, store, system_call, guard, middle, zeroes, arguments, result, jump, call_instruction, transfer, saves, epilogue}
-use Rattle.stack_certificate.specs.Registers.{zero_, ra, sp, tp, t0, t1, a0, a7}
 
 abbrev pub Fit : List Instr → Type 0
 Fit instrs = AllByRecursion IsInRange instrs

@@ -1,3 +1,4 @@
+mod Common
 pub mod AddressLemmas
 pub mod CodeLemmas
 pub mod FactLemmas

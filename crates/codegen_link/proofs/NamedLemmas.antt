@@ -1,37 +1,12 @@
 -- The certificate that is laid out names just the sites of the program, and says the bounds of the plan.
-use Rattle.std.proofs.Common.{◌≡◌, ℕ, zero, suc, ◌<◌, ◌≤◌, inl, inr, Bool, true, false, List, [], ◌∷◌, ◌++◌, length, map, max, Some, None, refl, sym, ap, ◌∙◌, arith}
-use Rattle.std.specs.Prelude.{nat_eq, ◌||◌, slice_get, slice_index, slice_index_or, filter_map, flat_map}
-use Rattle.std.specs.List.{AllByRecursion, cons_option, list_any}
-use Rattle.std.proofs.lemmas.Bool.{cases_lt}
-use Rattle.std.proofs.lemmas.Bool.Decides.{nat_tests}
-use Rattle.std.proofs.lemmas.List.{length-map}
-use Rattle.std.proofs.lemmas.List.Sorted.{list_any-IsPermutation}
-use Rattle.std.proofs.lemmas.Option.{slice_get-get_or}
-use Rattle.flat_code.specs.declared.operations.Op.{Op}
-use Rattle.flat_code.specs.declared.functions.FlatFunction.{FlatFunction}
-use Rattle.flat_code.specs.Codes.{FlatCode, function_at, operation_at, members_of}
-use Rattle.flat_code.specs.WellFormed.{IsWellFormed, signature_of}
+use Rattle.codegen_link.proofs.Common.{◌≡◌, ℕ, zero, suc, ◌<◌, ◌≤◌, inl, inr, Bool, true, false, List, [], ◌∷◌, ◌++◌, length, map, max, Some, None, refl, sym, ap, ◌∙◌, arith, nat_eq, ◌||◌, slice_get, slice_index, slice_index_or, filter_map, flat_map, AllByRecursion, cons_option, list_any, cases_lt, nat_tests, length-map, list_any-IsPermutation, slice_get-get_or, Op, FlatFunction, FlatCode, function_at, operation_at, members_of, IsWellFormed, signature_of, greatest, Plan, Certificate, SiteFact, all_at, IsNeed, callee_bound, callees_of, certified_site, greatest_bound, has_site, is_named, is_site, is_spawned, starts_thread, NamesThere, HasFacts, link, linked_if, need, site_fact, site_facts, list_any-append, any_passes_from_place}
 use Rattle.cap_word.specs.Signatures.{IsMember, IsTable}
-use Rattle.call_graph.specs.Callees.{greatest}
-use Rattle.checkpoint_place.specs.declared.plans.Plan.{Plan}
-use Rattle.stack_certificate.specs.declared.certificates.Certificate.{Certificate}
-use Rattle.stack_certificate.specs.declared.sites.SiteFact.{SiteFact}
-use Rattle.stack_certificate.proofs.PlaceLemmas.{all_at}
-use Rattle.certificate_rules.specs.Rules.{IsNeed}
-use Rattle.certificate_rules.specs.Sites.{callee_bound, callees_of, certified_site, greatest_bound, has_site, is_named, is_site, is_spawned, starts_thread}
-use Rattle.codegen_link.specs.Emission.{NamesThere}
-use Rattle.codegen_link.specs.Layout.{HasFacts}
-use Rattle.codegen_link.specs.Links.{link, linked_if, need, site_fact, site_facts}
 use Rattle.codegen_link.proofs.FactLemmas.{fact-is}
 
 get-past : {X : Type 0} (xs : List X) (i : ℕ) (d : X) → length xs ≤ i → slice_index_or xs i d ≡ d
 get-past [] i d le = refl
 get-past (x ∷ xs) zero d le = absurd (omega arith)
 get-past (x ∷ xs) (suc i) d le = get-past xs i d (omega arith)
-
-or-right : (a b : Bool) → b ≡ true → (a || b) ≡ true
-or-right true b h = refl
-or-right false b h = h
 
 or-assoc : (a b c : Bool) → (a || (b || c)) ≡ ((a || b) || c)
 or-assoc true b c = refl
@@ -48,18 +23,6 @@ function-there code f i op e = elim (cases_lt f (length code.functions)) [
 ]
 
 -- ---- whether a site is named
-
-any-at : {X : Type 0} (p : X → Bool) (xs : List X) (i : ℕ) (x : X) → slice_get xs i ≡ Some x → p x ≡ true → list_any p xs ≡ true
-any-at p [] i x e h = cc
-any-at p (y ∷ xs) zero x e h =
-    let same : y ≡ x = cc in
-    let yes : p y ≡ true = ap p same ∙ h in
-    rw yes refl
-any-at p (y ∷ xs) (suc i) x e h = or-right (p y) (list_any p xs) (any-at p xs i x e h)
-
-any-append : {X : Type 0} (p : X → Bool) (xs ys : List X) → list_any p (xs ++ ys) ≡ (list_any p xs || list_any p ys)
-any-append p [] ys = refl
-any-append p (x ∷ xs) ys = ap (λ b. p x || b) (any-append p xs ys) ∙ or-assoc (p x) (list_any p xs) (list_any p ys)
 
 module _ (code : FlatCode) (plan : Plan) (site : ℕ) where
   abbrev is-fact-of : SiteFact → Bool
@@ -79,7 +42,7 @@ module _ (code : FlatCode) (plan : Plan) (site : ℕ) where
   named-functions : (fs : List FlatFunction) → list_any is-fact-of (flat_map (λ f. filter_map (site_fact code plan) f.ops) fs) ≡ list_any (λ (f : FlatFunction). list_any is-at f.ops) fs
   named-functions [] = refl
   named-functions (f ∷ fs) =
-      any-append is-fact-of (filter_map (site_fact code plan) f.ops) (flat_map (λ g. filter_map (site_fact code plan) g.ops) fs) ∙
+      list_any-append is-fact-of (filter_map (site_fact code plan) f.ops) (flat_map (λ g. filter_map (site_fact code plan) g.ops) fs) ∙
       (ap (λ b. b || list_any is-fact-of (flat_map (λ (g : FlatFunction). filter_map (site_fact code plan) g.ops) fs)) (named-ops f.ops) ∙
       ap (λ b. list_any is-at f.ops || b) (named-functions fs))
 
@@ -91,8 +54,8 @@ module _ (code : FlatCode) (plan : Plan) (site : ℕ) where
       let lt = function-there code f i op e in
       let same : nat_eq site site ≡ true = grind (arith, nat_tests) in
       let here : is-at op ≡ true = ap (is_site site) is ∙ same in
-      any-at (λ (g : FlatFunction). list_any is-at g.ops) code.functions f (function_at code f)
-      (slice_get-get_or code.functions f (record { params = 0; gives = false; sizes = []; ops = [] }) lt) (any-at is-at (function_at code f).ops i op e here)
+      any_passes_from_place (λ (g : FlatFunction). list_any is-at g.ops) code.functions f (function_at code f)
+      (slice_get-get_or code.functions f (record { params = 0; gives = false; sizes = []; ops = [] }) lt) (any_passes_from_place is-at (function_at code f).ops i op e here)
 
 -- ---- how operations link
 

@@ -1,9 +1,5 @@
 -- The places of a frame that is laid out follow one another, and the return address lies behind them.
-use Rattle.std.proofs.Common.{◌≡◌, ℕ, zero, suc, ◌+◌, ◌*◌, ◌%◌, ◌<◌, ◌≤◌, List, [], ◌∷◌, ◌++◌, length, arith}
-use Rattle.std.specs.Prelude.{slice_index, sum}
-use Rattle.std.proofs.lemmas.List.Sums.{sum_by-cons}
-use Rattle.certificate_rules.specs.Ranges.{AreApart}
-use Rattle.codegen_link.specs.Layout.{places_from}
+use Rattle.codegen_link.proofs.Common.{◌≡◌, ℕ, zero, suc, ◌+◌, ◌*◌, ◌%◌, ◌<◌, ◌≤◌, List, [], ◌∷◌, ◌++◌, length, arith, slice_index, sum, sum_by-cons, AreApart, places_from}
 
 -- the places and words of variables from a place on, and behind them of the return address
 abbrev pub all-places : ℕ → List ℕ → ℕ → List ℕ

@@ -1,17 +1,5 @@
 -- The numbers of the instructions of each operation fit their fields.
-use Rattle.std.proofs.Common.{◌≡◌, ℕ, ◌+◌, ◌*◌, ◌<◌, ◌≤◌, List, [], ◌∷◌, ◌++◌, length, pos, negsuc, Some, None, refl, arith}
-use Rattle.std.specs.Prelude.{slice_index}
-use Rattle.std.proofs.lemmas.Int.{ints}
-use Rattle.rv_code.specs.Operands.{IsInRange}
-use Rattle.rv_code.specs.declared.instructions.Instr.{Instr}
-use Rattle.flat_code.specs.declared.operations.Op.{Op}
-use Rattle.stack_certificate.specs.declared.functions.FunctionFact.{FunctionFact}
-use Rattle.stack_certificate.specs.declared.settings.Setting.{Setting}
-use Rattle.stack_certificate.specs.Parts.{upper_part, lower_part, load, store, middle, jump, arguments, result, system_call, transfer, guard, li}
-use Rattle.stack_certificate.specs.Places.{HavePlaces}
-use Rattle.stack_certificate.specs.Templates.{row, end_stub, prologue}
-use Rattle.stack_certificate.specs.Certificates.{need_of}
-use Rattle.stack_certificate.specs.Registers.{zero_, ra, sp, t0, t1, t2, a0, a1, a2}
+use Rattle.codegen_link.proofs.Common.{◌≡◌, ℕ, ◌+◌, ◌*◌, ◌<◌, ◌≤◌, List, [], ◌∷◌, ◌++◌, length, pos, negsuc, Some, None, refl, arith, slice_index, ints, IsInRange, Instr, Op, FunctionFact, Setting, upper_part, lower_part, load, store, middle, jump, arguments, result, system_call, transfer, guard, li, HavePlaces, row, end_stub, prologue, need_of, zero_, ra, sp, t0, t1, t2, a0, a1, a2}
 use Rattle.codegen_link.proofs.InstructionLemmas.{Fit, fit-append, immediate, lui-fits, low-fits, lower-fits, lw-fits, sw-fits, call-fits, middle-fits, jump-fits, transfer-fits, load-fits, store-fits, result-fits, arguments-fit, saves-fit, guard-fits, zeroes-fit, epilogue-fits}
 
 -- the frame is small, and so is the end of each variable in it

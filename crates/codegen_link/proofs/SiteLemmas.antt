@@ -1,25 +1,6 @@
 -- How the operations of a program link by a certificate that is laid out.
-use Rattle.std.proofs.Common.{◌≡◌, ℕ, zero, suc, ◌<◌, ◌⊎◌, inl, inr, Bool, true, false, List, [], ◌∷◌, ◌++◌, length, map, get_or, Option, Some, None, refl, sym, ap, subst, ◌∙◌, arith}
-use Rattle.std.specs.Prelude.{eqb, nat_eq, slice_get, filter_map, flat_map, Contains}
-use Rattle.std.specs.List.{AllByRecursion, IsDistinct, cons_option}
-use Rattle.std.specs.List.Sorted.{IsPermutation, IsNonDecreasingBy, IsNonDecreasing, IsStrictlyIncreasing}
-use Rattle.std.proofs.lemmas.Bool.Decides.{nat_tests}
-use Rattle.std.proofs.lemmas.List.{length-map, get_or-map}
-use Rattle.std.proofs.lemmas.List.Elements.{All-from_recursion, recursion_from_All, filter_map-append}
-use Rattle.std.proofs.lemmas.List.Sorted.{All-permutation, Contains-permutation, IsPermutation-map}
+use Rattle.codegen_link.proofs.Common.{◌≡◌, ℕ, zero, suc, ◌<◌, ◌⊎◌, inl, inr, Bool, true, false, List, [], ◌∷◌, ◌++◌, length, map, get_or, Option, Some, None, refl, sym, ap, subst, ◌∙◌, arith, eqb, nat_eq, slice_get, filter_map, flat_map, Contains, AllByRecursion, IsDistinct, cons_option, IsPermutation, IsNonDecreasingBy, IsNonDecreasing, IsStrictlyIncreasing, nat_tests, length-map, get_or-map, All-from_recursion, recursion_from_All, filter_map-append, All-permutation, Contains-permutation, IsPermutation-map, Op, FlatFunction, FlatCode, operation_at, site_of, IsWellFormed, Plan, Certificate, LinkKind, SiteFact, kind_in, kind_or, kind_of, HasFacts, link, site_fact, site_facts, eqb-flips}
 use Rattle.std.proofs.lemmas.Map.Keys.{IsDistinct-head, IsDistinct-tail, IsDistinct-cons, IsDistinct-IsPermutation, IsStrictlyIncreasing-from_distinct}
-use Rattle.flat_code.specs.declared.operations.Op.{Op}
-use Rattle.flat_code.specs.declared.functions.FlatFunction.{FlatFunction}
-use Rattle.flat_code.specs.Codes.{FlatCode, operation_at, site_of}
-use Rattle.flat_code.specs.WellFormed.{IsWellFormed}
-use Rattle.checkpoint_place.specs.declared.plans.Plan.{Plan}
-use Rattle.stack_certificate.specs.declared.certificates.Certificate.{Certificate}
-use Rattle.stack_certificate.specs.declared.sites.LinkKind.{LinkKind}
-use Rattle.stack_certificate.specs.declared.sites.SiteFact.{SiteFact}
-use Rattle.stack_certificate.specs.Certificates.{kind_in, kind_or}
-use Rattle.stack_certificate.specs.Templates.{kind_of}
-use Rattle.codegen_link.specs.Layout.{HasFacts}
-use Rattle.codegen_link.specs.Links.{link, site_fact, site_facts}
 
 abbrev numbers : List SiteFact → List ℕ
 numbers facts = map (λ fact. fact.number) facts
@@ -118,9 +99,6 @@ site-among (x ∷ xs) op site P h is all = elim h [
   | inl e ↦ all-first P (site_of x) (filter_map site_of xs) site (ap site_of e ∙ is) all
   | inr more ↦ site-among xs op site P more is (all-rest P (site_of x) (filter_map site_of xs) all)
 ]
-
-eqb-flips : (x y : ℕ) → eqb x y ≡ eqb y x
-eqb-flips x y = grind (arith, nat_tests)
 
 all-flipped : (site : ℕ) (ns : List ℕ) → AllByRecursion (λ y. eqb site y ≡ false) ns → AllByRecursion (λ y. eqb y site ≡ false) ns
 all-flipped site [] all = tt

@@ -1,15 +1,5 @@
 -- What a list up to an element becomes with that element.
-use Rattle.std.proofs.Common.{◌≡◌, ℕ, zero, suc, ◌+◌, ◌<◌, ◌≤◌, List, [], ◌∷◌, ◌++◌, length, map, take, Option, Some, None, refl, sym, ap, subst, ◌∙◌, append_assoc, arith}
-use Rattle.std.specs.Prelude.{slice_get, slice_index_or, filter_map, sum_by, IsSome}
-use Rattle.std.specs.List.{cons_option}
-use Rattle.std.proofs.lemmas.List.{take_more, take_all, map_more, map-append}
-use Rattle.std.proofs.lemmas.List.Elements.{filter_map-append}
-use Rattle.std.proofs.lemmas.List.Sums.{sum_by_more}
-use Rattle.std.proofs.lemmas.Option.{slice_get_within, slice_get-get_or, get_or_from_slice_get}
-use Rattle.rv_code.specs.Operands.{IsInRange}
-use Rattle.rv_code.specs.Table.{encoding}
-use Rattle.rv_code.specs.declared.instructions.Instr.{Instr}
-use Rattle.stack_certificate.specs.InstructionWords.{IsWordOf}
+use Rattle.codegen_link.proofs.Common.{◌≡◌, ℕ, zero, suc, ◌+◌, ◌<◌, ◌≤◌, List, [], ◌∷◌, ◌++◌, length, map, take, Option, Some, None, refl, sym, ap, subst, ◌∙◌, append_assoc, arith, slice_get, slice_index_or, filter_map, sum_by, IsSome, cons_option, take_more, take_all, map_more, map-append, filter_map-append, sum_by_more, slice_get_within, slice_get-get_or, get_or_from_slice_get, IsInRange, encoding, Instr, IsWordOf}
 use Rattle.codegen_link.proofs.InstructionLemmas.{Fit}
 
 pub take-step : {X : Type 0} (xs : List X) (i : ℕ) (x : X) → slice_get xs i ≡ Some x → take (i + 1) xs ≡ take i xs ++ x ∷ []

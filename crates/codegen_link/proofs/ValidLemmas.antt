@@ -1,29 +1,7 @@
 -- What is laid out meets V1 to V12.
-use Rattle.std.proofs.Common.{◌≡◌, ℕ, ◌+◌, ◌*◌, ◌-◌, ◌%◌, ◌<◌, ◌≤◌, List, [], length, take, Option, Some, None, refl, sym, ap, subst, ◌∙◌, arith}
-use Rattle.std.specs.Prelude.{option_map, slice_get, slice_index, sum, sum_by}
-use Rattle.std.proofs.lemmas.List.{length-map, take-take}
-use Rattle.std.proofs.lemmas.List.Sums.{sum_by-take-le}
-use Rattle.std.proofs.lemmas.Option.{slice_get-get_or, slice_get-map, slice_get_within}
-use Rattle.rv_code.specs.declared.instructions.Instr.{Instr}
-use Rattle.flat_code.specs.declared.operations.Op.{Op}
-use Rattle.flat_code.specs.Codes.{FlatCode, function_at, operation_at}
-use Rattle.flat_code.specs.Weight.{weight_of}
-use Rattle.flat_code.specs.WellFormed.{IsWellFormed}
-use Rattle.checkpoint_place.specs.declared.plans.Plan.{Plan}
-use Rattle.stack_image.specs.declared.images.Image.{Image}
-use Rattle.stack_certificate.specs.declared.certificates.Certificate.{Certificate}
-use Rattle.stack_certificate.specs.declared.functions.FunctionFact.{FunctionFact}
-use Rattle.stack_certificate.specs.declared.settings.Setting.{Setting}
-use Rattle.stack_certificate.specs.Certificates.{fact_at}
-use Rattle.stack_certificate.specs.Templates.{begin, kind_of, prologue, row_at, setting_at, template, words_before}
-use Rattle.stack_certificate.proofs.SizeLemmas.{length-prologue}
-use Rattle.certificate_rules.specs.Rules.{IsNeed, IsPlaced, V1, V2, V3, V4, V5, V6, V7, V8, V9, V10, V11, V12}
-use Rattle.certificate_rules.specs.Sites.{NamesSites, callee_bound, is_spawned}
+use Rattle.codegen_link.proofs.Common.{◌≡◌, ℕ, ◌+◌, ◌*◌, ◌-◌, ◌%◌, ◌<◌, ◌≤◌, List, [], length, take, Option, Some, None, refl, sym, ap, subst, ◌∙◌, arith, option_map, slice_get, slice_index, sum, sum_by, length-map, take-take, sum_by-take-le, slice_get-get_or, slice_get-map, slice_get_within, Instr, Op, FlatCode, function_at, operation_at, weight_of, IsWellFormed, Plan, Image, Certificate, FunctionFact, Setting, fact_at, begin, kind_of, prologue, row_at, setting_at, template, words_before, length-prologue, IsNeed, IsPlaced, V1, V2, V3, V4, V5, V6, V7, V8, V9, V10, V11, V12, NamesSites, callee_bound, is_spawned, HasFacts, IsCertificateOf, IsImageOf, code_words, fact_of, function_words, words_to, link, need, AreInRange, IsPlanFor}
 use Rattle.certificate_rules.specs.Validity.{IsValid}
 use Rattle.codegen_link.specs.declared.options.Options.{Options}
-use Rattle.codegen_link.specs.Layout.{HasFacts, IsCertificateOf, IsImageOf, code_words, fact_of, function_words, words_to}
-use Rattle.codegen_link.specs.Links.{link, need}
-use Rattle.codegen_link.specs.Plans.{AreInRange, IsPlanFor}
 use Rattle.codegen_link.proofs.AddressLemmas.{all-words, frame-holds, names-at, words-inside, words-next, words-over, words-within}
 use Rattle.codegen_link.proofs.CodeLemmas.{length-code, prologue-stands, stub-stands, template-stands}
 use Rattle.codegen_link.proofs.FactLemmas.{fact-is, facts-count, length-places}

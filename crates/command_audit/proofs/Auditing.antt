@@ -2,6 +2,7 @@
 use Rattle.std.proofs.Common.{◌≡◌, ◌≢◌, ℕ, List, Option, Some, None, Result, Ok, Err, refl, sym, subst, ◌∙◌, inl, arith}
 use Rattle.std.specs.Prelude.{true}
 use Rattle.std.specs.Io.KnownBytes.{Keeps}
+use Rattle.std.proofs.KnownBytes.{Keeps-refl}
 use Rattle.cap_io.specs.Files.{Files, KeepsFiles}
 use Rattle.c_tree.specs.Trees.{ProgramTree}
 use Rattle.choice_rules.specs.Policy.{by_graph}
@@ -22,7 +23,7 @@ use Rattle.command_files.specs.Loads.{AfterLoad, AfterSource, IsSourceText}
 use Rattle.command_outcomes.specs.Outcome.{Outcome, NoMore}
 use Rattle.command_outcomes.specs.Steps.{EndsAs, IsPrinted, IsShelfStop, IsStatus, IsStop}
 use Rattle.command_files.specs.Loaded.{IsLoaded}
-use Rattle.command_outcomes.proofs.Ending.{kept-are-stored, keeps-itself, printed-ends, stopped-reading}
+use Rattle.command_outcomes.proofs.Ending.{kept-are-stored, printed-ends, stopped-reading}
 use Rattle.command_files.proofs.Follows.{load-before, load-follows, loaded, shelf-stop-follows, source-follows, stop-on-shelf}
 use Rattle.command_options.specs.Options.{AreAuditOptions, IsNewMonitor}
 use Rattle.command_audit.specs.Audits.{Audits, AuditsBytes, AuditsProgram, IsJudged, LeadsToAudit, audit_limits, judged_as, judged_outcome, judgement_line, judgement_status, reading_of}
@@ -94,7 +95,7 @@ unjudged before after options log program (Failed fault) files loads stores take
     (same before.taken after.taken taken) loads stores writes h
   where
     same : (old new : Option (List ℕ)) → new ≡ old → Keeps old new
-    same old new e = subst (λ (t : Option (List ℕ)). Keeps old t) (sym e) (keeps-itself old)
+    same old new e = subst (λ (t : Option (List ℕ)). Keeps old t) (sym e) (Keeps-refl old)
 unjudged before after options log program (Refused cause) files loads stores taken writes h = absurd h
 
 pub judgement-told : (before after : Outside) (options : AuditOptions) (log : List ℕ) (program : ProgramTree) (is : Verdict) (answer : Result ℕ Stop)

@@ -2,6 +2,7 @@
 use Rattle.std.proofs.Common.{◌≡◌, ◌≢◌, ℕ, true, List, [], ◌∷◌, Option, Some, None, Result, Ok, Err, refl, sym, ◌∙◌, subst, inl, inr, ⊎_elim}
 use Rattle.std.proofs.lemmas.List.{append-nil}
 use Rattle.std.specs.Io.KnownBytes.{Keeps, Appends}
+use Rattle.std.proofs.KnownBytes.{Keeps-refl}
 use Rattle.cap_io.specs.Faults.{IsRisen}
 use Rattle.cap_io.specs.Files.{Files, KeepsFiles, KeepsOthers}
 use Rattle.command_outcomes.specs.declared.stops.Cause.{Cause}
@@ -13,10 +14,6 @@ use Rattle.command_outcomes.specs.Outcome.{Outcome, printed}
 use Rattle.command_outcomes.specs.CauseLines.{refusal}
 use Rattle.command_outcomes.specs.Done.{Outside, WhereTold, AreStored, AreCutShort, IsDone, IsOnlyRead, IsTraceLeft}
 use Rattle.command_outcomes.specs.Steps.{IsReadStop, IsShelfStop, IsPrinted, IsStatus, AreStores, EndsAs, RunEnds}
-
-pub keeps-itself : (bytes : Option (List ℕ)) → Keeps bytes bytes
-keeps-itself None = tt
-keeps-itself (Some xs) = refl
 
 pub append-nothing : (old new : Option (List ℕ)) → Keeps old new → Appends old new []
 append-nothing None new h = tt
@@ -117,16 +114,16 @@ files-keep None = tt
 files-keep (Some f) = λ name. refl
 
 pub refused-at-once : {T : Type 0} (hands_on : Outcome → T → Type 0) (due : Outcome → Type 0) (o : Outside) (cause : Cause) → due (refusal cause) → EndsAs hands_on due o o (Err (Refused cause))
-refused-at-once hands_on due o cause h = stopped hands_on due o o (Refused cause) (files-keep o.files) refl (keeps-itself o.left) refl (keeps-itself o.taken) refl (h, refl)
+refused-at-once hands_on due o cause h = stopped hands_on due o o (Refused cause) (files-keep o.files) refl (Keeps-refl o.left) refl (Keeps-refl o.taken) refl (h, refl)
 
 pub memory-at-once : {T : Type 0} (hands_on : Outcome → T → Type 0) (due : Outcome → Type 0) (o : Outside) → EndsAs hands_on due o o (Err (Failed Memory))
-memory-at-once hands_on due o = stopped hands_on due o o (Failed Memory) (files-keep o.files) refl (keeps-itself o.left) refl (keeps-itself o.taken) refl refl
+memory-at-once hands_on due o = stopped hands_on due o o (Failed Memory) (files-keep o.files) refl (Keeps-refl o.left) refl (Keeps-refl o.taken) refl refl
 
 -- memory is wanting before the trace is read
 pub memory-before : {T : Type 0} (hands_on : Outcome → T → Type 0) (due : Outcome → Type 0) (left : Option (List ℕ)) (reads : ℕ) (taken : Option (List ℕ)) (writes : ℕ) → RunEnds hands_on due left left reads reads taken taken writes writes (Err (Failed Memory))
 memory-before hands_on due left reads taken writes = λ files files' loads loads' stores stores' keeps same again.
     stopped hands_on due (record { files = files; loads = loads; stores = stores; left = left; reads = reads; taken = taken; writes = writes })
-    (record { files = files'; loads = loads'; stores = stores'; left = left; reads = reads; taken = taken; writes = writes }) (Failed Memory) keeps again (keeps-itself left) refl (keeps-itself taken) refl same
+    (record { files = files'; loads = loads'; stores = stores'; left = left; reads = reads; taken = taken; writes = writes }) (Failed Memory) keeps again (Keeps-refl left) refl (Keeps-refl taken) refl same
 
 -- What is due may be put in the place of what implies it.
 

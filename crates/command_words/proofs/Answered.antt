@@ -1,19 +1,12 @@
 -- The parser's two answers, of a parser with the application that `Parsed` speaks of.
-use Rattle.std.proofs.Common.{◌≡◌, ◌∙◌, inl, inr, refl, ap, sym, subst, true, List, []}
 use Rattle.clap.specs.Values.{kind_of}
-use Rattle.clap.specs.Kinds.{HasKind}
-use Rattle.clap.specs.Faults.{fault_of, is_simple_and_free}
+use Rattle.command_words.proofs.Common.{◌≡◌, ◌∙◌, inl, inr, refl, ap, sym, subst, true, List, [], HasKind, fault_of, is_simple_and_free, Row, Text, first_of, Command, clap_on_literals, Said, words_app, IsReadable, IsSaid, IsReadAs}
 use Rattle.clap.specs.Matches.{first_value, found_of}
 use Rattle.clap.specs.Simple.{HasMatchesOf, app_of, is_simple as is_simple_app, matches_of}
-use Rattle.clap.specs.Walk.{Row, Text, first_of}
-use Rattle.clap.specs.declared.builder.command.Command.{Command}
 use Rattle.clap.specs.declared.error.Error.{Error}
 use Rattle.clap.specs.declared.error.kind.ErrorKind.TheVariants.{OutOfMemory}
 use Rattle.clap.specs.declared.parser.matches.ArgMatches.{ArgMatches}
 use Rattle.clap.proofs.WalkLemmas.{first_value-rows}
-use Rattle.clap.proofs.OnLiterals.{clap_on_literals}
-use Rattle.command_words.specs.Said.{Said}
-use Rattle.command_words.specs.Parse.{words_app, IsReadable, IsSaid, IsReadAs}
 use Rattle.command_words.proofs.Rules.{is_simple}
 use Rattle.command_words.proofs.Parsed.{read_as, said_passes}
 

@@ -1,15 +1,6 @@
 -- The caps of a text, read one after another.
-use Rattle.std.proofs.Common.{◌≡◌, ◌∙◌, ℕ, zero, suc, ◌+◌, ◌<◌, ◌≤◌, ◌==◌, refl, ap, sym, subst, arith, true, false, List, [], ◌∷◌, ◌++◌, map, append-nil, append_assoc, slice_set, cond}
-use Rattle.std.specs.List.{AllByRecursion}
-use Rattle.std.proofs.lemmas.Bool.{ne_eqb}
-use Rattle.std.proofs.lemmas.Bool.Decides.{Decides-eqb}
-use Rattle.std.proofs.lemmas.List.{map-append}
-use Rattle.cap_text.specs.Decimals.{canonical_decimal}
-use Rattle.cap_text.specs.Pieces.{pieces}
-use Rattle.cap_text.proofs.DecimalLaws.{decimal_unique}
-use Rattle.command_words.specs.OptionTable.{least_of, most_of}
+use Rattle.command_words.proofs.Common.{◌≡◌, ◌∙◌, ℕ, zero, suc, ◌+◌, ◌<◌, ◌≤◌, ◌==◌, refl, ap, sym, subst, arith, true, false, List, [], ◌∷◌, ◌++◌, map, append-nil, append_assoc, slice_set, cond, AllByRecursion, ne_eqb, Decides-eqb, map-append, canonical_decimal, pieces, decimal_unique, least_of, most_of, cap_text, cap_of, caps_of, AreCapsAbove, IsCapsText}
 use Rattle.command_words.specs.declared.option_table.CommandOption.TheVariants as option
-use Rattle.command_words.specs.Values.{cap_text, cap_of, caps_of, AreCapsAbove, IsCapsText}
 use Rattle.command_words.proofs.Decimals.{cap_parts, cap_text_is}
 
 abbrev pub Caps : Type 0

@@ -1,12 +1,8 @@
 -- A parser with one more argument, and with several in turn.
-use Rattle.std.proofs.Common.{◌≡◌, ◌∙◌, ap, ap₂, false, sym, ℕ, ◌+◌, ◌<◌, ◌≤◌, List, length, take, get_or, fold}
-use Rattle.std.proofs.lemmas.List.{take_all}
+use Rattle.command_words.proofs.Common.{◌≡◌, ◌∙◌, ap, ap₂, false, sym, ℕ, ◌+◌, ◌<◌, ◌≤◌, List, length, take, get_or, fold, take_all, App, app_of, with_rule, Rule, rule_of, Command}
 use Rattle.std.proofs.lemmas.List.Sums.{fold_more}
 use Rattle.clap.specs.Built.{AddsArg}
-use Rattle.clap.specs.Simple.{App, app_of, with_rule}
-use Rattle.clap.specs.Walk.{Rule, rule_of}
 use Rattle.clap.specs.declared.builder.arg.Arg.{Arg}
-use Rattle.clap.specs.declared.builder.command.Command.{Command}
 
 -- a parser with the rules of all items
 abbrev with_rules : {A : Type 0} (rule_at : A → Rule) → App → List A → App

@@ -1,21 +1,11 @@
 -- The texts that were given choose one value.
-use Rattle.std.proofs.Common.{◌≡◌, ◌∙◌, ℕ, ◌+◌, ◌-◌, ◌*◌, ◌%◌, ◌<◌, ◌≤◌, refl, ap, sym, subst, arith, false, true≢false, List, [], ◌∷◌, map, Option, Some, None, IfNone, codes}
-use Rattle.std.specs.Str.{bytes_eq}
-use Rattle.std.proofs.lemmas.Slice.Eq.{bytes_eq-Decides}
-use Rattle.cap_text.proofs.DecimalLaws.{decimal_unique}
+use Rattle.command_words.proofs.Common.{◌≡◌, ◌∙◌, ℕ, ◌+◌, ◌-◌, ◌*◌, ◌%◌, ◌<◌, ◌≤◌, refl, ap, sym, subst, arith, false, true≢false, List, [], ◌∷◌, map, Option, Some, None, IfNone, codes, bytes_eq, bytes_eq-Decides, decimal_unique, Placement, Policy, Tickets, name_of, default_of, least_of, IsAudit, IsChosen, IsNumber, IsNumberOf, IsPlacement, IsPolicy, AreCaps, AreCapsAbove, cap_text, caps_of, default_max_path, AreTickets, IsRule, rule_name, ticket_text, tickets_of, Request, Serve, Run, Build, Check, Graph, Demo, Audit, Budget, Texts, IsAsked, HasThree, HasTwo}
 use Rattle.command_words.specs.declared.option_values.Marks.{Marks}
 use Rattle.command_words.specs.declared.options.Audit.{Audit as AuditOptions}
-use Rattle.command_words.specs.declared.options.Placement.{Placement}
-use Rattle.command_words.specs.declared.options.Policy.{Policy}
 use Rattle.command_words.specs.declared.options.Rule.{Rule}
 use Rattle.command_words.specs.declared.options.Rule.TheVariants.{Graph, Stride}
-use Rattle.command_words.specs.declared.options.Tickets.{Tickets}
 use Rattle.command_words.specs.Shared.{AreMarks, IsRoom}
-use Rattle.command_words.specs.OptionTable.{name_of, default_of, least_of}
 use Rattle.command_words.specs.declared.option_table.CommandOption.TheVariants as option
-use Rattle.command_words.specs.Values.{IsAudit, IsChosen, IsNumber, IsNumberOf, IsPlacement, IsPolicy, AreCaps, AreCapsAbove, cap_text, caps_of, default_max_path, AreTickets, IsRule, rule_name, ticket_text, tickets_of}
-use Rattle.command_words.specs.WordList.{Request, Serve, Run, Build, Check, Graph, Demo, Audit, Budget}
-use Rattle.command_words.specs.Asked.{Texts, IsAsked, HasThree, HasTwo}
 use Rattle.command_words.proofs.CapsSoFar.{Caps, one_cap}
 use Rattle.command_words.proofs.TicketsSoFar.{ticket_parts}
 

@@ -1,7 +1,5 @@
 -- The decimals of small numbers, and a cap's text.
-use Rattle.std.proofs.Common.{◌≡◌, ◌∙◌, ℕ, suc, ◌+◌, ◌≤◌, refl, ap, sym, arith, List, [], ◌∷◌, ◌++◌}
-use Rattle.cap_text.specs.Decimals.{canonical_decimal}
-use Rattle.command_words.specs.Values.{cap_text}
+use Rattle.command_words.proofs.Common.{◌≡◌, ◌∙◌, ℕ, suc, ◌+◌, ◌≤◌, refl, ap, sym, arith, List, [], ◌∷◌, ◌++◌, canonical_decimal, cap_text}
 
 pub one_digit : (n : ℕ) → n ≤ 7 → canonical_decimal n ≡ (48 + n) ∷ []
 unfolding canonical_decimal

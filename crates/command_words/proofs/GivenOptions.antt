@@ -1,19 +1,7 @@
 -- The options of a word list: those that its command has are kept, and all others lacked.
-use Rattle.std.proofs.Common.{◌≡◌, ◌∙◌, ◌⊎◌, inl, inr, ℕ, sym, subst, Bool, true, false, true≢false, List, [], ◌∷◌, ◌++◌, ◌&&◌, ◌||◌, refl, Option, Some, None}
-use Rattle.std.specs.Prelude.{not}
-use Rattle.std.specs.Str.{bytes_eq}
-use Rattle.std.specs.List.{AllByRecursion}
+use Rattle.command_words.proofs.Common.{◌≡◌, ◌∙◌, ◌⊎◌, inl, inr, ℕ, sym, subst, Bool, true, false, true≢false, List, [], ◌∷◌, ◌++◌, ◌&&◌, ◌||◌, refl, Option, Some, None, not, bytes_eq, AllByRecursion, Placement, Policy, Said, Given, Positional, options_of, value_of, IsOneOf, IsAudit, IsPlacement, IsPolicy, IsNumber, AreCaps, IsRule, name_of, CommandOption, all_options, Texts, LacksAll, bytes_eq-Decides, and_parts, not-true}
 use Rattle.command_words.specs.declared.options.Audit.{Audit}
-use Rattle.command_words.specs.declared.options.Placement.{Placement}
-use Rattle.command_words.specs.declared.options.Policy.{Policy}
-use Rattle.command_words.specs.Said.{Said, Given, Positional, options_of, value_of, IsOneOf}
-use Rattle.command_words.specs.Values.{IsAudit, IsPlacement, IsPolicy, IsNumber, AreCaps, IsRule}
-use Rattle.command_words.specs.OptionTable.{name_of}
-use Rattle.command_words.specs.declared.option_table.CommandOption.{CommandOption}
 use Rattle.command_words.specs.declared.option_table.CommandOption.TheVariants as option
-use Rattle.command_words.specs.Parse.{all_options}
-use Rattle.command_words.specs.Asked.{Texts, LacksAll}
-use Rattle.std.proofs.lemmas.Slice.Eq.{bytes_eq-Decides}
 
 abbrev pub Text : Type 0
 Text = List ℕ
@@ -43,10 +31,6 @@ abbrev pub are_among : List Text → List Text → Bool
 are_among options [] = true
 are_among options (name ∷ names) = is_among options name && are_among options names
 
-both : (a b : Bool) → (a && b) ≡ true → (a ≡ true) × (b ≡ true)
-both true b is = (refl, is)
-both false b is = absurd (true≢false (sym is))
-
 one_among : (options : List Text) (name : Text) → is_among options name ≡ true → IsOneOf options name
 one_among [] name is = absurd (true≢false (sym is))
 one_among (option ∷ options) name is = go (bytes_eq name option) refl is (one_among options name)
@@ -59,7 +43,7 @@ one_among (option ∷ options) name is = go (bytes_eq name option) refl is (one_
 pub all_among : (options names : List Text) → are_among options names ≡ true → AllByRecursion (IsOneOf options) names
 all_among options [] is = tt
 all_among options (name ∷ names) is =
-    let parts = both (is_among options name) (are_among options names) is in
+    let parts = and_parts (is_among options name) (are_among options names) is in
     (one_among options name parts.0, all_among options names parts.1)
 
 -- names of the one list are of the other
@@ -70,7 +54,7 @@ within options names are x is = at_one (IsOneOf options) names x (all_among opti
 pub of_some : (P : Text → Type 0) (options names : List Text) → are_among options names ≡ true → AllByRecursion P options → AllByRecursion P names
 of_some P options [] are all = tt
 of_some P options (name ∷ names) are all =
-    let parts = both (is_among options name) (are_among options names) are in
+    let parts = and_parts (is_among options name) (are_among options names) are in
     (at_one P options name all (one_among options name parts.0), of_some P options names parts.1 all)
 
 -- whether no name of the one list is in the other
@@ -82,15 +66,11 @@ abbrev pub are_apart : List Text → List Text → Bool
 are_apart options [] = true
 are_apart options (name ∷ names) = is_apart options name && are_apart options names
 
-differs : (b : Bool) → not b ≡ true → b ≡ false
-differs true is = absurd (true≢false (sym is))
-differs false is = refl
-
 all_differ : (options : List Text) (name : Text) → is_apart options name ≡ true → AllByRecursion (λ option. bytes_eq option name ≡ false) options
 all_differ [] name is = tt
 all_differ (option ∷ options) name is =
-    let parts = both (not (bytes_eq option name)) (is_apart options name) is in
-    (differs (bytes_eq option name) parts.0, all_differ options name parts.1)
+    let parts = and_parts (not (bytes_eq option name)) (is_apart options name) is in
+    (not-true (bytes_eq option name) parts.0, all_differ options name parts.1)
 
 -- ---- options that are not given
 
@@ -108,7 +88,7 @@ all_absent : (said : List Said) (kept lacked : List Text) → AllByRecursion (Is
     → LacksAll (value_of said) lacked
 all_absent said kept [] known apart = tt
 all_absent said kept (name ∷ names) known apart =
-    let parts = both (is_apart kept name) (are_apart kept names) apart in
+    let parts = and_parts (is_apart kept name) (are_apart kept names) apart in
     (absent said kept name known (all_differ kept name parts.0), all_absent said kept names known parts.1)
 
 some_given : (option value : Text) (rest : List Said) → value_of (Given option value ∷ rest) option ≡ None → ⊥

@@ -1,3 +1,4 @@
+mod Common
 pub mod GivenOptions
 pub mod Lists
 pub mod Named

@@ -1,18 +1,12 @@
 -- Word lists and what the parser makes of them: what is said is one, and tells one command.
-use Rattle.std.proofs.Common.{◌≡◌, ◌∙◌, inl, inr, true, ◌≤◌, refl, ap, sym, subst, arith, List, [], ◌∷◌, ◌++◌, length, Some, None, codes}
-use Rattle.std.specs.List.{flat_map, AllByRecursion, slice_get}
-use Rattle.cap_text.specs.Decimals.{canonical_decimal}
-use Rattle.command_words.specs.Said.{Said, Given, Positional, words_of, IsPlain, IsPlainSaid, positionals_of, options_of, value_of, IsOneOf}
-use Rattle.command_words.specs.WordList.{Request, Serve, Run, Build, Check, Graph, Demo, Audit, Budget, Says, IsWordList, audit_options, audit_policy, placement_options, policy_options, run_options}
-use Rattle.command_words.specs.Parse.{all_options, command_names, IsWord, IsReadable, IsSaid, Tells, IsReadAs}
-use Rattle.command_words.specs.Asked.{Texts, LacksAll, HasOne, HasTwo, HasThree, IsAsked}
+use Rattle.command_words.proofs.Common.{◌≡◌, ◌∙◌, inl, inr, true, ◌≤◌, refl, ap, sym, subst, arith, List, [], ◌∷◌, ◌++◌, length, Some, None, codes, flat_map, AllByRecursion, slice_get, canonical_decimal, Said, Given, Positional, words_of, IsPlain, IsPlainSaid, positionals_of, options_of, value_of, IsOneOf, Request, Serve, Run, Build, Check, Graph, Demo, Audit, Budget, Says, IsWordList, audit_options, audit_policy, placement_options, policy_options, run_options, all_options, command_names, IsWord, IsReadable, IsSaid, Tells, IsReadAs, Texts, LacksAll, HasOne, HasTwo, HasThree, IsAsked}
 use Rattle.command_words.proofs.GivenOptions.{Text, all_in, are_among, are_apart, audit_along, joined, keeps, lacks, placement_along, policy_along, turned, within}
 use Rattle.command_words.proofs.Rules.{is_option}
 use Rattle.command_words.proofs.Parsed.{plain_command}
 
 -- ---- what is said is one
 
-plain_is_no_option : (word : Text) → IsOneOf all_options word → IsPlain word → ⊥
+pub plain_is_no_option : (word : Text) → IsOneOf all_options word → IsPlain word → ⊥
 plain_is_no_option [] known plain = plain
 plain_is_no_option (byte ∷ bytes) known plain =
     let begins = (is_option (byte ∷ bytes) known).begins in

@@ -1,8 +1,5 @@
 -- The option at an index is one of those that are left there.
-use Rattle.std.proofs.Common.{◌≡◌, ℕ, zero, suc, ◌<◌, sym, inl, arith, List, [], ◌∷◌, drop, length, get_or}
-use Rattle.command_words.specs.declared.option_table.CommandOption.{CommandOption}
-use Rattle.command_words.specs.OptionTable.{name_of, names_of}
-use Rattle.command_words.specs.Said.{IsOneOf}
+use Rattle.command_words.proofs.Common.{◌≡◌, ℕ, zero, suc, ◌<◌, sym, inl, arith, List, [], ◌∷◌, drop, length, get_or, CommandOption, name_of, names_of, IsOneOf}
 
 pub named : (options : List CommandOption) (i : ℕ) (d : CommandOption) (word : List ℕ) → i < length options
     → name_of (get_or options i d) ≡ word → IsOneOf (names_of (drop i options)) word

@@ -1,16 +1,8 @@
 -- A list of words asks for one command.
 use Rattle.std.proofs.Common.{◌≡◌, ◌∙◌, ℕ, refl, ap, sym, subst, false, List, [], ◌∷◌}
-use Rattle.std.specs.Str.{bytes_eq}
-use Rattle.std.proofs.lemmas.Slice.Eq.{bytes_eq-Decides}
+use Rattle.command_words.proofs.Common.{bytes_eq, bytes_eq-Decides, canonical_decimal, decimal_unique, Placement, Policy, Said, Positional, positionals_of, value_of, IsAudit, IsPlacement, IsPolicy, Request, Serve, Run, Build, Check, Graph, Demo, Audit, Budget, IsWordList}
 use Rattle.std.proofs.Common.{true≢false}
-use Rattle.cap_text.specs.Decimals.{canonical_decimal}
-use Rattle.cap_text.proofs.DecimalLaws.{decimal_unique}
 use Rattle.command_words.specs.declared.options.Audit.{Audit as AuditOptions}
-use Rattle.command_words.specs.declared.options.Placement.{Placement}
-use Rattle.command_words.specs.declared.options.Policy.{Policy}
-use Rattle.command_words.specs.Said.{Said, Positional, positionals_of, value_of}
-use Rattle.command_words.specs.Values.{IsAudit, IsPlacement, IsPolicy}
-use Rattle.command_words.specs.WordList.{Request, Serve, Run, Build, Check, Graph, Demo, Audit, Budget, IsWordList}
 use Rattle.command_words.proofs.Lists.{name_of, said_in, whole_list, one_said}
 use Rattle.command_words.proofs.Chosen.{one_audit, one_placement, one_policy}
 

@@ -1,16 +1,7 @@
 -- What the parser makes of the words as a whole.
-use Rattle.std.proofs.Common.{◌≡◌, ◌≢◌, ◌∙◌, inl, inr, ℕ, refl, ap, sym, subst, Bool, true, false, true≢false, ◌==◌, List, [], ◌∷◌, ◌||◌, ◌≤◌, length, Option, Some, None, codes, cond, map}
-use Rattle.std.specs.Prelude.{fold, is_some}
-use Rattle.std.specs.List.{flat_map, AllByRecursion}
-use Rattle.clap.specs.Kinds.{Kinds, or_else}
-use Rattle.clap.specs.Faults.{built_fault, check_fault, default_fault, defaults_fault, entered_fault, fault_of, level_fault, settle_fault, walk_fault}
+use Rattle.command_words.proofs.Common.{◌≡◌, ◌≢◌, ◌∙◌, inl, inr, ℕ, refl, ap, sym, subst, Bool, true, false, true≢false, ◌==◌, List, [], ◌∷◌, ◌||◌, ◌≤◌, length, Option, Some, None, codes, cond, map, fold, is_some, flat_map, AllByRecursion, Kinds, or_else, built_fault, check_fault, default_fault, defaults_fault, entered_fault, fault_of, level_fault, settle_fault, walk_fault, Held, Row, Rule, Text, finished, has_row, first_of, nothing_held, rows_after, walk, walk_from, with_default, default_rows, reading_by, Said, words_of, IsPlain, positionals_of, options_of, value_of, IsOneOf, AreOnce, words_app, all_options, IsWord, IsReadable, command_names, IsSaid, Tells, IsReadAs, all_table, long_name_of, name_of, CommandOption, or-true}
 use Rattle.clap.specs.Simple.{App, entered, matches_of, names_of}
-use Rattle.clap.specs.Walk.{Held, Row, Rule, Text, finished, has_row, first_of, nothing_held, rows_after, walk, walk_from, with_default, default_rows, reading_by}
-use Rattle.command_words.specs.Said.{Said, words_of, IsPlain, positionals_of, options_of, value_of, IsOneOf, AreOnce}
-use Rattle.command_words.specs.Parse.{words_app, all_options, IsWord, IsReadable, command_names, IsSaid, Tells, IsReadAs}
 use Rattle.command_words.proofs.GivenOptions.{all_among}
-use Rattle.command_words.specs.OptionTable.{all_table, long_name_of, name_of}
-use Rattle.command_words.specs.declared.option_table.CommandOption.{CommandOption}
 use Rattle.command_words.proofs.Rules.{rules, top, top_is, are_places, places, is_option, option_rule}
 use Rattle.command_words.proofs.Steps.{between}
 use Rattle.command_words.proofs.Rows.{first_none, then_none, both_none}
@@ -38,12 +29,8 @@ no_default rows a none = go (has_row a.id rows)
     go true = refl
     go false = rw none refl
 
-or_true : (b : Bool) → (b || true) ≡ true
-or_true true = refl
-or_true false = refl
-
 no_default_fault : (rows : List Row) (a : Rule) → a.defaults ≡ [] → default_fault rows a ≡ []
-no_default_fault rows a none = rw (none, or_true (has_row a.id rows)) refl
+no_default_fault rows a none = rw (none, or-true (has_row a.id rows)) refl
 
 no_defaults : (rows : List Row) (left : List Rule) → HaveNoDefaults left → fold with_default rows left ≡ rows
 no_defaults rows [] none = refl

@@ -1,9 +1,5 @@
 -- What is held as rows: one for each option with its value and for each positional word.
-use Rattle.std.proofs.Common.{◌≡◌, ◌∙◌, ℕ, refl, ap, Bool, true, false, true≢false, List, [], ◌∷◌, ◌++◌, Option, Some, None, append-nil}
-use Rattle.std.specs.Str.{bytes_eq}
-use Rattle.clap.specs.Kinds.{Kinds, or_else}
-use Rattle.clap.specs.Faults.{settle_fault}
-use Rattle.clap.specs.Walk.{Held, Row, Text, arg_by_id, at_row, has_row, more_values, settled_rows, without, with_values}
+use Rattle.command_words.proofs.Common.{◌≡◌, ◌∙◌, ℕ, refl, ap, Bool, true, false, true≢false, List, [], ◌∷◌, ◌++◌, Option, Some, None, append-nil, bytes_eq, Kinds, or_else, settle_fault, Held, Row, Text, arg_by_id, at_row, has_row, more_values, settled_rows, without, with_values}
 use Rattle.clap.specs.declared.builder.value_parser.Reading.TheVariants.{AsWritten}
 use Rattle.clap.specs.declared.parser.matches.ValueSource.TheVariants.{CommandLine}
 use Rattle.clap.specs.declared.error.kind.ErrorKind.TheVariants as kind

@@ -1,18 +1,8 @@
 -- The rules that the parser goes by: of the positional words and of the options, each with one text as its value.
-use Rattle.std.proofs.Common.{◌≡◌, ℕ, refl, sym, subst, inl, inr, codes, true, false, List, [], ◌∷◌, drop, map, Option, Some, None}
-use Rattle.std.specs.Str.{bytes_eq}
-use Rattle.clap.specs.Walk.{Rule, Text, arg_by_id, arg_by_index, arg_by_long, next_position}
-use Rattle.clap.specs.Simple.{App, Shape, built}
-use Rattle.clap.specs.Faults.{is_simple_and_free}
-use Rattle.clap.specs.Lexer.{long_of}
+use Rattle.command_words.proofs.Common.{◌≡◌, ℕ, refl, sym, subst, inl, inr, codes, true, false, List, [], ◌∷◌, drop, map, Option, Some, None, bytes_eq, Rule, Text, arg_by_id, arg_by_index, arg_by_long, next_position, App, Shape, built, is_simple_and_free, long_of, clap_on_literals, all_table, long_name_of, name_of, names_of, CommandOption, IsOneOf, words_app, all_options}
 use Rattle.clap.specs.declared.builder.action.ArgAction.TheVariants.{Set}
 use Rattle.clap.specs.declared.builder.value_parser.ValueParser.TheVariants.{String}
-use Rattle.clap.proofs.OnLiterals.{clap_on_literals}
-use Rattle.command_words.specs.OptionTable.{all_table, long_name_of, name_of, names_of}
-use Rattle.command_words.specs.declared.option_table.CommandOption.{CommandOption}
 use Rattle.command_words.specs.declared.option_table.CommandOption.TheVariants as option
-use Rattle.command_words.specs.Said.{IsOneOf}
-use Rattle.command_words.specs.Parse.{words_app, all_options}
 
 -- a rule that takes one text
 abbrev pub text_rule : Text → Option Text → Option ℕ → Rule

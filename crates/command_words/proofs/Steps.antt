@@ -1,14 +1,6 @@
 -- What the parser makes of one word more, between the words and while an option waits for its value.
-use Rattle.std.proofs.Common.{◌≡◌, ℕ, refl, Bool, true, false, [], ◌∷◌, ◌==◌, ◌&&◌, Some, None}
-use Rattle.std.specs.Str.{bytes_eq}
-use Rattle.std.proofs.lemmas.Bool.{ne_eqb}
-use Rattle.std.proofs.lemmas.Slice.Eq.{bytes_eq-Decides}
-use Rattle.clap.specs.Lexer.{long_of, short_of}
-use Rattle.clap.specs.Walk.{Held, Text, Walk, idle, option, walked, settled_rows, arg_by_index, is_pending}
-use Rattle.clap.specs.Kinds.{or_else}
-use Rattle.clap.specs.Faults.{settle_fault, turn_fault}
+use Rattle.command_words.proofs.Common.{◌≡◌, ℕ, refl, Bool, true, false, [], ◌∷◌, ◌==◌, ◌&&◌, Some, None, bytes_eq, ne_eqb, bytes_eq-Decides, long_of, short_of, Held, Text, Walk, idle, option, walked, settled_rows, arg_by_index, is_pending, or_else, settle_fault, turn_fault, IsPlain}
 use Rattle.clap.specs.declared.error.kind.ErrorKind.TheVariants as kind
-use Rattle.command_words.specs.Said.{IsPlain}
 use Rattle.command_words.proofs.Rules.{rules, top, IsOption, IsPlace, place_rule}
 
 -- between two words, before the positional word of this place
@@ -58,7 +50,7 @@ option_again h place first name one is = rw (is.no_end, is.is_long, is.by_long, 
 pub option_ends : (h : Held) (name : Text) → IsOption name → settle_fault rules false (opened h name) ≡ kind.InvalidValue ∷ []
 option_ends h name is = rw is.by_id refl
 
-same_text : (text : Text) → bytes_eq text text ≡ true
+pub same_text : (text : Text) → bytes_eq text text ≡ true
 same_text text = (bytes_eq-Decides text text).1 refl
 
 pub value_walked : (h : Held) (place : ℕ) (name word : Text) → IsOption name → IsNoFlag word

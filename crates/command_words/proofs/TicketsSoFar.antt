@@ -1,14 +1,7 @@
 -- The tickets of a text, read one after another.
-use Rattle.std.proofs.Common.{◌≡◌, ◌∙◌, ℕ, suc, ◌+◌, ◌-◌, ◌<◌, ◌≤◌, refl, ap, sym, subst, arith, List, [], ◌∷◌, ◌++◌, map, length, replicate, append-nil, append_assoc, slice_set, inl, inr}
-use Rattle.std.proofs.lemmas.List.{map-append}
-use Rattle.cap_text.specs.Decimals.{canonical_decimal}
-use Rattle.cap_text.specs.Pieces.{pieces, after_each}
-use Rattle.cap_text.proofs.DecimalLaws.{decimal_unique, decimal_field, FieldEnds}
+use Rattle.command_words.proofs.Common.{◌≡◌, ◌∙◌, ℕ, suc, ◌+◌, ◌-◌, ◌<◌, ◌≤◌, refl, ap, sym, subst, arith, List, [], ◌∷◌, ◌++◌, map, length, replicate, append-nil, append_assoc, slice_set, inl, inr, map-append, canonical_decimal, pieces, after_each, decimal_unique, decimal_field, FieldEnds, Tickets, least_of, most_of, ticket_text, AreTicketsFrom, IsTicketsText, tickets_of}
 use Rattle.cap_text.proofs.PieceLaws.{pieces_joined, text_of_pieces, lacks_decimal}
-use Rattle.command_words.specs.declared.options.Tickets.{Tickets}
-use Rattle.command_words.specs.OptionTable.{least_of, most_of}
 use Rattle.command_words.specs.declared.option_table.CommandOption.TheVariants as option
-use Rattle.command_words.specs.Values.{ticket_text, AreTicketsFrom, IsTicketsText, tickets_of}
 
 abbrev pub Pairs : Type 0
 Pairs = List (ℕ × ℕ)

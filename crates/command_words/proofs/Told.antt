@@ -1,14 +1,9 @@
 -- What the rows tell of the things said.
-use Rattle.std.proofs.Common.{◌==◌, ◌≡◌, ◌≢◌, ◌∙◌, inl, inr, ℕ, zero, suc, ◌≤◌, refl, sym, subst, arith, Bool, true, false, true≢false, List, [], ◌∷◌, ◌++◌, length, Some}
-use Rattle.std.specs.Str.{bytes_eq}
-use Rattle.std.specs.List.{AllByRecursion, slice_get}
-use Rattle.std.proofs.lemmas.Slice.Eq.{bytes_eq-Decides}
-use Rattle.clap.specs.Walk.{Row, Text, first_of, has_row}
-use Rattle.command_words.specs.Said.{Said, Given, Positional, positionals_of, options_of, value_of, IsOneOf, AreOnce}
-use Rattle.command_words.specs.Parse.{all_options}
+use Rattle.command_words.proofs.Common.{◌==◌, ◌≡◌, ◌≢◌, ◌∙◌, inl, inr, ℕ, zero, suc, ◌≤◌, refl, sym, subst, arith, Bool, true, false, true≢false, List, [], ◌∷◌, ◌++◌, length, Some, bytes_eq, AllByRecursion, slice_get, bytes_eq-Decides, Row, Text, first_of, has_row, Said, Given, Positional, positionals_of, options_of, value_of, IsOneOf, AreOnce, all_options}
 use Rattle.command_words.proofs.Rules.{IsOption, is_option, places}
 use Rattle.command_words.proofs.Rows.{row}
 use Rattle.command_words.proofs.Walks.{rows_of, AreNew}
+use Rattle.command_words.proofs.Steps.{same_text}
 
 -- a name that does not begin with `-`
 abbrev pub IsBare : Text → Type 0
@@ -17,9 +12,6 @@ IsBare (byte ∷ bytes) = (45 == byte) ≡ false × ((byte == 45) ≡ false)
 
 same : (a b : Text) → bytes_eq a b ≡ true → a ≡ b
 same a b is = (bytes_eq-Decides a b).0 is
-
-is_same : (a : Text) → bytes_eq a a ≡ true
-is_same a = (bytes_eq-Decides a a).1 refl
 
 pub apart : (a b : Text) → a ≢ b → bytes_eq a b ≡ false
 apart a b differ = go (bytes_eq a b) refl
@@ -67,7 +59,7 @@ place_told names (Given option value ∷ rest) place name at bare once is known 
 place_told [] (Positional word ∷ rest) place name at bare once is known few = absurd (omega arith)
 place_told (first ∷ names) (Positional word ∷ rest) zero name at bare once is known few =
     let e : first ≡ name = cc in
-    let here : bytes_eq first name ≡ true = subst (λ n. bytes_eq first n ≡ true) e (is_same first) in
+    let here : bytes_eq first name ≡ true = subst (λ n. bytes_eq first n ≡ true) e (same_text first) in
     rw here refl
 place_told (first ∷ names) (Positional word ∷ rest) (suc place) name at bare once is known few =
     let differ : first ≢ name = λ e. once.0 (subst (IsOneOf names) (sym e) (one_of names place name at)) in
@@ -144,7 +136,7 @@ new_of_once (Positional word ∷ rest) rows (name ∷ names) bare distinct known
 
 pub not_among : (name : Text) (names : List Text) → AllByRecursion (λ other. bytes_eq name other ≡ false) names → IsOneOf names name → ⊥
 not_among name [] differ among = among
-not_among name (other ∷ names) differ (inl e) = true≢false (sym (subst (λ n. bytes_eq name n ≡ true) e (is_same name)) ∙ differ.0)
+not_among name (other ∷ names) differ (inl e) = true≢false (sym (subst (λ n. bytes_eq name n ≡ true) e (same_text name)) ∙ differ.0)
 not_among name (other ∷ names) differ (inr more) = not_among name names differ.1 more
 
 all_less : (rows : List Row) (name value : Text) (names : List Text) → AreAbsent (rows ++ row name value ∷ []) names

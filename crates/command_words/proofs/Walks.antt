@@ -1,12 +1,5 @@
 -- The parser over all words: it passes just those that say something, and holds a row for each thing said.
-use Rattle.std.proofs.Common.{◌≡◌, ◌∙◌, inl, inr, ℕ, refl, ap, sym, subst, false, List, [], ◌∷◌, ◌++◌, Some, None, append-nil, append_assoc}
-use Rattle.std.specs.Prelude.{fold, ⊤}
-use Rattle.std.specs.List.{flat_map, AllByRecursion}
-use Rattle.clap.specs.Kinds.{Kinds, or_else}
-use Rattle.clap.specs.Faults.{settle_fault, turn_fault, walk_fault}
-use Rattle.clap.specs.Walk.{Held, Row, Text, Walk, has_row, settled_rows, walked}
-use Rattle.command_words.specs.Said.{Said, Given, Positional, words_of, IsPlain, IsPlainSaid, options_of, IsOneOf}
-use Rattle.command_words.specs.Parse.{all_options, IsWord}
+use Rattle.command_words.proofs.Common.{◌≡◌, ◌∙◌, inl, inr, ℕ, refl, ap, sym, subst, false, List, [], ◌∷◌, ◌++◌, Some, None, append-nil, append_assoc, fold, ⊤, flat_map, AllByRecursion, Kinds, or_else, settle_fault, turn_fault, walk_fault, Held, Row, Text, Walk, has_row, settled_rows, walked, Said, Given, Positional, words_of, IsPlain, IsPlainSaid, options_of, IsOneOf, all_options, IsWord}
 use Rattle.command_words.proofs.Rules.{rules, top, IsOption, IsPlace, ArePlaces, is_option}
 use Rattle.command_words.proofs.Steps.{between, awaiting, opened, with_value, no_flag, option_walked, option_turn, option_again, option_ends, value_walked, value_turn, place_walked, place_turn, stray_turn}
 use Rattle.command_words.proofs.Rows.{row, first_none, then_none, both_none, value_fault, value_once, value_row}

@@ -1,16 +1,6 @@
 -- Where the sites that are left out break every cycle, the walk finds no back edge, so it leaves the functions from the bottom up.
-use Rattle.std.proofs.Common.{◌≡◌, ℕ, zero, suc, true, false, if◌then◌else◌, List, [], ◌∷◌, ◌++◌, refl, sym, ap, ◌∙◌, subst}
-use Rattle.std.specs.List.{AllByRecursion, list_any}
-use Rattle.call_graph.specs.declared.sites.GraphSite.{GraphSite}
-use Rattle.call_graph.specs.Callees.{callees}
-use Rattle.call_graph.specs.Graph.{CallGraphState, function_count, IsCallGraph}
-use Rattle.call_graph.specs.Index.{sites_of}
-use Rattle.call_graph.specs.Lists.{has}
-use Rattle.call_graph.specs.Paths.{Call, IsCallBy, IsPath, BreaksEveryCycle}
-use Rattle.call_graph.proofs.ListLemmas.{by_test}
-use Rattle.cycle_break.specs.BottomUp.{IsBottomUp}
-use Rattle.cycle_break.specs.Walk.{Walked, start, is_visited, note, into_each, through, walk, whole_walk, numbers_from}
-use Rattle.cycle_break.proofs.NumberLemmas.{all-map, has-cases, has-head, has-tail, true_false}
+use Rattle.cycle_break.proofs.Common.{◌≡◌, ℕ, zero, suc, true, false, if◌then◌else◌, List, [], ◌∷◌, ◌++◌, refl, sym, ap, ◌∙◌, subst, AllByRecursion, list_any, GraphSite, callees, CallGraphState, function_count, IsCallGraph, sites_of, has, Call, IsCallBy, IsPath, BreaksEveryCycle, by_test, IsBottomUp, Walked, start, is_visited, note, into_each, through, walk, whole_walk, numbers_from, All-weaker}
+use Rattle.cycle_break.proofs.NumberLemmas.{has-cases, has-head, has-tail, true_false}
 use Rattle.cycle_break.proofs.SiteLemmas.{IsOwn, all-own}
 use Rattle.cycle_break.proofs.WalkLemmas.{is_late, AreSettled, whole_walk-is}
 
@@ -114,7 +104,7 @@ module _ (graph : CallGraphState) (without : List ℕ) where
     settled-up : (back left : List ℕ) → back ≡ [] → AreSettled graph without back left → IsBottomUp graph without left
     settled-up back [] none settled = tt
     settled-up back (f ∷ left) none settled = (
-      all-map (IsOwn graph.sites without f) (λ s. AllByRecursion (λ c. has c left ≡ true) (callees graph.tables s.target))
+      All-weaker (IsOwn graph.sites without f) (λ s. AllByRecursion (λ c. has c left ≡ true) (callees graph.tables s.target))
           (λ s own. all-early left (callees graph.tables s.target) (sym (settled.0 s own) ∙ ap (has s.number) none)) (sites_of graph.sites without f) (all-own graph.sites without f),
       settled-up back left none settled.1,
     )

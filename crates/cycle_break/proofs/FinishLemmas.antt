@@ -1,16 +1,5 @@
 -- What is left of a walk while functions are on its path.
-use Rattle.std.proofs.Common.{◌≡◌, ℕ, zero, suc, ◌+◌, ◌-◌, ◌<◌, ◌≤◌, ◌||◌, true, false, not, if◌then◌else◌, Some, None, find, List, [], ◌∷◌, length, map, drop, get_or, refl, sym, ap, ◌∙◌, arith}
-use Rattle.std.proofs.lemmas.List.{drop_all}
-use Rattle.std.specs.List.{list_any}
-use Rattle.call_graph.specs.declared.sites.GraphSite.{GraphSite}
-use Rattle.call_graph.specs.Callees.{callees}
-use Rattle.call_graph.specs.Index.{sites_of, is_call_of, LeadsTo}
-use Rattle.call_graph.specs.Lists.{has}
-use Rattle.call_graph.proofs.ListLemmas.{by_test}
-use Rattle.call_graph.proofs.IndexLemmas.{sites_of-here}
-use Rattle.cycle_break.specs.declared.path.Frame.{Frame}
-use Rattle.cycle_break.specs.Trail.{come}
-use Rattle.cycle_break.specs.Walk.{Walked, is_visited, leave, note, into_each, through, walk}
+use Rattle.cycle_break.proofs.Common.{◌≡◌, ℕ, zero, suc, ◌+◌, ◌-◌, ◌<◌, ◌≤◌, ◌||◌, true, false, not, if◌then◌else◌, Some, None, find, List, [], ◌∷◌, length, map, drop, get_or, refl, sym, ap, ◌∙◌, arith, drop_all, list_any, GraphSite, callees, sites_of, is_call_of, LeadsTo, has, by_test, sites_of-here, Frame, come, Walked, is_visited, leave, note, into_each, through, walk}
 use Rattle.cycle_break.proofs.NumberLemmas.{has-head, has-tail}
 
 -- one function of a list

@@ -1,3 +1,4 @@
+mod Common
 pub mod BottomUpLemmas
 pub mod FinishLemmas
 pub mod NumberLemmas

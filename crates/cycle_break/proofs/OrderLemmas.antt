@@ -1,10 +1,5 @@
 -- One function more of the whole walk.
-use Rattle.std.proofs.Common.{◌≡◌, ℕ, suc, ◌+◌, ◌-◌, ◌<◌, List, [], ◌∷◌, reverse, ◌++◌, refl, arith}
-use Rattle.std.proofs.lemmas.List.{reverse-append, reverse-reverse}
-use Rattle.std.specs.List.{AllByRecursion}
-use Rattle.call_graph.specs.Graph.{CallGraphState, function_count}
-use Rattle.cycle_break.specs.Trail.{come}
-use Rattle.cycle_break.specs.Walk.{Walked, into_each, walk, numbers_from}
+use Rattle.cycle_break.proofs.Common.{◌≡◌, ℕ, suc, ◌+◌, ◌-◌, ◌<◌, List, [], ◌∷◌, reverse, ◌++◌, refl, arith, reverse-append, reverse-reverse, AllByRecursion, CallGraphState, function_count, come, Walked, into_each, walk, numbers_from}
 use Rattle.cycle_break.proofs.FinishLemmas.{into_each-left, walk-left}
 
 -- the numbers from one on are it and the rest

@@ -1,26 +1,9 @@
 -- One step of the walk's code.
-use Rattle.std.proofs.Common.{◌≡◌, ◌≢◌, ℕ, zero, suc, ◌+◌, ◌-◌, ◌*◌, ◌<◌, ◌≤◌, ◌==◌, Bool, true, false, not, if◌then◌else◌, Some, None, find, List, [], ◌∷◌, length, set, drop, get_or, refl, sym, ap, ◌∙◌, subst, arith}
-use Rattle.std.proofs.lemmas.Bool.Decides.{nat_tests}
-use Rattle.std.proofs.lemmas.List.{length-map, length-set, get_or-set_same, get_or-set_other}
-use Rattle.std.specs.List.{AllByRecursion}
-use Rattle.call_graph.specs.declared.sites.GraphSite.{GraphSite}
-use Rattle.call_graph.specs.Callees.{callees}
-use Rattle.call_graph.specs.Index.{is_call_of, sites_of, LeadsTo}
-use Rattle.call_graph.specs.Lists.{has, IsOnce}
-use Rattle.call_graph.proofs.ListLemmas.{by_test}
-use Rattle.call_graph.proofs.IndexLemmas.{by_eq}
-use Rattle.cycle_break.specs.declared.path.Frame.{Frame}
-use Rattle.cycle_break.specs.Trail.{come, is_marked, IsMarked}
-use Rattle.cycle_break.specs.Walk.{is_visited, through, walk}
+use Rattle.cycle_break.proofs.Common.{◌≡◌, ◌≢◌, ℕ, zero, suc, ◌+◌, ◌-◌, ◌*◌, ◌<◌, ◌≤◌, ◌==◌, Bool, true, false, not, Some, None, find, List, [], ◌∷◌, length, set, drop, get_or, refl, sym, ap, ◌∙◌, subst, arith, nat_tests, length-map, length-set, get_or-set_same, get_or-set_other, AllByRecursion, GraphSite, callees, is_call_of, sites_of, LeadsTo, has, IsOnce, by_test, by_eq, Frame, come, is_marked, IsMarked, is_visited, through, walk, unmarked}
 use Rattle.cycle_break.proofs.NumberLemmas.{once-length, true_false}
 use Rattle.cycle_break.proofs.FinishLemmas.{functions_of, finish, finish-enter, finish-on}
 
 -- ---- lists of marks
-
--- how many aren't marked
-abbrev pub unmarked : List Bool → ℕ
-unmarked [] = 0
-unmarked (b ∷ bs) = (if b then 0 else 1) + unmarked bs
 
 pub unmarked-set : (visited : List Bool) (g : ℕ) → g < length visited → is_marked visited g ≡ false → unmarked visited ≡ suc (unmarked (set visited g true))
 unmarked-set [] g within out = absurd (omega arith)

@@ -1,18 +1,5 @@
 -- A site is a back edge exactly where a callee is left no earlier than its caller; so no path without back edges is a cycle.
-use Rattle.std.proofs.Common.{◌≡◌, inl, inr, ℕ, zero, suc, ◌+◌, ◌<◌, ◌≤◌, ◌==◌, ◌||◌, nat_lt, nat_le, max, Bool, true, false, not, Result, Ok, Err, IfOk, if◌then◌else◌, List, [], ◌∷◌, ◌++◌, length, map, filter, reverse, get_or, slice_index, refl, sym, ap, ◌∙◌, subst, arith}
-use Rattle.std.proofs.lemmas.Bool.Decides.{nat_tests}
-use Rattle.std.proofs.lemmas.List.{length-reverse, reverse-append, reverse-reverse}
-use Rattle.std.specs.List.{AllByRecursion}
-use Rattle.std.specs.List.Sorted.{IsStrictlyIncreasing}
-use Rattle.call_graph.specs.declared.sites.GraphSite.{GraphSite}
-use Rattle.call_graph.specs.Callees.{callees, greatest}
-use Rattle.call_graph.specs.Graph.{CallGraphState, function_count, IsSiteOf, IsCallGraph, IsRising}
-use Rattle.call_graph.specs.Paths.{Call, IsAmong, IsCallBy, IsPath, BreaksEveryCycle}
-use Rattle.call_graph.specs.Lists.{has}
-use Rattle.call_graph.proofs.ListLemmas.{by_test}
-use Rattle.cycle_break.specs.BackEdges.{back_edges}
-use Rattle.cycle_break.specs.Trail.{place_from, rank, is_later}
-use Rattle.cycle_break.specs.Walk.{Walked, whole_walk}
+use Rattle.cycle_break.proofs.Common.{◌≡◌, inl, inr, ℕ, zero, suc, ◌+◌, ◌<◌, ◌≤◌, ◌==◌, ◌||◌, nat_lt, nat_le, max, Bool, true, false, not, if◌then◌else◌, List, [], ◌∷◌, ◌++◌, length, map, filter, reverse, get_or, slice_index, refl, sym, ap, ◌∙◌, subst, arith, nat_tests, length-reverse, reverse-append, reverse-reverse, AllByRecursion, IsStrictlyIncreasing, GraphSite, callees, greatest, CallGraphState, function_count, IsSiteOf, IsCallGraph, IsRising, Call, IsAmong, IsCallBy, IsPath, BreaksEveryCycle, has, by_test, back_edges, place_from, rank, is_later, Walked, whole_walk}
 use Rattle.cycle_break.proofs.NumberLemmas.{all-has, has-head, not_has, true_false}
 use Rattle.cycle_break.proofs.SiteLemmas.{among-all, among-filter, rising-filter}
 use Rattle.cycle_break.proofs.WalkLemmas.{is_late, IsSettled, AreSettled, whole_walk-is}
@@ -228,8 +215,3 @@ module _ (graph : CallGraphState) (kept : IsCallGraph graph) where
       ∙ ap (nat_le (rank order s.caller)) most
       ∙ ap (λ (o : List ℕ). is_later o s.caller cs) order_is
       ∙ sym (back-later graph [] kept s among refl)))
-
--- what an answer has, another fact that follows from it has too
-pub if_ok : {X E : Type 0} (r : Result X E) (P Q : X → Type 0) → ((x : X) → P x → Q x) → IfOk r P → IfOk r Q
-if_ok (Ok x) P Q f h = f x h
-if_ok (Err e) P Q f h = tt

@@ -1,8 +1,5 @@
 -- What was seen of the members of tables.
-use Rattle.std.proofs.Common.{◌≡◌, ℕ, zero, suc, ◌+◌, ◌<◌, ◌≤◌, Bool, true, false, not, find, slice_get, List, [], ◌∷◌, length, set, get_or, refl, ◌∙◌, arith}
-use Rattle.std.proofs.lemmas.List.{get_or-set_same, get_or-set_other}
-use Rattle.call_graph.proofs.IndexLemmas.{by_eq}
-use Rattle.cycle_break.specs.Trail.{is_marked, AreMarkedBelow, IsSeen}
+use Rattle.cycle_break.proofs.Common.{◌≡◌, ℕ, zero, suc, ◌+◌, ◌<◌, ◌≤◌, Bool, true, false, not, find, slice_get, List, [], ◌∷◌, length, set, get_or, refl, ◌∙◌, arith, get_or-set_same, get_or-set_other, by_eq, is_marked, AreMarkedBelow, IsSeen}
 
 -- ---- the first that isn't marked
 
@@ -26,7 +23,7 @@ marked-more visited cs k marked here i before inside = by_eq i k (λ same. rw sa
 
 -- ---- what was seen of the tables
 
-mark-stays : (visited : List Bool) (g f : ℕ) → g < length visited → is_marked visited f ≡ true → is_marked (set visited g true) f ≡ true
+pub mark-stays : (visited : List Bool) (g f : ℕ) → g < length visited → is_marked visited f ≡ true → is_marked (set visited g true) f ≡ true
 mark-stays visited g f within was =
     by_eq f g (λ same. rw same (get_or-set_same visited g true false within)) (λ ne. get_or-set_other visited g f true false ne ∙ was)
 

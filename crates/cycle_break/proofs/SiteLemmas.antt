@@ -1,18 +1,10 @@
 -- The sites of a function, among all sites.
-use Rattle.std.proofs.Common.{◌≡◌, inl, inr, ℕ, ◌<◌, ◌==◌, Bool, true, false, List, [], ◌∷◌, filter, refl, sym, ◌∙◌, subst, arith}
-use Rattle.std.proofs.lemmas.Bool.Decides.{nat_tests}
-use Rattle.std.specs.List.{AllByRecursion}
-use Rattle.call_graph.specs.declared.sites.GraphSite.{GraphSite}
-use Rattle.call_graph.specs.Graph.{IsRising}
-use Rattle.call_graph.specs.Paths.{IsAmong}
-use Rattle.call_graph.specs.Index.{is_call_of, sites_of}
-use Rattle.call_graph.specs.Lists.{has}
-use Rattle.call_graph.proofs.ListLemmas.{by_test}
-use Rattle.cycle_break.proofs.NumberLemmas.{all-map, all-filter, true_false}
+use Rattle.cycle_break.proofs.Common.{◌≡◌, inl, inr, ℕ, ◌<◌, ◌==◌, Bool, true, false, List, [], ◌∷◌, filter, refl, sym, ◌∙◌, subst, arith, nat_tests, AllByRecursion, GraphSite, IsRising, IsAmong, is_call_of, sites_of, has, by_test, All-weaker}
+use Rattle.cycle_break.proofs.NumberLemmas.{all-filter, true_false}
 
 pub all-among : (xs : List GraphSite) → AllByRecursion (IsAmong xs) xs
 all-among [] = tt
-all-among (x ∷ xs) = (inl refl, all-map (IsAmong xs) (IsAmong (x ∷ xs)) (λ y h. inr h) xs (all-among xs))
+all-among (x ∷ xs) = (inl refl, All-weaker (IsAmong xs) (IsAmong (x ∷ xs)) (λ y h. inr h) xs (all-among xs))
 
 pub among-all : (P : GraphSite → Type 0) (xs : List GraphSite) (s : GraphSite) → AllByRecursion P xs → IsAmong xs s → P s
 among-all P [] s all h = absurd h
@@ -29,7 +21,7 @@ pub rising-filter : (p : GraphSite → Bool) (xs : List GraphSite) → IsRising 
 rising-filter p [] up = tt
 rising-filter p (x ∷ xs) up =
     by_test (p x)
-    (λ t. rw t (all-map (λ (y : GraphSite). (x.number < y.number) × (p y ≡ true)) (λ (y : GraphSite). x.number < y.number) (λ y h. h.0) (filter p xs) (all-filter (λ (y : GraphSite). x.number < y.number) p xs up.0), rising-filter p xs up.1))
+    (λ t. rw t (All-weaker (λ (y : GraphSite). (x.number < y.number) × (p y ≡ true)) (λ (y : GraphSite). x.number < y.number) (λ y h. h.0) (filter p xs) (all-filter (λ (y : GraphSite). x.number < y.number) p xs up.0), rising-filter p xs up.1))
     (λ f. rw f (rising-filter p xs up.1))
 
 -- no two sites have one number
@@ -66,7 +58,7 @@ own-from_test sites without function site among test =
 
 pub all-own : (sites : List GraphSite) (without : List ℕ) (function : ℕ) → AllByRecursion (IsOwn sites without function) (sites_of sites without function)
 all-own sites without function =
-    all-map (λ s. IsAmong sites s × (is_call_of without function s ≡ true)) (IsOwn sites without function) (λ s h. own-from_test sites without function s h.0 h.1)
+    All-weaker (λ s. IsAmong sites s × (is_call_of without function s ≡ true)) (IsOwn sites without function) (λ s h. own-from_test sites without function s h.0 h.1)
     (sites_of sites without function) (all-filter (IsAmong sites) (is_call_of without function) sites (all-among sites))
 
 pub own-among : (sites : List GraphSite) (without : List ℕ) (site : GraphSite) → IsAmong sites site → has site.number without ≡ false → IsAmong (sites_of sites without site.caller) site

@@ -1,17 +1,7 @@
 -- What a walk does: it leaves the function that it begins with, and finds a site to be a back edge exactly where a callee of
 -- the site isn't left before its caller.
-use Rattle.std.proofs.Common.{◌≡◌, ◌≢◌, ◌⊎◌, inl, inr, ℕ, zero, suc, ◌+◌, ◌<◌, ◌≤◌, ◌==◌, Bool, true, false, not, if◌then◌else◌, List, [], ◌∷◌, length, map, refl, sym, ap, ◌∙◌, subst, arith}
-use Rattle.std.proofs.lemmas.Bool.Decides.{nat_tests}
-use Rattle.std.specs.List.{AllByRecursion, list_any}
-use Rattle.call_graph.specs.declared.sites.GraphSite.{GraphSite}
-use Rattle.call_graph.specs.Callees.{callees}
-use Rattle.call_graph.specs.Graph.{CallGraphState, function_count, IsSiteOf, IsCallGraph, IsRising}
-use Rattle.call_graph.specs.Paths.{IsAmong}
-use Rattle.call_graph.specs.Index.{sites_of}
-use Rattle.call_graph.specs.Lists.{has, IsOnce}
-use Rattle.call_graph.proofs.ListLemmas.{by_test}
-use Rattle.cycle_break.specs.Walk.{Walked, start, is_visited, note, into_each, through, walk, whole_walk, numbers_from}
-use Rattle.cycle_break.proofs.NumberLemmas.{all-map, has-head, has-tail, has-cases, not_has, not_has-cons, true_false, once-length}
+use Rattle.cycle_break.proofs.Common.{◌≡◌, ◌≢◌, ◌⊎◌, inl, inr, ℕ, zero, suc, ◌+◌, ◌<◌, ◌≤◌, ◌==◌, Bool, true, false, not, if◌then◌else◌, List, [], ◌∷◌, length, map, refl, sym, ap, ◌∙◌, subst, arith, nat_tests, AllByRecursion, list_any, GraphSite, callees, CallGraphState, function_count, IsSiteOf, IsCallGraph, IsRising, IsAmong, sites_of, has, IsOnce, by_test, Walked, start, is_visited, note, into_each, through, walk, whole_walk, numbers_from, All-weaker}
+use Rattle.cycle_break.proofs.NumberLemmas.{has-head, has-tail, has-cases, not_has, not_has-cons, true_false, once-length}
 use Rattle.cycle_break.proofs.SiteLemmas.{IsOwn, all-own, own-among, among-all, same-number, rising-filter}
 
 -- whether one of these functions is not among those that were left
@@ -281,7 +271,7 @@ module _ (graph : CallGraphState) (without : List ℕ) where
 
   below_callees : IsCallGraph graph → (f : ℕ) → AllByRecursion (λ (s : GraphSite). AllByRecursion (λ c. c < function_count graph) (callees graph.tables s.target)) (sites_of graph.sites without f)
   below_callees kept f =
-      all-map (IsOwn graph.sites without f) (λ s. AllByRecursion (λ c. c < function_count graph) (callees graph.tables s.target))
+      All-weaker (IsOwn graph.sites without f) (λ s. AllByRecursion (λ c. c < function_count graph) (callees graph.tables s.target))
       (λ s own. (among-all (IsSiteOf (function_count graph) graph.tables) graph.sites s kept.sites own.among).target.all)
       (sites_of graph.sites without f) (all-own graph.sites without f)
 
@@ -304,7 +294,7 @@ module _ (graph : CallGraphState) (without : List ℕ) where
         };
         own = all;
         rising = rising-filter _ graph.sites kept.rising;
-        fresh = all-map (IsOwn graph.sites without f) (λ s. has s.number walked.back ≡ false) (λ s own. ready.unmarked s own.among (rw own.caller out) (rw own.caller off)) ss all;
+        fresh = All-weaker (IsOwn graph.sites without f) (λ s. has s.number walked.back ≡ false) (λ s own. ready.unmarked s own.among (rw own.caller out) (rw own.caller off)) ss all;
         below = below_callees kept f;
       } in
       let taken = through-goes kept.rising depth (walk graph.tables graph.sites without depth) (walk-goes kept depth) path f ss walked under in

@@ -13,6 +13,11 @@ come left = record { left = left; back = [] }
 abbrev pub is_marked : List Bool → ℕ → Bool
 is_marked visited function = slice_index_or visited function false
 
+-- the number of functions that aren't marked
+abbrev pub unmarked : List Bool → ℕ
+unmarked [] = 0
+unmarked (b ∷ bs) = (if b then 0 else 1) + unmarked bs
+
 -- if no function is on the path, the marked functions are those that have been left
 pub record IsMarked (functions : ℕ) (visited : List Bool) (left : List ℕ) : Type 0 where
   pub each : length visited ≡ functions

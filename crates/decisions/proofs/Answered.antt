@@ -1,17 +1,7 @@
 -- What an answer says where no count of faults rose: what is due was done as a whole, or memory was wanting.
-use Rattle.std.proofs.Common.{◌≡◌, ◌⊎◌, ℕ, List, Option, Result, Ok, Err, subst, arith, inl, inr, ⊎_elim}
-use Rattle.cap_io.specs.Faults.{IsRisen, Rose, Stayed}
-use Rattle.cap_io.specs.Files.{Files}
-use Rattle.command_words.specs.WordList.{IsWordList, Request}
+use Rattle.decisions.proofs.Common.{◌≡◌, ◌⊎◌, ℕ, List, Option, Result, Ok, Err, subst, inl, inr, ⊎_elim, Files, IsWordList, Request, Read, Write, Memory, Outside, NoFault, IsDone, IsWhole, IsTold, status_of, line_of, fault_status, Outcome, Does, IsDue, HasAnswered, UnlessMemory, not-risen, not-rose}
 use Rattle.command_words.proofs.OneRequest.{one_request}
 use Rattle.command_outcomes.specs.declared.faults.Fault.{Fault}
-use Rattle.command_outcomes.specs.declared.faults.Fault.TheVariants.{Read, Write, Memory}
-use Rattle.command_outcomes.specs.Done.{Outside, NoFault, IsDone, IsWhole, IsTold, status_of, line_of}
-use Rattle.command_outcomes.specs.FaultLines.{fault_status}
-use Rattle.command_outcomes.specs.Outcome.{Outcome}
-use Rattle.capriccio_call.specs.Due.{Does, IsDue}
-use Rattle.decisions.specs.Given.{HasAnswered}
-use Rattle.decisions.specs.Written.{UnlessMemory}
 use Rattle.capriccio_call.proofs.Faults.{answer-of}
 
 -- an outcome that is due for a request was done as a whole, and has the status
@@ -26,12 +16,6 @@ does_it : (words : List (List ℕ)) (before : Outside) (o : Outcome) (request : 
 does_it words before o request asked h =
     ⊎_elim (λ x. subst (λ (r : Request). Does r before o) (one_request words x.0 request x.1 asked) x.2) (λ x. absurd (x.0 request asked)) h
 
-not_risen : {P : Type 0} (old new : ℕ) → IsRisen old new → Stayed old new → P
-not_risen old new risen stayed = let less = risen.rose stayed.1 in let same = stayed.0 in absurd (omega (arith, less, same))
-
-not_rose : {P : Type 0} (old new : ℕ) → Rose old new → Stayed old new → P
-not_rose old new rose stayed = let less = rose stayed.1 in let same = stayed.0 in absurd (omega (arith, less, same))
-
 by_result : (words : List (List ℕ)) (before after : Outside) (request : Request) (given : Result Outcome Fault) (old new : Option (List ℕ)) (faults faults' status : ℕ) →
     IsWordList words request → NoFault before after → IsDone (IsDue words before) before after given → IsTold (status_of given) (line_of given) old new faults faults' status →
     UnlessMemory status (HasDone request before after status)
@@ -40,10 +24,10 @@ by_result words before after request (Ok o) old new faults faults' status asked 
     (answer-of o.status o.line old new faults faults' status told)
 by_result words before after request (Err Read) old new faults faults' status asked none done told =
     ⊎_elim
-    (λ x. ⊎_elim (λ y. let counted = y.1 in not_risen before.loads after.loads counted.loads none.loads) (λ y. let counted = y.1 in not_rose before.reads after.reads counted.reads none.reads) x)
-    (λ x. let counted = x.4 in not_risen before.reads after.reads counted.reads none.reads) done
+    (λ x. ⊎_elim (λ y. let counted = y.1 in not-risen before.loads after.loads counted.loads none.loads) (λ y. let counted = y.1 in not-rose before.reads after.reads counted.reads none.reads) x)
+    (λ x. let counted = x.4 in not-risen before.reads after.reads counted.reads none.reads) done
 by_result words before after request (Err Write) old new faults faults' status asked none done told =
-    ⊎_elim (λ x. let counted = x.1 in not_risen before.stores after.stores counted.stores none.stores) (λ x. let counted = x.1 in not_risen before.writes after.writes counted.writes none.writes) done.2
+    ⊎_elim (λ x. let counted = x.1 in not-risen before.stores after.stores counted.stores none.stores) (λ x. let counted = x.1 in not-risen before.writes after.writes counted.writes none.writes) done.2
 by_result words before after request (Err Memory) old new faults faults' status asked none done told =
     ⊎_elim (λ same. inr same) (λ want. inr want) (answer-of (fault_status Memory) (line_of (Err Memory)) old new faults faults' status told)
 

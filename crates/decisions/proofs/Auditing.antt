@@ -1,20 +1,8 @@
 -- `audit`: an outcome is due.
-use Rattle.std.proofs.Common.{ℕ, refl, List, length, Option, Some, None, inl, inr}
-use Rattle.std.proofs.lemmas.Bool.{cases_lt}
-use Rattle.cap_io.specs.Files.{Files}
-use Rattle.c_tree.specs.Trees.{ProgramTree}
+use Rattle.decisions.proofs.Common.{ℕ, refl, List, length, Option, Some, None, inl, inr, cases_lt, Files, ProgramTree, Audit, IsWordList, Document, most_bytes, refusal, Outside, AfterLoad, OfFile, Outcome, Audits, AuditsBytes, AuditsProgram, judged_outcome, reading_of, IsDue, Verdict}
 use Rattle.command_words.specs.declared.options.Audit.{Audit as AuditOptions}
-use Rattle.command_words.specs.WordList.{Audit, IsWordList}
-use Rattle.command_outcomes.specs.declared.documents.Document.{Document}
 use Rattle.command_outcomes.specs.declared.documents.Document.TheVariants as document
 use Rattle.command_outcomes.specs.declared.stops.Cause.TheVariants as cause
-use Rattle.command_outcomes.specs.CauseLines.{most_bytes, refusal}
-use Rattle.command_outcomes.specs.Done.{Outside}
-use Rattle.command_files.specs.Loads.{AfterLoad, OfFile}
-use Rattle.command_outcomes.specs.Outcome.{Outcome}
-use Rattle.command_audit.specs.Audits.{Audits, AuditsBytes, AuditsProgram, judged_outcome, reading_of}
-use Rattle.capriccio_call.specs.Due.{IsDue}
-use Rattle.lawful_reading.specs.declared.judgement.Verdict.{Verdict}
 use Rattle.lawful_reading.proofs.Found.{some_verdict}
 use Rattle.decisions.proofs.Loading.{Some_due, source_due}
 

@@ -1,20 +1,8 @@
 -- `audit` writes what is said of a log, and ends with the status that goes with it.
-use Rattle.std.proofs.Common.{ℕ, List, Option, Some, ap, subst, ◌∙◌}
-use Rattle.std.specs.Io.KnownBytes.{Appends}
-use Rattle.cap_io.specs.Files.{Files}
-use Rattle.c_tree.specs.Trees.{ProgramTree}
+use Rattle.decisions.proofs.Common.{ℕ, List, Option, Some, ap, subst, ◌∙◌, Appends, Files, ProgramTree, Audit, IsWordList, Outside, AfterLoad, Outcome, IsLoaded, Audits, AuditsBytes, AuditsProgram, reading_of, Verdict, HasAnswered, HasSource, UnlessMemory, WritesJudgement}
 use Rattle.command_words.specs.declared.options.Audit.{Audit as AuditOptions}
-use Rattle.command_words.specs.WordList.{Audit, IsWordList}
 use Rattle.command_outcomes.specs.declared.documents.Document.TheVariants as document
-use Rattle.command_outcomes.specs.Done.{Outside}
-use Rattle.command_files.specs.Loads.{AfterLoad}
-use Rattle.command_outcomes.specs.Outcome.{Outcome}
-use Rattle.command_files.specs.Loaded.{IsLoaded}
-use Rattle.command_audit.specs.Audits.{Audits, AuditsBytes, AuditsProgram, reading_of}
 use Rattle.lawful_reading.specs.Verdicts.{IsVerdictOf}
-use Rattle.lawful_reading.specs.declared.judgement.Verdict.{Verdict}
-use Rattle.decisions.specs.Given.{HasAnswered, HasSource}
-use Rattle.decisions.specs.Written.{UnlessMemory, WritesJudgement}
 use Rattle.decisions.proofs.Answered.{has_done, where_done}
 use Rattle.decisions.proofs.Reading.{after_load, after_source}
 

@@ -1,22 +1,7 @@
 -- A call graph has a placement: bounds, in the order in which the walk leaves the functions.
-use Rattle.std.proofs.Common.{◌≡◌, ◌∙◌, ℕ, zero, suc, ◌+◌, ◌<◌, ◌≤◌, ◌⊎◌, inl, inr, true, false, Bool, ◌&&◌, List, [], ◌∷◌, length, map, get_or, set, take, reverse, replicate, eqb, refl, sym, ap, subst, arith}
-use Rattle.std.specs.Prelude.{slice_index, filter, ◌==◌, not}
-use Rattle.std.specs.List.{AllByRecursion}
-use Rattle.std.proofs.Math.ListN.{length-set}
-use Rattle.std.proofs.lemmas.Bool.{cases_lt, ne_eqb}
-use Rattle.std.proofs.lemmas.List.{get_or_past, take_all, reverse-reverse, length-replicate}
-use Rattle.call_graph.specs.declared.sites.GraphSite.{GraphSite}
-use Rattle.call_graph.specs.Callees.{greatest}
-use Rattle.call_graph.specs.Graph.{CallGraphState, function_count, IsSiteOf, IsCallGraph}
-use Rattle.call_graph.specs.Index.{is_call_of, sites_of}
-use Rattle.call_graph.specs.Lists.{has}
-use Rattle.cycle_break.specs.BackEdges.{back_edges}
-use Rattle.cycle_break.specs.BottomUp.{IsBottomUp}
-use Rattle.cycle_break.specs.Walk.{whole_walk}
-use Rattle.cycle_break.proofs.WalkLemmas.{whole_walk-is}
+use Rattle.decisions.proofs.Common.{◌≡◌, ◌∙◌, ℕ, zero, suc, ◌+◌, ◌<◌, ◌≤◌, ◌⊎◌, inl, inr, true, false, List, [], ◌∷◌, length, map, get_or, set, take, reverse, replicate, refl, sym, ap, subst, arith, slice_index, filter, ◌==◌, AllByRecursion, length-set, cases_lt, ne_eqb, get_or_past, take_all, reverse-reverse, length-replicate, GraphSite, greatest, CallGraphState, function_count, IsSiteOf, IsCallGraph, has, back_edges, IsBottomUp, whole_walk, whole_walk-is, whole_walk-up, Plan}
+use Rattle.call_graph.specs.Index.{sites_of}
 use Rattle.cycle_break.proofs.RankLemmas.{back_edges-break}
-use Rattle.cycle_break.proofs.BottomUpLemmas.{whole_walk-up}
-use Rattle.checkpoint_place.specs.declared.plans.Plan.{Plan}
 use Rattle.checkpoint_place.specs.Placement.{callee_bound, is_within, is_checkpointed, IsPlacement}
 use Rattle.checkpoint_place.proofs.BoundLemmas.{bound_by, AreBound, AreBound-more, reverse-more}
 use Rattle.cycle_break.proofs.NumberLemmas.{has-cases, true_false}

@@ -1,27 +1,8 @@
 -- `budget` of a pair: some outcome is due.
-use Rattle.std.proofs.Common.{◌≡◌, ◌∙◌, ℕ, ◌⊎◌, inl, inr, [], ◌∷◌, ◌++◌, length, refl, ap}
-use Rattle.std.proofs.lemmas.List.{length-map}
-use Rattle.c_tree.specs.Trees.{ProgramTree}
-use Rattle.c_tree.specs.WellScoped.{IsWellScoped}
-use Rattle.c_lower.specs.ProgramCode.{lowered}
-use Rattle.c_lower.proofs.Sites.{sites_distinct}
-use Rattle.flat_code.specs.declared.functions.FlatFunction.{FlatFunction}
+use Rattle.decisions.proofs.Common.{◌≡◌, ◌∙◌, ℕ, ◌⊎◌, inl, inr, [], ◌∷◌, ◌++◌, length, refl, ap, length-map, ProgramTree, IsWellScoped, lowered, sites_distinct, FlatFunction, IsLeast, IsOnCycle, IsGraph, IsValid, IsFirstFailure, IsLeastBudget, formed, Image, Certificate, name_at, printed, refused, cycle_words, refusal, budget_text, BudgetsPair, names_of, lowered-graph}
 use Rattle.flat_code.specs.Weight.{weight_of}
-use Rattle.call_cycles.specs.Cycles.{IsLeast, IsOnCycle}
-use Rattle.call_cycles.specs.Orders.{IsGraph}
-use Rattle.certificate_rules.specs.Validity.{IsValid, IsFirstFailure}
 use Rattle.chunk_budget.specs.declared.budgets.Budget.{Budget}
-use Rattle.chunk_budget.specs.LeastBudgets.{IsLeastBudget}
-use Rattle.machine_meaning.proofs.Formed.{formed}
-use Rattle.stack_image.specs.declared.images.Image.{Image}
-use Rattle.stack_certificate.specs.declared.certificates.Certificate.{Certificate}
-use Rattle.analysis_lines.specs.Lines.{name_at}
 use Rattle.command_outcomes.specs.declared.stops.Cause.TheVariants as cause
-use Rattle.command_outcomes.specs.Outcome.{printed, refused}
-use Rattle.command_outcomes.specs.CauseLines.{cycle_words, refusal}
-use Rattle.pair_commands.specs.Budgets.{budget_text, BudgetsPair}
-use Rattle.pair_commands.specs.Graphs.{names_of}
-use Rattle.one_plan.proofs.LoweredGraph.{lowered-graph}
 use Rattle.decisions.proofs.Graphs.{a_graph}
 use Rattle.decisions.proofs.Heights.{budget_or_cycle}
 use Rattle.decisions.proofs.Loading.{Some_due}

@@ -1,42 +1,14 @@
 -- `graph` and `build` of a program: some outcome is due.
-use Rattle.std.proofs.Common.{◌≡◌, ℕ, ◌+◌, ◌-◌, ◌^◌, ◌<◌, ◌≤◌, ◌⊎◌, inl, inr, Bool, true, false, List, [], ◌∷◌, ◌++◌, eqb, Option, Some, None, refl, subst, arith}
-use Rattle.std.specs.Prelude.{min, option_map, if◌then◌else◌}
-use Rattle.std.specs.List.{IsDistinct}
-use Rattle.std.proofs.lemmas.Bool.{cases_lt}
-use Rattle.cap_io.specs.Files.{Files}
-use Rattle.c_tree.specs.Trees.{ProgramTree}
-use Rattle.c_tree.specs.WellScoped.{IsWellScoped}
-use Rattle.c_lower.specs.ProgramCode.{lowered}
-use Rattle.c_lower.proofs.Sites.{sites_distinct}
-use Rattle.flat_code.specs.WellFormed.{site_numbers}
-use Rattle.call_graph.specs.Graph.{CallGraphState}
-use Rattle.cycle_break.specs.BackEdges.{back_edges}
-use Rattle.checkpoint_place.specs.declared.plans.Plan.{Plan}
-use Rattle.checkpoint_place.specs.declared.refusals.PlaceError.{PlaceError}
+use Rattle.decisions.proofs.Common.{◌≡◌, ℕ, ◌+◌, ◌-◌, ◌^◌, ◌<◌, ◌≤◌, ◌⊎◌, inl, inr, Bool, true, false, List, [], ◌∷◌, ◌++◌, eqb, Option, Some, None, refl, subst, arith, min, option_map, if◌then◌else◌, IsDistinct, cases_lt, Files, ProgramTree, IsWellScoped, lowered, sites_distinct, site_numbers, CallGraphState, back_edges, Plan, PlaceError, is_too_large, refusal_from, weights_of, frame_refusal, IsPlacedBy, IsPlanned, IsLaidOut, of_place, Image, Certificate, Options, code_words, analysis_lines, name_at, printed, refused, frame_words, refusal, names_of, IsFrameRefused, HasFittingFrames, GraphsProgram, Graphs, built, HasFittingCode, IsUnbuilt, BuildsProgram, Builds, lowered-graph, HoldBytes}
 use Rattle.checkpoint_place.specs.declared.refusals.PlaceError.TheVariants as place
-use Rattle.checkpoint_place.specs.Refusal.{is_too_large, refusal_from}
-use Rattle.stack_plan.specs.Plans.{weights_of}
-use Rattle.stack_build.specs.Builds.{frame_refusal, IsPlacedBy, IsPlanned, IsLaidOut}
-use Rattle.stack_build.specs.Refusals.{of_place}
 use Rattle.stack_build.specs.declared.refusals.BuildError.{BuildError}
 use Rattle.stack_build.specs.declared.refusals.BuildError.TheVariants.{FrameTooLarge, CodeTooLarge, Memory}
-use Rattle.stack_image.specs.declared.images.Image.{Image}
-use Rattle.stack_certificate.specs.declared.certificates.Certificate.{Certificate}
-use Rattle.codegen_link.specs.declared.options.Options.{Options}
-use Rattle.codegen_link.specs.Layout.{code_words}
-use Rattle.analysis_lines.specs.Lines.{analysis_lines, name_at}
 use Rattle.command_outcomes.specs.declared.documents.Document.TheVariants as document
 use Rattle.command_outcomes.specs.declared.stops.Cause.TheVariants as cause
-use Rattle.command_outcomes.specs.Outcome.{printed, refused}
-use Rattle.command_outcomes.specs.CauseLines.{frame_words, refusal}
-use Rattle.pair_commands.specs.Graphs.{names_of, IsFrameRefused, HasFittingFrames, GraphsProgram, Graphs}
-use Rattle.pair_commands.specs.BuildsFiles.{built, HasFittingCode, IsUnbuilt, BuildsProgram, Builds}
-use Rattle.one_plan.proofs.LoweredGraph.{lowered-graph}
 use Rattle.pair_commands.proofs.OneBuild.{plans-are-one}
 use Rattle.decisions.proofs.Graphs.{a_graph}
 use Rattle.decisions.proofs.Bounds.{a_placement}
 use Rattle.decisions.proofs.Layouts.{a_layout}
-use Rattle.decisions.specs.Told.{HoldBytes}
 use Rattle.decisions.proofs.Loading.{Some_due, load_due, source_due}
 
 -- ---- frames

@@ -1,30 +1,7 @@
 -- `build`, `graph`, `check` and `budget` write their lines and end with 0.
-use Rattle.std.proofs.Common.{◌≡◌, ℕ, List, [], ◌∷◌, ◌++◌, Option, Some, refl, ap, subst, ◌∙◌, ⊎_elim}
-use Rattle.std.specs.Prelude.{codes}
-use Rattle.std.specs.Io.KnownBytes.{Appends}
-use Rattle.cap_io.specs.Files.{Files}
-use Rattle.c_tree.specs.Trees.{ProgramTree}
-use Rattle.c_lower.specs.ProgramCode.{lowered}
-use Rattle.call_cycles.specs.Cycles.{IsOnCycle}
-use Rattle.certificate_rules.specs.Validity.{IsValid}
+use Rattle.decisions.proofs.Common.{◌≡◌, ℕ, List, [], ◌∷◌, ◌++◌, Option, Some, refl, ap, subst, ◌∙◌, ⊎_elim, codes, Appends, Files, ProgramTree, lowered, IsOnCycle, IsValid, IsLeastBudget, Placement, Build, Check, Graph, Budget, IsWordList, IsLaidOut, Image, Certificate, Outside, IsWhole, WhereTold, AreStored, Outcome, printed, Accepted, Rejected, built, built_line, Builds, BuildsProgram, budget_text, Budgets, BudgetsPair, IsVerdict, verdict_outcome, Checks, ChecksPair, sizes_of, IsAnalysed, HasFittingFrames, Graphs, GraphsProgram, HasAnswered, HasSource, HasBuildable, HasValidPair, UnlessMemory, WritesText}
 use Rattle.chunk_budget.specs.declared.budgets.Budget as budgets
-use Rattle.chunk_budget.specs.LeastBudgets.{IsLeastBudget}
-use Rattle.command_words.specs.declared.options.Placement.{Placement}
-use Rattle.command_words.specs.WordList.{Build, Check, Graph, Budget, IsWordList}
-use Rattle.stack_build.specs.Builds.{IsLaidOut}
-use Rattle.stack_image.specs.declared.images.Image.{Image}
-use Rattle.stack_certificate.specs.declared.certificates.Certificate.{Certificate}
-use Rattle.command_outcomes.specs.Done.{Outside, IsWhole, WhereTold, AreStored}
-use Rattle.command_outcomes.specs.Outcome.{Outcome, printed}
 use Rattle.pair_commands.specs.declared.check_command.Verdict.{Verdict}
-use Rattle.pair_commands.specs.declared.check_command.Verdict.TheVariants.{Accepted, Rejected}
-use Rattle.pair_commands.specs.BuildsFiles.{built, built_line, Builds, BuildsProgram}
-use Rattle.pair_commands.specs.Budgets.{budget_text, Budgets, BudgetsPair}
-use Rattle.pair_commands.specs.Checks.{IsVerdict, verdict_outcome, Checks, ChecksPair}
-use Rattle.command_options.specs.Options.{sizes_of}
-use Rattle.pair_commands.specs.Graphs.{IsAnalysed, HasFittingFrames, Graphs, GraphsProgram}
-use Rattle.decisions.specs.Given.{HasAnswered, HasSource, HasBuildable, HasValidPair}
-use Rattle.decisions.specs.Written.{UnlessMemory, WritesText}
 use Rattle.decisions.proofs.Answered.{has_done, where_done}
 use Rattle.decisions.proofs.Reading.{after_program, after_pair, not_refused, not_unbuilt}
 

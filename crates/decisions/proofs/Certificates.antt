@@ -1,16 +1,5 @@
 -- A text is a certificate, or has a first refused line.
-use Rattle.std.proofs.Common.{ℕ, zero, suc, ◌≡◌, ◌∙◌, ◌+◌, ◌<◌, ◌≤◌, ◌^◌, ◌⊎◌, inl, inr, refl, sym, ap, subst, arith, List, [], ◌∷◌, ◌++◌, length, map, take, Option, Some, None, append_assoc}
-use Rattle.lawful_reading.proofs.Deciding.{decided_by, both_decided, Below, below_decided, text_same}
-use Rattle.std.specs.List.{AllByRecursion}
-use Rattle.std.proofs.lemmas.List.{length-append, take_at}
-use Rattle.cap_text.specs.TextLines.{ended_lines}
-use Rattle.stack_certificate.specs.declared.certificates.Certificate.{Certificate}
-use Rattle.stack_certificate.specs.declared.functions.FunctionFact.{FunctionFact}
-use Rattle.stack_certificate.specs.declared.sites.SiteFact.{SiteFact}
-use Rattle.certificate_text.specs.Text.{title_line, chunk_line, max_path_line, functions_line, function_line, sites_line, site_line, spelling, HasFewPlaces, HoldsFunctionWords, HoldsSiteWords, Rises, IsWithinLimits, HoldsWords}
-use Rattle.certificate_text.specs.FirstRefused.{Due, IsAsSaid, IsOver, BreaksAfter, IsFirstRefused}
-use Rattle.certificate_text.specs.FirstRefused.{Title, Chunk, MaxPath, FunctionCount, Functions, Sites}
-use Rattle.decisions.specs.Decided.{Decided}
+use Rattle.decisions.proofs.Common.{ℕ, zero, suc, ◌≡◌, ◌∙◌, ◌+◌, ◌<◌, ◌≤◌, ◌^◌, ◌⊎◌, inl, inr, refl, sym, ap, subst, arith, List, [], ◌∷◌, ◌++◌, length, map, take, Option, Some, None, append_assoc, decided_by, both_decided, Below, below_decided, text_same, AllByRecursion, length-append, take_at, ended_lines, Certificate, FunctionFact, SiteFact, title_line, chunk_line, max_path_line, functions_line, function_line, sites_line, site_line, spelling, HasFewPlaces, HoldsFunctionWords, HoldsSiteWords, Rises, IsWithinLimits, HoldsWords, Due, IsAsSaid, IsOver, BreaksAfter, IsFirstRefused, Title, Chunk, MaxPath, FunctionCount, Functions, Sites, Decided}
 use Rattle.decisions.proofs.Decisions.{Begins, begins_decided}
 use Rattle.decisions.proofs.LinesSaid.{line_decided}
 

@@ -1,17 +1,8 @@
 -- Each command, or that the words don't ask for it.
-use Rattle.std.proofs.Common.{◌≡◌, ℕ, ◌+◌, ◌*◌, ◌≤◌, inl, inr, List, [], ◌∷◌, ◌++◌, Option, refl, subst, arith, codes}
-use Rattle.lawful_reading.proofs.Deciding.{decided_by, both_decided, Below, below_decided, list_same, text_same, le_decided}
-use Rattle.cap_text.specs.Decimals.{canonical_decimal}
+use Rattle.decisions.proofs.Common.{◌≡◌, ℕ, ◌+◌, ◌*◌, ◌≤◌, inl, inr, List, [], ◌∷◌, ◌++◌, Option, refl, subst, arith, codes, decided_by, both_decided, Below, below_decided, list_same, text_same, le_decided, canonical_decimal, Placement, Policy, Said, positionals_of, value_of, IsOneOf, all_options, IsAudit, IsPlacement, IsPolicy, Serve, Run, Build, Check, Graph, Demo, Audit, Budget, Says, IsWordList, audit_policy, placement_options, policy_options, Decided}
 use Rattle.command_words.specs.declared.options.Audit.{Audit as AuditOptions}
-use Rattle.command_words.specs.declared.options.Placement.{Placement}
-use Rattle.command_words.specs.declared.options.Policy.{Policy}
-use Rattle.command_words.specs.Said.{Said, positionals_of, value_of, IsOneOf}
-use Rattle.command_words.specs.Parse.{all_options}
-use Rattle.command_words.specs.Values.{IsAudit, IsPlacement, IsPolicy}
-use Rattle.command_words.specs.WordList.{Serve, Run, Build, Check, Graph, Demo, Audit, Budget, Says, IsWordList, audit_policy, placement_options, policy_options}
 use Rattle.command_words.proofs.Chosen.{one_placement, one_policy}
 use Rattle.command_words.proofs.GivenOptions.{within}
-use Rattle.decisions.specs.Decided.{Decided}
 use Rattle.decisions.proofs.Spoken.{Text, Heard, heard_decided, one_following, follows_of}
 use Rattle.decisions.proofs.Values.{audit_options_decided, placement_decided, policy_decided}
 

@@ -1,23 +1,8 @@
 -- Each rule is decided at each function and index, and has bounds.
-use Rattle.std.proofs.Common.{ℕ, zero, suc, ◌≡◌, ◌∙◌, ◌+◌, ◌*◌, ◌%◌, ◌<◌, ◌≤◌, inl, inr, refl, sym, ap, arith, List, [], ◌∷◌, length, Option, Some, None}
-use Rattle.lawful_reading.proofs.Deciding.{decided_by, both_decided, denied, number_same, option_same, le_decided, all_below}
-use Rattle.std.specs.Prelude.{slice_get, slice_index}
-use Rattle.std.proofs.lemmas.Option.{slice_get_past}
-use Rattle.rv_code.specs.declared.instructions.Instr.{Instr}
-use Rattle.flat_code.specs.declared.operations.Op.{Op}
-use Rattle.flat_code.specs.Codes.{FlatCode, function_at, operation_at}
-use Rattle.stack_image.specs.declared.images.Image.{Image}
-use Rattle.stack_certificate.specs.declared.certificates.Certificate.{Certificate}
-use Rattle.stack_certificate.specs.declared.functions.FunctionFact.{FunctionFact}
-use Rattle.stack_certificate.specs.declared.sites.LinkKind.{LinkKind}
-use Rattle.stack_certificate.specs.Certificates.{fact_at}
-use Rattle.stack_certificate.specs.Templates.{end_stub, prologue, row_at, setting_at, template, words_before, begin, kind_of}
-use Rattle.certificate_rules.specs.Ranges.{IsIn, AreApart, Stands}
+use Rattle.decisions.proofs.Common.{ℕ, zero, suc, ◌≡◌, ◌∙◌, ◌+◌, ◌*◌, ◌%◌, ◌<◌, ◌≤◌, inl, inr, refl, sym, ap, arith, List, [], ◌∷◌, length, Option, Some, None, decided_by, both_decided, denied, number_same, option_same, le_decided, all_below, slice_get, slice_index, slice_get_past, Instr, Op, FlatCode, function_at, operation_at, Image, Certificate, FunctionFact, LinkKind, fact_at, end_stub, prologue, row_at, setting_at, template, words_before, begin, kind_of, IsIn, AreApart, Stands, certified_site, callee_bound, NamesSites, Decided, everywhere}
 use Rattle.certificate_rules.specs.Rules.{V1, V2, V3, V4, V5, V6, V7, V8, V9, V10, V11, V12, frame_places, frame_words, IsPlaced, member_entries, starting_words, IsNeed}
-use Rattle.certificate_rules.specs.Sites.{certified_site, callee_bound, NamesSites}
-use Rattle.decisions.specs.Decided.{Decided}
 use Rattle.decisions.proofs.Decisions.{implied_decided, lt_decided}
-use Rattle.decisions.proofs.Search.{everywhere, held_decided, IsSearched}
+use Rattle.decisions.proofs.Search.{held_decided, IsSearched}
 use Rattle.decisions.proofs.Instructions.{three_decided, stands_decided}
 use Rattle.decisions.proofs.Named.{no_operation, no_operations, names_decided}
 

@@ -1,9 +1,5 @@
 -- Decisions, put together of smaller ones.
-use Rattle.std.proofs.Common.{◌≡◌, ◌∙◌, ℕ, zero, suc, ◌+◌, ◌<◌, ◌≤◌, ◌⊎◌, inl, inr, List, [], ◌∷◌, ◌++◌, refl, sym, subst, arith, ⊎_elim}
-use Rattle.std.proofs.lemmas.Bool.{cases_eq}
-use Rattle.cap_text.specs.Decimals.{canonical_decimal}
-use Rattle.decisions.specs.Decided.{Decided}
-use Rattle.lawful_reading.proofs.Deciding.{decided_by, Below, below_decided, text_same, le_decided}
+use Rattle.decisions.proofs.Common.{◌≡◌, ℕ, zero, suc, ◌+◌, ◌<◌, ◌⊎◌, inl, inr, List, [], ◌∷◌, ◌++◌, refl, sym, subst, arith, cases_eq, canonical_decimal, Decided, decided_by, Below, below_decided, text_same, le_decided}
 
 -- ---- of two statements
 

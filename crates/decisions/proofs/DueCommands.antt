@@ -1,30 +1,9 @@
 -- Commands of which an outcome is always due.
-use Rattle.std.proofs.Common.{ℕ, ◌<◌, ◌≤◌, ◌⊎◌, inl, inr, refl, List, Option}
-use Rattle.std.proofs.lemmas.Bool.{cases_lt}
-use Rattle.cap_io.specs.Files.{Files}
-use Rattle.c_tree.specs.Trees.{ProgramTree}
-use Rattle.c_tree.specs.WellScoped.{IsWellScoped}
-use Rattle.c_lower.specs.ProgramCode.{lowered}
-use Rattle.certificate_rules.specs.Validity.{IsValid, IsFirstFailure}
-use Rattle.stack_image.specs.declared.images.Image.{Image}
-use Rattle.stack_certificate.specs.declared.certificates.Certificate.{Certificate}
+use Rattle.decisions.proofs.Common.{ℕ, ◌<◌, ◌≤◌, ◌⊎◌, inl, inr, refl, List, Option, cases_lt, Files, ProgramTree, IsWellScoped, lowered, IsValid, IsFirstFailure, Image, Certificate, Placement, Request, Run, Build, Check, Graph, Budget, IsWordList, refusal, Outside, Accepted, Rejected, BudgetsBytes, Budgets, verdict_outcome, ChecksPair, ChecksBytes, Checks, IsRunPolicy, sizes_of, setup_of, pool_bytes, RunsPair, RunsBytes, Runs, Does, IsDue, IsInRange, run-policy, HoldBytes}
 use Rattle.machine_world.specs.WellFormed.{AreWords}
-use Rattle.command_words.specs.declared.options.Placement.{Placement}
 use Rattle.command_words.specs.declared.options.Policy.{Policy as RunOptions}
-use Rattle.command_words.specs.WordList.{Request, Run, Build, Check, Graph, Budget, IsWordList}
 use Rattle.command_outcomes.specs.declared.stops.Cause.TheVariants as cause
-use Rattle.command_outcomes.specs.CauseLines.{refusal}
-use Rattle.command_outcomes.specs.Done.{Outside}
-use Rattle.pair_commands.specs.declared.check_command.Verdict.TheVariants.{Accepted, Rejected}
-use Rattle.pair_commands.specs.Budgets.{BudgetsBytes, Budgets}
-use Rattle.pair_commands.specs.Checks.{verdict_outcome, ChecksPair, ChecksBytes, Checks}
-use Rattle.command_options.specs.Options.{IsRunPolicy, sizes_of}
-use Rattle.pair_commands.specs.Runs.{setup_of, pool_bytes, RunsPair, RunsBytes, Runs}
-use Rattle.capriccio_call.specs.Due.{Does, IsDue}
-use Rattle.capriccio_call.proofs.OneRun.{IsInRange}
-use Rattle.command_options.proofs.Options.{run-policy}
 use Rattle.decisions.proofs.Pairs.{pair_decided}
-use Rattle.decisions.specs.Told.{HoldBytes}
 use Rattle.decisions.proofs.Loading.{Some_due, three_due, source_due, image_due, certificate_due}
 use Rattle.decisions.proofs.Building.{graph_due, build_due}
 use Rattle.decisions.proofs.Budgeting.{budget_pair}

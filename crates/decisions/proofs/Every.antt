@@ -1,10 +1,6 @@
 -- An outcome is due of every list of words.
-use Rattle.std.proofs.Common.{ℕ, ⊎_elim, List}
-use Rattle.command_words.specs.WordList.{Request, Serve, Run, Build, Check, Graph, Demo, Audit, Budget, IsWordList}
-use Rattle.command_outcomes.specs.Done.{Outside}
-use Rattle.capriccio_call.specs.Due.{IsDue}
+use Rattle.decisions.proofs.Common.{ℕ, ⊎_elim, List, Request, Serve, Run, Build, Check, Graph, Demo, Audit, Budget, IsWordList, Outside, IsDue, HoldBytes}
 use Rattle.decisions.proofs.Requests.{list_or_none}
-use Rattle.decisions.specs.Told.{HoldBytes}
 use Rattle.decisions.proofs.Auditing.{audit_words_due}
 use Rattle.decisions.proofs.Loading.{Some_due}
 use Rattle.decisions.proofs.DueCommands.{usage_due, check_words_due, run_words_due, graph_words_due, build_words_due, budget_words_due}

@@ -1,18 +1,11 @@
 -- A function has few variables for its operations: each declared name and each temporary has an operation.
-use Rattle.std.proofs.Common.{◌≡◌, ℕ, ◌+◌, ◌*◌, ◌≤◌, max, Bool, true, false, List, [], ◌∷◌, ◌++◌, length, length-append, map, ap, ◌∙◌, arith}
-use Rattle.std.specs.Prelude.{Option, Some, None, if◌then◌else◌}
-use Rattle.std.specs.List.{AllByRecursion}
-use Rattle.std.proofs.lemmas.List.{length-map}
+use Rattle.decisions.proofs.Common.{◌≡◌, ℕ, ◌+◌, ◌*◌, ◌≤◌, max, Bool, true, false, List, [], ◌∷◌, ◌++◌, length, length-append, map, ap, ◌∙◌, arith, Option, Some, None, if◌then◌else◌, AllByRecursion, length-map, ExprTree, LocalElement, GlobalElement, Unary, Parenthesized, Binary, LogicalAnd, LogicalOr, Conditional, CallTree, CallFunction, CallTable, CallSpawn, CallModelled, RightTree, Computed, Called, SimpleTree, DeclareWith, SetLocal, SetGlobal, SetLocalElement, SetGlobalElement, Calling, StmtTree, StmtTrees, Do, Block, If, IfElse, While, For, Return, NoStmts, Then, FunctionTree, ProgramTree, IsFunctionScoped, AreFunctionsScoped, FlatFunction, closing_code, first_temporary, function_ops, function_sizes, lowered_function, closing_size}
 use Rattle.c_tree.specs.Sizes.{scalars, declared_words}
 use Rattle.c_tree.specs.Temporaries.{expr_temporaries, arguments_temporaries, call_temporaries, right_temporaries, held_temporaries, simple_temporaries, simples_temporaries, condition_temporaries, step_temporaries, returned_temporaries, stmt_temporaries, stmts_temporaries, function_temporaries}
 use Rattle.c_tree.specs.TextOrder.{Declared, simple_names, simples_names, step_names, stmt_names, stmts_names}
-use Rattle.c_tree.specs.Trees.{ExprTree, LocalElement, GlobalElement, Unary, Parenthesized, Binary, LogicalAnd, LogicalOr, Conditional, CallTree, CallFunction, CallTable, CallSpawn, CallModelled, RightTree, Computed, Called, SimpleTree, DeclareWith, SetLocal, SetGlobal, SetLocalElement, SetGlobalElement, Calling, StmtTree, StmtTrees, Do, Block, If, IfElse, While, For, Return, NoStmts, Then, FunctionTree, ProgramTree}
-use Rattle.c_tree.specs.WellScoped.{IsFunctionScoped, AreFunctionsScoped}
-use Rattle.flat_code.specs.declared.functions.FlatFunction.{FlatFunction}
 use Rattle.c_lower.specs.ExprCode.{expr_size}
 use Rattle.c_lower.specs.CallCode.{arguments_size, call_size, set_size, held_size}
 use Rattle.c_lower.specs.StmtCode.{simple_size, simples_size, step_size, test_size, return_size, stmt_size, stmts_size, stmts_code}
-use Rattle.c_lower.specs.ProgramCode.{closing_code, first_temporary, function_ops, function_sizes, lowered_function}
 use Rattle.c_lower.proofs.CodeSizes.{stmts_length}
 use Rattle.machine_meaning.proofs.Lowered.{scalars_length}
 
@@ -135,10 +128,6 @@ gives_few : (gives : Bool) (t body : ℕ) → body ≤ t → max (if gives then 
 gives_few true t body few = omega (arith, few)
 gives_few false t body few = omega (arith, few)
 
-closing_some : (gives : Bool) (t : ℕ) → 1 ≤ length (closing_code gives t)
-closing_some true t = omega arith
-closing_some false t = omega arith
-
 variables_few : (p : ProgramTree) (f : FunctionTree) → IsFunctionScoped p f → length (function_sizes f) ≤ f.params + 2 * length (function_ops f)
 variables_few p f h =
     let body = stmts_size f.body in
@@ -150,7 +139,7 @@ variables_few p f h =
     let ops : length (function_ops f) ≡ length (stmts_code f.body 0 (first_temporary f) 0 0) + length (closing_code f.gives (first_temporary f)) =
     length-append (stmts_code f.body 0 (first_temporary f) 0 0) (closing_code f.gives (first_temporary f)) in
     let few : function_temporaries f ≤ body + 1 = gives_few f.gives body (stmts_temporaries f.body) (stmts_few f.body) in
-    omega (arith, names, own, all, ops, few, stmts_named f.body, stmts_length f.body 0 (first_temporary f) 0 0, closing_some f.gives (first_temporary f))
+    omega (arith, names, own, all, ops, few, stmts_named f.body, stmts_length f.body 0 (first_temporary f) 0 0, closing_size f.gives (first_temporary f))
 
 pub all_few : (p : ProgramTree) (fs : List FunctionTree) → AreFunctionsScoped p fs → AllByRecursion (λ (f : FlatFunction). length f.sizes ≤ f.params + 2 * length f.ops) (map lowered_function fs)
 all_few p [] h = tt

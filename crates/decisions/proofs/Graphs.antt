@@ -1,13 +1,6 @@
 -- A program whose sites differ has a call graph.
-use Rattle.std.proofs.Common.{◌≡◌, ℕ, ◌<◌, List, [], ◌∷◌, eqb, refl}
-use Rattle.std.specs.List.{IsDistinct}
-use Rattle.flat_code.specs.Codes.{FlatCode}
-use Rattle.flat_code.specs.WellFormed.{site_numbers}
-use Rattle.call_graph.specs.declared.sites.GraphSite.{GraphSite}
-use Rattle.call_graph.specs.FlatCalls.{call_sites_from}
-use Rattle.call_graph.specs.Graph.{CallGraphState, IsRising}
-use Rattle.stack_plan.specs.Plans.{weights_of, IsGraphOf}
-use Rattle.decisions.proofs.Sorting.{Rises, InOrder, in_order}
+use Rattle.decisions.proofs.Common.{List, [], ◌∷◌, eqb, refl, IsDistinct, FlatCode, site_numbers, GraphSite, call_sites_from, CallGraphState, IsRising, weights_of, IsGraphOf}
+use Rattle.decisions.proofs.Sorting.{Rises, in_order}
 use Rattle.decisions.proofs.Parts.{calls_distinct}
 
 rising_of : (ss : List GraphSite) → Rises (λ (s : GraphSite). s.number) ss → IsRising ss

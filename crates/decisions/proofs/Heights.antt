@@ -1,25 +1,8 @@
 -- A program in which no function lies on a cycle of calls has a least budget.
-use Rattle.std.proofs.Common.{◌≡◌, ℕ, zero, suc, ◌+◌, ◌<◌, ◌≤◌, ◌⊎◌, inl, inr, ⊎_elim, max, List, [], length, get_or, set, reverse, replicate, refl, sym, ap, ◌∙◌, subst, arith}
-use Rattle.std.proofs.Math.ListN.{length-set}
-use Rattle.std.proofs.lemmas.Bool.{cases_lt}
-use Rattle.std.proofs.lemmas.List.{length-replicate, reverse-reverse}
-use Rattle.flat_code.specs.Codes.{FlatCode}
-use Rattle.flat_code.specs.WellFormed.{IsWellFormed}
-use Rattle.call_graph.specs.Graph.{CallGraphState, IsCallGraph}
-use Rattle.call_graph.specs.Lists.{has}
+use Rattle.decisions.proofs.Common.{◌≡◌, ℕ, zero, suc, ◌+◌, ◌<◌, ◌≤◌, ◌⊎◌, inl, inr, ⊎_elim, max, List, [], length, get_or, set, reverse, replicate, refl, sym, ap, ◌∙◌, subst, arith, length-set, cases_lt, length-replicate, reverse-reverse, FlatCode, IsWellFormed, CallGraphState, IsCallGraph, has, IsBottomUp, whole_walk, whole_walk-is, whole_walk-up, IsLeast, IsOnCycle, IsGraph, IsFromBottom, breaks, from-bottom, stands-all, Certificate, IsLeastBudget, inside}
 use Rattle.call_graph.proofs.IndexLemmas.{by_eq}
-use Rattle.cycle_break.specs.BottomUp.{IsBottomUp}
-use Rattle.cycle_break.specs.Walk.{whole_walk}
-use Rattle.cycle_break.proofs.WalkLemmas.{whole_walk-is}
-use Rattle.cycle_break.proofs.BottomUpLemmas.{whole_walk-up}
-use Rattle.call_cycles.specs.Cycles.{IsLeast, IsOnCycle}
-use Rattle.call_cycles.specs.Orders.{IsGraph, IsFromBottom}
-use Rattle.call_cycles.proofs.OrderLemmas.{breaks, from-bottom, stands-all}
-use Rattle.stack_certificate.specs.declared.certificates.Certificate.{Certificate}
 use Rattle.chunk_budget.specs.declared.budgets.Budget.{Budget}
 use Rattle.chunk_budget.specs.Budgets.{height_of}
-use Rattle.chunk_budget.specs.LeastBudgets.{IsLeastBudget}
-use Rattle.chunk_budget.proofs.LeastLemmas.{inside}
 use Rattle.chunk_budget.proofs.LeastBudgetLemmas.{highest_of, is-least}
 use Rattle.chunk_budget.proofs.MadeLemmas.{AreCoveredBefore, AreLeast, asked_of, least-more, covered-more, covered-all}
 use Rattle.decisions.proofs.Reaching.{least_or_none}

@@ -1,11 +1,9 @@
 -- Bytes are an image, or have a refusal.
-use Rattle.std.proofs.Common.{ℕ, ◌≡◌, ◌⊎◌, inl, inr, refl, List, Option, Some, None}
-use Rattle.stack_image.specs.declared.images.Image.{Image}
+use Rattle.decisions.proofs.Common.{ℕ, ◌≡◌, ◌⊎◌, inl, inr, refl, List, Option, Some, None, Image, IsBytes}
 use Rattle.stack_image.specs.declared.refusals.ImageError.{ImageError}
 use Rattle.stack_image.specs.Refusal.{refusal_of}
 use Rattle.stack_image.specs.Reading.{image_of}
 use Rattle.stack_image.specs.Spelling.{spelling, IsWithinLimits, HoldsWords}
-use Rattle.stack_image.proofs.WordBytes.{IsBytes}
 use Rattle.stack_image.proofs.NoRefusal.{refused_by_nothing}
 use Rattle.stack_image.proofs.Spelled.{spelled, image_of-limits, image_of-words}
 

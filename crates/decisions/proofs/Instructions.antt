@@ -1,18 +1,11 @@
 -- Of an instruction it is decided whether it stands at an address.
-use Rattle.std.proofs.Common.{ℕ, ◌≡◌, ◌<◌, ◌≤◌, inl, inr, Some}
-use Rattle.lawful_reading.proofs.Deciding.{decided_by, both_decided, number_same, option_same}
-use Rattle.std.specs.Prelude.{ℤ, pos, negsuc, ◌≤ℤ◌}
+use Rattle.decisions.proofs.Common.{ℕ, ◌≡◌, ◌<◌, ◌≤◌, inl, inr, Some, decided_by, both_decided, number_same, option_same, ℤ, pos, negsuc, ◌≤ℤ◌, encoding, Instr, Image, word_at, Stands, Decided}
 use Rattle.std.specs.Int.Signed.{◌<ℤ◌, clash_ℤ}
 use Rattle.std.proofs.lemmas.Int.{by_lt_z}
 use Rattle.rv_code.specs.Field.{low_bits}
 use Rattle.rv_code.specs.Range.{IsRegister, IsImmediate, IsUpperImmediate, IsShiftCount, IsBranchOffset, IsJumpOffset}
 use Rattle.rv_code.specs.Operands.{IsInRange}
-use Rattle.rv_code.specs.Table.{encoding}
-use Rattle.rv_code.specs.declared.instructions.Instr.{Instr}
 use Rattle.rv_code.specs.declared.instructions.Instr.TheVariants.{Lui, Auipc, Jal, Jalr, Beq, Bne, Blt, Bge, Bltu, Bgeu, Lb, Lh, Lw, Lbu, Lhu, Sb, Sh, Sw, Addi, Slti, Sltiu, Xori, Ori, Andi, Slli, Srli, Srai, Add, Sub, Sll, Slt, Sltu, Xor, Srl, Sra, Or, And, Fence, Mul, Mulh, Mulhsu, Mulhu, Div, Divu, Rem, Remu}
-use Rattle.stack_image.specs.declared.images.Image.{Image}
-use Rattle.certificate_rules.specs.Ranges.{word_at, Stands}
-use Rattle.decisions.specs.Decided.{Decided}
 use Rattle.decisions.proofs.Decisions.{lt_decided}
 
 pub three_decided : {P Q R : Type 0} → Decided P → Decided Q → Decided R → Decided (P × Q × R)

@@ -1,22 +1,7 @@
 -- A planned program is laid out as some image and certificate.
-use Rattle.std.proofs.Common.{◌≡◌, ℕ, List, [], ◌∷◌, ◌++◌, length, map, replicate, eqb, refl, ap}
-use Rattle.std.specs.List.{IsDistinct, filter_map, cons_option, flat_map, range_with_len}
-use Rattle.rv_code.specs.Table.{encoding}
-use Rattle.flat_code.specs.declared.operations.Op.{Op}
-use Rattle.flat_code.specs.declared.functions.FlatFunction.{FlatFunction}
-use Rattle.flat_code.specs.Codes.{FlatCode, site_of}
-use Rattle.flat_code.specs.WellFormed.{site_numbers}
-use Rattle.checkpoint_place.specs.declared.plans.Plan.{Plan}
-use Rattle.stack_image.specs.declared.images.Image.{Image}
-use Rattle.stack_certificate.specs.declared.certificates.Certificate.{Certificate}
-use Rattle.stack_certificate.specs.declared.sites.SiteFact.{SiteFact}
-use Rattle.stack_certificate.specs.Certificates.{fact_at}
-use Rattle.codegen_link.specs.declared.options.Options.{Options}
-use Rattle.codegen_link.specs.Links.{site_fact, site_facts}
-use Rattle.codegen_link.specs.Layout.{fact_of, IsCertificateOf, functions_before}
-use Rattle.stack_build.specs.Builds.{IsPlanned, IsLaidOut}
+use Rattle.decisions.proofs.Common.{◌≡◌, ℕ, List, [], ◌∷◌, ◌++◌, length, map, replicate, eqb, refl, ap, IsDistinct, filter_map, cons_option, flat_map, range_with_len, encoding, Op, FlatFunction, FlatCode, site_of, site_numbers, Plan, Image, Certificate, SiteFact, fact_at, Options, site_fact, site_facts, fact_of, IsCertificateOf, functions_before, IsPlanned, IsLaidOut, part-distinct}
 use Rattle.decisions.proofs.Sorting.{in_order, strictly}
-use Rattle.decisions.proofs.Parts.{IsPart, none, keep, skip, part_distinct, part_append}
+use Rattle.decisions.proofs.Parts.{IsPart, none, keep, skip, part_append}
 
 abbrev numbers : List SiteFact → List ℕ
 numbers facts = map (λ (fact : SiteFact). fact.number) facts
@@ -44,7 +29,7 @@ module _ (code : FlatCode) (plan : Plan) where
       (part_append (part_ops f.ops) (part_functions fs))
 
   facts_distinct : IsDistinct eqb (site_numbers code) → IsDistinct eqb (numbers (site_facts code plan))
-  facts_distinct distinct = part_distinct (numbers (site_facts code plan)) (site_numbers code) (part_functions code.functions) distinct
+  facts_distinct distinct = part-distinct (numbers (site_facts code plan)) (site_numbers code) (part_functions code.functions) distinct
 
 pub record ALayout (code : FlatCode) (options : Options) : Type 0 where
   pub image : Image

@@ -1,28 +1,8 @@
 -- The text of a certificate that is laid out is no longer than a file of its kind may be.
-use Rattle.std.proofs.Common.{◌≡◌, ◌∙◌, ℕ, ◌+◌, ◌*◌, ◌^◌, ◌<◌, ◌≤◌, List, [], ◌∷◌, ◌++◌, length, length-append, map, refl, arith}
-use Rattle.std.specs.Prelude.{codes, sum_by}
-use Rattle.std.specs.List.{AllByRecursion}
-use Rattle.std.proofs.lemmas.List.Sums.{sum_by-cons}
-use Rattle.cap_text.specs.Decimals.{canonical_decimal}
-use Rattle.cap_text.specs.Pieces.{after_each}
-use Rattle.cap_text.specs.TextLines.{ended_lines}
+use Rattle.decisions.proofs.Common.{◌≡◌, ◌∙◌, ℕ, ◌+◌, ◌*◌, ◌^◌, ◌<◌, ◌≤◌, List, [], ◌∷◌, ◌++◌, length, length-append, map, refl, arith, codes, sum_by, AllByRecursion, sum_by-cons, canonical_decimal, after_each, ended_lines, sites_line, function_numbers, function_line, kind_fields, site_line, certificate_lines, spelling, AreWords, HoldsFunctionWords, HoldsKindWords, HoldsSiteWords, IsWithinLimits, HoldsWords, Plan, function_words, code_words, HasFacts, all-words, is-for, FlatFunction, FlatCode, length-words, Image, Certificate, FunctionFact, LinkKind, SiteFact, HasPlaces}
 use Rattle.cap_text.proofs.DecimalLaws.{decimal_length}
-use Rattle.certificate_text.specs.Text.{sites_line, function_numbers, function_line, kind_fields, site_line, certificate_lines, spelling, AreWords, HoldsFunctionWords, HoldsKindWords, HoldsSiteWords, IsWithinLimits, HoldsWords}
-use Rattle.checkpoint_place.specs.declared.plans.Plan.{Plan}
-use Rattle.codegen_link.specs.Layout.{function_words, code_words, HasFacts}
-use Rattle.codegen_link.proofs.AddressLemmas.{all-words}
-use Rattle.codegen_link.proofs.FactLemmas.{is-for}
-use Rattle.flat_code.specs.declared.functions.FlatFunction.{FlatFunction}
-use Rattle.flat_code.specs.Codes.{FlatCode}
-use Rattle.stack_image.proofs.WordBytes.{length-words}
-use Rattle.stack_image.specs.declared.images.Image.{Image}
 use Rattle.stack_image.specs.Spelling as image
 use Rattle.stack_image.specs.Spelling.{spelling as image_spelling}
-use Rattle.stack_certificate.specs.declared.certificates.Certificate.{Certificate}
-use Rattle.stack_certificate.specs.declared.functions.FunctionFact.{FunctionFact}
-use Rattle.stack_certificate.specs.declared.sites.LinkKind.{LinkKind}
-use Rattle.stack_certificate.specs.declared.sites.SiteFact.{SiteFact}
-use Rattle.stack_certificate.specs.Templates.{HasPlaces}
 
 -- ---- lines
 

@@ -1,25 +1,9 @@
 -- A source is tokens, or has a place where none begins.
-use Rattle.std.proofs.Common.{ℕ, zero, suc, ◌≡◌, ◌≢◌, ◌+◌, ◌-◌, ◌<◌, ◌≤◌, ◌⊎◌, inl, inr, true, IsTrue, List, [], ◌∷◌, ◌++◌, length, get_or, drop, refl, sym, subst, ◌∙◌, arith, codes}
-use Rattle.lawful_reading.proofs.Deciding.{both_decided, denied, number_same, bool_same}
-use Rattle.std.proofs.lemmas.Bool.{cases_lt}
-use Rattle.std.proofs.lemmas.List.{length-drop, drop_all, get_or_past}
-use Rattle.c_lex.specs.declared.marks.Mark.{Mark}
-use Rattle.c_lex.specs.declared.tokens.Token.{Token}
-use Rattle.c_lex.specs.declared.tokens.TokenKind.{TokenKind}
-use Rattle.c_lex.specs.Pieces.{IsFirstGap, IsFirstToken}
+use Rattle.decisions.proofs.Common.{ℕ, zero, suc, ◌≡◌, ◌≢◌, ◌+◌, ◌-◌, ◌<◌, ◌≤◌, ◌⊎◌, inl, inr, true, IsTrue, List, [], ◌∷◌, length, get_or, drop, refl, sym, subst, arith, codes, both_decided, denied, number_same, bool_same, cases_lt, length-drop, drop_all, get_or_past, Mark, Token, TokenKind, IsFirstGap, IsFirstToken, LexError, BadByte, OpenComment, is_white_space, is_word_byte, mark_text, BeginsWith, BeginsComment, LeadsTo, AreTokensOf, BeginsNone, IsLexErrorOf, Decided, mark_text-some, mark_token, bad_byte, space_gap, comment_gap}
 use Rattle.c_lex.specs.declared.tokens.TokenKind.TheVariants as kinds
-use Rattle.c_lex.specs.declared.tokens.LexError.{LexError}
-use Rattle.c_lex.specs.declared.tokens.LexError.TheVariants.{BadByte, OpenComment}
-use Rattle.c_lex.specs.Bytes.{is_white_space, is_word_byte}
-use Rattle.c_lex.specs.Marks.{mark_text, BeginsWith}
-use Rattle.c_lex.specs.Lexemes.{BeginsComment}
-use Rattle.c_lex.specs.Tokens.{LeadsTo, AreTokensOf, BeginsNone, IsLexErrorOf}
-use Rattle.decisions.specs.Decided.{Decided}
 use Rattle.decisions.proofs.Decisions.{implied_decided, first_without, IsFirstWithout, begins_decided}
 use Rattle.decisions.proofs.Tables.{some_mark, mark_text-few}
-use Rattle.c_lex.proofs.MarkTable.{mark_text-some}
 use Rattle.c_lex.proofs.CommentLemmas.{line_comment, block_comment, open_comment}
-use Rattle.c_lex.proofs.PieceLemmas.{mark_token, bad_byte, space_gap, comment_gap}
 use Rattle.c_lex.proofs.Leads.{gap_step, token_step, LeadsTo-here}
 use Rattle.decisions.proofs.Words.{First, Gap, Token as Kind, Neither, word_first}
 

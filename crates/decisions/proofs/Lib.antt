@@ -1,3 +1,4 @@
+mod Common
 mod NestedParts
 mod NestedInTree
 mod NestedFors

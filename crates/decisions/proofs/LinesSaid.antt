@@ -1,16 +1,6 @@
 -- Of a line it is decided whether it is as said where something is due.
-use Rattle.std.proofs.Common.{ℕ, zero, suc, ◌≡◌, ◌∙◌, ◌+◌, ◌<◌, ◌≤◌, ◌^◌, ◌⊎◌, inl, inr, refl, sym, ap, subst, arith, List, [], ◌∷◌, ◌++◌, length, map, codes, Option, Some, None}
-use Rattle.lawful_reading.proofs.Deciding.{decided_by, both_decided, either_decided, number_same, Below, below_decided, text_same}
-use Rattle.cap_text.specs.Decimals.{canonical_decimal}
-use Rattle.cap_text.specs.Pieces.{after_each}
-use Rattle.stack_certificate.specs.declared.functions.FunctionFact.{FunctionFact}
-use Rattle.stack_certificate.specs.declared.sites.SiteFact.{SiteFact}
-use Rattle.stack_certificate.specs.declared.sites.LinkKind.{LinkKind}
+use Rattle.decisions.proofs.Common.{ℕ, zero, suc, ◌≡◌, ◌∙◌, ◌+◌, ◌<◌, ◌≤◌, ◌^◌, ◌⊎◌, inl, inr, refl, sym, ap, subst, arith, List, [], ◌∷◌, ◌++◌, length, map, codes, Option, Some, None, decided_by, both_decided, either_decided, number_same, Below, below_decided, text_same, canonical_decimal, after_each, FunctionFact, SiteFact, LinkKind, title_line, chunk_line, max_path_line, functions_line, function_numbers, function_line, sites_line, site_line, HasFewPlaces, AreWords, HoldsFunctionWords, HoldsSiteWords, IsAbove, Due, IsAsSaid, Title, Chunk, MaxPath, FunctionCount, Functions, Sites, Decided}
 use Rattle.stack_certificate.specs.declared.sites.LinkKind.TheVariants.{Plain, Linked, Spawned}
-use Rattle.certificate_text.specs.Text.{title_line, chunk_line, max_path_line, functions_line, function_numbers, function_line, sites_line, site_line, HasFewPlaces, AreWords, HoldsFunctionWords, HoldsSiteWords, IsAbove}
-use Rattle.certificate_text.specs.FirstRefused.{Due, IsAsSaid}
-use Rattle.certificate_text.specs.FirstRefused.{Title, Chunk, MaxPath, FunctionCount, Functions, Sites}
-use Rattle.decisions.specs.Decided.{Decided}
 use Rattle.decisions.proofs.Decisions.{lt_decided, Begins, begins_decided}
 
 -- ---- a line with one number

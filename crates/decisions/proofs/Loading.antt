@@ -1,20 +1,10 @@
 -- What follows a load, and a reading of what was loaded, is due where it is due of everything that may be read.
-use Rattle.std.proofs.Common.{ℕ, ◌≡◌, ◌⊎◌, inl, inr, refl, List, length, Option, Some, None}
-use Rattle.std.proofs.lemmas.Bool.{cases_lt}
-use Rattle.cap_io.specs.Files.{Files}
-use Rattle.c_tree.specs.Trees.{ProgramTree}
-use Rattle.stack_image.specs.declared.images.Image.{Image}
-use Rattle.stack_certificate.specs.declared.certificates.Certificate.{Certificate}
-use Rattle.command_outcomes.specs.declared.documents.Document.{Document}
+use Rattle.decisions.proofs.Common.{ℕ, ◌≡◌, ◌⊎◌, inl, inr, refl, List, length, Option, Some, None, cases_lt, Files, ProgramTree, Image, Certificate, Document, Outcome, most_bytes, refusal, OfFile, AfterLoad, AfterThree, IsSourceText, AfterSource, IsImageText, AfterImage, IsCertificateText, AfterCertificate, AreBytes, HoldBytes}
 use Rattle.command_outcomes.specs.declared.documents.Document.TheVariants as document
 use Rattle.command_outcomes.specs.declared.stops.Cause.TheVariants as cause
-use Rattle.command_outcomes.specs.Outcome.{Outcome}
-use Rattle.command_outcomes.specs.CauseLines.{most_bytes, refusal}
-use Rattle.command_files.specs.Loads.{OfFile, AfterLoad, AfterThree, IsSourceText, AfterSource, IsImageText, AfterImage, IsCertificateText, AfterCertificate}
 use Rattle.decisions.proofs.Sources.{AProgram, AnError, source_decided}
 use Rattle.decisions.proofs.Images as images
 use Rattle.decisions.proofs.Certificates as certificates
-use Rattle.decisions.specs.Told.{AreBytes, HoldBytes}
 
 -- some outcome is due
 abbrev pub Some_due : (Outcome → Type 0) → Type 0

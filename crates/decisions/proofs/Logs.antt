@@ -1,27 +1,5 @@
 -- `serve`, `run` and `demo` write the whole log of their run, or its summary.
-use Rattle.std.proofs.Common.{◌≡◌, ℕ, ◌≤◌, List, Option, Some, ap, subst, ◌∙◌, arith, ⊎_elim}
-use Rattle.std.specs.Io.KnownBytes.{Appends}
-use Rattle.cap_io.specs.Files.{Files}
-use Rattle.c_tree.specs.Trees.{ProgramTree}
-use Rattle.c_lower.specs.ProgramCode.{lowered}
-use Rattle.command_words.specs.declared.options.Placement.{Placement}
-use Rattle.command_words.specs.declared.options.Policy.{Policy}
-use Rattle.command_words.specs.WordList.{Serve, Run, Demo, IsWordList}
-use Rattle.lawful_log.specs.Setup.{Setup}
-use Rattle.stack_build.specs.Builds.{IsLaidOut}
-use Rattle.stack_image.specs.declared.images.Image.{Image}
-use Rattle.stack_certificate.specs.declared.certificates.Certificate.{Certificate}
-use Rattle.workload.specs.Traces.{trace_text}
-use Rattle.workload.specs.Programs.{program_text}
-use Rattle.command_outcomes.specs.Done.{Outside, IsWhole}
-use Rattle.command_files.specs.Loads.{IsSourceText}
-use Rattle.command_outcomes.specs.Outcome.{Outcome}
-use Rattle.capriccio_commands.specs.Demos.{ShowsRun, shown_outcome, demo_sizes, demo_policy}
-use Rattle.command_options.specs.Options.{sizes_of}
-use Rattle.pair_commands.specs.Runs.{RunsOn, RunsPair, Runs, Serves, ServesProgram, run_outcome, setup_of, pool_bytes}
-use Rattle.decisions.specs.Given.{HasAnswered, HasBuildable, HasValidPair}
-use Rattle.decisions.specs.Looked.{LooksAtGoodLines}
-use Rattle.decisions.specs.Written.{UnlessMemory, WritesLog, WritesSummary}
+use Rattle.decisions.proofs.Common.{◌≡◌, ℕ, ◌≤◌, List, Option, Some, ap, subst, ◌∙◌, arith, ⊎_elim, Appends, Files, ProgramTree, lowered, Placement, Policy, Serve, Run, Demo, IsWordList, Setup, IsLaidOut, Image, Certificate, trace_text, program_text, Outside, IsWhole, IsSourceText, Outcome, ShowsRun, shown_outcome, demo_sizes, demo_policy, sizes_of, RunsOn, RunsPair, Runs, Serves, ServesProgram, run_outcome, setup_of, pool_bytes, HasAnswered, HasBuildable, HasValidPair, LooksAtGoodLines, UnlessMemory, WritesLog, WritesSummary}
 use Rattle.decisions.proofs.Answered.{has_done, where_done}
 use Rattle.decisions.proofs.Looking.{ends_run, looks_at_good_lines}
 use Rattle.decisions.proofs.Reading.{after_program, after_pair, not_unbuilt}

@@ -1,17 +1,12 @@
 -- Of a good trace a run looks at good lines alone, and then it doesn't stop at a line of the trace.
-use Rattle.std.proofs.Common.{◌≡◌, ℕ, ◌<◌, List, [], length, Option, Some, None, refl, sym, ap, subst, arith, inl, inr}
 use Rattle.choice_rules.specs.Trace.{Trace, IsNext, behind}
-use Rattle.event_trace.specs.declared.events.Event.{Event}
+use Rattle.decisions.proofs.Common.{◌≡◌, ℕ, ◌<◌, List, [], length, Option, Some, None, refl, sym, ap, subst, arith, inl, inr, Event, Setup, IsRun, stop_status, LooksAt, LooksAtGoodLines, IsGood, is_over, by_line, IsGoodTrace, IsRunStatus, EndsRun}
 use Rattle.lawful_log.specs.Lawful.{IsAllowed, Leads, nowhere, by_entry, IsLawfulLog}
-use Rattle.lawful_log.specs.Setup.{Setup}
 use Rattle.lawful_log.specs.State.{State}
 use Rattle.machine_world.specs.Threads.{World}
 use Rattle.schedule_log.specs.declared.entries.Entry.{Entry}
 use Rattle.schedule_log.specs.declared.entries.StopLine.{StopLine}
 use Rattle.schedule_log.specs.declared.entries.StopLine.TheVariants as stop
-use Rattle.pair_commands.specs.Runs.{IsRun, stop_status}
-use Rattle.decisions.specs.Looked.{LooksAt, LooksAtGoodLines, IsGood, is_over, by_line, IsGoodTrace}
-use Rattle.decisions.specs.Written.{IsRunStatus, EndsRun}
 use Rattle.choice_rules.proofs.Points.{not_refused}
 use Rattle.cap_word.specs.declared.stops.Stop.TheVariants as cut
 

@@ -1,21 +1,7 @@
 -- Of a certificate it is decided whether it names just the sites of a program.
-use Rattle.std.proofs.Common.{ℕ, zero, suc, ◌≡◌, ◌∙◌, ◌+◌, ◌<◌, ◌≤◌, ◌⊎◌, inl, inr, refl, ap, arith, true, false, IsTrue, List, [], ◌∷◌, length, nat_eq, Some, None}
-use Rattle.lawful_reading.proofs.Deciding.{decided_by, both_decided, bool_same}
-use Rattle.std.specs.Prelude.{slice_get, slice_index}
-use Rattle.std.specs.List.Sorted.{IsStrictlyIncreasing}
-use Rattle.std.proofs.lemmas.Bool.{or_cases, eqb-true}
-use Rattle.std.proofs.lemmas.Option.{slice_get_past}
-use Rattle.std.proofs.lemmas.List.{get_or_past}
-use Rattle.flat_code.specs.declared.operations.Op.{Op}
-use Rattle.flat_code.specs.declared.functions.FlatFunction.{FlatFunction}
-use Rattle.flat_code.specs.Codes.{FlatCode, function_at, operation_at}
-use Rattle.stack_certificate.specs.declared.certificates.Certificate.{Certificate}
-use Rattle.stack_certificate.specs.declared.sites.SiteFact.{SiteFact}
-use Rattle.stack_certificate.specs.Templates.{kind_of}
-use Rattle.certificate_rules.specs.Sites.{certified_site, starts_thread, is_spawned, is_named, has_site, fact_numbers, NamesSites}
-use Rattle.decisions.specs.Decided.{Decided}
+use Rattle.decisions.proofs.Common.{ℕ, suc, ◌≡◌, ◌+◌, ◌<◌, ◌≤◌, inl, inr, ap, arith, true, false, IsTrue, List, [], ◌∷◌, length, nat_eq, Some, None, decided_by, both_decided, bool_same, slice_get, slice_index, IsStrictlyIncreasing, or_cases, eqb-true, slice_get_past, get_or_past, Op, FlatFunction, FlatCode, function_at, operation_at, Certificate, SiteFact, kind_of, certified_site, starts_thread, is_spawned, is_named, has_site, fact_numbers, NamesSites, Decided, everywhere}
 use Rattle.decisions.proofs.Decisions.{implied_decided, lt_decided}
-use Rattle.decisions.proofs.Search.{everywhere, held_decided}
+use Rattle.decisions.proofs.Search.{held_decided}
 
 -- ---- functions past the last
 

@@ -1,18 +1,10 @@
 -- The first call in the parentheses of a `for` that is not whole, which is looked for in the order of the tree, is the first of these by
 -- its place.
-use Rattle.std.proofs.Common.{ℕ, ◌≡◌, refl, sym, ◌∙◌, List, [], ◌∷◌, ◌++◌, Some}
-use Rattle.c_lex.specs.Places.{StandInOrder}
-use Rattle.c_lex.specs.declared.tokens.Token.{Token}
-use Rattle.c_tree.specs.RawTrees.{RawStmtTree, RawStmtTrees, RawDo, RawBlock, RawIf, RawIfElse, RawWhile, RawFor, RawReturn, NoRawStmts, RawThen, RawItemTree, RawTableItem, RawPrototypeItem, RawFunctionItem}
-use Rattle.c_grammar.specs.Grammar.{IsProgram}
-use Rattle.c_parse.specs.ForParts.{nested_in_for, nested_in_all_for, nested_in_item_for, nested_in_fors}
-use Rattle.grammar_laws.specs.Nested.{is_call, simples_nested, step_nested, IsFirstPlace}
+use Rattle.decisions.proofs.Common.{ℕ, ◌≡◌, refl, sym, ◌∙◌, List, [], ◌∷◌, ◌++◌, Some, StandInOrder, Token, RawStmtTree, RawStmtTrees, RawDo, RawBlock, RawIf, RawIfElse, RawWhile, RawFor, RawReturn, NoRawStmts, RawThen, RawItemTree, RawTableItem, RawPrototypeItem, RawFunctionItem, IsProgram, nested_in_for, nested_in_all_for, nested_in_item_for, nested_in_fors, is_call, simples_nested, step_nested, IsFirstPlace, Declared, expr_places, optional_places, stmt_places, stmts_places, names_places, item_places, items_places, program_rises}
 use Rattle.decisions.specs.NestedFors.{for_nested, fors_nested, item_for_nested, items_for_nested}
-use Rattle.grammar_laws.specs.Places.{Declared, expr_places, optional_places, stmt_places, stmts_places, names_places, item_places, items_places}
 use Rattle.decisions.proofs.NestedParts.{all_of, none_of, behind, part_rises, first_of, first_is_least}
 use Rattle.decisions.proofs.Parts.{IsPart, part_append}
 use Rattle.decisions.proofs.NestedInTree.{both, simples_first, condition_first, step_first, simples_part, step_part}
-use Rattle.grammar_laws.proofs.Trees.{program_rises}
 
 mutual
   for_first : (s : RawStmtTree) → nested_in_for s ≡ first_of (for_nested s)

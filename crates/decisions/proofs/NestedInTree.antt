@@ -1,15 +1,7 @@
 -- The first call that is not whole, which is looked for in the order of the tree, is the first of these by its place.
-use Rattle.std.proofs.Common.{ℕ, ◌≡◌, refl, sym, ◌∙◌, ap, List, [], ◌∷◌, ◌++◌, Option, Some, None}
-use Rattle.c_lex.specs.Places.{StandInOrder}
-use Rattle.c_lex.specs.declared.tokens.Token.{Token}
-use Rattle.c_tree.specs.RawTrees.{RawExprTree, RawExprTrees, RawElement, RawUnary, RawParenthesized, RawBinary, RawLogicalAnd, RawLogicalOr, RawConditional, RawCall, RawTableCall, NoExprs, And, RawSimpleTree, RawDeclareWith, RawSet, RawSetElement, RawCalling, RawTableCalling, RawStmtTree, RawStmtTrees, RawDo, RawBlock, RawIf, RawIfElse, RawWhile, RawFor, RawReturn, NoRawStmts, RawThen, RawItemTree, RawTableItem, RawPrototypeItem, RawFunctionItem}
-use Rattle.c_grammar.specs.Grammar.{IsProgram}
-use Rattle.c_parse.specs.NestedCalls.{earlier, first_call, first_call_of, nested_in_value, nested_in_simple, nested_in_simples, nested_in_condition, nested_in_step, nested_in_return, nested_in_stmt, nested_in_stmts, nested_in_item, nested_in_items}
-use Rattle.grammar_laws.specs.Nested.{is_call, value_nested, simple_nested, simples_nested, step_nested, return_nested, stmt_nested, stmts_nested, item_nested, items_nested, IsFirstPlace}
-use Rattle.grammar_laws.specs.Places.{Declared, expr_places, exprs_places, simple_places, simples_places, optional_places, step_places, stmt_places, stmts_places, names_places, item_places, items_places}
+use Rattle.decisions.proofs.Common.{ℕ, ◌≡◌, refl, sym, ◌∙◌, ap, List, [], ◌∷◌, ◌++◌, Option, Some, None, StandInOrder, Token, RawExprTree, RawExprTrees, RawElement, RawUnary, RawParenthesized, RawBinary, RawLogicalAnd, RawLogicalOr, RawConditional, RawCall, RawTableCall, NoExprs, And, RawSimpleTree, RawDeclareWith, RawSet, RawSetElement, RawCalling, RawTableCalling, RawStmtTree, RawStmtTrees, RawDo, RawBlock, RawIf, RawIfElse, RawWhile, RawFor, RawReturn, NoRawStmts, RawThen, RawItemTree, RawTableItem, RawPrototypeItem, RawFunctionItem, IsProgram, earlier, first_call, first_call_of, nested_in_value, nested_in_simple, nested_in_simples, nested_in_condition, nested_in_step, nested_in_return, nested_in_stmt, nested_in_stmts, nested_in_item, nested_in_items, is_call, value_nested, simple_nested, simples_nested, step_nested, return_nested, stmt_nested, stmts_nested, item_nested, items_nested, IsFirstPlace, Declared, expr_places, exprs_places, simple_places, simples_places, optional_places, step_places, stmt_places, stmts_places, names_places, item_places, items_places, program_rises}
 use Rattle.decisions.proofs.NestedParts.{all_of, none_of, behind, part_rises, first_of, first_is_least}
 use Rattle.decisions.proofs.Parts.{IsPart, part_append}
-use Rattle.grammar_laws.proofs.Trees.{program_rises}
 
 -- ---- the first of the list is what is looked for
 

@@ -1,7 +1,5 @@
 -- Some of the places of a list, in its order.
-use Rattle.std.proofs.Common.{ℕ, ◌≡◌, ◌+◌, ◌≤◌, List, [], ◌∷◌, ◌++◌, Option, Some, None, arith}
-use Rattle.std.specs.List.{AllByRecursion}
-use Rattle.grammar_laws.specs.Nested.{IsFirstPlace}
+use Rattle.decisions.proofs.Common.{ℕ, ◌≡◌, ◌+◌, ◌≤◌, List, [], ◌∷◌, ◌++◌, Option, Some, None, arith, AllByRecursion, IsFirstPlace}
 use Rattle.grammar_laws.specs.Rising.{RiseWithin}
 use Rattle.grammar_laws.proofs.Walks.{from_lower}
 use Rattle.decisions.proofs.Parts.{IsPart, keep, none, skip}

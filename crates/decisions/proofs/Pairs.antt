@@ -1,12 +1,6 @@
 -- A pair is valid, or has a first failure.
-use Rattle.std.proofs.Common.{ℕ, suc, ◌≡◌, ◌<◌, ◌≤◌, ◌⊎◌, inl, inr, refl, sym, subst, arith}
-use Rattle.std.proofs.lemmas.Bool.{cases_lt, cases_eq}
-use Rattle.flat_code.specs.Codes.{FlatCode}
-use Rattle.stack_image.specs.declared.images.Image.{Image}
-use Rattle.stack_certificate.specs.declared.certificates.Certificate.{Certificate}
-use Rattle.certificate_rules.specs.Validity.{Holds, IsValid, IsFirstFailure}
+use Rattle.decisions.proofs.Common.{ℕ, suc, ◌<◌, ◌⊎◌, inl, inr, refl, sym, subst, arith, cases_lt, cases_eq, FlatCode, Image, Certificate, Holds, IsValid, IsFirstFailure}
 use Rattle.certificate_rules.proofs.HoldsLemmas.{holds_v1, holds_v2, holds_v3, holds_v4, holds_v5, holds_v6, holds_v7, holds_v8, holds_v9, holds_v10, holds_v11, holds_v12, holds_outside}
-use Rattle.decisions.specs.Decided.{Decided}
 use Rattle.decisions.proofs.Search.{IsSearched, Fails, holds_or_fails}
 use Rattle.decisions.proofs.Decided.{searched1, searched2, searched3, searched4, searched5, searched6, searched7, searched8, searched9, searched10, searched11, searched12}
 

@@ -1,19 +1,9 @@
 -- Tokens are a tree, or have a refusal.
-use Rattle.std.proofs.Common.{ℕ, ◌≡◌, ◌⊎◌, inl, inr, refl, List, length, Option, Some, None}
-use Rattle.c_lex.specs.declared.tokens.Token.{Token}
-use Rattle.c_tree.specs.RawTrees.{RawItemTree}
-use Rattle.c_tree.specs.RawTemporaries.{AreWithinTemporaries}
+use Rattle.decisions.proofs.Common.{ℕ, ◌≡◌, ◌⊎◌, inl, inr, refl, List, length, Option, Some, None, Token, RawItemTree, AreWithinTemporaries, ParseError, nested_in_items, AreForPartsWhole, nested_in_fors, IsParsedWhere, IsRefusedWhere, items_whole, for_parts_whole}
 use Rattle.c_tree.specs.WholeCalls.{AreCallsWhole}
-use Rattle.c_grammar.specs.declared.errors.ParseError.{ParseError}
 use Rattle.c_grammar.specs.declared.errors.ParseError.TheVariants.{Unexpected, TooDeep, NestedCall}
 use Rattle.c_grammar.specs.Refusals.{Verdict, IsWithin}
 use Rattle.grammar_laws.proofs.Outcome.{some_verdict}
-use Rattle.c_parse.specs.NestedCalls.{nested_in_items}
-use Rattle.c_tree.specs.WholeForParts.{AreForPartsWhole}
-use Rattle.c_parse.specs.ForParts.{nested_in_fors}
-use Rattle.c_parse.specs.Parsed.{IsParsedWhere, IsRefusedWhere}
-use Rattle.c_parse.proofs.NestedWhole.{items_whole}
-use Rattle.c_parse.proofs.ForWhole.{for_parts_whole}
 use Rattle.decisions.proofs.Trees.{ATree, tree_of}
 
 module _ (Whole : List RawItemTree → Type 0) (first_nested : List RawItemTree → Option ℕ) (whole : (is : List RawItemTree) → first_nested is ≡ None → Whole is) (S : List ℕ) (tokens : List Token) where

@@ -1,24 +1,10 @@
 -- Whether a function lies on a cycle of calls: what calls lead to from it is marked, one function more in each round.
-use Rattle.std.proofs.Common.{◌≡◌, ℕ, zero, suc, ◌<◌, ◌≤◌, ◌⊎◌, inl, inr, Bool, true, false, List, [], ◌∷◌, length, replicate, set, refl, sym, ◌∙◌, subst, arith, ⊎_elim}
-use Rattle.lawful_reading.proofs.Deciding.{decided_by, both_decided, either_decided, denied, bool_same, Below, below_decided}
-use Rattle.std.specs.Prelude.{Some, slice_get}
-use Rattle.std.proofs.Math.ListN.{length-set}
-use Rattle.std.proofs.lemmas.Bool.{cases_lt}
-use Rattle.std.proofs.lemmas.List.{length-replicate}
-use Rattle.std.proofs.lemmas.Option.{none-some, same_Some}
-use Rattle.flat_code.specs.declared.operations.Op.{Op}
-use Rattle.flat_code.specs.Codes.{FlatCode, function_at}
-use Rattle.call_graph.specs.Lists.{has}
-use Rattle.call_graph.proofs.ListLemmas.{by_test}
-use Rattle.call_cycles.specs.Cycles.{functions_called, Calls, IsWay, Reaches, IsOnCycle, IsLeast}
-use Rattle.call_cycles.specs.Marks.{unmarked}
+use Rattle.decisions.proofs.Common.{◌≡◌, ℕ, zero, suc, ◌<◌, ◌≤◌, ◌⊎◌, inl, inr, Bool, true, false, List, [], ◌∷◌, length, replicate, set, refl, sym, ◌∙◌, subst, arith, ⊎_elim, decided_by, both_decided, either_decided, denied, bool_same, Below, below_decided, Some, slice_get, length-set, cases_lt, length-replicate, none-some, same_Some, Op, FlatCode, function_at, has, by_test, functions_called, Calls, IsWay, Reaches, IsOnCycle, IsLeast, cycle-within, inside, Decided}
+use Rattle.cycle_break.specs.Trail.{unmarked}
 use Rattle.cycle_break.specs.Trail.{is_marked}
 use Rattle.call_cycles.proofs.ClosedLemmas.{none-marked}
 use Rattle.call_cycles.proofs.MarkLemmas.{marks-one}
-use Rattle.call_cycles.proofs.OrderLemmas.{cycle-within}
 use Rattle.call_cycles.proofs.WalkLemmas.{reaches-one, reaches-more, least-cycle}
-use Rattle.chunk_budget.proofs.LeastLemmas.{inside}
-use Rattle.decisions.specs.Decided.{Decided}
 use Rattle.decisions.proofs.Decisions.{IsFirstWithout, first_without}
 
 unmarked_none : (n : ℕ) → unmarked (replicate n false) ≡ n

@@ -1,21 +1,8 @@
 -- Files that are there and read lead on to what follows them.
-use Rattle.std.proofs.Common.{◌≡◌, ℕ, List, Option, Some, None, sym, subst, ◌∙◌, arith, ⊎_elim}
-use Rattle.cap_io.specs.Files.{Files}
-use Rattle.c_tree.specs.Trees.{ProgramTree}
-use Rattle.c_hoist.proofs.EveryNested.{one_program, never}
-use Rattle.codegen_link.specs.declared.options.Options.{Options}
+use Rattle.decisions.proofs.Common.{◌≡◌, ℕ, List, Option, Some, None, sym, subst, ◌∙◌, arith, ⊎_elim, Files, ProgramTree, one_program, never, Options, Image, Certificate, Document, Outcome, OfFile, AfterLoad, AfterThree, IsSourceText, AfterSource, IsImageText, AfterImage, IsCertificateText, AfterCertificate, IsLoaded, HasFittingCode, IsUnbuilt, HasFittingFrames, IsFrameRefused, HasSource, HasValidPair}
 use Rattle.stack_build.specs.declared.refusals.BuildError.TheVariants.{FrameTooLarge}
-use Rattle.stack_image.specs.declared.images.Image.{Image}
-use Rattle.stack_certificate.specs.declared.certificates.Certificate.{Certificate}
 use Rattle.certificate_text.proofs.Spellings.{spelling_unique}
-use Rattle.command_outcomes.specs.declared.documents.Document.{Document}
 use Rattle.command_outcomes.specs.declared.documents.Document.TheVariants as document
-use Rattle.command_outcomes.specs.Outcome.{Outcome}
-use Rattle.command_files.specs.Loads.{OfFile, AfterLoad, AfterThree, IsSourceText, AfterSource, IsImageText, AfterImage, IsCertificateText, AfterCertificate}
-use Rattle.command_files.specs.Loaded.{IsLoaded}
-use Rattle.pair_commands.specs.BuildsFiles.{HasFittingCode, IsUnbuilt}
-use Rattle.pair_commands.specs.Graphs.{HasFittingFrames, IsFrameRefused}
-use Rattle.decisions.specs.Given.{HasSource, HasValidPair}
 use Rattle.capriccio_call.proofs.OneCase.{image-is, image-never, certificate-never}
 
 -- ---- loads

@@ -1,8 +1,5 @@
 -- Any command, or that the words ask for none.
-use Rattle.std.proofs.Common.{ℕ, ◌⊎◌, inl, inr, List}
-use Rattle.lawful_reading.proofs.Deciding.{decided_by, either_decided}
-use Rattle.command_words.specs.WordList.{Request, Serve, Run, Build, Check, Graph, Demo, Audit, Budget, IsWordList}
-use Rattle.decisions.specs.Decided.{Decided}
+use Rattle.decisions.proofs.Common.{◌⊎◌, inl, inr, List, decided_by, either_decided, Request, Serve, Run, Build, Check, Graph, Demo, Audit, Budget, IsWordList, Decided}
 use Rattle.decisions.proofs.Spoken.{Text}
 use Rattle.decisions.proofs.Commands.{AsksServe, AsksRun, AsksBuild, AsksCheck, AsksGraph, AsksDemo, AsksAudit, AsksBudget, serve_decided, run_decided, build_decided, check_decided, graph_decided, demo_decided, audit_decided, budget_decided}
 

@@ -1,12 +1,8 @@
 -- A run of an accepted pair, under options in their ranges, is due.
-use Rattle.std.proofs.Common.{◌≡◌, ℕ, ◌+◌, ◌*◌, ◌/◌, ◌%◌, ◌≤◌, List, [], Option, Some, None, refl, ◌∙◌, arith}
-use Rattle.lawful_log.specs.Setup.{Setup}
+use Rattle.decisions.proofs.Common.{ℕ, List, [], Option, Some, None, refl, Setup, IsAccepted, IsRun, RunsOn, run_outcome, ShowsRun, shown_outcome, IsInRange, areas-formed}
 use Rattle.log_laws.specs.One.{HasOneLog}
 use Rattle.log_laws.proofs.Starting.{one_log}
 use Rattle.log_laws.proofs.Good.{good}
-use Rattle.pair_commands.specs.Runs.{IsAccepted, IsRun, RunsOn, run_outcome}
-use Rattle.capriccio_commands.specs.Demos.{ShowsRun, shown_outcome}
-use Rattle.capriccio_call.proofs.OneRun.{IsInRange, areas-formed}
 use Rattle.decisions.proofs.Loading.{Some_due}
 
 -- its run on a trace

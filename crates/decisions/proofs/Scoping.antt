@@ -1,18 +1,11 @@
 -- A tree is a program, or has a refusal.
-use Rattle.std.proofs.Common.{ℕ, ◌≡◌, ◌⊎◌, inl, inr, refl, Bool, true, false, List, [], length, Option, Some, None}
 use Rattle.cap_word.specs.declared.limits.Which.{Which}
-use Rattle.c_tree.specs.RawTrees.{RawItemTree}
-use Rattle.c_tree.specs.RawTemporaries.{AreWithinTemporaries}
-use Rattle.c_tree.specs.TextOrder.{program_sites}
-use Rattle.c_tree.specs.WellScoped.{IsWellScoped, AreSiteNumbers}
+use Rattle.decisions.proofs.Common.{ℕ, ◌≡◌, ◌⊎◌, inl, inr, refl, Bool, true, false, List, [], length, Option, Some, None, RawItemTree, AreWithinTemporaries, program_sites, IsWellScoped, AreSiteNumbers, ScopeError, faults_of, has_main, program_of, numbered, IsResolvedBy}
 use Rattle.scope_rules.specs.declared.faults.Fault.{Fault}
 use Rattle.scope_rules.specs.declared.faults.Rule.{Rule}
-use Rattle.scope_rules.specs.declared.errors.ScopeError.{ScopeError}
 use Rattle.scope_rules.specs.Faults.{least_of}
-use Rattle.scope_rules.specs.Items.{faults_of, has_main, program_of}
 use Rattle.scope_rules.specs.Limits.{exceeded}
 use Rattle.scope_rules.specs.Outcomes.{IsResolved, IsRefused, IsNoMemory, refusal_by}
-use Rattle.scope_rules.specs.Numbered.{numbered, IsResolvedBy}
 use Rattle.scope_rules.proofs.LeastFaults.{none_is_none, refused}
 use Rattle.scope_rules.proofs.WellScopedPrograms.{well_scoped}
 use Rattle.scope_rules.proofs.Made.{numbered_scoped}

@@ -1,13 +1,6 @@
 -- The first failure of what is decided and has bounds.
-use Rattle.std.proofs.Common.{ℕ, zero, suc, ◌≡◌, ◌+◌, ◌<◌, ◌≤◌, ◌⊎◌, inl, inr, refl, subst, arith, [], ◌∷◌, Option, Some, None}
-use Rattle.lawful_reading.proofs.Deciding.{decided_by, all_below}
-use Rattle.std.proofs.lemmas.Bool.{cases_lt}
-use Rattle.decisions.specs.Decided.{Decided}
+use Rattle.decisions.proofs.Common.{ℕ, suc, ◌≡◌, ◌<◌, ◌≤◌, ◌⊎◌, inl, inr, refl, subst, arith, [], Option, Some, None, cases_lt, Decided, everywhere}
 use Rattle.decisions.proofs.Decisions.{first_without, IsFirstWithout}
-
--- it holds everywhere, or somewhere below a bound it doesn't
-pub everywhere : (P : ℕ → Type 0) → ((k : ℕ) → Decided (P k)) → (n : ℕ) → ((k : ℕ) → n ≤ k → P k) → Decided ((k : ℕ) → P k)
-everywhere P each n past = decided_by (λ (all : (k : ℕ) → k < n → P k) k. elim (cases_lt k n) [ inl below ↦ all k below | inr beyond ↦ past k beyond ]) (λ all k h. all k) (all_below P each n)
 
 -- what an option holds, if anything
 pub held_decided : {A : Type 0} (P : A → Type 0) → ((x : A) → Decided (P x)) → (o : Option A) → Decided ((x : A) → o ≡ Some x → P x)

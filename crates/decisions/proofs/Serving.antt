@@ -1,33 +1,12 @@
 -- `serve` and `demo`: what is laid out for the program runs, and so some outcome is due.
-use Rattle.std.proofs.Common.{ℕ, ◌+◌, ◌*◌, ◌≤◌, ◌⊎◌, inl, inr, List, Option}
-use Rattle.std.specs.List.{AllByRecursion}
-use Rattle.cap_io.specs.Files.{Files}
-use Rattle.c_tree.specs.Trees.{ProgramTree}
-use Rattle.c_tree.specs.WellScoped.{IsWellScoped}
-use Rattle.c_hoist.proofs.EveryNested.{never}
+use Rattle.decisions.proofs.Common.{ℕ, ◌+◌, ◌*◌, ◌≤◌, ◌⊎◌, inl, inr, List, Option, AllByRecursion, Files, ProgramTree, IsWellScoped, never, Options, AreInRange, trace_text, program_text, Placement, Serve, Demo, IsWordList, Outside, IsSourceText, IsUnbuilt, IsRunPolicy, sizes_of, setup_of, pool_bytes, IsAccepted, ServesProgram, Serves, demo_sizes, demo_policy, Demos, IsDue, IsInRange, serve-sizes, serve-policy, serve-pool, HoldBytes}
 use Rattle.c_hoist.proofs.WholeReads.{reads_nested}
-use Rattle.codegen_link.specs.declared.options.Options.{Options}
-use Rattle.codegen_link.specs.Plans.{AreInRange}
-use Rattle.workload.specs.Traces.{trace_text}
-use Rattle.workload.specs.Programs.{program_text}
 use Rattle.workload.proofs.Reading.{program_read}
-use Rattle.command_words.specs.declared.options.Placement.{Placement}
 use Rattle.command_words.specs.declared.options.Policy.{Policy as RunOptions}
-use Rattle.command_words.specs.WordList.{Serve, Demo, IsWordList}
 use Rattle.command_outcomes.specs.declared.documents.Document.TheVariants as document
-use Rattle.command_outcomes.specs.Done.{Outside}
-use Rattle.command_files.specs.Loads.{IsSourceText}
-use Rattle.pair_commands.specs.BuildsFiles.{IsUnbuilt}
-use Rattle.command_options.specs.Options.{IsRunPolicy, sizes_of}
-use Rattle.pair_commands.specs.Runs.{setup_of, pool_bytes, IsAccepted, ServesProgram, Serves}
-use Rattle.capriccio_commands.specs.Demos.{demo_sizes, demo_policy, Demos}
-use Rattle.capriccio_call.specs.Due.{IsDue}
-use Rattle.capriccio_call.proofs.OneRun.{IsInRange}
-use Rattle.command_options.proofs.Options.{serve-sizes, serve-policy, serve-pool}
 use Rattle.capriccio_commands.proofs.Workloads.{always-built, demo-in-range, demo-run-policy, demo-pool}
 use Rattle.decisions.proofs.Sources.{AProgram, AnError, source_decided}
 use Rattle.decisions.proofs.Starts.{HasWord, starts_with_words}
-use Rattle.decisions.specs.Told.{HoldBytes}
 use Rattle.decisions.proofs.Loading.{Some_due, load_due, source_due}
 use Rattle.decisions.proofs.Building.{ABuild, built_or_not}
 use Rattle.decisions.proofs.Valid.{valid_layout, layout_words}

@@ -1,17 +1,8 @@
 -- What the sign of a token says of its kind.
-use Rattle.std.proofs.Common.{ℕ, suc, ◌≡◌, ◌∙◌, ◌-◌, refl, sym, ap, Bool, true, false, List, [], ◌∷◌, Option, Some, None}
-use Rattle.c_lex.specs.declared.tokens.Token.{Token}
-use Rattle.c_lex.specs.declared.tokens.TokenKind.{TokenKind}
+use Rattle.decisions.proofs.Common.{ℕ, suc, ◌≡◌, ◌∙◌, ◌-◌, refl, sym, ap, Bool, true, false, List, [], ◌∷◌, Option, Some, None, Token, TokenKind, Infix, UnaryOperator, Sign, Level, Tightest, Looser, IsOperator, IsPrefix, sign_of_token, next_name, Passes, PassesName, PassesNumber, PassesPrefix, PassesInfix, sign_at}
 use Rattle.c_lex.specs.declared.tokens.TokenKind.TheVariants as kinds
-use Rattle.c_tree.specs.declared.operators.Infix.{Infix}
-use Rattle.c_tree.specs.declared.operators.UnaryOperator.{UnaryOperator}
-use Rattle.c_grammar.specs.declared.signs.Sign.{Sign}
 use Rattle.c_grammar.specs.declared.signs.Sign.TheVariants as signs
-use Rattle.c_grammar.specs.Signs.{Level, Tightest, Looser, IsOperator, IsPrefix, sign_of_token}
 use Rattle.c_grammar.specs.Operators.{unary_operator_of, infix_operator_of, level_of_infix}
-use Rattle.c_grammar.specs.Tokens.{next_name, Passes, PassesName, PassesNumber}
-use Rattle.c_grammar.specs.Grammar.{PassesPrefix, PassesInfix}
-use Rattle.c_grammar.specs.Reading.{sign_at}
 use Rattle.c_lex.specs.declared.keywords.Keyword.TheVariants as keywords
 use Rattle.c_lex.specs.declared.marks.Mark.TheVariants as marks
 

@@ -1,28 +1,11 @@
 -- A source is a program, or has a refusal.
-use Rattle.std.proofs.Common.{ℕ, ◌⊎◌, inl, inr, List}
-use Rattle.c_lex.specs.declared.tokens.Token.{Token}
-use Rattle.c_lex.specs.declared.tokens.LexError.{LexError}
-use Rattle.c_lex.specs.Tokens.{AreTokensOf, IsLexErrorOf}
-use Rattle.c_tree.specs.RawTrees.{RawItemTree}
-use Rattle.c_tree.specs.RawTemporaries.{AreWithinTemporaries}
-use Rattle.c_tree.specs.Trees.{ProgramTree}
-use Rattle.c_tree.specs.WellScoped.{IsWellScoped}
-use Rattle.c_grammar.specs.declared.errors.ParseError.{ParseError}
-use Rattle.c_tree.specs.WholeForParts.{AreForPartsWhole}
-use Rattle.c_parse.specs.ForParts.{nested_in_fors}
-use Rattle.c_parse.specs.Parsed.{IsParsedWhere, IsRefusedWhere}
-use Rattle.c_parse.proofs.ForWhole.{for_parts_whole}
-use Rattle.scope_rules.specs.declared.errors.ScopeError.{ScopeError}
-use Rattle.scope_rules.specs.Items.{program_of}
-use Rattle.scope_rules.specs.Numbered.{numbered}
+use Rattle.decisions.proofs.Common.{ℕ, ◌⊎◌, inl, inr, List, Token, LexError, AreTokensOf, IsLexErrorOf, RawItemTree, AreWithinTemporaries, ProgramTree, IsWellScoped, ParseError, AreForPartsWhole, nested_in_fors, IsParsedWhere, IsRefusedWhere, for_parts_whole, ScopeError, program_of, numbered, items_hoisted, ReadsNested, IsNestedSourceErrorOf}
 use Rattle.c_scope.specs.declared.source_errors.SourceError.{SourceError}
 use Rattle.c_scope.specs.declared.source_errors.SourceError.TheVariants as refusals
-use Rattle.hoist_parts.specs.Statements.{items_hoisted}
 use Rattle.hoist_parts.proofs.Whole.{items_hoisted_whole}
 use Rattle.hoist_parts.proofs.Temporaries.{items_small}
 use Rattle.grammar_laws.specs.Ranks.{site_numbers}
 use Rattle.grammar_laws.proofs.RankLaws.{ranks_are_numbers}
-use Rattle.c_hoist.specs.NestedText.{ReadsNested, IsNestedSourceErrorOf}
 use Rattle.hoist_meaning.proofs.TreeCounts.{each_call}
 use Rattle.decisions.proofs.Lexing.{lex_decided}
 use Rattle.decisions.proofs.Parsing.{ParsesOrNot, tokens_parse_nested}

@@ -1,11 +1,5 @@
 -- What words say, or that they say nothing.
-use Rattle.std.proofs.Common.{◌≡◌, ◌∙◌, ℕ, zero, suc, ◌≤◌, inl, inr, List, [], ◌∷◌, length, refl, sym, ap, subst, arith}
-use Rattle.lawful_reading.proofs.Deciding.{decided_by, both_decided, either_decided, denied, number_same, all_decided, text_same}
-use Rattle.std.specs.List.{flat_map, AllByRecursion}
-use Rattle.command_words.specs.Said.{Said, Given, Positional, words_of, IsPlain, IsPlainSaid, positionals_of, options_of, IsOneOf, AreOnce}
-use Rattle.command_words.specs.Parse.{all_options}
-use Rattle.command_words.specs.WordList.{Says}
-use Rattle.decisions.specs.Decided.{Decided}
+use Rattle.decisions.proofs.Common.{◌≡◌, ◌∙◌, ℕ, zero, suc, ◌≤◌, inl, inr, List, [], ◌∷◌, length, refl, sym, ap, subst, arith, decided_by, both_decided, either_decided, denied, number_same, all_decided, text_same, flat_map, AllByRecursion, Said, Given, Positional, words_of, IsPlain, IsPlainSaid, positionals_of, options_of, IsOneOf, AreOnce, all_options, Says, Decided, plain_is_no_option}
 
 abbrev pub Text : Type 0
 Text = List ℕ
@@ -34,9 +28,6 @@ at_one P (name ∷ names) word all (inr more) = at_one P names word all.1 more
 none_plain : AllByRecursion (λ (name : Text). IsPlain name → ⊥) all_options
 none_plain = (λ p. p refl, (λ p. p refl, (λ p. p refl, (λ p. p refl, (λ p. p refl, (λ p. p refl, (λ p. p refl, (λ p. p refl, (λ p. p refl, (λ p. p refl, (λ p. p refl, (λ p. p refl, (λ p. p refl, (λ p. p refl, tt))))))))))))))
 
-pub no_option : (word : Text) → IsOneOf all_options word → IsPlain word → ⊥
-no_option word is plain = at_one (λ (name : Text). IsPlain name → ⊥) all_options word none_plain is plain
-
 -- ---- what is said
 
 -- the words say this, whatever is said twice
@@ -60,10 +51,10 @@ same_list (Given option value ∷ a) (Given name text ∷ b) same plain also kno
     cc
 same_list (Given option value ∷ a) (Positional word ∷ b) same plain also known too =
     let name : option ≡ word = cc in
-    absurd (no_option option known.0 (subst IsPlain (sym name) also.0))
+    absurd (plain_is_no_option option known.0 (subst IsPlain (sym name) also.0))
 same_list (Positional word ∷ a) (Given option value ∷ b) same plain also known too =
     let name : word ≡ option = cc in
-    absurd (no_option option too.0 (subst IsPlain name plain.0))
+    absurd (plain_is_no_option option too.0 (subst IsPlain name plain.0))
 same_list (Positional word ∷ a) (Positional other ∷ b) same plain also known too =
     let name : word ≡ other = cc in
     let rest : flat_map words_of a ≡ flat_map words_of b = cc in
@@ -83,7 +74,7 @@ lone_option option is ((Given name value ∷ rest, s)) = let e = s.in_words in a
 lone_option option is ((Positional word ∷ rest, s)) =
     let e = s.in_words in
     let same : option ≡ word = cc in
-    no_option option is (subst IsPlain (sym same) s.plain.0)
+    plain_is_no_option option is (subst IsPlain (sym same) s.plain.0)
 
 behind_option : (option value : Text) (rest : List Text) → IsOneOf all_options option → Speaks (option ∷ value ∷ rest) → IsPlain value × Speaks rest
 behind_option option value rest is (([], s)) = let e = s.in_words in absurd cc
@@ -95,7 +86,7 @@ behind_option option value rest is ((Given name text ∷ said, s)) =
 behind_option option value rest is ((Positional word ∷ said, s)) =
     let e = s.in_words in
     let same : option ≡ word = cc in
-    absurd (no_option option is (subst IsPlain (sym same) s.plain.0))
+    absurd (plain_is_no_option option is (subst IsPlain (sym same) s.plain.0))
 
 behind_word : (word : Text) (rest : List Text) → (IsOneOf all_options word → ⊥) → Speaks (word ∷ rest) → IsPlain word × Speaks rest
 behind_word word rest none (([], s)) = let e = s.in_words in absurd cc

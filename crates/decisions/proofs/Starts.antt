@@ -1,21 +1,7 @@
 -- Each number among the tokens of a source is a word, and so each global of the program that it is starts with words.
-use Rattle.std.proofs.Common.{ℕ, ◌≡◌, ◌+◌, ◌-◌, ◌%◌, ◌^◌, ◌<◌, sym, subst, arith, Bool, true, List, [], ◌∷◌, ◌++◌, Option}
-use Rattle.std.specs.List.{AllByRecursion}
-use Rattle.c_lex.specs.declared.tokens.Token.{Token}
-use Rattle.c_lex.specs.declared.tokens.TokenKind.{TokenKind}
+use Rattle.decisions.proofs.Common.{ℕ, ◌≡◌, ◌+◌, ◌-◌, ◌%◌, ◌^◌, ◌<◌, sym, subst, arith, Bool, true, List, [], ◌∷◌, ◌++◌, Option, AllByRecursion, Token, TokenKind, IsOfKind, LeadsTo, AreTokensOf, GlobalFact, NameTree, RawExprTree, RawExprTrees, RawSimpleTree, RawStmtTree, RawStmtTrees, RawItemTree, RawGlobal, RawGlobalArray, ProgramTree, Sign, rest_of, Passes, PassesNumber, IsExpr, IsBinary, IsRepeated, IsUnary, IsPrimary, IsIndex, IsParenthesized, AreArguments, AreMoreArguments, IsSize, IsSimple, IsLocal, AreMoreLocals, AreLocals, IsUpToSemicolon, IsForInit, IsForStep, IsBody, IsBlock, AreStmts, IsStart, IsGlobal, AreMoreGlobals, AreMoreMembers, IsNameOption, AreMoreParameters, AreMoreNamed, AreParameters, AreNamed, IsResult, AreItem, AreItems, Sofar, at_start, definitions, item_after, items_after, item_hoisted, items_hoisted, ReadsNested}
 use Rattle.c_lex.specs.declared.tokens.TokenKind.TheVariants as kinds
-use Rattle.c_lex.specs.Lexemes.{IsOfKind}
-use Rattle.c_lex.specs.Tokens.{LeadsTo, AreTokensOf}
-use Rattle.c_tree.specs.declared.facts.GlobalFact.{GlobalFact}
-use Rattle.c_tree.specs.RawTrees.{NameTree, RawExprTree, RawExprTrees, RawSimpleTree, RawStmtTree, RawStmtTrees, RawItemTree, RawGlobal, RawGlobalArray}
-use Rattle.c_tree.specs.Trees.{ProgramTree}
-use Rattle.c_grammar.specs.declared.signs.Sign.{Sign}
-use Rattle.c_grammar.specs.Tokens.{rest_of, Passes, PassesNumber}
-use Rattle.c_grammar.specs.Grammar.{IsExpr, IsBinary, IsRepeated, IsUnary, IsPrimary, IsIndex, IsParenthesized, AreArguments, AreMoreArguments, IsSize, IsSimple, IsLocal, AreMoreLocals, AreLocals, IsUpToSemicolon, IsForInit, IsForStep, IsBody, IsBlock, AreStmts, IsStart, IsGlobal, AreMoreGlobals, AreMoreMembers, IsNameOption, AreMoreParameters, AreMoreNamed, AreParameters, AreNamed, IsResult, AreItem, AreItems}
 use Rattle.scope_rules.specs.Names.{Binding}
-use Rattle.scope_rules.specs.Items.{Sofar, at_start, definitions, item_after, items_after}
-use Rattle.hoist_parts.specs.Statements.{item_hoisted, items_hoisted}
-use Rattle.c_hoist.specs.NestedText.{ReadsNested}
 
 -- ---- tokens
 

@@ -1,28 +1,10 @@
 -- `check` accepts what `build` wrote under three names.
-use Rattle.std.proofs.Common.{◌≡◌, ◌≢◌, ℕ, List, [], ◌∷◌, ◌++◌, Option, Some, refl, sym, subst, ◌∙◌, arith, ⊎_elim}
-use Rattle.std.specs.Prelude.{codes}
-use Rattle.cap_io.specs.Files.{Files}
-use Rattle.c_tree.specs.Trees.{ProgramTree}
-use Rattle.c_lower.specs.ProgramCode.{lowered}
+use Rattle.decisions.proofs.Common.{◌≡◌, ◌≢◌, ℕ, List, [], ◌∷◌, ◌++◌, Option, Some, refl, sym, subst, ◌∙◌, arith, ⊎_elim, codes, Files, ProgramTree, Placement, Build, Check, IsWordList, Image, Certificate, Outside, WhereTold, AreStored, fault_status, Memory, built, sizes_of, build-sizes, IsReadAgain, HasAnswered, HasSource, HasBuildable, HasValidPair, UnlessMemory, WritesText}
 use Rattle.certificate_text.specs.Text as certificate
-use Rattle.command_words.specs.declared.options.Placement.{Placement}
-use Rattle.command_words.specs.WordList.{Build, Check, IsWordList}
-use Rattle.stack_build.specs.Builds.{IsLaidOut}
-use Rattle.stack_image.specs.declared.images.Image.{Image}
 use Rattle.stack_image.specs.Spelling as image
-use Rattle.stack_certificate.specs.declared.certificates.Certificate.{Certificate}
-use Rattle.command_outcomes.specs.Done.{Outside, WhereTold, AreStored}
-use Rattle.command_outcomes.specs.FaultLines.{fault_status}
-use Rattle.command_outcomes.specs.declared.faults.Fault.TheVariants.{Memory}
-use Rattle.pair_commands.specs.BuildsFiles.{built}
-use Rattle.command_options.specs.Options.{sizes_of}
-use Rattle.command_options.proofs.Options.{build-sizes}
 use Rattle.decisions.proofs.Starts.{starts_with_words}
 use Rattle.decisions.proofs.Valid.{layout_words}
-use Rattle.decisions.specs.ReadAgain.{IsReadAgain}
 use Rattle.decisions.proofs.Together.{read_again}
-use Rattle.decisions.specs.Given.{HasAnswered, HasSource, HasBuildable, HasValidPair}
-use Rattle.decisions.specs.Written.{UnlessMemory, WritesText}
 use Rattle.decisions.proofs.BytesAreTexts.{build_stores_its_pair, check_writes_accepted}
 
 -- ---- what the files hold

@@ -1,14 +1,8 @@
 -- Every mark and every keyword, each with its place in a list: what is decided of each is decided of some.
-use Rattle.std.proofs.Common.{ℕ, ◌≡◌, ◌<◌, refl, sym, subst, lit<, get_or, length, List, [], ◌∷◌}
-use Rattle.lawful_reading.proofs.Deciding.{decided_by, Below, below_decided}
-use Rattle.c_lex.specs.declared.keywords.Keyword.{Keyword}
+use Rattle.decisions.proofs.Common.{◌≡◌, ◌<◌, refl, sym, subst, lit<, get_or, length, List, [], ◌∷◌, decided_by, Below, below_decided, Keyword, Mark, mark_text, mark_place, mark_place-lt, Decided}
 use Rattle.c_lex.specs.declared.keywords.Keyword.TheVariants as keywords
-use Rattle.c_lex.specs.declared.marks.Mark.{Mark}
 use Rattle.c_lex.specs.declared.marks.Mark.TheVariants as marks
-use Rattle.c_lex.specs.Marks.{mark_text}
-use Rattle.c_lex.proofs.MarkTable.{mark_place, mark_place-lt}
 use Rattle.c_lex.proofs.KeywordTable.{keyword_place, keyword_place-lt}
-use Rattle.decisions.specs.Decided.{Decided}
 
 -- ---- marks
 

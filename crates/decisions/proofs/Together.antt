@@ -1,18 +1,7 @@
 -- What is laid out is read again.
-use Rattle.std.proofs.Common.{◌≤◌, refl, arith}
-use Rattle.c_tree.specs.Trees.{ProgramTree}
-use Rattle.c_tree.specs.WellScoped.{IsWellScoped}
-use Rattle.c_lower.specs.ProgramCode.{lowered}
-use Rattle.codegen_link.specs.Plans.{AreInRange}
-use Rattle.codegen_link.specs.declared.options.Options.{Options}
+use Rattle.decisions.proofs.Common.{◌≤◌, refl, arith, ProgramTree, IsWellScoped, lowered, AreInRange, Options, IsLaidOut, Image, Certificate, HasFittingCode, HasFittingFrames, IsReadAgain}
 use Rattle.machine_world.specs.WellFormed.{AreWords}
-use Rattle.stack_build.specs.Builds.{IsLaidOut}
-use Rattle.stack_image.specs.declared.images.Image.{Image}
-use Rattle.stack_certificate.specs.declared.certificates.Certificate.{Certificate}
-use Rattle.pair_commands.specs.BuildsFiles.{HasFittingCode}
-use Rattle.pair_commands.specs.Graphs.{HasFittingFrames}
 use Rattle.one_plan.proofs.Limits.{image-fits, certificate-fits}
-use Rattle.decisions.specs.ReadAgain.{IsReadAgain}
 use Rattle.decisions.proofs.Lengths.{certificate_short, image_short}
 use Rattle.decisions.proofs.Rules.{few_variables, plan_is, code_fits, valid}
 use Rattle.decisions.proofs.WordsInPairs.{image_words, certificate_words, site_words}

@@ -1,22 +1,11 @@
 -- Tokens that are taken whole are a tree.
-use Rattle.std.proofs.Common.{ℕ, suc, ◌≡◌, ◌≢◌, ◌∙◌, ◌+◌, ◌≤◌, ◌<◌, ◌⊎◌, inl, inr, refl, sym, ap, subst, arith, List, [], ◌∷◌, ◌++◌, append_assoc}
-use Rattle.std.proofs.lemmas.Bool.{cases_lt}
-use Rattle.std.proofs.lemmas.List.{append-nil}
-use Rattle.c_lex.specs.declared.tokens.Token.{Token}
-use Rattle.c_tree.specs.RawTrees.{RawItemTree}
-use Rattle.c_tree.specs.RawTemporaries.{AreWithinTemporaries}
-use Rattle.c_grammar.specs.declared.signs.Sign.{Sign}
+use Rattle.decisions.proofs.Common.{ℕ, ◌≡◌, ◌≢◌, ◌∙◌, ◌+◌, ◌≤◌, inl, inr, refl, sym, subst, List, [], ◌∷◌, ◌++◌, append_assoc, cases_lt, Token, RawItemTree, AreWithinTemporaries, Sign, IsOperator, IsPrefix, Symbol, Nearest, Takes, TakesAll, CanBeNothing, open_in, sign_at, signs_of, IsProgram}
 use Rattle.c_grammar.specs.declared.signs.Sign.TheVariants as signs
-use Rattle.c_grammar.specs.Signs.{IsOperator, IsPrefix}
 use Rattle.c_grammar.specs.Rests as symbols
-use Rattle.c_grammar.specs.Rests.{Symbol, Nearest, Takes, TakesAll, CanBeNothing, open_in}
-use Rattle.c_grammar.specs.Reading.{sign_at, signs_of}
 use Rattle.c_grammar.specs.Refusals.{Leave, IsShallow, IsWithin}
-use Rattle.c_grammar.specs.Tokens.{next_sign}
-use Rattle.c_grammar.specs.Grammar.{IsProgram}
 use Rattle.grammar_laws.proofs.Verdicts.{signs_append}
 use Rattle.decisions.proofs.Signs.{operator_passed, prefix_passed, passed}
-use Rattle.decisions.proofs.Means.{SomeItems, Reads}
+use Rattle.decisions.proofs.Means.{Reads}
 use Rattle.decisions.proofs.Alternatives.{alternative}
 
 -- ---- one step

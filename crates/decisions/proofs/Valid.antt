@@ -1,45 +1,8 @@
 -- What is laid out for a program is valid, and its globals start with words where the program's do.
-use Rattle.std.proofs.Common.{◌≡◌, ◌∙◌, ℕ, zero, suc, ◌+◌, ◌-◌, ◌^◌, ◌<◌, ◌≤◌, inl, inr, false, List, [], ◌∷◌, length, map, Option, Some, None, refl, sym, ap, subst, arith}
-use Rattle.std.specs.Prelude.{min, option_map, replicate, slice_get, sum_by}
-use Rattle.std.specs.List.{AllByRecursion, flat_map}
-use Rattle.std.proofs.lemmas.Bool.{cases_lt}
-use Rattle.std.proofs.lemmas.List.Elements.{All-from_recursion}
-use Rattle.std.proofs.lemmas.List.Sums.{sum_by-cons}
-use Rattle.c_tree.specs.declared.facts.GlobalFact.{GlobalFact}
-use Rattle.c_tree.specs.Trees.{ProgramTree}
-use Rattle.c_tree.specs.WellScoped.{IsWellScoped}
-use Rattle.c_lower.specs.ProgramCode.{lowered, lowered_function, lowered_global}
-use Rattle.c_lower.proofs.FormedPrograms.{program_formed}
-use Rattle.c_lower.proofs.Lists.{all-append}
-use Rattle.flat_code.specs.declared.operations.Op.{Op}
+use Rattle.decisions.proofs.Common.{◌≡◌, ◌∙◌, ℕ, zero, suc, ◌+◌, ◌-◌, ◌^◌, ◌<◌, ◌≤◌, inl, inr, false, List, [], ◌∷◌, length, map, Option, Some, None, refl, sym, ap, subst, arith, min, option_map, replicate, slice_get, sum_by, AllByRecursion, flat_map, cases_lt, All-from_recursion, sum_by-cons, GlobalFact, ProgramTree, IsWellScoped, lowered, lowered_function, lowered_global, program_formed, Op, function_at, IsWellFormed, Plan, PlaceError, refusal_from, Image, Certificate, size, IsValid, Options, code_words, function_words, link, AreInRange, words-within, weights_of, enough, IsLaidOut, of_place, plan-for, size_some, program_zeroes, HasFittingFrames, HasFittingCode, lowered-graph, all_from, All-append}
 use Rattle.flat_code.specs.declared.programs.FlatGlobal.{FlatGlobal}
-use Rattle.flat_code.specs.Codes.{function_at}
-use Rattle.flat_code.specs.WellFormed.{IsWellFormed}
-use Rattle.checkpoint_place.specs.declared.plans.Plan.{Plan}
-use Rattle.checkpoint_place.specs.declared.refusals.PlaceError.{PlaceError}
-use Rattle.checkpoint_place.specs.Refusal.{refusal_from}
-use Rattle.stack_image.specs.declared.images.Image.{Image}
-use Rattle.stack_certificate.specs.declared.certificates.Certificate.{Certificate}
-use Rattle.stack_certificate.specs.Templates.{size}
-use Rattle.certificate_rules.specs.Validity.{IsValid}
-use Rattle.codegen_link.specs.declared.options.Options.{Options}
-use Rattle.codegen_link.specs.Layout.{code_words, function_words}
-use Rattle.codegen_link.specs.Links.{link}
-use Rattle.codegen_link.specs.Plans.{AreInRange}
-use Rattle.codegen_link.proofs.AddressLemmas.{words-within}
 use Rattle.codegen_link.proofs.ValidLemmas.{valid}
-use Rattle.stack_plan.specs.Plans.{weights_of}
-use Rattle.stack_plan.proofs.Enough.{enough}
-use Rattle.stack_build.specs.Builds.{IsLaidOut}
-use Rattle.stack_build.specs.Refusals.{of_place}
-use Rattle.stack_build.proofs.Plans.{plan-for}
 use Rattle.machine_world.specs.WellFormed.{AreWords}
-use Rattle.segment_laws.proofs.Past.{size_some}
-use Rattle.machine_meaning.proofs.Zeroes.{program_zeroes}
-use Rattle.pair_commands.specs.Graphs.{HasFittingFrames}
-use Rattle.pair_commands.specs.BuildsFiles.{HasFittingCode}
-use Rattle.one_plan.proofs.LoweredGraph.{lowered-graph}
-use Rattle.machine_meaning.proofs.Formed.{all_from}
 
 -- where each operation has a word, there are no more operations than words
 pub words_many : (weight : Op → ℕ) (ops : List Op) → ((i : ℕ) (op : Op) → slice_get ops i ≡ Some op → 0 < weight op) → length ops ≤ sum_by weight ops
@@ -103,7 +66,7 @@ same_words (suc count) value h = (h, same_words count value h)
 start_words : (gs : List GlobalFact) → AllByRecursion (λ g. g.start < 2 ^ 32) gs → AllByRecursion IsWord (flat_map (λ (g : FlatGlobal). replicate g.words g.start) (map lowered_global gs))
 start_words [] h = tt
 start_words (g ∷ gs) h =
-    all-append IsWord (replicate g.words g.start) (flat_map (λ (x : FlatGlobal). replicate x.words x.start) (map lowered_global gs)) (same_words g.words g.start h.0) (start_words gs h.1)
+    All-append IsWord (replicate g.words g.start) (flat_map (λ (x : FlatGlobal). replicate x.words x.start) (map lowered_global gs)) (same_words g.words g.start h.0) (start_words gs h.1)
 
 pub layout_words : (program : ProgramTree) (options : Options) (image : Image) (certificate : Certificate) → AllByRecursion (λ g. g.start < 2 ^ 32) program.globals → IsLaidOut (lowered program) options image certificate → AreWords image.globals
 layout_words program options image certificate words laid =

@@ -1,20 +1,12 @@
 -- The values of the options, or that the texts are none.
-use Rattle.std.proofs.Common.{◌≡◌, ◌∙◌, ℕ, suc, ◌-◌, ◌<◌, ◌≤◌, ◌%◌, ◌⊎◌, inl, inr, List, [], ◌∷◌, length, map, replicate, Option, Some, None, refl, ap, arith, codes}
-use Rattle.lawful_reading.proofs.Deciding.{decided_by, both_decided, either_decided, number_same, Below, below_decided, option_same, text_same, le_decided}
-use Rattle.std.proofs.lemmas.List.{length-map}
-use Rattle.cap_text.specs.Decimals.{canonical_decimal}
-use Rattle.cap_text.specs.Pieces.{pieces}
+use Rattle.decisions.proofs.Common.{◌≡◌, ◌∙◌, ℕ, suc, ◌-◌, ◌<◌, ◌≤◌, ◌%◌, ◌⊎◌, inl, inr, List, [], ◌∷◌, length, map, replicate, Option, Some, None, refl, ap, arith, codes, decided_by, both_decided, either_decided, number_same, Below, below_decided, option_same, text_same, le_decided, length-map, canonical_decimal, pieces, Placement, Policy, IsChosen, IsNumber, IsNumberOf, default_max_path, IsPlacement, cap_text, AreCapsAbove, caps_of, AreCaps, ticket_text, AreTicketsFrom, tickets_of, AreTickets, rule_name, IsAudit, IsRule, IsPolicy, Decided}
 use Rattle.command_words.specs.declared.options.Audit.{Audit}
-use Rattle.command_words.specs.declared.options.Placement.{Placement}
-use Rattle.command_words.specs.declared.options.Policy.{Policy}
 use Rattle.command_words.specs.declared.options.Rule.{Rule}
 use Rattle.command_words.specs.declared.options.Rule.TheVariants.{Graph, Stride}
 use Rattle.command_words.specs.declared.options.Tickets.{Tickets}
 use Rattle.command_words.specs.OptionTable.{name_of, default_of, least_of, most_of}
 use Rattle.command_words.specs.declared.option_table.CommandOption.{CommandOption}
 use Rattle.command_words.specs.declared.option_table.CommandOption.TheVariants as option
-use Rattle.command_words.specs.Values.{IsChosen, IsNumber, IsNumberOf, default_max_path, IsPlacement, cap_text, AreCapsAbove, caps_of, AreCaps, ticket_text, AreTicketsFrom, tickets_of, AreTickets, rule_name, IsAudit, IsRule, IsPolicy}
-use Rattle.decisions.specs.Decided.{Decided}
 use Rattle.decisions.proofs.Decisions.{lt_decided}
 
 abbrev Texts : Type 0

@@ -1,24 +1,13 @@
 -- The word at the front of a text: it is a token, or no number.
-use Rattle.std.proofs.Common.{ℕ, ◌≡◌, ◌<◌, ◌^◌, ◌⊎◌, inl, inr, Bool, true, false, IsTrue, List, [], ◌∷◌, length, get_or, take, drop, refl, sym, subst, arith, codes}
-use Rattle.lawful_reading.proofs.Deciding.{decided_by, both_decided, either_decided, denied, number_same, bool_same, Below, below_decided, text_same}
+use Rattle.decisions.proofs.Common.{ℕ, ◌≡◌, ◌<◌, ◌^◌, ◌⊎◌, inl, inr, true, false, IsTrue, List, [], ◌∷◌, length, get_or, take, drop, refl, sym, subst, arith, codes, decided_by, both_decided, either_decided, denied, number_same, bool_same, Below, below_decided, text_same, Keyword, TokenKind, LexError, BadNumber, is_word_byte, IsWord, IsOfKind, BeginsNone, IsFirstGap, IsFirstToken, Decided, IsWordFront, IsWordFront-word, word_token, bad_number, false_from_ne_true}
 use Rattle.std.specs.Char.{digit_value, is_ascii_digit}
 use Rattle.std.specs.Str.Parse.{AllDigits, digits_value}
-use Rattle.c_lex.specs.declared.keywords.Keyword.{Keyword}
-use Rattle.c_lex.specs.declared.tokens.TokenKind.{TokenKind}
 use Rattle.c_lex.specs.declared.tokens.TokenKind.TheVariants as kinds
-use Rattle.c_lex.specs.declared.tokens.LexError.{LexError}
-use Rattle.c_lex.specs.declared.tokens.LexError.TheVariants.{BadNumber}
-use Rattle.c_lex.specs.Bytes.{is_word_byte}
 use Rattle.c_lex.specs.Keywords.{keyword_text}
 use Rattle.c_lex.specs.Numbers.{IsDecimal, IsHexadecimal, IsNumber}
-use Rattle.c_lex.specs.Lexemes.{IsWord, IsOfKind}
-use Rattle.c_lex.specs.Tokens.{BeginsNone}
-use Rattle.c_lex.specs.Pieces.{IsFirstGap, IsFirstToken}
-use Rattle.decisions.specs.Decided.{Decided}
 use Rattle.decisions.proofs.Decisions.{first_without, IsFirstWithout, lt_decided}
 use Rattle.decisions.proofs.Tables.{some_keyword}
 use Rattle.c_lex.proofs.TakenLemmas.{IsIdentifier-from}
-use Rattle.c_lex.proofs.PieceLemmas.{IsWordFront, IsWordFront-word, word_token, bad_number}
 
 -- what a text begins with: part of a gap, a token, or what is none
 pub data First (at : ℕ) (text : List ℕ) : Type 0 where
@@ -77,10 +66,6 @@ plain_kind : (word : List ℕ) → IsWord word → is_ascii_digit (get_or word 0
 plain_kind word is no_digit (inl k) = (kinds.Keyword k.0, k.1)
 plain_kind word is no_digit (inr none) = (kinds.Name, (IsIdentifier-from word is no_digit, λ keyword e. none (keyword, e)))
 
-no_true : (b : Bool) → (b ≡ true → ⊥) → b ≡ false
-no_true true none = absurd (none refl)
-no_true false none = refl
-
 pub word_first : (at : ℕ) (text : List ℕ) → 0 < length text → IsTrue (is_word_byte (get_or text 0 0)) → First at text
 word_first at text some first = with_front (word_front text some first) where
   number : (n : ℕ) → IsWordFront text n → IsTrue (is_ascii_digit (get_or (take n text) 0 0)) → (bound : ℕ) → bound ≡ 2 ^ 32 → Decided (Below (IsNumber (take n text)) bound) → First at text
@@ -93,7 +78,7 @@ word_first at text some first = with_front (word_front text some first) where
   by_digit : (n : ℕ) → IsWordFront text n → Decided (is_ascii_digit (get_or (take n text) 0 0) ≡ true) → First at text
   by_digit n front (inl digit) = searched n front digit (2 ^ 32) refl
   by_digit n front (inr none) =
-      let k = plain_kind (take n text) (IsWordFront-word text n front) (no_true _ none) (some_keyword (λ keyword. take n text ≡ keyword_text keyword) (λ keyword. text_same (take n text) (keyword_text keyword))) in
+      let k = plain_kind (take n text) (IsWordFront-word text n front) (false_from_ne_true _ none) (some_keyword (λ keyword. take n text ≡ keyword_text keyword) (λ keyword. text_same (take n text) (keyword_text keyword))) in
       Token k.0 n (word_token text n k.0 front k.1)
 
   with_front : (n : ℕ) × IsWordFront text n → First at text

@@ -1,47 +1,10 @@
 -- All numbers of a pair that is laid out are words.
-use Rattle.std.proofs.Common.{◌≡◌, ◌⊎◌, inl, inr, ℕ, zero, suc, ◌+◌, ◌*◌, ◌^◌, ◌<◌, ◌≤◌, Bool, true, false, List, [], ◌∷◌, ◌++◌, length, map, Some, refl, sym, ap, subst, arith}
 use Rattle.std.specs.Prelude.{slice_get, slice_index, sum, flat_map}
-use Rattle.std.specs.List.{AllByRecursion, All, filter_map, cons_option}
-use Rattle.std.proofs.lemmas.Bool.{cases_lt}
-use Rattle.std.proofs.lemmas.List.{get_or_past, length-map}
-use Rattle.std.proofs.lemmas.List.Elements.{All-from_recursion, recursion_from_All}
-use Rattle.std.proofs.lemmas.List.Sorted.{All-permutation}
-use Rattle.std.proofs.lemmas.List.Sums.{sum_by-cons}
-use Rattle.rv_code.specs.declared.instructions.Instr.{Instr}
+use Rattle.decisions.proofs.Common.{◌≡◌, ◌⊎◌, inl, inr, ℕ, zero, suc, ◌+◌, ◌*◌, ◌^◌, ◌<◌, ◌≤◌, Bool, true, false, List, [], ◌∷◌, ◌++◌, length, map, Some, refl, sym, ap, subst, arith, AllByRecursion, All, filter_map, cons_option, cases_lt, get_or_past, length-map, All-from_recursion, recursion_from_All, All-permutation, sum_by-cons, Instr, encoding, ProgramTree, program_sites, IsWellScoped, lowered, program_permutes, greatest, has, Plan, callees_of, IsValid, AreWords, HoldsFunctionWords, HoldsKindWords, HoldsSiteWords, Options, places_from, code_words, fact_of, IsCertificateOf, operations_before, function_code, functions_before, IsImageOf, need, linked_if, site_fact, site_facts, IsPlanFor, words-within, frame-holds, facts-count, fact-is, FlatFunction, Op, FlatCode, function_at, site_of, site_numbers, Image, Certificate, FunctionFact, SiteFact, fact_at, end_stub, prologue, template, All-append, all-from-index}
 use Rattle.rv_code.specs.Operands.{IsInRange}
-use Rattle.rv_code.specs.Table.{encoding}
 use Rattle.rv_code.proofs.Inverse.{encoding-lt}
-use Rattle.c_tree.specs.Trees.{ProgramTree}
-use Rattle.c_tree.specs.TextOrder.{program_sites}
-use Rattle.c_tree.specs.WellScoped.{IsWellScoped}
-use Rattle.c_lower.specs.ProgramCode.{lowered}
-use Rattle.c_lower.proofs.Sites.{program_permutes}
-use Rattle.call_graph.specs.Callees.{greatest}
-use Rattle.call_graph.specs.Lists.{has}
-use Rattle.checkpoint_place.specs.declared.plans.Plan.{Plan}
-use Rattle.certificate_rules.specs.Sites.{callees_of}
-use Rattle.certificate_rules.specs.Validity.{IsValid}
 use Rattle.certificate_text.specs.Text as certificate
-use Rattle.certificate_text.specs.Text.{AreWords, HoldsFunctionWords, HoldsKindWords, HoldsSiteWords}
-use Rattle.codegen_link.specs.declared.options.Options.{Options}
-use Rattle.codegen_link.specs.Layout.{places_from, code_words, fact_of, IsCertificateOf, operations_before, function_code, functions_before, IsImageOf}
-use Rattle.codegen_link.specs.Links.{need, linked_if, site_fact, site_facts}
-use Rattle.codegen_link.specs.Plans.{IsPlanFor}
-use Rattle.codegen_link.proofs.AddressLemmas.{words-within, frame-holds}
-use Rattle.codegen_link.proofs.FactLemmas.{facts-count, fact-is}
-use Rattle.flat_code.specs.declared.functions.FlatFunction.{FlatFunction}
-use Rattle.flat_code.specs.declared.operations.Op.{Op}
-use Rattle.flat_code.specs.Codes.{FlatCode, function_at, site_of}
-use Rattle.flat_code.specs.WellFormed.{site_numbers}
-use Rattle.stack_image.specs.declared.images.Image.{Image}
 use Rattle.stack_image.specs.Spelling as image
-use Rattle.stack_certificate.specs.declared.certificates.Certificate.{Certificate}
-use Rattle.stack_certificate.specs.declared.functions.FunctionFact.{FunctionFact}
-use Rattle.stack_certificate.specs.declared.sites.SiteFact.{SiteFact}
-use Rattle.stack_certificate.specs.Certificates.{fact_at}
-use Rattle.stack_certificate.specs.Templates.{end_stub, prologue, template}
-use Rattle.decisions.proofs.Rules.{all_places}
-use Rattle.c_lower.proofs.Lists.{all-append}
 
 -- ---- lists
 
@@ -62,7 +25,7 @@ all_values P value each (x ∷ xs) = (each x, all_values P value each xs)
 
 all_rows : {X : Type 0} (P : ℕ → Type 0) (value : X → ℕ) → ((x : X) → P (value x)) → (xss : List (List X)) → AllByRecursion P (flat_map (map value) xss)
 all_rows P value each [] = tt
-all_rows P value each (xs ∷ xss) = all-append P (map value xs) (flat_map (map value) xss) (all_values P value each xs) (all_rows P value each xss)
+all_rows P value each (xs ∷ xss) = All-append P (map value xs) (flat_map (map value) xss) (all_values P value each xs) (all_rows P value each xss)
 
 abbrev no_fact : FunctionFact
 no_fact = record { entry = 0; words = 0; frame = 0; ra = 0; bound = 0; places = [] }
@@ -71,18 +34,18 @@ no_fact = record { entry = 0; words = 0; frame = 0; ra = 0; bound = 0; places = 
 
 module _ (code : FlatCode) (i : Image) (c : Certificate) (valid : IsValid code i c) where
   function_in_range : (f : ℕ) → f < length code.functions → AllByRecursion IsInRange (function_code code c f)
-  function_in_range f lt = all-append IsInRange (prologue (fact_at c f) (function_at code f).params) (operations_before code c f (length (function_at code f).ops))
+  function_in_range f lt = All-append IsInRange (prologue (fact_at c f) (function_at code f).params) (operations_before code c f (length (function_at code f).ops))
       (all_read IsInRange (prologue (fact_at c f) (function_at code f).params) (λ k instr e. (((valid.holds 5 f k).v5 refl).word lt instr e).1.fits))
       (operations (length (function_at code f).ops))
     where
       operations : (k : ℕ) → AllByRecursion IsInRange (operations_before code c f k)
       operations zero = tt
-      operations (suc k) = all-append IsInRange (operations_before code c f k) (template code c f k) (operations k)
+      operations (suc k) = All-append IsInRange (operations_before code c f k) (template code c f k) (operations k)
           (all_read IsInRange (template code c f k) (λ w instr e. (((valid.holds 6 f k).v6 refl).words lt w instr e).fits))
 
   functions_in_range : (f : ℕ) → f ≤ length code.functions → AllByRecursion IsInRange (functions_before code c f)
   functions_in_range zero le = all_read IsInRange end_stub (λ k instr e. (((valid.holds 7 0 k).v7 refl).word instr e).fits)
-  functions_in_range (suc f) le = all-append IsInRange (functions_before code c f) (function_code code c f) (functions_in_range f (omega (arith, le))) (function_in_range f (omega (arith, le)))
+  functions_in_range (suc f) le = All-append IsInRange (functions_before code c f) (function_code code c f) (functions_in_range f (omega (arith, le))) (function_in_range f (omega (arith, le)))
 
   encodings : (instrs : List Instr) → AllByRecursion IsInRange instrs → AllByRecursion Word (map encoding instrs)
   encodings [] all = tt
@@ -107,7 +70,7 @@ module _ (code : FlatCode) (i : Image) (c : Certificate) (valid : IsValid code i
     globals = globals;
     tables = All-from_recursion Word i.tables (subst (AllByRecursion Word) (sym is.tables) (all_rows Word (λ (f : ℕ). (fact_at c f).entry) entry_small code.tables));
     entries = All-from_recursion Word i.entries (subst (AllByRecursion Word) (sym is.entries)
-        (all_map Word (λ (fact : FunctionFact). fact.entry) c.functions (all_places (λ (fact : FunctionFact). Word fact.entry) no_fact c.functions (λ k lt. entry_small k))));
+        (all_map Word (λ (fact : FunctionFact). fact.entry) c.functions (all-from-index (λ (fact : FunctionFact). Word fact.entry) no_fact c.functions (λ k lt. entry_small k))));
   }
 
 -- ---- the functions of a certificate
@@ -190,7 +153,7 @@ module _ (code : FlatCode) (plan : Plan) (max_path : ℕ) (short : max_path ≤ 
   sites_of_all [] all = tt
   sites_of_all (f ∷ fs) all =
       let both = first_of (filter_map site_of f.ops) (flat_map (λ (g : FlatFunction). filter_map site_of g.ops) fs) all in
-      all-append HoldsSiteWords (filter_map (site_fact code plan) f.ops) (flat_map (λ (function : FlatFunction). filter_map (site_fact code plan) function.ops) fs) (sites_of_ops f.ops both.0) (sites_of_all fs both.1)
+      All-append HoldsSiteWords (filter_map (site_fact code plan) f.ops) (flat_map (λ (function : FlatFunction). filter_map (site_fact code plan) function.ops) fs) (sites_of_ops f.ops both.0) (sites_of_all fs both.1)
 
   -- ---- the certificate
 
@@ -203,7 +166,7 @@ module _ (code : FlatCode) (plan : Plan) (max_path : ℕ) (short : max_path ≤ 
       record {
         chunk = omega (arith, chunk_is, chunk);
         max_path = omega (arith, path_is, path, short);
-        functions = all_places HoldsFunctionWords no_fact c.functions (λ k lt. (let there : k < length code.functions = omega (arith, lt, count) in
+        functions = all-from-index HoldsFunctionWords no_fact c.functions (λ k lt. (let there : k < length code.functions = omega (arith, lt, count) in
             subst HoldsFunctionWords (sym (fact-is code plan c k no_fact facts there)) (fact_words k there)));
         sites = recursion_from_All HoldsSiteWords c.sites
             (All-permutation HoldsSiteWords (site_facts code plan) c.sites facts.sites (All-from_recursion HoldsSiteWords (site_facts code plan) (sites_of_all code.functions numbers)));

@@ -1,19 +1,11 @@
 -- Each line of a workload's trace is that of an event, and the times of the events rise.
-use Rattle.std.proofs.Common.{◌≡◌, ℕ, zero, suc, pos, ◌+◌, ◌*◌, ◌^◌, ◌<◌, ◌≤◌, List, [], ◌∷◌, ◌++◌, append_assoc, length, length-append, w32, refl, sym, ap, subst, ◌∙◌, arith}
-use Rattle.std.specs.Prelude.{codes}
+use Rattle.decisions.proofs.Common.{◌≡◌, ℕ, zero, suc, pos, ◌+◌, ◌*◌, ◌^◌, ◌<◌, ◌≤◌, List, [], ◌∷◌, ◌++◌, append_assoc, length, length-append, w32, refl, sym, ap, subst, ◌∙◌, arith, codes, AllByRecursion, lt-ltb, canonical_decimal, canonical_integer, after_each, Event, channel_of, arrival_line, message_line, lines_below, trace_text, IsGood, is_over, by_line, IsGoodTrace}
 use Rattle.std.specs.Int.{cast_signed}
-use Rattle.std.specs.List.{AllByRecursion}
-use Rattle.std.proofs.lemmas.Bool.{lt-ltb}
-use Rattle.cap_text.specs.Decimals.{canonical_decimal, canonical_integer}
-use Rattle.cap_text.specs.Pieces.{after_each}
 use Rattle.cap_word.specs.Word.{signed}
 use Rattle.cap_word.proofs.WordLemmas.{to_z-signed}
-use Rattle.event_trace.specs.declared.events.Event.{Event}
 use Rattle.event_trace.specs.declared.events.EventKind.TheVariants.{Arrive, Message}
 use Rattle.event_trace.specs.Lines.{FitsEvent, event_text, value_field}
 use Rattle.run_course.proofs.Spelled.{line_and, gives_line, behind_line}
-use Rattle.workload.specs.Traces.{channel_of, arrival_line, message_line, lines_below, trace_text}
-use Rattle.decisions.specs.Looked.{IsGood, is_over, by_line, IsGoodTrace}
 
 -- ---- events one after another
 

@@ -1,18 +1,10 @@
 -- Operations of which those that begin a group get the kind of the group.
 use Rattle.std.proofs.Common.{◌≡◌, ◌≢◌, ℕ, zero, suc, ◌+◌, ◌<◌, ◌≤◌, List, [], ◌∷◌, length, Option, Some, None, inl, inr, IfSome, refl, sym, ap, subst, ◌∙◌, arith}
-use Rattle.std.specs.Prelude.{slice_get, slice_set}
+use Rattle.decoded_code.proofs.Common.{slice_get, slice_set, cases_lt, decoding, Instr, read, Machine, Outcome, decoded, started, place_at, done_as, done, ready_effect, DoesAs, IsBefore, IsReadyAt, AreEachReady, AreReady, Ready}
 use Rattle.std.proofs.Common.{◌⊎◌, ◌-◌, ◌++◌, take, drop}
 use Rattle.std.proofs.Math.Seq.{take-length, drop-length}
-use Rattle.std.proofs.lemmas.Bool.{cases_lt}
-use Rattle.rv_code.specs.Decoding.{decoding}
-use Rattle.rv_code.specs.declared.instructions.Instr.{Instr}
-use Rattle.rv_machine.specs.Registers.{read}
-use Rattle.rv_machine.specs.Rows.{Machine, Outcome}
-use Rattle.rv_machine.specs.Step.{decoded, started}
-use Rattle.decoded_code.specs.Ready.{place_at, done_as, done, ready_effect, DoesAs, IsBefore, IsReadyAt, AreEachReady, AreReady}
 use Rattle.decoded_code.specs.declared.ready.Kind.{Kind}
 use Rattle.decoded_code.specs.declared.ready.Kind.TheVariants as kind
-use Rattle.decoded_code.specs.declared.ready.Ready.{Ready}
 
 -- ---- another kind that does the same
 

@@ -1,11 +1,6 @@
 -- Jumps and branches to the word of an index.
-use Rattle.std.proofs.Common.{◌≡◌, ℕ, ◌%◌, Bool, true, false, eqb, ℤ, refl, sym, ap, ◌∙◌, arith}
-use Rattle.std.proofs.lemmas.Bool.{cond-true, eq-eqb}
+use Rattle.decoded_code.proofs.Common.{◌≡◌, ℕ, ◌%◌, Bool, true, false, eqb, ℤ, refl, sym, ap, ◌∙◌, arith, cond-true, eq-eqb, place_at, branches_to, Nothing, write, Machine, Goes, Fails, next, relative, jumps, branches}
 use Rattle.cap_word.specs.declared.faults.FaultKind.TheVariants.{Misaligned}
-use Rattle.decoded_code.specs.Ready.{place_at, branches_to}
-use Rattle.rv_machine.specs.Bytes.{Nothing}
-use Rattle.rv_machine.specs.Registers.{write}
-use Rattle.rv_machine.specs.Rows.{Machine, Goes, Fails, next, relative, jumps, branches}
 
 aligned : (at target : ℕ) → place_at at ≡ target → eqb (target % 4) 0 ≡ true
 aligned at target is = eq-eqb (target % 4) 0 (omega (arith, is))

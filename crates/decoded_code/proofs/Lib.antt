@@ -1,3 +1,4 @@
+mod Common
 mod Jumps
-mod MoreReady
+pub mod MoreReady
 mod Groups

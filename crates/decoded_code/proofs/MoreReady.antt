@@ -1,13 +1,8 @@
 -- One operation more in a list of ready operations.
-use Rattle.std.proofs.Common.{◌≡◌, ℕ, zero, suc, ◌+◌, ◌%◌, ◌^◌, ◌<◌, ◌⊎◌, inl, inr, ◌++◌, List, [], ◌∷◌, length, Option, Some, refl, sym, ap, subst, ◌∙◌, arith}
-use Rattle.std.specs.Prelude.{slice_get, slice_index}
+use Rattle.decoded_code.proofs.Common.{◌≡◌, ℕ, zero, suc, ◌+◌, ◌%◌, ◌^◌, ◌<◌, ◌⊎◌, inl, inr, ◌++◌, List, [], ◌∷◌, length, Option, Some, refl, sym, ap, subst, ◌∙◌, arith, slice_get, slice_index, decoding, Instr, place_at, IsReadyAt, AreEachReady, Ready}
 use Rattle.std.proofs.lemmas.List.{length_push}
-use Rattle.rv_code.specs.Decoding.{decoding}
-use Rattle.rv_code.specs.declared.instructions.Instr.{Instr}
-use Rattle.decoded_code.specs.Ready.{place_at, IsReadyAt, AreEachReady}
-use Rattle.decoded_code.specs.declared.ready.Ready.{Ready}
 
-pushed : {X : Type 0} (xs : List X) (x y : X) (k : ℕ) → slice_get (xs ++ (x ∷ [])) k ≡ Some y → (slice_get xs k ≡ Some y) ⊎ ((k ≡ length xs) × (x ≡ y))
+pub pushed : {X : Type 0} (xs : List X) (x y : X) (k : ℕ) → slice_get (xs ++ (x ∷ [])) k ≡ Some y → (slice_get xs k ≡ Some y) ⊎ ((k ≡ length xs) × (x ≡ y))
 pushed [] x y zero e = inr (refl, cc)
 pushed [] x y (suc k) e = absurd (cc)
 pushed (z ∷ xs) x y zero e = inl e

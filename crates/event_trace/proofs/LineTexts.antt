@@ -18,7 +18,7 @@ word_visible : (kind : EventKind) → Visible (kind_word kind)
 word_visible (Arrive value) = from_shown (codes "arrive") refl
 word_visible (Message channel value) = from_shown (codes "data") refl
 
-fields_visible : (kind : EventKind) → AllByRecursion Visible (kind_fields kind)
+pub fields_visible : (kind : EventKind) → AllByRecursion Visible (kind_fields kind)
 fields_visible (Arrive value) = (visible_integer (cast_signed w32 value), tt)
 fields_visible (Message channel value) = (visible_decimal channel, (visible_integer (cast_signed w32 value), tt))
 

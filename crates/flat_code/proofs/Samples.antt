@@ -1,5 +1,5 @@
 -- A small program is well formed, so that well-formedness is not empty.
-use Rattle.std.proofs.Common.{refl, lit≤, lit<, [], ◌∷◌, eqb, Some}
+use Rattle.std.proofs.Common.{refl, lit≤, lit<, rules, [], ◌∷◌, eqb}
 use Rattle.std.specs.List.{IsDistinct}
 use Rattle.flat_code.specs.Codes.{function_at}
 use Rattle.flat_code.specs.Samples.{passing}
@@ -11,10 +11,7 @@ identity_formed = record {
   parameters = refl;
   words = lit≤ tt;
   count = lit≤ tt;
-  ops = (
-    ((lit< tt, refl), (lit< tt, refl)),
-    ((refl, (lit< tt, refl)), (((lit< tt, refl), lit< tt), ((refl, (lit< tt, refl)), tt))),
-  );
+  ops = search rules;
 }
 
 caller_formed : IsFunction passing (function_at passing 1)
@@ -23,22 +20,7 @@ caller_formed = record {
   parameters = refl;
   words = lit≤ tt;
   count = lit≤ tt;
-  ops = (
-    ((lit< tt, refl), lit< tt),
-    (
-      ((lit< tt, refl), lit< tt),
-      (
-        ((lit< tt, refl), lit< tt),
-        (
-          (lit< tt, refl, ((lit< tt, refl), tt), (refl, (lit< tt, refl))),
-          (
-            ((lit< tt, refl), (lit< tt, refl)),
-            ((refl, (lit< tt, refl)), (((lit< tt, refl), lit< tt), ((refl, (lit< tt, refl)), tt))),
-          ),
-        ),
-      ),
-    ),
-  );
+  ops = search rules;
 }
 
 alone : IsDistinct eqb (0 ∷ [])

@@ -1,8 +1,5 @@
 -- The machine and the grammar agree on whole lists of tokens.
-use Rattle.std.proofs.Common.{◌≡◌, subst, List, [], ◌∷◌, Option, Some}
-use Rattle.c_grammar.specs.declared.signs.Sign.{Sign}
-use Rattle.c_grammar.specs.Rests.{Symbol, Way, Nearest, TakesAll}
-use Rattle.c_grammar.specs.Machine.{Task, step}
+use Rattle.grammar_laws.proofs.Common.{◌≡◌, subst, List, [], ◌∷◌, Option, Some, Sign, Symbol, Way, Nearest, TakesAll, Task, step}
 use Rattle.grammar_laws.proofs.Covers.{Covers, Proper}
 use Rattle.grammar_laws.proofs.Forward.{forward}
 use Rattle.grammar_laws.proofs.Backward.{Includes, Stepped, Back, backward}

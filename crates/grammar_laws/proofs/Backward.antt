@@ -1,12 +1,8 @@
 -- What the machine takes, the grammar takes, and behind what may end an expression stands nothing that goes on with it.
-use Rattle.std.proofs.Common.{ℕ, ◌≡◌, ◌≤◌, suc, refl, lit≤, List, [], ◌∷◌, ◌++◌, Option, Some, None, arith}
-use Rattle.c_grammar.specs.declared.signs.Sign.{Sign}
+use Rattle.grammar_laws.proofs.Common.{ℕ, ◌≡◌, ◌≤◌, suc, refl, lit≤, List, [], ◌∷◌, ◌++◌, Option, Some, None, arith, Sign, Level, Tightest, Looser, Loosest, IsOperator, IsPrefix, Symbol, Nearest, Takes, CanBeNothing, Alternative, Task, step}
 use Rattle.c_grammar.specs.declared.signs.Sign.TheVariants as signs
-use Rattle.c_grammar.specs.Signs.{Level, Tightest, Looser, Loosest, IsOperator, IsPrefix}
 use Rattle.c_grammar.specs.Rests as symbols
-use Rattle.c_grammar.specs.Rests.{Symbol, Nearest, Takes, CanBeNothing, Alternative}
 use Rattle.c_grammar.specs.Machine as tasks
-use Rattle.c_grammar.specs.Machine.{Task, step}
 use Rattle.grammar_laws.proofs.Covers.{Above, Covers, Continues, Refuses, RefusesBrackets, Proper}
 use Rattle.grammar_laws.proofs.Forward.{OperandStart}
 

@@ -1,12 +1,8 @@
 -- Which rests of the grammar a list of tasks stands for.
-use Rattle.std.specs.Prelude.{List, [], ◌∷◌, ◌≡◌, None}
-use Rattle.c_grammar.specs.declared.signs.Sign.{Sign}
+use Rattle.grammar_laws.proofs.Common.{List, [], ◌∷◌, ◌≡◌, None, Sign, Level, Tightest, Looser, Loosest, Symbol, Way, Any, Task}
 use Rattle.c_grammar.specs.declared.signs.Sign.TheVariants as signs
-use Rattle.c_grammar.specs.Signs.{Level, Tightest, Looser, Loosest}
 use Rattle.c_grammar.specs.Rests as symbols
-use Rattle.c_grammar.specs.Rests.{Symbol, Way, Any}
 use Rattle.c_grammar.specs.Machine as tasks
-use Rattle.c_grammar.specs.Machine.{Task}
 
 -- the repeated parts of the levels looser than this one, and then the rest
 pub data Above : Level → List Symbol → List Symbol → Type 0 where

@@ -1,13 +1,8 @@
 -- The ends of what tasks and rests have in common: how much is open, and whether nothing more is needed.
-use Rattle.std.proofs.Common.{◌≡◌, refl, sym, subst, true, List, [], ◌∷◌, arith}
-use Rattle.c_grammar.specs.declared.signs.Sign.{Sign}
+use Rattle.grammar_laws.proofs.Common.{◌≡◌, refl, sym, subst, true, List, [], ◌∷◌, arith, Sign, Level, Tightest, Looser, Loosest, Symbol, Any, Nearest, CanBeNothing, Alternative, closes, open_in, Task, token_move, closes_task, open_tasks, finishes}
 use Rattle.c_grammar.specs.declared.signs.Sign.TheVariants as signs
-use Rattle.c_grammar.specs.Signs.{Level, Tightest, Looser, Loosest}
 use Rattle.c_grammar.specs.Rests as symbols
-use Rattle.c_grammar.specs.Rests.{Symbol, Any, Nearest, CanBeNothing, Alternative, closes, open_in}
 use Rattle.c_grammar.specs.Machine as tasks
-use Rattle.c_grammar.specs.Machine.{Task, token_move, closes_task, open_tasks}
-use Rattle.c_grammar.specs.Reading.{finishes}
 use Rattle.grammar_laws.proofs.Covers.{Above, Covers, Proper}
 use Rattle.grammar_laws.proofs.Backward.{no_token_nothing, no_operand_nothing, all_parts, all_above}
 

@@ -1,12 +1,8 @@
 -- What the grammar takes, the machine Takes.
-use Rattle.std.proofs.Common.{◌≡◌, ◌⊎◌, inl, inr, ⊎_elim, refl, sym, ap, subst, List, [], ◌∷◌, ◌++◌, Some, None}
-use Rattle.c_grammar.specs.declared.signs.Sign.{Sign}
+use Rattle.grammar_laws.proofs.Common.{◌≡◌, ◌⊎◌, inl, inr, ⊎_elim, refl, sym, ap, subst, List, [], ◌∷◌, ◌++◌, Some, None, Sign, Level, Tightest, Looser, Loosest, IsOperator, IsPrefix, Symbol, Way, Any, Nearest, MayLeaveOut, Takes, Alternative, Task, step, after_move, token_move}
 use Rattle.c_grammar.specs.declared.signs.Sign.TheVariants as signs
-use Rattle.c_grammar.specs.Signs.{Level, Tightest, Looser, Loosest, IsOperator, IsPrefix}
 use Rattle.c_grammar.specs.Rests as symbols
-use Rattle.c_grammar.specs.Rests.{Symbol, Way, Any, Nearest, MayLeaveOut, Takes, Alternative}
 use Rattle.c_grammar.specs.Machine as tasks
-use Rattle.c_grammar.specs.Machine.{Task, step, after_move, token_move}
 use Rattle.grammar_laws.proofs.Covers.{Above, Covers, ElseTail, Continues, Refuses, RefusesBrackets, Proper}
 
 -- the machine takes the sign, and what is left stands for the rest

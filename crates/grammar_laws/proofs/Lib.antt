@@ -1,3 +1,4 @@
+mod Common
 pub mod Covers
 pub mod Forward
 pub mod Backward

@@ -1,8 +1,6 @@
 -- Names that are declared or used are no calls.
-use Rattle.std.proofs.Common.{◌≡◌, List, [], ◌∷◌, Option, Some, None, refl}
-use Rattle.c_tree.specs.RawTrees.{NameTree}
+use Rattle.grammar_laws.proofs.Common.{◌≡◌, List, [], ◌∷◌, Option, Some, None, refl, NameTree, Declared, Used, names_places, parameters_places}
 use Rattle.grammar_laws.specs.Nested.{is_call}
-use Rattle.grammar_laws.specs.Places.{Declared, Used, names_places, parameters_places}
 
 pub no_declared : (ns : List NameTree) → names_places is_call Declared ns ≡ []
 no_declared [] = refl

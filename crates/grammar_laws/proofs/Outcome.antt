@@ -1,19 +1,11 @@
 -- The machine's run from the start is the verdict of the grammar, and no other verdict stands.
-use Rattle.std.proofs.Common.{ℕ, ◌≡◌, ◌<◌, ◌≤◌, ◌⊎◌, inl, inr, ⊎_elim, refl, sym, ap, subst, ◌∙◌, true, false, List, [], ◌∷◌, ◌++◌, Option, Some, None, append_assoc, arith}
-use Rattle.std.proofs.lemmas.Bool.{cases_lt, cases_Bool}
+use Rattle.grammar_laws.proofs.Common.{ℕ, ◌≡◌, ◌<◌, ◌≤◌, ◌⊎◌, inl, inr, ⊎_elim, refl, sym, ap, subst, ◌∙◌, true, false, List, [], ◌∷◌, ◌++◌, Option, Some, None, append_assoc, arith, cases_lt, cases_Bool, Token, Sign, Symbol, Any, Nearest, CanBeNothing, Task, step, open_tasks, sign_at, signs_of, finishes, run, Leave, CanBeTaken, IsLeft, AreWhole, IsShallow, IsUnexpectedToken, IsUnexpectedEnd, IsTooDeep, IsWithin, Verdict, run_end, run_unfinished, run_refused, run_taken, run_deep}
 use Rattle.std.proofs.lemmas.List.{append-nil}
-use Rattle.c_lex.specs.declared.tokens.Token.{Token}
 use Rattle.c_grammar.specs.declared.errors.ParseError.{ParseError}
 use Rattle.c_grammar.specs.declared.errors.ParseError.TheVariants.{Unexpected, TooDeep}
-use Rattle.c_grammar.specs.declared.signs.Sign.{Sign}
-use Rattle.c_grammar.specs.Rests.{Symbol, Any, Nearest, CanBeNothing}
-use Rattle.c_grammar.specs.Machine.{Task, step, open_tasks}
-use Rattle.c_grammar.specs.Reading.{sign_at, signs_of, finishes, run}
-use Rattle.c_grammar.specs.Refusals.{Leave, CanBeTaken, IsLeft, AreWhole, IsShallow, IsUnexpectedToken, IsUnexpectedEnd, IsTooDeep, IsWithin, Verdict}
 use Rattle.grammar_laws.proofs.Covers.{Covers}
 use Rattle.grammar_laws.proofs.Ends.{nothing_finishes}
 use Rattle.grammar_laws.proofs.Agreement.{Steps, follow}
-use Rattle.c_grammar.proofs.OneToken.{run_end, run_unfinished, run_refused, run_taken, run_deep}
 use Rattle.grammar_laws.proofs.Verdicts.{start, some_same, steps_same, steps_last, signs_append, can_take, takes_it, deep_is, is_deep, reach, shallow_none, shallow_more, all_nearest_any}
 
 -- the last step of several

@@ -1,12 +1,9 @@
 -- The ranks of places are numbers of calls: each its own, and below their count. Of rising places they rise by one from 0.
-use Rattle.std.proofs.Common.{ℕ, zero, suc, ◌+◌, ◌<◌, ◌≤◌, ◌≡◌, refl, ap, subst, ⊎_elim, false, eqb, List, [], ◌∷◌, ◌++◌, length, arith, if◌then◌else◌}
-use Rattle.std.specs.Prelude.{nat_lt, nat_le, slice_index_or}
+use Rattle.grammar_laws.proofs.Common.{ℕ, zero, suc, ◌+◌, ◌<◌, ◌≤◌, ◌≡◌, refl, ap, subst, ⊎_elim, false, eqb, List, [], ◌∷◌, ◌++◌, length, arith, if◌then◌else◌, nat_lt, nat_le, slice_index_or, cases_lt, RiseWithin}
 use Rattle.std.specs.List.{AllByRecursion, IsDistinct}
-use Rattle.std.proofs.lemmas.Bool.{cases_lt}
 use Rattle.std.proofs.lemmas.Bool.Decides.{nat_tests}
 use Rattle.std.proofs.lemmas.Grind.{common_steps}
 use Rattle.c_tree.specs.TextOrder.{counting}
-use Rattle.grammar_laws.specs.Rising.{RiseWithin}
 use Rattle.c_tree.specs.WellScoped.{AreSiteNumbers}
 use Rattle.grammar_laws.specs.Ranks.{lesser, no_greater, ranks_after, ranks}
 
@@ -24,10 +21,10 @@ lt_le x p q h = grind (arith, nat_tests)
 le_lt : (x p q : ℕ) → q < p → (if nat_le x q then 1 else 0) ≤ (if nat_lt x p then 1 else 0)
 le_lt x p q h = grind (arith, nat_tests)
 
-lt_one : (x p : ℕ) → (if nat_lt x p then 1 else 0) ≤ 1
+pub lt_one : (x p : ℕ) → (if nat_lt x p then 1 else 0) ≤ 1
 lt_one x p = grind (arith, nat_tests)
 
-le_one : (x p : ℕ) → (if nat_le x p then 1 else 0) ≤ 1
+pub le_one : (x p : ℕ) → (if nat_le x p then 1 else 0) ≤ 1
 le_one x p = grind (arith, nat_tests)
 
 lt_is : (x p : ℕ) → x < p → ◌≡◌ {A = ℕ} (if nat_lt x p then 1 else 0) 1
@@ -60,15 +57,15 @@ no_greater_lesser : (p q : ℕ) (xs : List ℕ) → q < p → no_greater q xs �
 no_greater_lesser p q [] h = omega arith
 no_greater_lesser p q (x ∷ xs) h = let one = le_lt x p q h in let rest = no_greater_lesser p q xs h in omega (arith, one, rest)
 
-lesser_few : (p : ℕ) (xs : List ℕ) → lesser p xs ≤ length xs
+pub lesser_few : (p : ℕ) (xs : List ℕ) → lesser p xs ≤ length xs
 lesser_few p [] = omega arith
 lesser_few p (x ∷ xs) = let one = lt_one x p in let rest = lesser_few p xs in omega (arith, one, rest)
 
-no_greater_few : (p : ℕ) (xs : List ℕ) → no_greater p xs ≤ length xs
+pub no_greater_few : (p : ℕ) (xs : List ℕ) → no_greater p xs ≤ length xs
 no_greater_few p [] = omega arith
 no_greater_few p (x ∷ xs) = let one = le_one x p in let rest = no_greater_few p xs in omega (arith, one, rest)
 
-no_greater_both : (q : ℕ) (xs ys : List ℕ) → no_greater q (xs ++ ys) ≡ no_greater q xs + no_greater q ys
+pub no_greater_both : (q : ℕ) (xs ys : List ℕ) → no_greater q (xs ++ ys) ≡ no_greater q xs + no_greater q ys
 no_greater_both q [] ys = omega arith
 no_greater_both q (x ∷ xs) ys = let rest = no_greater_both q xs ys in omega (arith, rest)
 

@@ -1,23 +1,10 @@
 -- What has a tree by the grammar, the rests of the grammar take whole.
-use Rattle.std.proofs.Common.{ℕ, zero, suc, ◌≡◌, ◌≢◌, ◌+◌, ◌<◌, ◌≤◌, refl, sym, ap, subst, ◌∙◌, Bool, true, List, [], ◌∷◌, ◌++◌, Option, Some, None, lit<, arith}
-use Rattle.c_lex.specs.declared.tokens.Token.{Token}
+use Rattle.grammar_laws.proofs.Common.{ℕ, zero, suc, ◌≡◌, ◌≢◌, ◌+◌, ◌<◌, ◌≤◌, refl, sym, ap, subst, ◌∙◌, Bool, true, List, [], ◌∷◌, ◌++◌, Option, Some, None, lit<, arith, Token, Infix, UnaryOperator, NameTree, RawExprTree, RawExprTrees, RawSimpleTree, RawStmtTree, RawStmtTrees, RawItemTree, Sign, Level, Tightest, Looser, IsOperator, IsPrefix, sign_of_token, unary_operator_of, infix_operator_of, level_of_infix, Symbol, Nearest, Takes, TakesAll, CanBeNothing, Alternative, signs_of, AreWhole, next_sign, Passes, PassesName, PassesNumber, number_passes, PassesPrefix, PassesInfix, IsExpr, IsBinary, IsRepeated, IsUnary, IsPrimary, IsIndex, IsParenthesized, AreArguments, AreMoreArguments, IsSize, IsSimple, IsLocal, AreMoreLocals, AreLocals, IsUpToSemicolon, IsForInit, IsForStep, IsBody, IsBlock, AreStmts, IsStart, IsGlobal, AreMoreGlobals, AreMoreMembers, IsNameOption, AreMoreParameters, AreMoreNamed, AreParameters, AreNamed, IsResult, AreItem, AreItems}
 use Rattle.c_lex.specs.declared.tokens.TokenKind.{TokenKind}
 use Rattle.c_lex.specs.declared.tokens.TokenKind.TheVariants as kinds
 use Rattle.c_lex.specs.declared.marks.Mark.TheVariants as marks
-use Rattle.c_tree.specs.declared.operators.Infix.{Infix}
-use Rattle.c_tree.specs.declared.operators.UnaryOperator.{UnaryOperator}
-use Rattle.c_tree.specs.RawTrees.{NameTree, RawExprTree, RawExprTrees, RawSimpleTree, RawStmtTree, RawStmtTrees, RawItemTree}
-use Rattle.c_grammar.specs.declared.signs.Sign.{Sign}
 use Rattle.c_grammar.specs.declared.signs.Sign.TheVariants as signs
-use Rattle.c_grammar.specs.Signs.{Level, Tightest, Looser, IsOperator, IsPrefix, sign_of_token}
-use Rattle.c_grammar.specs.Operators.{unary_operator_of, infix_operator_of, level_of_infix}
 use Rattle.c_grammar.specs.Rests as symbols
-use Rattle.c_grammar.specs.Rests.{Symbol, Nearest, Takes, TakesAll, CanBeNothing, Alternative}
-use Rattle.c_grammar.specs.Reading.{signs_of}
-use Rattle.c_grammar.specs.Refusals.{AreWhole}
-use Rattle.c_grammar.specs.Tokens.{next_sign, Passes, PassesName, PassesNumber}
-use Rattle.c_grammar.proofs.OneToken.{number_passes}
-use Rattle.c_grammar.specs.Grammar.{PassesPrefix, PassesInfix, IsExpr, IsBinary, IsRepeated, IsUnary, IsPrimary, IsIndex, IsParenthesized, AreArguments, AreMoreArguments, IsSize, IsSimple, IsLocal, AreMoreLocals, AreLocals, IsUpToSemicolon, IsForInit, IsForStep, IsBody, IsBlock, AreStmts, IsStart, IsGlobal, AreMoreGlobals, AreMoreMembers, IsNameOption, AreMoreParameters, AreMoreNamed, AreParameters, AreNamed, IsResult, AreItem, AreItems}
 
 -- the rest takes the signs one after another, and leaves one that can be nothing
 pub record Accepts (rest : List Symbol) (signs : List Sign) : Type 0 where

@@ -1,18 +1,7 @@
 -- A list of tokens has at most one tree, where each else belongs to the nearest if that can take it.
-use Rattle.std.proofs.Common.{ℕ, ◌≡◌, ◌≢◌, ◌+◌, ◌-◌, ◌%◌, ◌^◌, ◌≤◌, refl, sym, ap, subst, ◌∙◌, Bool, true, List, [], ◌∷◌, ◌++◌, Option, Some, arith}
-use Rattle.c_lex.specs.declared.tokens.Token.{Token}
+use Rattle.grammar_laws.proofs.Common.{ℕ, ◌≡◌, ◌≢◌, ◌+◌, ◌-◌, ◌%◌, ◌^◌, ◌≤◌, refl, sym, ap, subst, ◌∙◌, Bool, true, List, [], ◌∷◌, ◌++◌, Option, Some, arith, Token, Infix, UnaryOperator, NameTree, RawExprTree, RawExprTrees, RawName, RawElement, RawUnary, RawParenthesized, RawConditional, RawCall, RawTableCall, RawNumber, And, RawSimpleTree, RawDeclareScalar, RawDeclareArray, RawDeclareWith, RawSet, RawSetElement, RawCalling, RawTableCalling, RawStmtTree, RawStmtTrees, RawDo, RawBlock, RawIf, RawIfElse, RawWhile, RawFor, RawBreak, RawContinue, RawReturn, RawThen, RawItemTree, RawGlobal, RawGlobalArray, RawTableItem, RawPrototypeItem, RawFunctionItem, raw_joined, Sign, Level, IsOperator, IsPrefix, unary_operator_of, infix_operator_of, level_of_infix, next_sign, next_kind, next_at, next_name, rest_of, Passes, PassesName, PassesNumber, PassesPrefix, PassesInfix, IsExpr, IsBinary, IsRepeated, IsUnary, IsPrimary, IsIndex, IsParenthesized, AreArguments, AreMoreArguments, IsSize, IsSimple, IsLocal, AreMoreLocals, AreLocals, IsUpToSemicolon, IsForInit, IsForStep, declared_before, IsBody, IsBlock, AreStmts, IsStart, IsGlobal, AreMoreGlobals, AreMoreMembers, IsNameOption, AreMoreParameters, AreMoreNamed, AreParameters, AreNamed, IsResult, AreItem, AreItems, number_passes}
 use Rattle.c_lex.specs.declared.tokens.TokenKind.TheVariants as kinds
-use Rattle.c_tree.specs.declared.operators.Infix.{Infix}
-use Rattle.c_tree.specs.declared.operators.UnaryOperator.{UnaryOperator}
-use Rattle.c_tree.specs.RawTrees.{NameTree, RawExprTree, RawExprTrees, RawName, RawElement, RawUnary, RawParenthesized, RawConditional, RawCall, RawTableCall, RawNumber, And, RawSimpleTree, RawDeclareScalar, RawDeclareArray, RawDeclareWith, RawSet, RawSetElement, RawCalling, RawTableCalling, RawStmtTree, RawStmtTrees, RawDo, RawBlock, RawIf, RawIfElse, RawWhile, RawFor, RawBreak, RawContinue, RawReturn, RawThen, RawItemTree, RawGlobal, RawGlobalArray, RawTableItem, RawPrototypeItem, RawFunctionItem}
-use Rattle.c_tree.specs.RawViews.{raw_joined}
-use Rattle.c_grammar.specs.declared.signs.Sign.{Sign}
 use Rattle.c_grammar.specs.declared.signs.Sign.TheVariants as signs
-use Rattle.c_grammar.specs.Signs.{Level, IsOperator, IsPrefix}
-use Rattle.c_grammar.specs.Operators.{unary_operator_of, infix_operator_of, level_of_infix}
-use Rattle.c_grammar.specs.Tokens.{next_sign, next_kind, next_at, next_name, rest_of, Passes, PassesName, PassesNumber}
-use Rattle.c_grammar.specs.Grammar.{PassesPrefix, PassesInfix, IsExpr, IsBinary, IsRepeated, IsUnary, IsPrimary, IsIndex, IsParenthesized, AreArguments, AreMoreArguments, IsSize, IsSimple, IsLocal, AreMoreLocals, AreLocals, IsUpToSemicolon, IsForInit, IsForStep, declared_before, IsBody, IsBlock, AreStmts, IsStart, IsGlobal, AreMoreGlobals, AreMoreMembers, IsNameOption, AreMoreParameters, AreMoreNamed, AreParameters, AreNamed, IsResult, AreItem, AreItems}
-use Rattle.c_grammar.proofs.OneToken.{number_passes}
 use Rattle.grammar_laws.proofs.TreeAccepted.{infix_sign, prefix_sign}
 
 -- two trees and what is behind them are the same

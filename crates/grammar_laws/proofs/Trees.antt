@@ -1,14 +1,6 @@
 -- The places of each tree of the grammar rise from where its tokens begin to where they end.
-use Rattle.std.proofs.Common.{ℕ, ◌≡◌, Bool, true, refl, sym, ◌∙◌, ap, subst, List, [], ◌∷◌, ◌++◌, Option, append_assoc}
-use Rattle.c_lex.specs.Places.{StandInOrder}
-use Rattle.c_lex.specs.declared.tokens.Token.{Token}
-use Rattle.c_tree.specs.declared.operators.Infix.{Infix}
-use Rattle.c_tree.specs.RawTrees.{NameTree, RawExprTree, RawExprTrees, RawSimpleTree, RawStmtTree, RawStmtTrees, RawItemTree}
-use Rattle.c_tree.specs.RawViews.{raw_joined}
+use Rattle.grammar_laws.proofs.Common.{ℕ, ◌≡◌, Bool, true, refl, sym, ◌∙◌, ap, subst, List, [], ◌∷◌, ◌++◌, Option, append_assoc, StandInOrder, Token, Infix, NameTree, RawExprTree, RawExprTrees, RawSimpleTree, RawStmtTree, RawStmtTrees, RawItemTree, raw_joined, IsExpr, IsBinary, IsRepeated, IsUnary, IsPrimary, IsIndex, IsParenthesized, AreArguments, AreMoreArguments, IsSize, IsSimple, IsLocal, AreMoreLocals, AreLocals, IsUpToSemicolon, IsForInit, IsForStep, declared_before, IsBody, IsBlock, AreStmts, IsStart, IsGlobal, AreMoreGlobals, AreMoreMembers, IsNameOption, AreMoreParameters, AreMoreNamed, AreParameters, AreNamed, IsResult, AreItem, AreItems, IsProgram, Standing, Declared, Used, Called, Keyword, expr_places, exprs_places, simple_places, simples_places, optional_places, step_places, stmt_places, stmts_places, names_places, optional_name_places, parameters_places, item_places, items_places, RiseWithin}
 use Rattle.c_grammar.specs.declared.signs.Sign.TheVariants as signs
-use Rattle.c_grammar.specs.Grammar.{IsExpr, IsBinary, IsRepeated, IsUnary, IsPrimary, IsIndex, IsParenthesized, AreArguments, AreMoreArguments, IsSize, IsSimple, IsLocal, AreMoreLocals, AreLocals, IsUpToSemicolon, IsForInit, IsForStep, declared_before, IsBody, IsBlock, AreStmts, IsStart, IsGlobal, AreMoreGlobals, AreMoreMembers, IsNameOption, AreMoreParameters, AreMoreNamed, AreParameters, AreNamed, IsResult, AreItem, AreItems, IsProgram}
-use Rattle.grammar_laws.specs.Places.{Standing, Declared, Used, Called, Keyword, expr_places, exprs_places, simple_places, simples_places, optional_places, step_places, stmt_places, stmts_places, names_places, optional_name_places, parameters_places, item_places, items_places}
-use Rattle.grammar_laws.specs.Rising.{RiseWithin}
 use Rattle.grammar_laws.proofs.Walks.{up_to, Walks, nothing, along, behind_one, sign, number, name, keyword, passed, ended, closed}
 
 module _ (end : ℕ) (meant : Standing → Bool) (source : List ℕ) where

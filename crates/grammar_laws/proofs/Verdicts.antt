@@ -1,13 +1,7 @@
 -- The machine's run from the start gives just the refusal that the grammar gives.
-use Rattle.std.proofs.Common.{◌≡◌, ◌<◌, ◌⊎◌, inl, inr, ⊎_elim, refl, ap, subst, ◌∙◌, true, List, [], ◌∷◌, ◌++◌, Option, Some, arith}
-use Rattle.c_lex.specs.declared.tokens.Token.{Token}
-use Rattle.c_grammar.specs.declared.signs.Sign.{Sign}
+use Rattle.grammar_laws.proofs.Common.{◌≡◌, ◌<◌, ◌⊎◌, inl, inr, ⊎_elim, refl, ap, subst, ◌∙◌, true, List, [], ◌∷◌, ◌++◌, Option, Some, arith, Token, Sign, Symbol, Any, Nearest, Takes, TakesAll, CanBeNothing, open_in, Task, step, open_tasks, sign_at, signs_of, finishes, CanBeTaken, IsDeep, IsShallow}
 use Rattle.c_grammar.specs.Rests as symbols
-use Rattle.c_grammar.specs.Rests.{Symbol, Way, Any, Nearest, Takes, TakesAll, CanBeNothing, open_in}
 use Rattle.c_grammar.specs.Machine as tasks
-use Rattle.c_grammar.specs.Machine.{Task, step, open_tasks}
-use Rattle.c_grammar.specs.Reading.{sign_at, signs_of, finishes}
-use Rattle.c_grammar.specs.Refusals.{CanBeTaken, IsDeep, IsShallow}
 use Rattle.grammar_laws.proofs.Covers.{Covers}
 use Rattle.grammar_laws.proofs.Ends.{same_open, some_rest}
 use Rattle.grammar_laws.proofs.Agreement.{Steps, proper_steps, follow, derive}

@@ -1,13 +1,6 @@
 -- How places rise from where tokens stand to where those behind them stand.
-use Rattle.std.proofs.Common.{ℕ, ◌≡◌, ◌+◌, ◌≤◌, Bool, true, false, sym, subst, List, [], ◌∷◌, ◌++◌, append-nil, if◌then◌else◌, arith}
-use Rattle.c_lex.specs.Places.{StandInOrder}
-use Rattle.c_lex.specs.declared.tokens.Token.{Token}
-use Rattle.c_tree.specs.RawTrees.{NameTree}
-use Rattle.c_grammar.specs.declared.signs.Sign.{Sign}
+use Rattle.grammar_laws.proofs.Common.{ℕ, ◌≡◌, ◌+◌, ◌≤◌, Bool, true, false, sym, subst, List, [], ◌∷◌, ◌++◌, append-nil, if◌then◌else◌, arith, StandInOrder, Token, NameTree, Sign, next_at, rest_of, Passes, PassesName, PassesNumber, Standing, placed, RiseWithin}
 use Rattle.c_grammar.specs.declared.signs.Sign.TheVariants as signs
-use Rattle.c_grammar.specs.Tokens.{next_at, rest_of, Passes, PassesName, PassesNumber}
-use Rattle.grammar_laws.specs.Places.{Standing, placed}
-use Rattle.grammar_laws.specs.Rising.{RiseWithin}
 
 pub from_lower : (low start : ℕ) (places : List ℕ) (high : ℕ) → low ≤ start → RiseWithin start places high → RiseWithin low places high
 from_lower low start [] high h r = omega (arith, h, r)

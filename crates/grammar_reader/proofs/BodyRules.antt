@@ -1,20 +1,7 @@
 -- What the functions of blocks and of statements that hold others come to, exit by exit.
-use Rattle.std.proofs.Common.{ℕ, ◌≡◌, ◌≢◌, ◌+◌, ◌<◌, ◌≤◌, refl, sym, ap, subst, ◌∙◌, true, List, [], ◌∷◌, ◌++◌, Option, arith}
-use Rattle.c_lex.specs.declared.tokens.Token.{Token}
-use Rattle.c_tree.specs.RawTrees.{RawExprTree, RawSimpleTree, RawStmtTree, RawStmtTrees, RawEmpty, RawBlock, RawIf, RawIfElse, RawWhile, RawFor, NoRawStmts, RawThen}
-use Rattle.c_tree.specs.RawViews.{raw_in_order}
-use Rattle.c_tree.specs.RawTemporaries.{raw_stmt_temporaries}
-use Rattle.c_grammar.specs.declared.errors.ParseError.{ParseError}
-use Rattle.c_grammar.specs.declared.errors.ParseError.TheVariants.{TooDeep}
-use Rattle.c_grammar.specs.declared.signs.Sign.{Sign}
+use Rattle.grammar_reader.proofs.Common.{ℕ, ◌≡◌, ◌≢◌, ◌+◌, ◌<◌, ◌≤◌, refl, sym, ap, subst, ◌∙◌, true, List, [], ◌∷◌, ◌++◌, Option, arith, Token, RawExprTree, RawSimpleTree, RawStmtTree, RawStmtTrees, RawEmpty, RawBlock, RawIf, RawIfElse, RawWhile, RawFor, NoRawStmts, RawThen, raw_in_order, raw_stmt_temporaries, ParseError, TooDeep, Sign, Task, step, open_tasks, run, sign_at, next_sign, next_place, rest_of, Passes, IsBody, IsBlock, AreStmts, Refused, ReadsParenthesized, RefusedInside, ReadsBody, ReadsBlock, RefusedBlock, ReadsForParts, AreSmall, ReadingBlock, ReadsBlockItem, stmts_before}
 use Rattle.c_grammar.specs.declared.signs.Sign.TheVariants as signs
 use Rattle.c_grammar.specs.Machine as tasks
-use Rattle.c_grammar.specs.Machine.{Task, step, open_tasks}
-use Rattle.c_grammar.specs.Reading.{run, sign_at}
-use Rattle.c_grammar.specs.Tokens.{next_sign, next_place, rest_of, Passes}
-use Rattle.c_grammar.specs.Grammar.{IsBody, IsBlock, AreStmts}
-use Rattle.grammar_reader.specs.Steps.{Refused, ReadsParenthesized}
-use Rattle.grammar_reader.specs.BodySteps.{RefusedInside, ReadsBody, ReadsBlock, RefusedBlock, ReadsForParts, AreSmall, ReadingBlock, ReadsBlockItem, stmts_before}
 use Rattle.grammar_reader.proofs.Runs.{run_passes, passes_shorter}
 use Rattle.grammar_reader.proofs.ExprRules.{pass_run, pass_end}
 use Rattle.grammar_reader.proofs.BracketRules.{Opens}

@@ -1,19 +1,7 @@
 -- What the functions of brackets and arguments come to, exit by exit.
-use Rattle.std.proofs.Common.{ℕ, ◌≡◌, ◌≢◌, ◌+◌, ◌*◌, ◌≤◌, refl, sym, ap, subst, ◌∙◌, List, [], ◌∷◌, ◌++◌, length, length-append, Some, arith}
-use Rattle.c_lex.specs.declared.tokens.Token.{Token}
-use Rattle.c_tree.specs.RawTrees.{RawExprTree, RawExprTrees, NoExprs, And}
-use Rattle.c_tree.specs.RawViews.{raw_arguments}
-use Rattle.c_tree.specs.RawTemporaries.{raw_temporaries, raw_arguments_temporaries}
-use Rattle.c_grammar.specs.declared.errors.ParseError.{ParseError}
-use Rattle.c_grammar.specs.declared.errors.ParseError.TheVariants.{Unexpected, TooDeep}
-use Rattle.c_grammar.specs.declared.signs.Sign.{Sign}
+use Rattle.grammar_reader.proofs.Common.{ℕ, ◌≡◌, ◌≢◌, ◌+◌, ◌*◌, ◌≤◌, refl, sym, ap, subst, ◌∙◌, List, [], ◌∷◌, ◌++◌, length, length-append, Some, arith, Token, RawExprTree, RawExprTrees, NoExprs, And, raw_arguments, raw_temporaries, raw_arguments_temporaries, ParseError, Unexpected, TooDeep, Sign, Task, step, after_move, open_tasks, sign_at, run, next_sign, next_place, rest_of, Passes, IsIndex, IsParenthesized, AreArguments, AreMoreArguments, Leads, Refused, ReadsExpr, ReadsParenthesized, ReadsIndex, ReadsArguments, ReadingArguments, followed_by}
 use Rattle.c_grammar.specs.declared.signs.Sign.TheVariants as signs
 use Rattle.c_grammar.specs.Machine as tasks
-use Rattle.c_grammar.specs.Machine.{Task, step, after_move, open_tasks}
-use Rattle.c_grammar.specs.Reading.{sign_at, run}
-use Rattle.c_grammar.specs.Tokens.{next_sign, next_place, rest_of, Passes}
-use Rattle.c_grammar.specs.Grammar.{IsIndex, IsParenthesized, AreArguments, AreMoreArguments}
-use Rattle.grammar_reader.specs.Steps.{Leads, Refused, ReadsExpr, ReadsParenthesized, ReadsIndex, ReadsArguments, ReadingArguments, followed_by}
 use Rattle.grammar_reader.proofs.Runs.{run_sign, run_passes, run_too_deep, run_none, shorter_sign, passes_shorter, refuses_but, parenthesized_only, right_parenthesis_only, right_bracket_only}
 use Rattle.grammar_reader.proofs.ExprRules.{pass_run, pass_end}
 

@@ -1,30 +1,11 @@
 -- What the functions of expressions come to, exit by exit.
-use Rattle.std.proofs.Common.{ℕ, ◌≡◌, ◌≢◌, ◌+◌, ◌-◌, ◌*◌, ◌<◌, ◌≤◌, refl, sym, ap, subst, ◌∙◌, List, [], ◌∷◌, ◌++◌, length, Option, Some, None, lit<, arith}
-use Rattle.std.specs.Prelude.{nat_le, if◌then◌else◌}
-use Rattle.c_lex.specs.declared.tokens.Token.{Token}
-use Rattle.c_lex.specs.declared.tokens.TokenKind.{TokenKind}
+use Rattle.grammar_reader.proofs.Common.{ℕ, ◌≡◌, ◌≢◌, ◌+◌, ◌-◌, ◌*◌, ◌<◌, ◌≤◌, refl, sym, ap, subst, ◌∙◌, List, [], ◌∷◌, ◌++◌, length, Option, Some, None, lit<, arith, nat_le, if◌then◌else◌, Token, TokenKind, Keyword, Infix, RawExprTree, RawConditional, raw_joined, raw_chained, raw_temporaries, ParseError, Unexpected, TooDeep, Sign, sign_of_token, sign_of_keyword, Task, step, after_move, open_tasks, sign_at, finishes, run, infix_operator_of, level_of_infix, next_sign, next_place, rest_of, Passes, IsExpr, IsBinary, IsRepeated, Refused, NoneFrom, IsNextOperator, IsNoNextOperator, ReadsExpr, ReadsConditional, ReadsBinary, ReadsRepeated, ReadsUnary, ReadingRepeated, run_taken}
 use Rattle.c_lex.specs.declared.tokens.TokenKind.TheVariants as kinds
-use Rattle.c_lex.specs.declared.keywords.Keyword.{Keyword}
 use Rattle.c_lex.specs.declared.keywords.Keyword.TheVariants as keywords
 use Rattle.c_lex.specs.declared.marks.Mark.TheVariants as marks
-use Rattle.c_tree.specs.declared.operators.Infix.{Infix}
 use Rattle.c_tree.specs.declared.operators.BinaryOperator.{BinaryOperator}
-use Rattle.c_tree.specs.RawTrees.{RawExprTree, RawConditional}
-use Rattle.c_tree.specs.RawViews.{raw_joined, raw_chained}
-use Rattle.c_tree.specs.RawTemporaries.{raw_temporaries}
-use Rattle.c_grammar.specs.declared.errors.ParseError.{ParseError}
-use Rattle.c_grammar.specs.declared.errors.ParseError.TheVariants.{Unexpected, TooDeep}
-use Rattle.c_grammar.specs.declared.signs.Sign.{Sign}
 use Rattle.c_grammar.specs.declared.signs.Sign.TheVariants as signs
-use Rattle.c_grammar.specs.Signs.{sign_of_token, sign_of_keyword}
 use Rattle.c_grammar.specs.Machine as tasks
-use Rattle.c_grammar.specs.Machine.{Task, step, after_move, open_tasks}
-use Rattle.c_grammar.specs.Reading.{sign_at, finishes, run}
-use Rattle.c_grammar.specs.Operators.{infix_operator_of, level_of_infix}
-use Rattle.c_grammar.specs.Tokens.{next_sign, next_place, rest_of, Passes}
-use Rattle.c_grammar.specs.Grammar.{IsExpr, IsBinary, IsRepeated}
-use Rattle.grammar_reader.specs.Steps.{Refused, NoneFrom, IsNextOperator, IsNoNextOperator, ReadsExpr, ReadsConditional, ReadsBinary, ReadsRepeated, ReadsUnary, ReadingRepeated}
-use Rattle.c_grammar.proofs.OneToken.{run_taken}
 use Rattle.grammar_reader.proofs.Runs.{run_sign, run_passes, run_too_deep, run_none, shorter_sign, passes_shorter, refuses_but, colon_only}
 
 one_made : ℕ → ℕ → List Token → Option (List Task) → Option ParseError

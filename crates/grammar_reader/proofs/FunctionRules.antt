@@ -1,18 +1,7 @@
 -- What a prototype or a function comes to, exit by exit.
-use Rattle.std.proofs.Common.{ℕ, ◌≡◌, ◌≢◌, refl, sym, subst, Bool, true, false, List, [], ◌∷◌, Option, arith}
-use Rattle.c_lex.specs.declared.tokens.Token.{Token}
-use Rattle.c_tree.specs.RawTrees.{NameTree, RawStmtTrees, RawPrototypeItem, RawFunctionItem}
-use Rattle.c_grammar.specs.declared.errors.ParseError.{ParseError}
-use Rattle.c_grammar.specs.declared.errors.ParseError.TheVariants.{Unexpected}
-use Rattle.c_grammar.specs.declared.signs.Sign.{Sign}
+use Rattle.grammar_reader.proofs.Common.{ℕ, ◌≡◌, ◌≢◌, refl, sym, subst, Bool, true, false, List, [], ◌∷◌, Option, arith, Token, NameTree, RawStmtTrees, RawPrototypeItem, RawFunctionItem, ParseError, Unexpected, Sign, Task, finishes, next_sign, next_place, Passes, AreNamed, AreItem, ReadsBlock, RefusedBlock, all_have_names, names_in, after_task, Listed, RefusedListed, ReadsParameters, ReadsFunction}
 use Rattle.c_grammar.specs.declared.signs.Sign.TheVariants as signs
 use Rattle.c_grammar.specs.Machine as tasks
-use Rattle.c_grammar.specs.Machine.{Task, open_tasks}
-use Rattle.c_grammar.specs.Reading.{finishes}
-use Rattle.c_grammar.specs.Tokens.{next_sign, next_place, Passes}
-use Rattle.c_grammar.specs.Grammar.{AreNamed, AreItem}
-use Rattle.grammar_reader.specs.BodySteps.{ReadsBlock, RefusedBlock}
-use Rattle.grammar_reader.specs.ItemSteps.{all_have_names, names_in, after_task, Listed, RefusedListed, ReadsParameters, ReadsFunction}
 use Rattle.grammar_reader.proofs.Runs.{passes_shorter}
 use Rattle.grammar_reader.proofs.Paths.{Path, path_leads, path_stuck, path_path, path_refused, takes_alone, refuses}
 

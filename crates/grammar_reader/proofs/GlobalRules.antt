@@ -1,21 +1,8 @@
 -- What the functions of globals come to, exit by exit.
-use Rattle.std.proofs.Common.{ℕ, ◌≡◌, ◌≢◌, ◌-◌, ◌%◌, ◌^◌, ◌⊎◌, inl, inr, refl, sym, ap, subst, ◌∙◌, true, List, [], ◌∷◌, ◌++◌, append_assoc, append-nil, arith}
-use Rattle.c_lex.specs.declared.tokens.Token.{Token}
-use Rattle.c_tree.specs.RawTrees.{NameTree, RawItemTree, RawGlobal, RawGlobalArray}
-use Rattle.c_tree.specs.RawTemporaries.{AreWithinTemporaries}
-use Rattle.c_grammar.specs.declared.errors.ParseError.{ParseError}
-use Rattle.c_grammar.specs.declared.errors.ParseError.TheVariants.{Unexpected, Memory}
-use Rattle.c_grammar.specs.declared.signs.Sign.{Sign}
+use Rattle.grammar_reader.proofs.Common.{ℕ, ◌≡◌, ◌≢◌, ◌-◌, ◌%◌, ◌^◌, ◌⊎◌, inl, inr, refl, sym, ap, subst, ◌∙◌, true, List, [], ◌∷◌, ◌++◌, append_assoc, append-nil, arith, Token, NameTree, RawItemTree, RawGlobal, RawGlobalArray, AreWithinTemporaries, ParseError, Unexpected, Memory, Sign, step, after_move, next_sign, next_place, rest_of, Passes, PassesName, PassesNumber, IsStart, IsGlobal, AreMoreGlobals, AreItem, Refused, ReadsSize, RefusedSize, ReadsStart, ReadsGlobal, ReadingGlobals, ReadsGlobals, number_passes}
 use Rattle.c_grammar.specs.declared.signs.Sign.TheVariants as signs
 use Rattle.c_grammar.specs.Machine as tasks
-use Rattle.c_grammar.specs.Machine.{step, after_move}
-use Rattle.c_grammar.specs.Tokens.{next_sign, next_place, rest_of, Passes, PassesName, PassesNumber}
-use Rattle.c_grammar.specs.Grammar.{IsStart, IsGlobal, AreMoreGlobals, AreItem}
-use Rattle.grammar_reader.specs.Steps.{Refused}
-use Rattle.grammar_reader.specs.StmtSteps.{ReadsSize, RefusedSize}
-use Rattle.grammar_reader.specs.ItemSteps.{ReadsStart, ReadsGlobal, ReadingGlobals, ReadsGlobals}
 use Rattle.grammar_reader.proofs.Runs.{passes_shorter}
-use Rattle.c_grammar.proofs.OneToken.{number_passes}
 use Rattle.grammar_reader.proofs.LocalRules.{number_only}
 use Rattle.grammar_reader.proofs.Paths.{Path, here, path_leads, path_leads_to, path_stuck, path_path, path_refused, takes_alone, refuses, does_same}
 

@@ -1,9 +1,5 @@
 -- What a value tells that was put behind others or handed on.
-use Rattle.std.proofs.Common.{◌≡◌, ◌≢◌, ◌⊎◌, inl, inr, Result, Ok, Err, List, [], ◌∷◌, ◌++◌}
-use Rattle.std.specs.Prelude.{IfOk, IfErr, MatchResult}
-use Rattle.std.proofs.lemmas.Result.{IfErr-at_err}
-use Rattle.c_grammar.specs.declared.errors.ParseError.{ParseError}
-use Rattle.c_grammar.specs.declared.errors.ParseError.TheVariants.{Memory}
+use Rattle.grammar_reader.proofs.Common.{◌≡◌, ◌≢◌, ◌⊎◌, inl, inr, Result, Ok, Err, List, [], ◌∷◌, ◌++◌, IfOk, IfErr, MatchResult, IfErr-at_err, ParseError, Memory}
 
 -- a value that was put behind others
 pub next_pushed : {T : Type 0} (P : T → Type 0) (r : Result T ParseError) (xs ys : List T) → MatchResult r (λ v. ys ≡ xs ++ (v ∷ [])) (λ _. ⊥) → IfOk r P → (v : T) × (ys ≡ xs ++ (v ∷ [])) × P v

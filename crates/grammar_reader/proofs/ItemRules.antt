@@ -1,27 +1,11 @@
 -- What the functions of items come to, exit by exit.
-use Rattle.std.proofs.Common.{ℕ, ◌≡◌, ◌≢◌, ◌⊎◌, inl, inr, refl, sym, ap, subst, ◌∙◌, true, false, List, [], ◌∷◌, ◌++◌, append_assoc, append-nil, Some, arith}
-use Rattle.c_lex.specs.declared.tokens.Token.{Token}
-use Rattle.c_lex.specs.declared.tokens.TokenKind.{TokenKind}
+use Rattle.grammar_reader.proofs.Common.{ℕ, ◌≡◌, ◌≢◌, ◌⊎◌, inl, inr, refl, sym, ap, subst, ◌∙◌, true, false, List, [], ◌∷◌, ◌++◌, append_assoc, append-nil, Some, arith, Token, TokenKind, Keyword, Mark, NameTree, RawItemTree, ParseError, Unexpected, Memory, Sign, sign_of_token, sign_of_keyword, sign_of_mark, step, after_move, sign_at, next_sign, next_place, rest_of, Passes, PassesName, IsResult, AreItems, Refused, RefusedListed, ReadsFunction, ReadsTable, ReadsGlobals, ReadsAfterInt, ReadsAfterVoid, ReadsItem, RefusedItems, ReadingItems, ReadsItems, run_end, run_refused}
 use Rattle.c_lex.specs.declared.tokens.TokenKind.TheVariants as kinds
-use Rattle.c_lex.specs.declared.keywords.Keyword.{Keyword}
 use Rattle.c_lex.specs.declared.keywords.Keyword.TheVariants as keywords
-use Rattle.c_lex.specs.declared.marks.Mark.{Mark}
 use Rattle.c_lex.specs.declared.marks.Mark.TheVariants as marks
-use Rattle.c_tree.specs.RawTrees.{NameTree, RawItemTree}
-use Rattle.c_grammar.specs.declared.errors.ParseError.{ParseError}
-use Rattle.c_grammar.specs.declared.errors.ParseError.TheVariants.{Unexpected, Memory}
-use Rattle.c_grammar.specs.declared.signs.Sign.{Sign}
 use Rattle.c_grammar.specs.declared.signs.Sign.TheVariants as signs
-use Rattle.c_grammar.specs.Signs.{sign_of_token, sign_of_keyword, sign_of_mark}
 use Rattle.c_grammar.specs.Machine as tasks
-use Rattle.c_grammar.specs.Machine.{step, after_move}
-use Rattle.c_grammar.specs.Reading.{sign_at}
-use Rattle.c_grammar.specs.Tokens.{next_sign, next_place, rest_of, Passes, PassesName}
-use Rattle.c_grammar.specs.Grammar.{IsResult, AreItems}
-use Rattle.grammar_reader.specs.Steps.{Refused}
-use Rattle.grammar_reader.specs.ItemSteps.{RefusedListed, ReadsFunction, ReadsTable, ReadsGlobals, ReadsAfterInt, ReadsAfterVoid, ReadsItem, RefusedItems, ReadingItems, ReadsItems}
 use Rattle.grammar_reader.proofs.Runs.{passes_shorter}
-use Rattle.c_grammar.proofs.OneToken.{run_end, run_refused}
 use Rattle.grammar_reader.proofs.GlobalRules.{within_append}
 use Rattle.grammar_reader.proofs.Paths.{Path, here, path_leads, path_stuck, path_refused, takes_alone, refuses}
 

@@ -1,22 +1,9 @@
 -- What the functions of sizes and declarations come to, exit by exit.
-use Rattle.std.proofs.Common.{ℕ, ◌≡◌, ◌≢◌, ◌+◌, ◌-◌, ◌*◌, ◌≤◌, ◌⊎◌, inl, inr, refl, sym, ap, subst, ◌∙◌, List, [], ◌∷◌, ◌++◌, length, Some, append_assoc, append-nil, arith}
-use Rattle.c_lex.specs.declared.tokens.Token.{Token}
-use Rattle.c_tree.specs.RawTrees.{NameTree, RawExprTree, RawSimpleTree, RawDeclareScalar, RawDeclareArray, RawDeclareWith}
-use Rattle.c_tree.specs.RawTemporaries.{raw_simple_temporaries, raw_simples_temporaries}
-use Rattle.c_grammar.specs.declared.errors.ParseError.{ParseError}
-use Rattle.c_grammar.specs.declared.errors.ParseError.TheVariants.{Unexpected, Memory}
-use Rattle.c_grammar.specs.declared.signs.Sign.{Sign}
+use Rattle.grammar_reader.proofs.Common.{ℕ, ◌≡◌, ◌≢◌, ◌+◌, ◌-◌, ◌*◌, ◌≤◌, ◌⊎◌, inl, inr, refl, sym, ap, subst, ◌∙◌, List, [], ◌∷◌, ◌++◌, length, Some, append_assoc, append-nil, arith, Token, NameTree, RawExprTree, RawSimpleTree, RawDeclareScalar, RawDeclareArray, RawDeclareWith, raw_simple_temporaries, raw_simples_temporaries, ParseError, Unexpected, Memory, Sign, Task, step, after_move, open_tasks, sign_at, run, next_sign, next_place, rest_of, Passes, PassesName, PassesNumber, IsNotOpened, IsLocal, AreMoreLocals, AreLocals, Leads, Refused, ReadsExpr, Sized, ReadsSize, RefusedSize, ReadsLocal, ReadsLocals, ReadingLocals, number_passes}
 use Rattle.c_grammar.specs.declared.signs.Sign.TheVariants as signs
 use Rattle.c_grammar.specs.Machine as tasks
-use Rattle.c_grammar.specs.Machine.{Task, step, after_move, open_tasks}
-use Rattle.c_grammar.specs.Reading.{sign_at, run}
-use Rattle.c_grammar.specs.Tokens.{next_sign, next_place, rest_of, Passes, PassesName, PassesNumber, IsNotOpened}
-use Rattle.c_grammar.specs.Grammar.{IsLocal, AreMoreLocals, AreLocals}
-use Rattle.grammar_reader.specs.Steps.{Leads, Refused, ReadsExpr}
-use Rattle.grammar_reader.specs.StmtSteps.{Sized, ReadsSize, RefusedSize, ReadsLocal, ReadsLocals, ReadingLocals}
 use Rattle.grammar_reader.proofs.Runs.{run_sign, run_passes, run_too_deep, run_none, shorter_sign, passes_shorter, refuses_but, right_bracket_only}
 use Rattle.grammar_reader.proofs.ExprRules.{pass_run, pass_end}
-use Rattle.c_grammar.proofs.OneToken.{number_passes}
 
 sized_step : (todo : Task) (left rest : List Task) → Sized todo left → step (todo ∷ rest) signs.LeftBracket ≡ Some ((tasks.Token signs.Number ∷ tasks.Token signs.RightBracket ∷ left) ++ rest)
 sized_step todo left rest e = ap (λ m. after_move m rest (step rest signs.LeftBracket)) e

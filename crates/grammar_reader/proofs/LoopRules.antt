@@ -1,18 +1,7 @@
 -- What the functions of the parts of a `for` come to, exit by exit.
-use Rattle.std.proofs.Common.{ℕ, ◌≡◌, ◌≢◌, ◌+◌, ◌≤◌, ◌⊎◌, inl, inr, refl, List, [], ◌∷◌, Option, Some, None, arith}
-use Rattle.c_lex.specs.declared.tokens.Token.{Token}
-use Rattle.c_tree.specs.RawTrees.{RawExprTree, RawSimpleTree}
-use Rattle.c_grammar.specs.declared.errors.ParseError.{ParseError}
-use Rattle.c_grammar.specs.declared.errors.ParseError.TheVariants.{Unexpected}
-use Rattle.c_grammar.specs.declared.signs.Sign.{Sign}
+use Rattle.grammar_reader.proofs.Common.{ℕ, ◌≡◌, ◌≢◌, ◌+◌, ◌≤◌, ◌⊎◌, inl, inr, refl, List, [], ◌∷◌, Option, Some, None, arith, Token, RawExprTree, RawSimpleTree, ParseError, Unexpected, Sign, step, next_sign, next_place, rest_of, Passes, IsNotOpened, IsForInit, IsForStep, Refused, ReadsSimple, RefusedSimple, ReadsLocals, RefusedInside, ReadsUpToSemicolon, ReadsForInit, ReadsForStep, ReadsForParts}
 use Rattle.c_grammar.specs.declared.signs.Sign.TheVariants as signs
 use Rattle.c_grammar.specs.Machine as tasks
-use Rattle.c_grammar.specs.Machine.{Task, step, open_tasks}
-use Rattle.c_grammar.specs.Tokens.{next_sign, next_place, rest_of, Passes, IsNotOpened}
-use Rattle.c_grammar.specs.Grammar.{IsForInit, IsForStep}
-use Rattle.grammar_reader.specs.Steps.{Refused}
-use Rattle.grammar_reader.specs.StmtSteps.{ReadsSimple, RefusedSimple, ReadsLocals}
-use Rattle.grammar_reader.specs.BodySteps.{RefusedInside, ReadsUpToSemicolon, ReadsForInit, ReadsForStep, ReadsForParts}
 use Rattle.grammar_reader.proofs.Runs.{passes_shorter, semicolon_only, right_parenthesis_only}
 use Rattle.grammar_reader.proofs.Paths.{Path, here, path_leads, path_refused, path_stuck, path_path, path_inside, path_refused_inside, takes, takes_alone, too_deep, refuses, leads_inside, refused_inside}
 

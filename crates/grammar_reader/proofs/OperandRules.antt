@@ -1,29 +1,13 @@
 -- What the functions of operands, brackets and arguments come to, exit by exit.
-use Rattle.std.proofs.Common.{ℕ, ◌≡◌, ◌≢◌, ◌+◌, ◌≤◌, refl, sym, ap, subst, ◌∙◌, List, [], ◌∷◌, length, Option, Some, None, arith}
-use Rattle.c_lex.specs.declared.tokens.Token.{Token}
-use Rattle.c_lex.specs.declared.tokens.TokenKind.{TokenKind}
+use Rattle.grammar_reader.proofs.Common.{ℕ, ◌≡◌, ◌≢◌, ◌+◌, ◌≤◌, refl, sym, ap, subst, ◌∙◌, List, [], ◌∷◌, length, Option, Some, None, arith, Token, TokenKind, Keyword, Mark, NameTree, RawExprTree, RawExprTrees, RawNumber, RawName, RawElement, RawUnary, RawParenthesized, RawCall, RawTableCall, ParseError, Unexpected, TooDeep, Sign, sign_of_token, Task, step, after_move, open_tasks, sign_at, run, unary_operator_of, next_sign, next_kind, next_place, rest_of, Passes, PassesName, PassesNumber, IsUnary, IsPrimary, Refused, NoPrefix, ReadsUnary, ReadsPrimary, ReadsNamed, ReadsElement, ReadsParenthesized, ReadsArguments, number_passes}
 use Rattle.c_lex.specs.declared.tokens.TokenKind.TheVariants as kinds
-use Rattle.c_lex.specs.declared.keywords.Keyword.{Keyword}
 use Rattle.c_lex.specs.declared.keywords.Keyword.TheVariants as keywords
-use Rattle.c_lex.specs.declared.marks.Mark.{Mark}
 use Rattle.c_lex.specs.declared.marks.Mark.TheVariants as marks
 use Rattle.c_tree.specs.declared.operators.UnaryOperator.{UnaryOperator}
-use Rattle.c_tree.specs.RawTrees.{NameTree, RawExprTree, RawExprTrees, RawNumber, RawName, RawElement, RawUnary, RawParenthesized, RawCall, RawTableCall}
-use Rattle.c_grammar.specs.declared.errors.ParseError.{ParseError}
-use Rattle.c_grammar.specs.declared.errors.ParseError.TheVariants.{Unexpected, TooDeep}
-use Rattle.c_grammar.specs.declared.signs.Sign.{Sign}
 use Rattle.c_grammar.specs.declared.signs.Sign.TheVariants as signs
-use Rattle.c_grammar.specs.Signs.{sign_of_token}
 use Rattle.c_grammar.specs.Machine as tasks
-use Rattle.c_grammar.specs.Machine.{Task, step, after_move, open_tasks}
-use Rattle.c_grammar.specs.Reading.{sign_at, run}
-use Rattle.c_grammar.specs.Operators.{unary_operator_of}
-use Rattle.c_grammar.specs.Tokens.{next_sign, next_kind, next_place, rest_of, Passes, PassesName, PassesNumber}
-use Rattle.c_grammar.specs.Grammar.{IsUnary, IsPrimary}
-use Rattle.grammar_reader.specs.Steps.{Refused, NoPrefix, ReadsUnary, ReadsPrimary, ReadsNamed, ReadsElement, ReadsParenthesized, ReadsArguments}
 use Rattle.grammar_reader.proofs.Runs.{run_sign, run_passes, run_too_deep, run_none, shorter_sign, passes_shorter}
 use Rattle.grammar_reader.proofs.ExprRules.{done_run, pass_run, pass_end}
-use Rattle.c_grammar.proofs.OneToken.{number_passes}
 
 -- an operator before its operand
 abbrev UnaryFact : TokenKind → Option UnaryOperator → Type 0

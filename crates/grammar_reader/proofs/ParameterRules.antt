@@ -1,18 +1,7 @@
 -- What the functions of parameters come to, exit by exit.
-use Rattle.std.proofs.Common.{ℕ, ◌≡◌, ◌≢◌, ◌⊎◌, inl, inr, refl, sym, ap, subst, ◌∙◌, Bool, true, false, List, [], ◌∷◌, ◌++◌, append_assoc, append-nil, Option, Some, None, arith}
-use Rattle.c_lex.specs.declared.tokens.Token.{Token}
-use Rattle.c_tree.specs.RawTrees.{NameTree}
-use Rattle.c_grammar.specs.declared.errors.ParseError.{ParseError}
-use Rattle.c_grammar.specs.declared.errors.ParseError.TheVariants.{Unexpected, Memory}
-use Rattle.c_grammar.specs.declared.signs.Sign.{Sign}
+use Rattle.grammar_reader.proofs.Common.{ℕ, ◌≡◌, ◌≢◌, ◌⊎◌, inl, inr, refl, sym, ap, subst, ◌∙◌, Bool, true, false, List, [], ◌∷◌, ◌++◌, append_assoc, append-nil, Option, Some, None, arith, Token, NameTree, ParseError, Unexpected, Memory, Sign, Task, step, after_move, open_tasks, finishes, next_sign, next_place, rest_of, Passes, PassesName, IsNameOption, AreMoreParameters, AreMoreNamed, AreParameters, AreNamed, Leads, Refused, all_have_names, names_in, named_with, name_task, more_task, after_task, Listed, RefusedListed, ReadsParameter, RefusedParameter, ReadingParameters, ReadsParameterList, ReadsParameters}
 use Rattle.c_grammar.specs.declared.signs.Sign.TheVariants as signs
 use Rattle.c_grammar.specs.Machine as tasks
-use Rattle.c_grammar.specs.Machine.{Task, step, after_move, open_tasks}
-use Rattle.c_grammar.specs.Reading.{finishes}
-use Rattle.c_grammar.specs.Tokens.{next_sign, next_place, rest_of, Passes, PassesName}
-use Rattle.c_grammar.specs.Grammar.{IsNameOption, AreMoreParameters, AreMoreNamed, AreParameters, AreNamed}
-use Rattle.grammar_reader.specs.Steps.{Leads, Refused}
-use Rattle.grammar_reader.specs.ItemSteps.{all_have_names, names_in, named_with, name_task, more_task, after_task, Listed, RefusedListed, ReadsParameter, RefusedParameter, ReadingParameters, ReadsParameterList, ReadsParameters}
 use Rattle.grammar_reader.proofs.Runs.{passes_shorter}
 use Rattle.grammar_reader.proofs.Paths.{Path, here, path_leads_to, path_stuck, path_path, path_refused, takes, takes_alone, refuses, does_same}
 

@@ -1,20 +1,8 @@
 -- Pieces of the machine's run put one behind another.
-use Rattle.std.proofs.Common.{ℕ, ◌≡◌, ◌≢◌, ◌+◌, ◌<◌, ◌≤◌, Result, rules, refl, sym, ap, subst, ◌∙◌, true, false, List, [], ◌∷◌, ◌++◌, Some, append_assoc, arith}
 use Rattle.std.specs.Result.{IsErrAnd, IfErr}
-use Rattle.std.proofs.lemmas.Result.{err_from_is_err_and}
-use denote.Enum.Bare.{sameb, same_true, same_false}
-use Rattle.c_lex.specs.declared.tokens.Token.{Token}
-use Rattle.c_grammar.specs.declared.errors.ParseError.{ParseError}
-use Rattle.c_grammar.specs.declared.errors.ParseError.TheVariants.{Unexpected, TooDeep}
-use Rattle.c_grammar.specs.declared.signs.Sign.{Sign}
+use Rattle.grammar_reader.proofs.Common.{ℕ, ◌≡◌, ◌≢◌, ◌+◌, ◌<◌, ◌≤◌, Result, rules, refl, sym, ap, subst, ◌∙◌, true, false, List, [], ◌∷◌, ◌++◌, Some, append_assoc, arith, err_from_is_err_and, sameb, same_true, same_false, Token, ParseError, Unexpected, TooDeep, Sign, the_type, Task, Move, step, after_move, open_tasks, sign_at, finishes, run, next_sign, next_place, Passes, Leads, Refused, LeadsInside, RefusedInside}
 use Rattle.c_grammar.specs.declared.signs.Sign.TheVariants as signs
-use Rattle.c_grammar.specs.contracts.signs.Sign.{the_type}
 use Rattle.c_grammar.specs.Machine as tasks
-use Rattle.c_grammar.specs.Machine.{Task, Move, step, after_move, open_tasks}
-use Rattle.c_grammar.specs.Reading.{sign_at, finishes, run}
-use Rattle.c_grammar.specs.Tokens.{next_sign, next_place, Passes}
-use Rattle.grammar_reader.specs.Steps.{Leads, Refused}
-use Rattle.grammar_reader.specs.BodySteps.{LeadsInside, RefusedInside}
 use Rattle.grammar_reader.proofs.Runs.{run_passes, run_too_deep, run_none}
 use Rattle.grammar_reader.proofs.ExprRules.{pass_run, pass_end}
 

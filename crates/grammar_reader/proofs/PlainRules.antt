@@ -1,20 +1,7 @@
 -- What the functions of statements that hold no other statement come to, exit by exit.
-use Rattle.std.proofs.Common.{ℕ, ◌≡◌, ◌≢◌, ◌+◌, ◌*◌, ◌≤◌, ◌⊎◌, inl, inr, refl, sym, ap, subst, ◌∙◌, true, List, [], ◌∷◌, ◌++◌, map, Option, Some, None, arith}
-use Rattle.c_lex.specs.declared.tokens.Token.{Token}
-use Rattle.c_tree.specs.RawTrees.{RawExprTree, RawSimpleTree, RawStmtTree, RawStmtTrees, RawDo, RawBreak, RawContinue, RawReturn, RawThen}
-use Rattle.c_tree.specs.RawTemporaries.{raw_simples_temporaries, raw_stmt_temporaries}
-use Rattle.c_grammar.specs.declared.errors.ParseError.{ParseError}
-use Rattle.c_grammar.specs.declared.errors.ParseError.TheVariants.{Unexpected}
-use Rattle.c_grammar.specs.declared.signs.Sign.{Sign}
+use Rattle.grammar_reader.proofs.Common.{ℕ, ◌≡◌, ◌≢◌, ◌+◌, ◌*◌, ◌≤◌, ◌⊎◌, inl, inr, refl, sym, ap, subst, ◌∙◌, true, List, [], ◌∷◌, ◌++◌, map, Option, Some, None, arith, Token, RawExprTree, RawSimpleTree, RawStmtTree, RawStmtTrees, RawDo, RawBreak, RawContinue, RawReturn, RawThen, raw_simples_temporaries, raw_stmt_temporaries, ParseError, Unexpected, Sign, Task, step, open_tasks, run, next_sign, next_place, next_at, rest_of, Passes, IsUpToSemicolon, IsBody, AreStmts, declared_before, Refused, ReadsExpr, ReadsSimple, RefusedSimple, ReadsLocals, RefusedInside, NoStatement, ReadsBody, ReadsUpToSemicolon, AreSmall, ReadsBlockItem, stmts_before}
 use Rattle.c_grammar.specs.declared.signs.Sign.TheVariants as signs
 use Rattle.c_grammar.specs.Machine as tasks
-use Rattle.c_grammar.specs.Machine.{Task, step, open_tasks}
-use Rattle.c_grammar.specs.Reading.{run}
-use Rattle.c_grammar.specs.Tokens.{next_sign, next_place, next_at, rest_of, Passes}
-use Rattle.c_grammar.specs.Grammar.{IsUpToSemicolon, IsBody, AreStmts, declared_before}
-use Rattle.grammar_reader.specs.Steps.{Refused, ReadsExpr}
-use Rattle.grammar_reader.specs.StmtSteps.{ReadsSimple, RefusedSimple, ReadsLocals}
-use Rattle.grammar_reader.specs.BodySteps.{RefusedInside, NoStatement, ReadsBody, ReadsUpToSemicolon, AreSmall, ReadsBlockItem, stmts_before}
 use Rattle.grammar_reader.proofs.Runs.{run_sign, passes_shorter, semicolon_only}
 use Rattle.grammar_reader.proofs.Paths.{Path, here, path_leads, path_refused, path_stuck, path_path, takes_alone, refuses, does_same}
 

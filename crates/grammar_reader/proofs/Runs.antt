@@ -1,14 +1,7 @@
 -- One token in the machine's run, where the tokens are only known by the next one's sign.
-use Rattle.std.proofs.Common.{ℕ, ◌≡◌, ◌≢◌, ◌+◌, ◌<◌, ◌≤◌, refl, sym, ap, subst, ◌∙◌, false, List, [], ◌∷◌, length, Some, None, arith}
-use Rattle.c_lex.specs.declared.tokens.Token.{Token}
-use Rattle.c_grammar.specs.declared.errors.ParseError.TheVariants.{Unexpected, TooDeep}
-use Rattle.c_grammar.specs.declared.signs.Sign.{Sign}
+use Rattle.grammar_reader.proofs.Common.{ℕ, ◌≡◌, ◌≢◌, ◌+◌, ◌<◌, ◌≤◌, refl, sym, ap, subst, ◌∙◌, false, List, [], ◌∷◌, length, Some, None, arith, Token, Unexpected, TooDeep, Sign, Task, step, open_tasks, finishes, run, next_sign, next_place, rest_of, Passes, run_taken, run_refused, run_deep, run_unfinished}
 use Rattle.c_grammar.specs.declared.signs.Sign.TheVariants as signs
 use Rattle.c_grammar.specs.Machine as tasks
-use Rattle.c_grammar.specs.Machine.{Task, step, open_tasks}
-use Rattle.c_grammar.specs.Reading.{finishes, run}
-use Rattle.c_grammar.specs.Tokens.{next_sign, next_place, rest_of, Passes}
-use Rattle.c_grammar.proofs.OneToken.{run_taken, run_refused, run_deep, run_unfinished}
 
 pub run_sign : (end : ℕ) (todo : List Task) (s : Sign) {after : List Task} (before : List Token) → next_sign before ≡ s → s ≢ signs.Finish → step todo s ≡ Some after → open_tasks after ≤ 64 → run end todo before ≡ run end after (rest_of before)
 run_sign end todo s [] e some stepped low = absurd (some (sym e))

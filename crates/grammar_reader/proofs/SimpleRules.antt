@@ -1,18 +1,7 @@
 -- What the functions of assignments and calls come to, exit by exit.
-use Rattle.std.proofs.Common.{ℕ, ◌≡◌, ◌≢◌, ◌≤◌, inr, refl, sym, ap, subst, ◌∙◌, List, [], ◌∷◌, Some, arith}
-use Rattle.c_lex.specs.declared.tokens.Token.{Token}
-use Rattle.c_tree.specs.RawTrees.{NameTree, RawExprTree, RawExprTrees, RawSet, RawSetElement, RawCalling, RawTableCalling}
-use Rattle.c_grammar.specs.declared.errors.ParseError.{ParseError}
-use Rattle.c_grammar.specs.declared.errors.ParseError.TheVariants.{Unexpected}
-use Rattle.c_grammar.specs.declared.signs.Sign.{Sign}
+use Rattle.grammar_reader.proofs.Common.{ℕ, ◌≡◌, ◌≢◌, ◌≤◌, inr, refl, sym, ap, subst, ◌∙◌, List, [], ◌∷◌, Some, arith, Token, NameTree, RawExprTree, RawExprTrees, RawSet, RawSetElement, RawCalling, RawTableCalling, ParseError, Unexpected, Sign, Task, step, after_move, open_tasks, run, next_sign, next_place, rest_of, Passes, PassesName, IsSimple, Leads, Refused, ReadsExpr, ReadsParenthesized, ReadsArguments, ReadsSimple, RefusedSimple, ReadsIndexed}
 use Rattle.c_grammar.specs.declared.signs.Sign.TheVariants as signs
 use Rattle.c_grammar.specs.Machine as tasks
-use Rattle.c_grammar.specs.Machine.{Task, step, after_move, open_tasks}
-use Rattle.c_grammar.specs.Reading.{run}
-use Rattle.c_grammar.specs.Tokens.{next_sign, next_place, rest_of, Passes, PassesName}
-use Rattle.c_grammar.specs.Grammar.{IsSimple}
-use Rattle.grammar_reader.specs.Steps.{Leads, Refused, ReadsExpr, ReadsParenthesized, ReadsArguments}
-use Rattle.grammar_reader.specs.StmtSteps.{ReadsSimple, RefusedSimple, ReadsIndexed}
 use Rattle.grammar_reader.proofs.Runs.{run_passes, run_none, passes_shorter}
 use Rattle.grammar_reader.proofs.ExprRules.{pass_run}
 

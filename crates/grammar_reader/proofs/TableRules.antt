@@ -1,18 +1,7 @@
 -- What the functions of tables come to, exit by exit.
-use Rattle.std.proofs.Common.{ℕ, ◌≡◌, ◌≢◌, ◌⊎◌, inl, inr, refl, sym, ap, subst, true, List, [], ◌∷◌, ◌++◌, append_assoc, append-nil, arith}
-use Rattle.c_lex.specs.declared.tokens.Token.{Token}
-use Rattle.c_tree.specs.RawTrees.{NameTree, RawTableItem}
-use Rattle.c_grammar.specs.declared.errors.ParseError.{ParseError}
-use Rattle.c_grammar.specs.declared.errors.ParseError.TheVariants.{Unexpected, Memory}
-use Rattle.c_grammar.specs.declared.signs.Sign.{Sign}
+use Rattle.grammar_reader.proofs.Common.{ℕ, ◌≡◌, ◌≢◌, ◌⊎◌, inl, inr, refl, sym, ap, subst, true, List, [], ◌∷◌, ◌++◌, append_assoc, append-nil, arith, Token, NameTree, RawTableItem, ParseError, Unexpected, Memory, Sign, Task, next_sign, next_place, rest_of, Passes, PassesName, AreMoreMembers, AreItem, Refused, ReadsSize, RefusedSize, ReadsDeclared, ReadsTableParameter, ReadingMembers, ReadsMembers, ReadsTable}
 use Rattle.c_grammar.specs.declared.signs.Sign.TheVariants as signs
 use Rattle.c_grammar.specs.Machine as tasks
-use Rattle.c_grammar.specs.Machine.{Task, open_tasks}
-use Rattle.c_grammar.specs.Tokens.{next_sign, next_place, rest_of, Passes, PassesName}
-use Rattle.c_grammar.specs.Grammar.{AreMoreMembers, AreItem}
-use Rattle.grammar_reader.specs.Steps.{Refused}
-use Rattle.grammar_reader.specs.StmtSteps.{ReadsSize, RefusedSize}
-use Rattle.grammar_reader.specs.ItemSteps.{ReadsDeclared, ReadsTableParameter, ReadingMembers, ReadsMembers, ReadsTable}
 use Rattle.grammar_reader.proofs.Runs.{passes_shorter, right_parenthesis_only, semicolon_only}
 use Rattle.grammar_reader.proofs.ParameterRules.{int_only}
 use Rattle.grammar_reader.proofs.Paths.{Path, Stuck, here, path_leads, path_stuck, path_path, path_refused, takes, takes_alone, refuses}

@@ -1,15 +1,10 @@
 -- Items of the text and items of the tree that stand for them. What is done with an expression is told by how its evaluation ends, from all
 -- words of names that stand; a jump passes over what it doesn't reach. `os` are the names in scope where the loops lead that were begun and
 -- aren't ended yet, innermost first.
-use Rattle.std.proofs.Common.{ℕ, zero, suc, ◌≡◌, sym, subst, true, false, List, [], ◌∷◌, Some, None}
-use Rattle.std.specs.Prelude.{slice_index}
+use Rattle.hoist_meaning.proofs.Common.{ℕ, zero, suc, ◌≡◌, sym, subst, true, false, List, [], ◌∷◌, Some, None, slice_index, SimpleTree, ProgramTree, Item, Loop, Place, Nowhere, InLocal, InGlobal, InLocalElement, InGlobalElement, Returned, function_at, evaluate}
 use Rattle.c_tree.specs.Trees as tree
-use Rattle.c_tree.specs.Trees.{SimpleTree, ProgramTree}
 use Rattle.c_mean.specs.ToDo as items
-use Rattle.c_mean.specs.ToDo.{Item, Loop}
-use Rattle.c_mean.specs.Frames.{Place, Nowhere, InLocal, InGlobal, InLocalElement, InGlobalElement, Returned, function_at}
 use Rattle.deep_mean.specs.DeepTrees.{DeepExpr, DeepSimple, DeclareScalar, DeclareArray, DeclareWith, SetLocal, SetGlobal, SetLocalElement, SetGlobalElement, Calling, DeepStmt, DeepProgram}
-use Rattle.deep_mean.specs.Evaluation.{evaluate}
 use Rattle.deep_mean.specs.DeepToDo as deep_items
 use Rattle.deep_mean.specs.DeepFrames as frames
 use Rattle.hoist_meaning.proofs.Bindings.{Agreement, Both, Paired, AreBelow}

@@ -1,27 +1,11 @@
 -- Where a frame of the tree stands for the text's, each step of the text is answered: by the end of the expression in evaluation, by the call
 -- that it comes to, or by the return to the frame below.
-use Rattle.std.proofs.Common.{ℕ, suc, ◌+◌, ◌≡◌, refl, sym, ap, subst, ◌∙◌, inl, Bool, true, false, List, [], ◌∷◌, length, Option, Some, None, arith}
-use Rattle.std.specs.Prelude.{Result, Ok, Err, nat_lt, slice_index, slice_index_or}
-use Rattle.cap_word.specs.Rows.{width, with_word}
-use Rattle.cap_word.specs.Calls.{Call, call_of, spawn_of}
-use Rattle.cap_word.specs.Runs.{Goes, Asks, Stops, and_then, moves, IsAnswered}
-use Rattle.cap_word.specs.declared.traps.TrapKind.{TrapKind}
-use Rattle.cap_word.proofs.RunLemmas.{goes_on}
-use Rattle.cap_word.specs.ModelledCalls.{number_of}
-use Rattle.c_tree.specs.Trees.{CallTree, CallFunction, CallTable, CallSpawn, CallModelled, ProgramTree}
-use Rattle.c_mean.specs.Values.{Value, value, with_first}
-use Rattle.c_mean.specs.ToDo.{Item, GiveBackWord}
-use Rattle.c_mean.specs.Frames.{Place, Nowhere, InLocal, InGlobal, InLocalElement, InGlobalElement, Returned, WaitingFrame, Running, Waiting, function_at}
+use Rattle.hoist_meaning.proofs.Common.{ℕ, suc, ◌+◌, ◌≡◌, refl, sym, ap, subst, ◌∙◌, inl, Bool, true, false, List, [], ◌∷◌, length, Option, Some, None, arith, Result, Ok, Err, nat_lt, slice_index, slice_index_or, width, with_word, Call, call_of, spawn_of, Goes, Asks, Stops, and_then, moves, IsAnswered, TrapKind, goes_on, number_of, CallTree, CallFunction, CallTable, CallSpawn, CallModelled, ProgramTree, Value, value, with_first, Item, GiveBackWord, Place, Nowhere, InLocal, InGlobal, InLocalElement, InGlobalElement, Returned, WaitingFrame, Running, Waiting, function_at, SourceMove, on_value, stored_where, source_step, source_machine, Function, Modelled, Spawned, DeepProgram, Around, Ready, ReadyCall, ReadyTableCall, Use, Stores, DeepWaitingFrame, DeepRunning}
 use Rattle.c_mean.specs.Frames as source_frames
 use Rattle.c_mean.specs.Steps as tree_steps
-use Rattle.c_mean.specs.Steps.{SourceMove, on_value, stored_where, source_step, source_machine}
 use Rattle.c_mean.proofs.CallLemmas.{counted}
-use Rattle.deep_mean.specs.DeepTrees.{Function, Modelled, Spawned, DeepProgram}
-use Rattle.deep_mean.specs.Evaluation.{Around, Ready, ReadyCall, ReadyTableCall}
 use Rattle.deep_mean.specs.DeepToDo as deep_items
-use Rattle.deep_mean.specs.DeepToDo.{Use, Stores}
 use Rattle.deep_mean.specs.DeepFrames as frames
-use Rattle.deep_mean.specs.DeepFrames.{DeepWaitingFrame, DeepRunning}
 use Rattle.deep_mean.specs.DeepSteps as deep_steps
 use Rattle.hoist_meaning.proofs.Bindings.{Agreement}
 use Rattle.hoist_meaning.proofs.Items.{Leads, stays, at, ReadyAlike}

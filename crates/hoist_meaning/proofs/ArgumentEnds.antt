@@ -1,25 +1,9 @@
 -- The ends of arguments, from left to right: each is done before a later one that holds a call, and those after the last call are evaluated
 -- with the call itself.
-use Rattle.std.proofs.Common.{ℕ, ◌≡◌, ◌+◌, ◌≤◌, refl, sym, ap, subst, ◌∙◌, Bool, true, false, List, [], ◌∷◌, ◌++◌, append_assoc, append-nil, arith}
-use Rattle.std.specs.Prelude.{Result, Ok, Err}
-use Rattle.cap_word.specs.declared.traps.TrapKind.{TrapKind}
-use Rattle.c_tree.specs.RawTrees.{RawExprTree, RawExprTrees, NoExprs, And, RawStmtTree}
-use Rattle.c_tree.specs.Trees.{ProgramTree}
-use Rattle.c_mean.specs.Values.{Value, value, values, with_first}
-use Rattle.c_mean.specs.ToDo.{Item}
-use Rattle.scope_rules.specs.Names.{Binding}
-use Rattle.scope_rules.specs.Expressions.{expr_faults, exprs_faults, listed, expr_of, exprs_of}
-use Rattle.scope_rules.specs.Places.{Spot}
-use Rattle.scope_rules.proofs.NoFaults.{both_none}
-use Rattle.deep_mean.specs.DeepTrees.{Callee}
+use Rattle.hoist_meaning.proofs.Common.{ℕ, ◌≡◌, ◌+◌, ◌≤◌, refl, sym, ap, subst, ◌∙◌, Bool, true, false, List, [], ◌∷◌, ◌++◌, append_assoc, append-nil, arith, Result, Ok, Err, TrapKind, RawExprTree, RawExprTrees, NoExprs, And, RawStmtTree, ProgramTree, Value, value, values, with_first, Item, Binding, expr_faults, exprs_faults, listed, expr_of, exprs_of, Spot, both_none, Callee, calls_in, holds_call, hold_call, is_named, one_if, names_in, arguments_names, part_after, part_or, part_named, left_of, arguments_left, before, arguments_before, or_left, or_right, no_left, no_before, AreSourceNames, AllSourceNames}
 use Rattle.deep_mean.specs.Evaluation.{Around, ArgumentOf, ReadyCall, Evaluation, Trapped, Calls, of_value, and_then, evaluate_arguments, filled}
 use Rattle.deep_mean.specs.Naming as deep
-use Rattle.deep_mean.specs.Naming.{calls_in}
-use Rattle.hoist_parts.specs.Calls.{holds_call, hold_call, is_named}
-use Rattle.hoist_parts.specs.Expressions.{one_if, names_in, arguments_names, part_after, part_or, part_named, left_of, arguments_left, before, arguments_before}
-use Rattle.hoist_parts.proofs.NoCalls.{or_left, or_right, no_left, no_before}
 use Rattle.hoist_meaning.proofs.KnownSpawn.{AreFine}
-use Rattle.hoist_meaning.specs.SourceNames.{AreSourceNames, AllSourceNames}
 use Rattle.hoist_meaning.proofs.Bindings.{Agreement, in_text, in_tree, IsAgreement, NamesStand}
 use Rattle.hoist_meaning.proofs.Items.{items_of, after, items_three}
 use Rattle.hoist_meaning.proofs.Spots.{with_part, with_names, with_argument_names, before_stands}

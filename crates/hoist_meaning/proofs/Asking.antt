@@ -1,8 +1,6 @@
 -- A segment asks nothing, so that how it stops, in one of two types of world, can be seen as a question: its trap, with the world that is
 -- left as what waits for the answer. Segments of the text and of the tree are then two machines of which one can follow the other.
-use Rattle.std.proofs.Common.{ℕ, zero, suc, ◌≡◌, refl, ap, Option}
-use Rattle.cap_word.specs.Runs.{Move, Goes, Asks, Stops, Machine, and_then, moves}
-use Rattle.cap_word.specs.declared.traps.TrapKind.{TrapKind}
+use Rattle.hoist_meaning.proofs.Common.{ℕ, zero, suc, ◌≡◌, refl, ap, Option, Move, Goes, Asks, Stops, Machine, and_then, moves, TrapKind}
 
 module _ {S X E : Type 0} (trap_of : E → Option TrapKind) (world_of : E → X) where
   abbrev pub asked : Move S ⊥ ⊥ E → Move S X (Option TrapKind) ⊥

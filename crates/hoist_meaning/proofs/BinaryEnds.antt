@@ -1,25 +1,8 @@
 -- The ends of an operator with two operands. Where the right one holds a call, the left one is done by then.
-use Rattle.std.proofs.Common.{ℕ, ◌≡◌, ◌+◌, ◌≤◌, refl, sym, ap, subst, ◌∙◌, Bool, true, false, List, [], ◌++◌, arith}
-use Rattle.std.specs.Prelude.{Ok, Err}
-use Rattle.c_tree.specs.declared.operators.BinaryOperator.{BinaryOperator}
-use Rattle.c_tree.specs.RawTrees.{RawExprTree, RawBinary}
-use Rattle.c_tree.specs.Trees.{ProgramTree}
-use Rattle.c_mean.specs.Operators.{binary_value}
-use Rattle.c_mean.specs.Values.{Value, value, on_both}
-use Rattle.c_mean.specs.ToDo.{Item}
-use Rattle.scope_rules.specs.Names.{Binding}
-use Rattle.scope_rules.specs.Expressions.{expr_faults, expr_of}
-use Rattle.scope_rules.specs.Places.{Spot}
-use Rattle.scope_rules.proofs.NoFaults.{both_none}
-use Rattle.deep_mean.specs.DeepTrees.{Binary}
+use Rattle.hoist_meaning.proofs.Common.{ℕ, ◌≡◌, ◌+◌, ◌≤◌, refl, sym, ap, subst, ◌∙◌, Bool, true, false, List, [], ◌++◌, arith, Ok, Err, BinaryOperator, RawExprTree, RawBinary, ProgramTree, binary_value, Value, value, on_both, Item, Binding, expr_faults, expr_of, Spot, both_none, Binary, calls_in, holds_call, is_named, one_if, names_in, part_after, part_or, part_named, left_of, before, no_left, no_before, AreSourceNames}
 use Rattle.deep_mean.specs.Evaluation.{LeftOf, RightOf, Done, of_value, and_then, evaluate, filled}
 use Rattle.deep_mean.specs.Naming as deep
-use Rattle.deep_mean.specs.Naming.{calls_in}
-use Rattle.hoist_parts.specs.Calls.{holds_call, is_named}
-use Rattle.hoist_parts.specs.Expressions.{one_if, names_in, part_after, part_or, part_named, left_of, before}
-use Rattle.hoist_parts.proofs.NoCalls.{no_left, no_before}
 use Rattle.hoist_meaning.proofs.KnownSpawn.{AreFine}
-use Rattle.hoist_meaning.specs.SourceNames.{AreSourceNames}
 use Rattle.hoist_meaning.proofs.Bindings.{Agreement, in_tree}
 use Rattle.hoist_meaning.proofs.Items.{items_of, after, items_three}
 use Rattle.hoist_meaning.proofs.Spots.{with_part, with_names, before_stands}

@@ -1,18 +1,6 @@
 -- The names in scope at a place of the text, and at the place of the rewritten tree that stands for it: the same, but for the new names,
 -- and each variable under the number that it has there. The latest comes first.
-use Rattle.std.proofs.Common.{ℕ, ◌≡◌, ◌≢◌, suc, ◌<◌, ◌⊎◌, inl, inr, ⊎_elim, refl, sym, ap, subst, ◌∙◌, Bool, true, false, List, [], ◌∷◌, length, Option, Some, None, set, replicate, arith, if◌then◌else◌}
-use Rattle.std.specs.Str.{bytes_eq}
-use Rattle.std.proofs.lemmas.Bool.{cases_eq}
-use Rattle.std.proofs.lemmas.List.{get_or-set_other}
-use Rattle.std.proofs.lemmas.Slice.Eq.{bytes_eq-Decides}
-use Rattle.cap_word.specs.Rows.{row, width, with_word, with_zeros}
-use Rattle.scope_rules.specs.declared.meanings.Meaning.{Meaning}
-use Rattle.scope_rules.specs.declared.meanings.Found.{Found}
-use Rattle.scope_rules.specs.Names.{Binding, find, is_fixed, bound}
-use Rattle.scope_rules.specs.Meanings.{is_modelled, table_in, table_of, callee_in, callee_of}
-use Rattle.hoist_parts.specs.NewNames.{new_name}
-use Rattle.hoist_parts.proofs.Names.{BeginsWithDigit, new_begins}
-use Rattle.hoist_meaning.specs.SourceNames.{IsSourceName}
+use Rattle.hoist_meaning.proofs.Common.{ℕ, ◌≡◌, ◌≢◌, suc, ◌<◌, ◌⊎◌, inl, inr, ⊎_elim, refl, sym, ap, subst, ◌∙◌, Bool, true, false, List, [], ◌∷◌, length, Option, Some, None, set, replicate, arith, if◌then◌else◌, bytes_eq, cases_eq, get_or-set_other, bytes_eq-Decides, row, width, with_word, with_zeros, Meaning, Found, Binding, find, is_fixed, bound, is_modelled, table_in, table_of, callee_in, callee_of, new_name, BeginsWithDigit, new_begins, IsSourceName}
 
 -- what is in scope in both: names outside functions, a variable of the text, or a new name, which only the tree has
 pub data Agreement : Type 0 where

@@ -1,26 +1,7 @@
 -- Branches that the rewriting adds: the step at their condition, and a branch that evaluates a part and sets the new name to what it makes of it.
-use Rattle.std.proofs.Common.{ℕ, suc, ◌≡◌, ◌+◌, ◌<◌, ◌≤◌, sym, ap, subst, ◌∙◌, Bool, false, List, [], ◌∷◌, ◌++◌, arith}
-use Rattle.std.specs.Prelude.{Ok, Err}
-use Rattle.cap_word.specs.Rows.{width, with_word}
-use Rattle.cap_word.specs.declared.traps.TrapKind.{TrapKind}
-use Rattle.c_tree.specs.RawTrees.{RawExprTree, RawStmtTree, RawIf, RawIfElse}
-use Rattle.c_tree.specs.Trees.{ProgramTree, Empty}
-use Rattle.c_tree.specs.WholeCalls.{HasNoCall}
-use Rattle.c_mean.specs.Values.{Value, value, on_one}
-use Rattle.c_mean.specs.ToDo.{Item}
-use Rattle.scope_rules.specs.Names.{Binding}
-use Rattle.scope_rules.specs.Expressions.{scalar_faults, expr_faults, expr_of}
-use Rattle.scope_rules.specs.Calls.{right_faults}
-use Rattle.scope_rules.specs.Meanings.{variable_of}
-use Rattle.scope_rules.specs.Places.{Spot}
-use Rattle.scope_rules.specs.Statements.{inside, stmt_of}
-use Rattle.scope_rules.specs.Numbered.{stmt_numbered}
-use Rattle.scope_rules.proofs.NoFaults.{both_none}
+use Rattle.hoist_meaning.proofs.Common.{ℕ, suc, ◌≡◌, ◌+◌, ◌<◌, ◌≤◌, sym, ap, subst, ◌∙◌, Bool, false, List, [], ◌∷◌, ◌++◌, arith, Ok, Err, width, with_word, TrapKind, RawExprTree, RawStmtTree, RawIf, RawIfElse, ProgramTree, Empty, HasNoCall, Value, value, on_one, Item, Binding, scalar_faults, expr_faults, expr_of, right_faults, variable_of, Spot, inside, stmt_of, stmt_numbered, both_none, new_name, used, set_to, names_in, left_of, in_block, before, left_whole}
 use Rattle.deep_mean.specs.Evaluation.{Around, Done, and_then, evaluate, filled}
 use Rattle.deep_mean.specs.Naming as deep
-use Rattle.hoist_parts.specs.NewNames.{new_name, used, set_to}
-use Rattle.hoist_parts.specs.Expressions.{names_in, left_of, in_block, before}
-use Rattle.hoist_parts.proofs.Whole.{left_whole}
 use Rattle.hoist_meaning.proofs.KnownSpawn.{AreFine, one_fine}
 use Rattle.hoist_meaning.proofs.Bindings.{Agreement, New, in_tree}
 use Rattle.hoist_meaning.proofs.Items.{items_of, after, items_both, taken_leads, passed_leads, choice_stops, at, stop_step}

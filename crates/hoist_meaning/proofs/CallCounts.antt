@@ -1,18 +1,7 @@
 -- The calls of a rewritten tree are those of the text, in another order: any count of places that adds up over lists, as `lesser` and
 -- `no_greater` of a place, is the same of both. A first argument of `spawn` in which a call stands would lose it; no source that breaks
 -- no rule has one.
-use Rattle.std.proofs.Common.{ℕ, ◌+◌, ◌≡◌, refl, sym, ap, ◌∙◌, Bool, true, false, ◌||◌, List, [], ◌∷◌, ◌++◌, append_assoc, append-nil, arith, if◌then◌else◌}
-use Rattle.c_tree.specs.RawTrees.{NameTree, RawExprTree, RawExprTrees, RawElement, RawUnary, RawParenthesized, RawBinary, RawLogicalAnd, RawLogicalOr, RawConditional, RawCall, RawTableCall, NoExprs, And, RawStmtTree, RawIfElse}
-use Rattle.c_tree.specs.RawViews.{raw_in_order, as_body}
-use Rattle.c_tree.specs.WholeCalls.{HasNoCall, HaveNoCall}
-use Rattle.grammar_laws.specs.Nested.{is_call}
-use Rattle.grammar_laws.specs.Places.{expr_places, exprs_places, stmt_places, stmts_places}
-use Rattle.hoist_parts.specs.NewNames.{used, declared, declared_as, set_to}
-use Rattle.hoist_parts.specs.Calls.{holds_call, hold_call, is_named, is_spawn}
-use Rattle.hoist_parts.specs.Expressions.{names_in, arguments_names, part_after, part_or, part_named, left_of, arguments_left, call_left, table_call_left, is_true, is_false, in_block, decided, before, arguments_before}
-use Rattle.hoist_meaning.specs.SpawnArguments.{IsPlain, ArePlain}
-use Rattle.hoist_parts.proofs.NoCalls.{or_left, or_right}
-use Rattle.hoist_parts.proofs.Whole.{not_held, left_whole, arguments_whole}
+use Rattle.hoist_meaning.proofs.Common.{ℕ, ◌+◌, ◌≡◌, refl, sym, ap, ◌∙◌, Bool, true, false, ◌||◌, List, [], ◌∷◌, ◌++◌, append_assoc, append-nil, arith, if◌then◌else◌, NameTree, RawExprTree, RawExprTrees, RawElement, RawUnary, RawParenthesized, RawBinary, RawLogicalAnd, RawLogicalOr, RawConditional, RawCall, RawTableCall, NoExprs, And, RawStmtTree, RawIfElse, raw_in_order, as_body, HasNoCall, HaveNoCall, is_call, expr_places, exprs_places, stmt_places, stmts_places, used, declared, declared_as, set_to, holds_call, hold_call, is_named, is_spawn, names_in, arguments_names, part_after, part_or, part_named, left_of, arguments_left, call_left, table_call_left, is_true, is_false, in_block, decided, before, arguments_before, IsPlain, ArePlain, or_left, or_right, not_held, left_whole, arguments_whole}
 
 -- ---- places
 

@@ -1,32 +1,9 @@
 -- The ends of calls: all of a statement's expression, or within one, where the result's declaration makes the call.
-use Rattle.std.proofs.Common.{ℕ, suc, ◌≡◌, ◌+◌, ◌≤◌, refl, sym, ap, subst, ◌∙◌, Bool, true, false, List, [], ◌∷◌, ◌++◌, length, Option, Some, None, arith, if◌then◌else◌}
-use Rattle.std.specs.Prelude.{nat_eq, Ok, Err}
-use Rattle.cap_word.specs.Rows.{width, with_word}
-use Rattle.c_tree.specs.RawTrees.{NameTree, RawExprTree, RawExprTrees, RawNumber, RawName, RawElement, RawUnary, RawParenthesized, RawBinary, RawLogicalAnd, RawLogicalOr, RawConditional, RawCall, NoExprs, And}
-use Rattle.c_tree.specs.Trees.{CallTree, Called, DeclareWith, ProgramTree}
-use Rattle.c_mean.specs.Values.{Value, values}
-use Rattle.c_mean.specs.ToDo.{Item, Simply}
-use Rattle.scope_rules.specs.declared.meanings.Meaning.{Meaning}
-use Rattle.scope_rules.specs.declared.meanings.Found.{Found}
+use Rattle.hoist_meaning.proofs.Common.{ℕ, suc, ◌≡◌, ◌+◌, ◌≤◌, refl, sym, ap, subst, ◌∙◌, Bool, true, false, List, [], ◌∷◌, ◌++◌, length, Option, Some, None, arith, if◌then◌else◌, nat_eq, Ok, Err, width, with_word, NameTree, RawExprTree, RawExprTrees, RawNumber, RawName, RawElement, RawUnary, RawParenthesized, RawBinary, RawLogicalAnd, RawLogicalOr, RawConditional, RawCall, NoExprs, And, CallTree, Called, DeclareWith, ProgramTree, Value, values, Item, Simply, Meaning, Found, Rule, Binding, find, broken, takes, is_wrong_count, function_in, function_of, callee_in, callee_of, exprs_faults, listed, exprs_of, Spot, declare_faults, number_at, call_numbered, both_none, not_broken, same_number, Ready, ReadyCall, Evaluation, Calls, of_value, evaluate, evaluate_arguments, callee_by, is_spawn_by, new_name, used, declared_as, holds_call, is_spawn, arguments_names, spawned_left, arguments_left, call_left, arguments_before, AreSourceNames, AllSourceNames, not-false}
 use Rattle.scope_rules.specs.declared.meanings.Callee as called
-use Rattle.scope_rules.specs.declared.faults.Rule.{Rule}
-use Rattle.scope_rules.specs.Names.{Binding, find}
-use Rattle.scope_rules.specs.Faults.{broken}
-use Rattle.scope_rules.specs.Meanings.{takes, is_wrong_count, function_in, function_of, callee_in, callee_of}
-use Rattle.scope_rules.specs.Expressions.{exprs_faults, listed, exprs_of}
 use Rattle.scope_rules.specs.Calls.{right_faults, call_name_faults, spawned_faults, arguments_faults, call_faults, spawned_function, first_value, spawn_of, call_by, call_of}
-use Rattle.scope_rules.specs.Places.{Spot}
-use Rattle.scope_rules.specs.Simples.{declare_faults}
-use Rattle.scope_rules.specs.Numbered.{number_at, call_numbered}
-use Rattle.scope_rules.proofs.NoFaults.{both_none, not_broken, not_false, same_number}
-use Rattle.deep_mean.specs.Evaluation.{Ready, ReadyCall, Evaluation, Calls, of_value, evaluate, evaluate_arguments}
 use Rattle.deep_mean.specs.Naming as deep
-use Rattle.deep_mean.specs.Naming.{callee_by, is_spawn_by}
-use Rattle.hoist_parts.specs.NewNames.{new_name, used, declared_as}
-use Rattle.hoist_parts.specs.Calls.{holds_call, is_spawn}
-use Rattle.hoist_parts.specs.Expressions.{arguments_names, spawned_left, arguments_left, call_left, arguments_before}
 use Rattle.hoist_meaning.proofs.KnownSpawn.{both_fine, one_fine}
-use Rattle.hoist_meaning.specs.SourceNames.{AreSourceNames, AllSourceNames}
 use Rattle.hoist_meaning.proofs.Bindings.{Agreement, New, in_text, in_tree, IsAgreement, LocalAlike, MeaningAlike, FoundAlike, found_alike, callee_alike}
 use Rattle.hoist_meaning.proofs.Items.{items_of, after, items_both, at, stop_step, call_stops, call_parts, ReadyAlike}
 use Rattle.hoist_meaning.proofs.Spots.{below_limit, with_argument_names, arguments_stand}
@@ -82,7 +59,7 @@ pub spawn_arity : (used_ : Bool) (o : Option Found) (at count : ℕ) → callee_
 spawn_arity used_ None at count e f = absurd (no_spawn (called.Callee.Function 0) refl e)
 spawn_arity used_ (Some g) at count e f =
     let both = both_none (broken (is_wrong_count (takes g.meaning) count) at Rule.Arity) _ f in
-    same_number 2 count (not_false (nat_eq 2 count) (ap (λ t. is_wrong_count t count) (sym (spawn_takes g.meaning e)) ∙ not_broken (is_wrong_count (takes g.meaning) count) at Rule.Arity both.0))
+    same_number 2 count (not-false (nat_eq 2 count) (ap (λ t. is_wrong_count t count) (sym (spawn_takes g.meaning e)) ∙ not_broken (is_wrong_count (takes g.meaning) count) at Rule.Arity both.0))
 
 one_value : (bs : List Binding) (ys : List RawExprTree) → 2 ≡ suc (length ys) → first_value (exprs_of bs ys) ∷ [] ≡ exprs_of bs ys
 one_value bs (y ∷ []) h = refl

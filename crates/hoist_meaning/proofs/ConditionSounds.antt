@@ -1,12 +1,5 @@
 -- What is known of a place makes the conditions there sound.
-use Rattle.std.proofs.Common.{ℕ, ◌+◌, refl, sym, ap, ◌∙◌, Bool, List, length}
-use Rattle.c_tree.specs.RawTrees.{RawExprTree}
-use Rattle.c_tree.specs.Trees.{ProgramTree}
-use Rattle.scope_rules.specs.Expressions.{expr_faults}
-use Rattle.scope_rules.specs.Places.{Spot}
-use Rattle.deep_mean.specs.DeepTrees.{DeepProgram}
-use Rattle.deep_mean.specs.Naming.{calls_in, counted}
-use Rattle.hoist_parts.specs.Expressions.{names_in, left_of, before}
+use Rattle.hoist_meaning.proofs.Common.{ℕ, ◌+◌, refl, sym, ap, ◌∙◌, Bool, List, length, RawExprTree, ProgramTree, expr_faults, Spot, DeepProgram, calls_in, counted, names_in, left_of, before}
 use Rattle.hoist_meaning.proofs.Bindings.{Agreement}
 use Rattle.hoist_meaning.proofs.Items.{after}
 use Rattle.hoist_meaning.proofs.Spots.{with_names, before_stands}

@@ -1,26 +1,8 @@
 -- The ends of `?:`. Where one of its parts holds a call, the part that is chosen is evaluated in a branch, and a new name has its value.
-use Rattle.std.proofs.Common.{ℕ, zero, suc, ◌≡◌, ◌+◌, refl, sym, ap, subst, ◌∙◌, Bool, true, false, ◌||◌, List, [], ◌∷◌, ◌++◌, arith, if◌then◌else◌}
-use Rattle.std.specs.Prelude.{Ok, Err}
-use Rattle.cap_word.specs.Rows.{width, with_zeros}
-use Rattle.c_tree.specs.RawTrees.{RawExprTree, RawConditional, RawStmtTree, RawIfElse}
-use Rattle.c_tree.specs.Trees.{ProgramTree}
-use Rattle.c_mean.specs.Values.{Value, value, on_one, choice}
-use Rattle.c_mean.specs.ToDo.{Item}
-use Rattle.scope_rules.specs.Names.{Binding}
-use Rattle.scope_rules.specs.Expressions.{expr_faults, expr_of}
-use Rattle.scope_rules.specs.Places.{Spot}
-use Rattle.scope_rules.specs.Statements.{inside, stmt_faults}
-use Rattle.scope_rules.proofs.NoFaults.{both_none, neither}
-use Rattle.deep_mean.specs.DeepTrees.{Conditional}
+use Rattle.hoist_meaning.proofs.Common.{ℕ, zero, suc, ◌≡◌, ◌+◌, refl, sym, ap, subst, ◌∙◌, Bool, true, false, ◌||◌, List, [], ◌∷◌, ◌++◌, arith, if◌then◌else◌, Ok, Err, width, with_zeros, RawExprTree, RawConditional, RawStmtTree, RawIfElse, ProgramTree, Value, value, on_one, choice, Item, Binding, expr_faults, expr_of, Spot, inside, stmt_faults, both_none, Conditional, calls_in, used, declared, set_to, holds_call, one_if, names_in, left_of, in_block, before, left_whole, AreSourceNames, or_parts}
 use Rattle.deep_mean.specs.Evaluation.{ConditionOf, Chosen, Done, of_value, and_then, chosen, evaluate, filled}
 use Rattle.deep_mean.specs.Naming as deep
-use Rattle.deep_mean.specs.Naming.{calls_in}
-use Rattle.hoist_parts.specs.NewNames.{used, declared, set_to}
-use Rattle.hoist_parts.specs.Calls.{holds_call}
-use Rattle.hoist_parts.specs.Expressions.{one_if, names_in, left_of, in_block, before}
-use Rattle.hoist_parts.proofs.Whole.{left_whole}
 use Rattle.hoist_meaning.proofs.KnownSpawn.{AreFine, both_fine, one_fine}
-use Rattle.hoist_meaning.specs.SourceNames.{AreSourceNames}
 use Rattle.hoist_meaning.proofs.Bindings.{Agreement, New, in_tree}
 use Rattle.hoist_meaning.proofs.Values.{then_choice}
 use Rattle.hoist_meaning.proofs.Items.{items_of, after, items_both}
@@ -194,7 +176,7 @@ module _ (program : ProgramTree) (ns : List ℕ) (f : ℕ) (text : Rows) (ds : L
       let b = with_names k v c a in
       let C = left_of k c in
       let fines = both_fine gives loop s (before k c) [] fine in
-      let quiets = neither (holds_call x) (holds_call y) e in
+      let quiets = or_parts (holds_call x) (holds_call y) e in
       let two = both_none (expr_faults (in_tree b) C ++ expr_faults (in_tree b) x) (expr_faults (in_tree b) y) left_fine in
       let one = both_none (expr_faults (in_tree b) C) (expr_faults (in_tree b) x) two.0 in
       subst (λ items. EndsAs program f text strict (IsLeft v b (RawConditional C x y) names) NoCall rest globals names items (evaluate text globals (Conditional (deep.expr_of ds site c) (deep.expr_of ds (site + calls_in c) x) (deep.expr_of ds (site + calls_in c + calls_in x) y))))

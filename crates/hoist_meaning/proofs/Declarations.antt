@@ -1,16 +1,7 @@
 -- A declaration of the text keeps the agreement of both: the name is in scope in both after it, under the next number of each, or, where
 -- it can't be declared, in neither.
-use Rattle.std.proofs.Common.{ℕ, ◌+◌, ◌≤◌, ◌≡◌, refl, sym, ap, subst, ◌∙◌, Bool, true, false, List, [], ◌∷◌, ◌++◌, length, length-append, Option, Some, None, arith}
-use Rattle.c_tree.specs.RawTrees.{NameTree, RawSimpleTree, RawDeclareScalar, RawDeclareArray, RawDeclareWith}
-use Rattle.scope_rules.specs.declared.meanings.Meaning.{Meaning}
-use Rattle.scope_rules.specs.declared.meanings.Found.{Found}
-use Rattle.scope_rules.specs.Names.{find, is_fixed, bound}
-use Rattle.scope_rules.specs.Meanings.{is_modelled}
-use Rattle.scope_rules.specs.Places.{Spot}
-use Rattle.scope_rules.specs.Simples.{with_variable, simple_after}
+use Rattle.hoist_meaning.proofs.Common.{ℕ, ◌+◌, ◌≤◌, ◌≡◌, refl, sym, ap, subst, ◌∙◌, Bool, true, false, List, [], ◌∷◌, ◌++◌, length, length-append, Option, Some, None, arith, NameTree, RawSimpleTree, RawDeclareScalar, RawDeclareArray, RawDeclareWith, Meaning, Found, find, is_fixed, bound, is_modelled, Spot, with_variable, simple_after, simple_left, IsSourceName, IsSimpleNamed}
 use Rattle.deep_mean.specs.Naming as deep
-use Rattle.hoist_parts.specs.Statements.{simple_left}
-use Rattle.hoist_meaning.specs.SourceNames.{IsSourceName, IsSimpleNamed}
 use Rattle.hoist_meaning.proofs.Bindings.{Agreement, Outside, Both, New, in_text, in_tree, IsAgreement, AreBelow, LocalAlike, MeaningAlike, FoundAlike, found_alike}
 use Rattle.hoist_meaning.proofs.Spots.{StandsAt, below_limit}
 

@@ -1,21 +1,7 @@
 -- The ends of an element that is set: the index, which is done before a right side with a call within it, and else is evaluated with it.
-use Rattle.std.proofs.Common.{ℕ, ◌≡◌, ◌+◌, sym, ap, subst, ◌∙◌, Bool, true, false, List, [], ◌++◌, arith}
-use Rattle.std.specs.Prelude.{Ok, Err}
-use Rattle.c_tree.specs.RawTrees.{RawExprTree}
-use Rattle.c_tree.specs.Trees.{ExprTree, RightTree, ProgramTree}
-use Rattle.c_mean.specs.Values.{Value, value}
-use Rattle.c_mean.specs.ToDo.{Item}
-use Rattle.scope_rules.specs.Names.{Binding}
-use Rattle.scope_rules.specs.Expressions.{expr_faults, expr_of}
-use Rattle.scope_rules.specs.Places.{Spot}
-use Rattle.deep_mean.specs.Evaluation.{Evaluation, Trapped, evaluate}
+use Rattle.hoist_meaning.proofs.Common.{ℕ, ◌≡◌, ◌+◌, sym, ap, subst, ◌∙◌, Bool, true, false, List, [], ◌++◌, arith, Ok, Err, RawExprTree, ExprTree, RightTree, ProgramTree, Value, value, Item, Binding, expr_faults, expr_of, Spot, Evaluation, Trapped, evaluate, calls_in, holds_nested, is_named, one_if, names_in, part_after, part_or, part_named, left_of, before, value_names, value_left, value_before, AreSourceNames}
 use Rattle.deep_mean.specs.Naming as deep
-use Rattle.deep_mean.specs.Naming.{calls_in}
-use Rattle.hoist_parts.specs.Calls.{holds_nested, is_named}
-use Rattle.hoist_parts.specs.Expressions.{one_if, names_in, part_after, part_or, part_named, left_of, before}
-use Rattle.hoist_parts.specs.Statements.{value_names, value_left, value_before}
 use Rattle.hoist_meaning.proofs.KnownSpawn.{AreFine}
-use Rattle.hoist_meaning.specs.SourceNames.{AreSourceNames}
 use Rattle.hoist_meaning.proofs.Bindings.{Agreement, in_tree}
 use Rattle.hoist_meaning.proofs.Items.{items_of, after, items_three}
 use Rattle.hoist_meaning.proofs.Spots.{with_part, with_names, before_stands}

@@ -1,17 +1,7 @@
 -- How an evaluation of the text ends, and what the rewritten function does meanwhile: from its items it comes in silence to what is left of
 -- the expression, or it stops with the same trap, or it makes the same call by the declaration of a new name. What follows that call is told
 -- with it: for each result and all globals by then, the function ends as what stands around the call goes on.
-use Rattle.std.proofs.Common.{ℕ, ◌+◌, ◌≡◌, refl, sym, ap, subst, ◌∙◌, Bool, true, false, List, [], ◌∷◌, ◌++◌, append_assoc, append-nil, Some}
-use Rattle.std.specs.Prelude.{Ok, Err}
-use Rattle.cap_word.specs.Rows.{with_word}
-use Rattle.cap_word.specs.Runs.{Stops, moves}
-use Rattle.cap_word.specs.declared.traps.TrapKind.{TrapKind}
-use Rattle.cap_word.proofs.RunLemmas.{goes_on}
-use Rattle.c_tree.specs.Trees.{CallTree, Called, DeclareWith, ProgramTree}
-use Rattle.c_mean.specs.Values.{Value}
-use Rattle.c_mean.specs.ToDo.{Item, Simply}
-use Rattle.c_mean.specs.Frames.{WaitingFrame}
-use Rattle.c_mean.specs.Steps.{source_machine}
+use Rattle.hoist_meaning.proofs.Common.{ℕ, ◌+◌, ◌≡◌, refl, sym, ap, subst, ◌∙◌, Bool, true, false, List, [], ◌∷◌, ◌++◌, append_assoc, append-nil, Some, Ok, Err, with_word, Stops, moves, TrapKind, goes_on, CallTree, Called, DeclareWith, ProgramTree, Value, Item, Simply, WaitingFrame, source_machine}
 use Rattle.deep_mean.specs.Evaluation.{Around, Ready, Evaluation, Done, Trapped, Calls, of_value, and_then, filled, outward, go_on}
 use Rattle.hoist_meaning.proofs.Items.{Leads, stays, leads_on, at, ReadyAlike}
 

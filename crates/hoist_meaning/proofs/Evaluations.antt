@@ -1,22 +1,7 @@
 -- Every evaluation of the text ends as the rewritten function does: of an expression, of a right side, which itself may be a call, and of an
 -- element that is set, whose index comes first.
-use Rattle.std.proofs.Common.{ℕ, ◌+◌, ◌≡◌, refl, sym, ap, subst, ◌∙◌, Bool, true, false, List, ◌++◌, arith}
-use Rattle.c_tree.specs.RawTrees.{RawExprTree, RawExprTrees, RawNumber, RawName, RawElement, RawUnary, RawParenthesized, RawBinary, RawLogicalAnd, RawLogicalOr, RawConditional, RawCall, RawTableCall, NoExprs, And}
-use Rattle.c_tree.specs.Trees.{RightTree, Computed, ProgramTree}
-use Rattle.c_mean.specs.Values.{Value}
-use Rattle.c_mean.specs.ToDo.{Item}
-use Rattle.scope_rules.specs.Names.{Binding}
-use Rattle.scope_rules.specs.Expressions.{expr_of}
-use Rattle.scope_rules.specs.Calls.{right_of}
-use Rattle.scope_rules.specs.Places.{Spot}
-use Rattle.scope_rules.specs.Numbered.{right_numbered}
-use Rattle.deep_mean.specs.Evaluation.{evaluate}
+use Rattle.hoist_meaning.proofs.Common.{ℕ, ◌+◌, ◌≡◌, refl, sym, ap, subst, ◌∙◌, Bool, true, false, List, ◌++◌, arith, RawExprTree, RawExprTrees, RawNumber, RawName, RawElement, RawUnary, RawParenthesized, RawBinary, RawLogicalAnd, RawLogicalOr, RawConditional, RawCall, RawTableCall, NoExprs, And, RightTree, Computed, ProgramTree, Value, Item, Binding, expr_of, right_of, Spot, right_numbered, evaluate, holds_call, holds_nested, is_named, one_if, names_in, part_after, part_named, left_of, before, value_names, value_before, left_whole}
 use Rattle.deep_mean.specs.Naming as deep
-use Rattle.deep_mean.specs.Naming.{calls_in}
-use Rattle.hoist_parts.specs.Calls.{holds_call, holds_nested, is_named}
-use Rattle.hoist_parts.specs.Expressions.{one_if, names_in, part_after, part_named, left_of, before}
-use Rattle.hoist_parts.specs.Statements.{value_names, value_before}
-use Rattle.hoist_parts.proofs.Whole.{left_whole}
 use Rattle.hoist_meaning.proofs.Bindings.{Agreement, in_tree}
 use Rattle.hoist_meaning.proofs.Items.{items_of, after}
 use Rattle.hoist_meaning.proofs.Spots.{with_names, before_stands}

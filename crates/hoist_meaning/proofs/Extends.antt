@@ -1,14 +1,5 @@
 -- More new names in scope: what an agreement says of the names of the source, and of earlier new names, stays so.
-use Rattle.std.proofs.Common.{ℕ, ◌≡◌, ◌+◌, ◌<◌, ◌≤◌, inl, inr, refl, ◌∙◌, Bool, true, false, ◌||◌, arith}
-use Rattle.std.specs.Str.{bytes_eq}
-use Rattle.std.proofs.lemmas.Slice.Eq.{bytes_eq-Decides}
-use Rattle.c_tree.specs.RawTrees.{RawExprTree, RawExprTrees, RawElement, RawUnary, RawParenthesized, RawBinary, RawLogicalAnd, RawLogicalOr, RawConditional, RawCall, RawTableCall, NoExprs, And}
-use Rattle.scope_rules.specs.Names.{find}
-use Rattle.hoist_parts.specs.NewNames.{new_name}
-use Rattle.hoist_parts.specs.Calls.{holds_call, hold_call, is_named, is_spawn}
-use Rattle.hoist_parts.specs.Expressions.{one_if, names_in, arguments_names, part_after}
-use Rattle.hoist_parts.proofs.NoCalls.{or_left, or_right}
-use Rattle.hoist_parts.proofs.Names.{new_distinct}
+use Rattle.hoist_meaning.proofs.Common.{ℕ, ◌≡◌, ◌+◌, ◌<◌, ◌≤◌, inl, inr, refl, ◌∙◌, Bool, true, false, ◌||◌, arith, bytes_eq, bytes_eq-Decides, RawExprTree, RawExprTrees, RawElement, RawUnary, RawParenthesized, RawBinary, RawLogicalAnd, RawLogicalOr, RawConditional, RawCall, RawTableCall, NoExprs, And, find, new_name, holds_call, hold_call, is_named, is_spawn, one_if, names_in, arguments_names, part_after, or_left, or_right, new_distinct}
 use Rattle.hoist_meaning.proofs.Bindings.{Agreement, Outside, Both, New, in_text, in_tree, IsAgreement, Paired, AreBelow}
 use Rattle.hoist_meaning.proofs.Spots.{with_part, with_names, with_argument_names}
 

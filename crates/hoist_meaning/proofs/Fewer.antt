@@ -1,16 +1,8 @@
 -- The text declares no more variables than the rewritten tree.
-use Rattle.std.proofs.Common.{ℕ, ◌+◌, ◌≡◌, ◌≤◌, refl, sym, ap, subst, ◌∙◌, Bool, true, false, List, [], ◌∷◌, ◌++◌, length, length-append, Option, Some, None, arith}
-use Rattle.c_tree.specs.RawTrees.{RawExprTree, RawSimpleTree, RawDeclareScalar, RawDeclareArray, RawDeclareWith, RawStmtTree, RawStmtTrees, RawDo, RawBlock, RawIf, RawIfElse, RawWhile, RawFor, RawBreak, RawReturn, NoRawStmts, RawThen}
-use Rattle.c_tree.specs.RawViews.{raw_in_order, as_body}
-use Rattle.scope_rules.specs.Places.{Spot}
+use Rattle.hoist_meaning.proofs.Common.{ℕ, ◌+◌, ◌≡◌, ◌≤◌, refl, sym, ap, subst, ◌∙◌, Bool, true, false, List, [], ◌∷◌, ◌++◌, length, length-append, Option, Some, None, arith, RawExprTree, RawSimpleTree, RawDeclareScalar, RawDeclareArray, RawDeclareWith, RawStmtTree, RawStmtTrees, RawDo, RawBlock, RawIf, RawIfElse, RawWhile, RawFor, RawBreak, RawReturn, NoRawStmts, RawThen, raw_in_order, as_body, Spot, inside, left, stmt_after, stmts_after, calls_in, counted, holds_call, names_in, left_of, before, is_false, value_before, value_left, simple_left, simple_before, stmt_names, hoisted, all_hoisted}
 use Rattle.scope_rules.specs.Simples as tree_simples
 use Rattle.scope_rules.specs.Statements as tree_stmts
-use Rattle.scope_rules.specs.Statements.{inside, left, stmt_after, stmts_after}
 use Rattle.deep_mean.specs.Naming as deep
-use Rattle.deep_mean.specs.Naming.{calls_in, counted}
-use Rattle.hoist_parts.specs.Calls.{holds_call}
-use Rattle.hoist_parts.specs.Expressions.{names_in, left_of, before, is_false}
-use Rattle.hoist_parts.specs.Statements.{value_before, value_left, simple_left, simple_before, stmt_names, hoisted, all_hoisted}
 use Rattle.hoist_meaning.proofs.Items.{after, after_both}
 use Rattle.hoist_meaning.proofs.Sizes.{Grows, stmt_grows, stmts_grow}
 use Rattle.hoist_meaning.proofs.Pieces.{grows_length, body_is}

@@ -1,24 +1,9 @@
 -- What is known of a place of the text and of the place of the tree that stands for it, and what is known of the statements there: their
 -- names are a source's, the tree's break no rule, their variables are those of the functions, and their calls those of the whole.
-use Rattle.std.proofs.Common.{ℕ, ◌≡◌, ◌≤◌, Bool, List, [], ◌∷◌, ◌++◌, length}
-use Rattle.c_tree.specs.RawTrees.{RawExprTree, RawSimpleTree, RawStmtTree, RawStmtTrees, RawDo}
-use Rattle.c_tree.specs.Trees.{ProgramTree}
-use Rattle.c_tree.specs.WholeForParts.{IsForWhole, AreForsWhole}
-use Rattle.c_mean.specs.Frames.{function_at}
-use Rattle.scope_rules.specs.Expressions.{expr_faults}
-use Rattle.scope_rules.specs.Places.{Spot}
-use Rattle.scope_rules.specs.Numbered.{number_at}
-use Rattle.grammar_laws.specs.Nested.{is_call}
-use Rattle.grammar_laws.specs.Places.{expr_places, simple_places, stmt_places, stmts_places}
-use Rattle.deep_mean.specs.DeepTrees.{DeepProgram}
+use Rattle.hoist_meaning.proofs.Common.{ℕ, ◌≡◌, ◌≤◌, Bool, List, [], ◌∷◌, ◌++◌, length, RawExprTree, RawSimpleTree, RawStmtTree, RawStmtTrees, RawDo, ProgramTree, IsForWhole, AreForsWhole, function_at, expr_faults, Spot, number_at, is_call, expr_places, simple_places, stmt_places, stmts_places, DeepProgram, left_of, before, value_left, value_before, simple_left, simple_before, hoisted, all_hoisted, StandsAt, IsPlain, IsSimplePlain, IsStmtPlain, AreStmtsPlain, AreSourceNames, IsSimpleNamed, IsStmtNamed, AreStmtsNamed}
 use Rattle.deep_mean.specs.DeepFrames as frames
 use Rattle.deep_mean.specs.Naming as deep
-use Rattle.hoist_parts.specs.Expressions.{left_of, before}
-use Rattle.hoist_parts.specs.Statements.{value_left, value_before, simple_left, simple_before, hoisted, all_hoisted}
-use Rattle.hoist_meaning.specs.CallPlaces.{StandsAt}
-use Rattle.hoist_meaning.specs.SpawnArguments.{IsPlain, IsSimplePlain, IsStmtPlain, AreStmtsPlain}
 use Rattle.hoist_meaning.proofs.KnownSpawn.{AreFine}
-use Rattle.hoist_meaning.specs.SourceNames.{AreSourceNames, IsSimpleNamed, IsStmtNamed, AreStmtsNamed}
 use Rattle.hoist_meaning.proofs.Bindings.{Agreement}
 use Rattle.hoist_meaning.proofs.Items.{after}
 use Rattle.hoist_meaning.proofs.Declarations.{BothStand}

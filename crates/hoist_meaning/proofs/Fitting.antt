@@ -1,34 +1,14 @@
 -- Of a well-scoped program each call that the first item of a thread makes has as many arguments as what it calls has parameters, and each
 -- thread that it starts runs a function of one.
-use Rattle.std.proofs.Common.{ℕ, zero, suc, ◌<◌, ◌≡◌, refl, sym, subst, ◌∙◌, Bool, true, false, List, [], ◌∷◌, ◌++◌, length, map, Option, Some, None, arith}
-use Rattle.std.specs.Prelude.{Result, Ok, Err, nat_lt, slice_index, slice_index_or}
-use Rattle.std.specs.List.{Contains, AllByRecursion}
-use Rattle.std.proofs.lemmas.Bool.Decides.{nat_tests}
-use Rattle.cap_word.specs.Calls.{Call, Immediate, call_of, call_with}
-use Rattle.cap_word.specs.Runs.{Goes, Asks}
-use Rattle.cap_word.specs.declared.calls.Ask.{Ask}
-use Rattle.cap_word.specs.declared.traps.TrapKind.{TrapKind}
-use Rattle.cap_word.specs.ModelledCalls.{number_of}
-use Rattle.cap_word.specs.declared.modelled_calls.ModelledCall.{ModelledCall}
+use Rattle.hoist_meaning.proofs.Common.{ℕ, zero, suc, ◌<◌, ◌≡◌, refl, sym, subst, ◌∙◌, Bool, true, false, List, [], ◌∷◌, ◌++◌, length, map, Option, Some, None, arith, Result, Ok, Err, nat_lt, slice_index, slice_index_or, Contains, AllByRecursion, Call, Immediate, call_of, call_with, Goes, Asks, Ask, TrapKind, number_of, ModelledCall, simple_names, CallTree, CallFunction, CallTable, CallSpawn, CallModelled, RightTree, Computed, Called, SimpleTree, DeclareWith, SetLocal, SetGlobal, SetLocalElement, SetGlobalElement, Calling, StmtTree, StmtTrees, Do, Block, If, IfElse, While, For, Return, NoStmts, Then, FunctionTree, ProgramTree, signature_of, Context, context_of, with_names, scope_after, scope_after_all, IsCallScoped, IsRightScoped, IsSimpleScoped, AreSimplesScoped, IsStepScoped, IsReturnScoped, IsStmtScoped, AreStmtsScoped, AreFunctionsScoped, IsWellScoped, Item, Simply, Choose, Test, Enter, Back, GiveBack, GiveBackWord, WhileLoop, ForLoop, step_item, all_before, turn_before, Place, Nowhere, InLocal, InGlobal, InLocalElement, InGlobalElement, Returned, WaitingFrame, Running, Waiting, function_at, Target, ToNowhere, ToLocal, ToGlobal, ToLocalElement, ToGlobalElement, ToCaller, CallInText, right_calls, simple_calls, simples_calls, step_calls, returned_calls, stmt_calls, stmts_calls, function_calls, SourceMove, to_do, on_value, valued, all_valued, stored, assigned, entered_where, asks_if, called, assigns, does, branched, returned, gives_back, performs_first, source_step, Stands, less}
 use Rattle.c_tree.specs.Sizes.{below}
-use Rattle.c_tree.specs.TextOrder.{simple_names}
-use Rattle.c_tree.specs.Trees.{CallTree, CallFunction, CallTable, CallSpawn, CallModelled, RightTree, Computed, Called, SimpleTree, DeclareWith, SetLocal, SetGlobal, SetLocalElement, SetGlobalElement, Calling, StmtTree, StmtTrees, Do, Block, If, IfElse, While, For, Return, NoStmts, Then, FunctionTree, ProgramTree}
-use Rattle.c_tree.specs.WellScoped.{signature_of, Context, context_of, with_names, scope_after, scope_after_all, IsCallScoped, IsRightScoped, IsSimpleScoped, AreSimplesScoped, IsStepScoped, IsReturnScoped, IsStmtScoped, AreStmtsScoped, AreFunctionsScoped, IsWellScoped}
 use Rattle.cap_word.specs.Signatures.{signature_at, IsMember, IsTable}
-use Rattle.c_mean.specs.ToDo.{Item, Simply, Choose, Test, Enter, Back, GiveBack, GiveBackWord, WhileLoop, ForLoop, step_item, all_before, turn_before}
-use Rattle.c_mean.specs.Frames.{Place, Nowhere, InLocal, InGlobal, InLocalElement, InGlobalElement, Returned, WaitingFrame, Running, Waiting, function_at}
-use Rattle.c_mean.specs.Sites.{Target, ToNowhere, ToLocal, ToGlobal, ToLocalElement, ToGlobalElement, ToCaller, CallInText, right_calls, simple_calls, simples_calls, step_calls, returned_calls, stmt_calls, stmts_calls, function_calls}
-use Rattle.c_mean.specs.Steps.{SourceMove, to_do, on_value, valued, all_valued, stored, assigned, entered_where, asks_if, called, assigns, does, branched, returned, gives_back, performs_first, source_step}
 use Rattle.c_mean.proofs.CallLemmas.{each_made}
 use Rattle.c_mean.proofs.TextLemmas.{AllIn, IsRest}
-use Rattle.c_mean.proofs.StandLemmas.{Stands}
 use Rattle.hoist_meaning.proofs.Frames.{right_call, simple_call, returned_call, first_call}
 
 abbrev no_function : FunctionTree
 no_function = record { name = []; params = 0; gives = false; sizes = []; body = NoStmts }
-
-less : (a b : ℕ) → nat_lt a b ≡ true → a < b
-less a b h = grind (arith, nat_tests)
 
 signature_is : (fs : List FunctionTree) (g : ℕ) → (signature_at (map signature_of fs) g).params ≡ (slice_index_or fs g no_function).params
 signature_is (f ∷ fs) (suc g) = signature_is fs g

@@ -1,31 +1,11 @@
 -- The parts in the parentheses of a `for`, in which each call is whole, stay as they are, and are sound.
-use Rattle.std.proofs.Common.{ℕ, ◌+◌, ◌≡◌, ◌≤◌, refl, sym, ap, subst, ◌∙◌, Bool, true, false, List, [], ◌∷◌, ◌++◌, length, append-nil, length-append, Option, Some, None, arith}
-use Rattle.c_tree.specs.RawTrees.{RawExprTree, RawExprTrees, RawElement, RawUnary, RawParenthesized, RawBinary, RawLogicalAnd, RawLogicalOr, RawConditional, RawCall, RawTableCall, NoExprs, And, RawSimpleTree, RawDeclareScalar, RawDeclareArray, RawDeclareWith, RawSet, RawSetElement, RawCalling, RawTableCalling, RawDo}
-use Rattle.c_tree.specs.Trees.{ProgramTree}
-use Rattle.c_tree.specs.WholeCalls.{HaveNoCall, IsValueWhole, IsSimpleWhole, AreSimplesWhole, IsConditionWhole, IsStepWhole}
-use Rattle.c_mean.specs.Frames.{function_at}
-use Rattle.scope_rules.specs.Expressions.{expr_faults}
-use Rattle.scope_rules.specs.Places.{Spot}
+use Rattle.hoist_meaning.proofs.Common.{ℕ, ◌+◌, ◌≡◌, ◌≤◌, refl, sym, ap, subst, ◌∙◌, Bool, true, false, List, [], ◌∷◌, ◌++◌, length, append-nil, length-append, Option, Some, None, arith, RawExprTree, RawExprTrees, RawElement, RawUnary, RawParenthesized, RawBinary, RawLogicalAnd, RawLogicalOr, RawConditional, RawCall, RawTableCall, NoExprs, And, RawSimpleTree, RawDeclareScalar, RawDeclareArray, RawDeclareWith, RawSet, RawSetElement, RawCalling, RawTableCalling, RawDo, ProgramTree, HaveNoCall, IsValueWhole, IsSimpleWhole, AreSimplesWhole, IsConditionWhole, IsStepWhole, function_at, expr_faults, Spot, simple_faults, simples_faults, condition_faults, step_faults, step_kind, step_after, both_none, is_call, simple_places, simples_places, optional_places, step_places, DeepProgram, calls_in, counted, is_spawn, before, simple_left, simple_before, held_not, simple_kept, no_simple_before, no_before, no_left, IsPlain, ArePlain, IsSimplePlain, IsSimpleNamed, AreSimplesNamed, IsOptionNamed, IsStepNamed}
 use Rattle.scope_rules.specs.Simples as tree_simples
-use Rattle.scope_rules.specs.Simples.{simple_faults, simples_faults}
-use Rattle.scope_rules.specs.Statements.{condition_faults, step_faults, step_kind, step_after}
-use Rattle.scope_rules.proofs.NoFaults.{both_none}
-use Rattle.grammar_laws.specs.Nested.{is_call}
-use Rattle.grammar_laws.specs.Places.{simple_places, simples_places, optional_places, step_places}
-use Rattle.deep_mean.specs.DeepTrees.{DeepProgram}
 use Rattle.deep_mean.specs.DeepFrames as frames
 use Rattle.deep_mean.specs.Naming as deep
-use Rattle.deep_mean.specs.Naming.{calls_in, counted}
-use Rattle.hoist_parts.specs.Calls.{is_spawn}
-use Rattle.hoist_parts.specs.Expressions.{before}
-use Rattle.hoist_parts.specs.Statements.{simple_left, simple_before}
-use Rattle.hoist_parts.proofs.Kept.{held_not, simple_kept, no_simple_before}
-use Rattle.hoist_parts.proofs.NoCalls.{no_before, no_left}
-use Rattle.hoist_meaning.specs.SpawnArguments.{IsPlain, ArePlain, IsSimplePlain}
 use Rattle.hoist_meaning.proofs.CallCounts.{no_places}
 use Rattle.hoist_meaning.proofs.KnownSpawn.{AreFine}
 use Rattle.hoist_meaning.proofs.SpawnedNames.{no_call_plain}
-use Rattle.hoist_meaning.specs.SourceNames.{IsSimpleNamed, AreSimplesNamed, IsOptionNamed, IsStepNamed}
 use Rattle.hoist_meaning.proofs.Bindings.{Agreement}
 use Rattle.hoist_meaning.proofs.Items.{after}
 use Rattle.hoist_meaning.proofs.Alike.{Within}

@@ -1,22 +1,9 @@
 -- When a frame of the rewritten program stands for a frame of the text: it has the same items to do, or it is to come in silence to the end of
 -- the expression that is in evaluation there. What the items of one and the other are is a parameter: `Alike`, of a function's number, the
 -- names in scope, the items of the text and those of the tree.
-use Rattle.std.proofs.Common.{ℕ, zero, suc, ◌≡◌, ◌⊎◌, true, false, List, [], ◌∷◌, Option, Some, None}
-use Rattle.std.specs.Prelude.{Ok, Err, slice_index}
-use Rattle.cap_word.specs.Rows.{width}
-use Rattle.cap_word.specs.Runs.{Goes, Stops, moves}
-use Rattle.cap_word.specs.declared.traps.TrapKind.{TrapKind}
-use Rattle.c_tree.specs.Trees.{CallTree, RightTree, Computed, Called, SimpleTree, DeclareWith, SetLocal, SetGlobal, SetLocalElement, SetGlobalElement, Calling, ProgramTree}
-use Rattle.c_mean.specs.Values.{Value}
-use Rattle.c_mean.specs.ToDo.{Item, Simply, GiveBack, GiveBackWord, Fail}
-use Rattle.c_mean.specs.Frames.{Place, Nowhere, InLocal, InGlobal, InLocalElement, InGlobalElement, Returned, WaitingFrame, Running, Waiting, function_at}
-use Rattle.c_mean.specs.Steps.{SourceMove, assigned, called, delivered, returned, source_step, source_machine}
-use Rattle.deep_mean.specs.DeepTrees.{DeepExpr, DeepStmt, DeepProgram}
-use Rattle.deep_mean.specs.Evaluation.{Around, Ready, Evaluation, evaluate, go_on}
+use Rattle.hoist_meaning.proofs.Common.{ℕ, zero, suc, ◌≡◌, ◌⊎◌, true, false, List, [], ◌∷◌, Option, Some, None, Ok, Err, slice_index, width, Goes, Stops, moves, TrapKind, CallTree, RightTree, Computed, Called, SimpleTree, DeclareWith, SetLocal, SetGlobal, SetLocalElement, SetGlobalElement, Calling, ProgramTree, Value, Item, Simply, GiveBack, GiveBackWord, Fail, Place, Nowhere, InLocal, InGlobal, InLocalElement, InGlobalElement, Returned, WaitingFrame, Running, Waiting, function_at, SourceMove, assigned, called, delivered, returned, source_step, source_machine, DeepExpr, DeepStmt, DeepProgram, Around, Ready, Evaluation, evaluate, go_on, Use, Stores, IndexesLocal, IndexesGlobal, Branches, Tests, Returns, DeepWaitingFrame, DeepRunning, DeepWaiting}
 use Rattle.deep_mean.specs.DeepToDo as deep_items
-use Rattle.deep_mean.specs.DeepToDo.{Use, Stores, IndexesLocal, IndexesGlobal, Branches, Tests, Returns}
 use Rattle.deep_mean.specs.DeepFrames as frames
-use Rattle.deep_mean.specs.DeepFrames.{DeepWaitingFrame, DeepRunning, DeepWaiting}
 use Rattle.deep_mean.specs.DeepSteps as deep_steps
 use Rattle.hoist_meaning.proofs.Bindings.{Agreement, Both, Paired, AreBelow, NamesStand}
 use Rattle.hoist_meaning.proofs.Items.{Leads, at, ReadyAlike}

@@ -1,27 +1,8 @@
 -- How the evaluations of a statement's expressions end, told by what the statement's own item does then.
-use Rattle.std.proofs.Common.{ℕ, zero, suc, ◌+◌, ◌≤◌, ◌<◌, ◌≡◌, refl, sym, ap, ◌∙◌, Bool, true, false, List, [], ◌∷◌, ◌++◌, Some}
-use Rattle.std.specs.Prelude.{Ok, Err, slice_index, slice_index_or}
-use Rattle.cap_word.specs.Calls.{call_of, spawn_of}
-use Rattle.cap_word.specs.Runs.{Stops, and_then, moves}
-use Rattle.cap_word.specs.declared.traps.TrapKind.{TrapKind}
-use Rattle.cap_word.specs.ModelledCalls.{number_of}
-use Rattle.c_tree.specs.RawTrees.{RawExprTree}
-use Rattle.c_tree.specs.Trees.{ExprTree, CallTree, CallFunction, CallTable, CallSpawn, CallModelled, RightTree, Computed, Called, SimpleTree, StmtTree, ProgramTree}
+use Rattle.hoist_meaning.proofs.Common.{ℕ, zero, suc, ◌+◌, ◌≤◌, ◌<◌, ◌≡◌, refl, sym, ap, ◌∙◌, Bool, true, false, List, [], ◌∷◌, ◌++◌, Some, Ok, Err, slice_index, slice_index_or, call_of, spawn_of, Stops, and_then, moves, TrapKind, number_of, RawExprTree, ExprTree, CallTree, CallFunction, CallTable, CallSpawn, CallModelled, RightTree, Computed, Called, SimpleTree, StmtTree, ProgramTree, Value, value, values, with_first, Item, Simply, Choose, GiveBack, Place, Nowhere, InLocal, InGlobal, InLocalElement, InGlobalElement, Returned, WaitingFrame, Running, function_at, SourceMove, on_value, assigned, assigns, asks, asks_if, branched, called, entered, entered_by, returned, source_step, source_machine, expr_of, Spot, DeepProgram, Ready, Trapped, calls_in, holds_nested, is_named, names_in, part_after, part_named, left_of, before, value_names, value_before}
 use Rattle.c_tree.specs.Trees as tree
-use Rattle.c_mean.specs.Values.{Value, value, values, with_first}
 use Rattle.c_mean.specs.ToDo as items
-use Rattle.c_mean.specs.ToDo.{Item, Simply, Choose, GiveBack}
-use Rattle.c_mean.specs.Frames.{Place, Nowhere, InLocal, InGlobal, InLocalElement, InGlobalElement, Returned, WaitingFrame, Running, function_at}
-use Rattle.c_mean.specs.Steps.{SourceMove, on_value, assigned, assigns, asks, asks_if, branched, called, entered, entered_by, returned, source_step, source_machine}
-use Rattle.scope_rules.specs.Expressions.{expr_of}
-use Rattle.scope_rules.specs.Places.{Spot}
-use Rattle.deep_mean.specs.DeepTrees.{DeepProgram}
-use Rattle.deep_mean.specs.Evaluation.{Ready, Trapped}
 use Rattle.deep_mean.specs.Naming as deep
-use Rattle.deep_mean.specs.Naming.{calls_in}
-use Rattle.hoist_parts.specs.Calls.{holds_nested, is_named}
-use Rattle.hoist_parts.specs.Expressions.{names_in, part_after, part_named, left_of, before}
-use Rattle.hoist_parts.specs.Statements.{value_names, value_before}
 use Rattle.hoist_meaning.proofs.Bindings.{Agreement, in_text}
 use Rattle.hoist_meaning.proofs.Items.{items_of, after, at, call_parts}
 use Rattle.hoist_meaning.proofs.Spots.{StandsAt, with_names, before_stands}

@@ -1,25 +1,7 @@
 -- The items of lists of statements, and the silent steps of the rewritten function at the items that the rewriting adds: the
 -- declaration of a new name, the setting of one, and a branch. Nothing of these changes a global.
-use Rattle.std.proofs.Common.{ℕ, suc, ◌+◌, ◌≡◌, refl, ap, ◌∙◌, List, [], ◌∷◌, ◌++◌, Some}
-use Rattle.std.specs.Prelude.{slice_index_or, Result, Ok, Err}
-use Rattle.cap_word.specs.Rows.{with_word, with_zeros}
-use Rattle.cap_word.specs.Calls.{Finish, call_of, spawn_of}
-use Rattle.cap_word.specs.Runs.{Goes, Stops, and_then, moves}
-use Rattle.cap_word.specs.declared.traps.TrapKind.{TrapKind}
-use Rattle.cap_word.proofs.RunLemmas.{goes_on}
-use Rattle.cap_word.specs.ModelledCalls.{number_of}
-use Rattle.c_tree.specs.RawTrees.{RawStmtTree}
-use Rattle.c_tree.specs.Trees.{ExprTree, CallTree, CallFunction, CallTable, CallSpawn, CallModelled, Computed, Called, DeclareScalar, DeclareWith, SetLocal, StmtTree, ProgramTree}
-use Rattle.c_mean.specs.Values.{Value, value, values, with_first}
-use Rattle.c_tree.specs.RawViews.{raw_in_order}
+use Rattle.hoist_meaning.proofs.Common.{ℕ, suc, ◌+◌, ◌≡◌, refl, ap, ◌∙◌, List, [], ◌∷◌, ◌++◌, Some, slice_index_or, Result, Ok, Err, with_word, with_zeros, Finish, call_of, spawn_of, Goes, Stops, and_then, moves, TrapKind, goes_on, number_of, RawStmtTree, ExprTree, CallTree, CallFunction, CallTable, CallSpawn, CallModelled, Computed, Called, DeclareScalar, DeclareWith, SetLocal, StmtTree, ProgramTree, Value, value, values, with_first, raw_in_order, InLocal, WaitingFrame, Running, SourceMove, on_value, trapped, assigned, branched, entered, entered_by, asks, asks_if, source_step, source_machine, Spot, stmt_of, stmts_of, stmt_after, stmts_after, stmt_numbered, stmts_numbered, Function, Modelled, Spawned, Ready, ReadyCall, ReadyTableCall}
 use Rattle.c_mean.specs.ToDo.{Item, Simply, Choose, before, all_before}
-use Rattle.c_mean.specs.Frames.{InLocal, WaitingFrame, Running}
-use Rattle.c_mean.specs.Steps.{SourceMove, on_value, trapped, assigned, branched, entered, entered_by, asks, asks_if, source_step, source_machine}
-use Rattle.scope_rules.specs.Places.{Spot}
-use Rattle.scope_rules.specs.Statements.{stmt_of, stmts_of, stmt_after, stmts_after}
-use Rattle.scope_rules.specs.Numbered.{stmt_numbered, stmts_numbered}
-use Rattle.deep_mean.specs.DeepTrees.{Function, Modelled, Spawned}
-use Rattle.deep_mean.specs.Evaluation.{Ready, ReadyCall, ReadyTableCall}
 
 -- the items of statements from a place of the rewritten tree on, whose calls have the numbers of a table, and the place after them
 abbrev pub items_of : List ℕ → Spot → List RawStmtTree → List Item → List Item

@@ -1,17 +1,5 @@
 -- The name `spawn` can't be declared: it stands for what it is wherever it did.
-use Rattle.std.proofs.Common.{ℕ, ◌≡◌, refl, sym, ap, ◌∙◌, Bool, true, false, List, [], ◌∷◌, ◌++◌, append_assoc, Option, Some, None}
-use Rattle.std.specs.Prelude.{codes, if◌then◌else◌}
-use Rattle.std.specs.Str.{bytes_eq}
-use Rattle.std.proofs.lemmas.Slice.Eq.{bytes_eq-Decides}
-use Rattle.c_tree.specs.RawTrees.{NameTree, RawExprTree, RawSimpleTree, RawDeclareScalar, RawDeclareArray, RawDeclareWith, RawStmtTree, RawStmtTrees, RawDo, RawReturn, NoRawStmts, RawThen}
-use Rattle.c_tree.specs.RawViews.{raw_in_order}
-use Rattle.scope_rules.specs.declared.meanings.Meaning.{Meaning}
-use Rattle.scope_rules.specs.Names.{Binding, find, is_fixed, bound}
-use Rattle.scope_rules.specs.Places.{Spot}
-use Rattle.scope_rules.specs.Simples.{with_variable, simple_after, simples_after}
-use Rattle.scope_rules.specs.Statements.{step_after, returned_after, stmt_after, stmts_after, stmt_faults, stmts_faults}
-use Rattle.scope_rules.specs.Items.{params_after}
-use Rattle.scope_rules.proofs.NoFaults.{both_none}
+use Rattle.hoist_meaning.proofs.Common.{ℕ, ◌≡◌, refl, sym, ap, ◌∙◌, Bool, true, false, List, [], ◌∷◌, ◌++◌, append_assoc, Option, Some, None, codes, if◌then◌else◌, bytes_eq, bytes_eq-Decides, NameTree, RawExprTree, RawSimpleTree, RawDeclareScalar, RawDeclareArray, RawDeclareWith, RawStmtTree, RawStmtTrees, RawDo, RawReturn, NoRawStmts, RawThen, raw_in_order, Meaning, Binding, find, is_fixed, bound, Spot, with_variable, simple_after, simples_after, step_after, returned_after, stmt_after, stmts_after, stmt_faults, stmts_faults, params_after, both_none}
 
 abbrev pub KnowsSpawn : List Binding → Type 0
 KnowsSpawn names = (position : ℕ) × (find (codes "spawn") names ≡ Some (record { position = position; meaning = Meaning.Spawn }))

@@ -1,3 +1,4 @@
+mod Common
 pub mod CallCounts
 pub mod StmtCounts
 pub mod Numbers

@@ -1,32 +1,9 @@
 -- The ends of `&&` and `||`. Where the right operand holds a call, a new name has the left one's truth, and a branch evaluates the right one
 -- where it is needed.
-use Rattle.std.proofs.Common.{ℕ, zero, suc, ◌≡◌, ◌+◌, ◌⊎◌, inl, inr, refl, sym, ap, subst, ◌∙◌, Bool, true, false, List, [], ◌∷◌, ◌++◌, arith, if◌then◌else◌}
-use Rattle.std.specs.Prelude.{nat_eq, not, Ok, Err}
-use Rattle.cap_word.specs.Rows.{row, width, with_word}
-use Rattle.cap_word.specs.Word.{flag}
-use Rattle.cap_word.specs.declared.traps.TrapKind.{TrapKind}
-use Rattle.c_tree.specs.declared.operators.BinaryOperator.{BinaryOperator}
-use Rattle.c_tree.specs.declared.operators.UnaryOperator.{UnaryOperator}
-use Rattle.c_tree.specs.RawTrees.{RawExprTree, RawLogicalAnd, RawLogicalOr, RawIf}
-use Rattle.c_tree.specs.Trees.{ProgramTree}
-use Rattle.c_mean.specs.Operators.{unary_value, binary_value}
-use Rattle.c_mean.specs.Values.{Value, value, on_one, on_both, truth, choice}
-use Rattle.c_mean.specs.ToDo.{Item}
-use Rattle.scope_rules.specs.Names.{Binding}
-use Rattle.scope_rules.specs.Expressions.{expr_faults, expr_of}
-use Rattle.scope_rules.specs.Places.{Spot}
-use Rattle.scope_rules.specs.Statements.{inside, stmt_faults}
-use Rattle.scope_rules.proofs.NoFaults.{both_none, same_number}
-use Rattle.deep_mean.specs.DeepTrees.{LogicalAnd, LogicalOr}
+use Rattle.hoist_meaning.proofs.Common.{ℕ, zero, suc, ◌≡◌, ◌+◌, ◌⊎◌, inl, inr, refl, sym, ap, subst, ◌∙◌, Bool, true, false, List, [], ◌∷◌, ◌++◌, arith, if◌then◌else◌, nat_eq, not, Ok, Err, row, width, with_word, flag, TrapKind, BinaryOperator, UnaryOperator, RawExprTree, RawLogicalAnd, RawLogicalOr, RawIf, ProgramTree, unary_value, binary_value, Value, value, on_one, on_both, truth, choice, Item, Binding, expr_faults, expr_of, Spot, inside, stmt_faults, both_none, same_number, LogicalAnd, LogicalOr, calls_in, used, declared_as, set_to, holds_call, one_if, names_in, left_of, is_true, is_false, in_block, decided, before, left_whole, AreSourceNames}
 use Rattle.deep_mean.specs.Evaluation.{Around, LeftOfAnd, LeftOfOr, Decides, Done, of_value, and_then, truth_of, chosen, evaluate, filled}
 use Rattle.deep_mean.specs.Naming as deep
-use Rattle.deep_mean.specs.Naming.{calls_in}
-use Rattle.hoist_parts.specs.NewNames.{used, declared_as, set_to}
-use Rattle.hoist_parts.specs.Calls.{holds_call}
-use Rattle.hoist_parts.specs.Expressions.{one_if, names_in, left_of, is_true, is_false, in_block, decided, before}
-use Rattle.hoist_parts.proofs.Whole.{left_whole}
 use Rattle.hoist_meaning.proofs.KnownSpawn.{AreFine, both_fine, one_fine}
-use Rattle.hoist_meaning.specs.SourceNames.{AreSourceNames}
 use Rattle.hoist_meaning.proofs.Bindings.{Agreement, New, in_tree}
 use Rattle.hoist_meaning.proofs.Values.{then_and, then_or}
 use Rattle.hoist_meaning.proofs.Items.{items_of, after, items_both}

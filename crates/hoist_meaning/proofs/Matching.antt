@@ -1,27 +1,12 @@
 -- When the threads of the tree follow those of the text, the worlds that they make match, and a segment of one thread follows too.
-use Rattle.std.proofs.Common.{ℕ, zero, suc, ◌+◌, ◌≡◌, refl, ap, subst, ◌∙◌, List, [], ◌∷◌, ◌++◌, length, Option, Some, None, arith}
-use Rattle.std.specs.Prelude.{slice_get, slice_set}
-use Rattle.cap_word.specs.Calls.{Call, Blocking, Immediate, Answer}
-use Rattle.cap_word.specs.Runs.{Move, Goes, Asks, Stops, Machine, and_then, moves, IsAnswered, Follows}
-use Rattle.cap_word.specs.declared.calls.Ask.{Ask}
+use Rattle.hoist_meaning.proofs.Common.{ℕ, zero, suc, ◌+◌, ◌≡◌, refl, ap, subst, ◌∙◌, List, [], ◌∷◌, ◌++◌, length, Option, Some, None, arith, slice_get, slice_set, Call, Blocking, Immediate, Answer, Move, Goes, Asks, Stops, Machine, and_then, moves, IsAnswered, Follows, Ask, TrapKind, goes_on, asks_at, stops_at, ProgramTree, Running, Waiting, key_of, function_at, Exchange, ImmediateRow, blocking_row, immediate_row, Rest, World, Segment, Rested, with_printed, DeepProgram, DeepRunning, DeepWaiting, DeepMove, DeepRest, DeepWorld, DeepSegment, DeepRested}
 use Rattle.cap_word.specs.declared.calls.Block.{Block}
-use Rattle.cap_word.specs.declared.traps.TrapKind.{TrapKind}
-use Rattle.cap_word.proofs.RunLemmas.{goes_on}
-use Rattle.cap_word.proofs.Following.{asks_at, stops_at}
-use Rattle.c_tree.specs.Trees.{ProgramTree}
-use Rattle.c_mean.specs.Frames.{Running, Waiting, key_of, function_at}
-use Rattle.c_mean.specs.ModelledCalls.{Exchange, ImmediateRow, blocking_row, immediate_row}
 use Rattle.c_mean.specs.Steps as source_steps
 use Rattle.c_mean.specs.World as source
-use Rattle.c_mean.specs.World.{Rest, World, Segment, Rested, with_printed}
 use Rattle.c_mean.proofs.SegmentLemmas.{silent}
-use Rattle.deep_mean.specs.DeepTrees.{DeepProgram}
 use Rattle.deep_mean.specs.DeepFrames as frames
-use Rattle.deep_mean.specs.DeepFrames.{DeepRunning, DeepWaiting}
 use Rattle.deep_mean.specs.DeepSteps as deep_steps
-use Rattle.deep_mean.specs.DeepSteps.{DeepMove}
 use Rattle.deep_mean.specs.DeepWorld as deep
-use Rattle.deep_mean.specs.DeepWorld.{DeepRest, DeepWorld, DeepSegment, DeepRested}
 use Rattle.hoist_meaning.proofs.Asking.{asked, asking, asked_moves}
 
 -- threads of the tree follow those of the text, from their starts on

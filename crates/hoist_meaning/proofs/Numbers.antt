@@ -1,15 +1,5 @@
 -- The calls of a rewritten source and those of the text at each place, in all, and by their numbers.
-use Rattle.std.proofs.Common.{ℕ, zero, suc, ◌+◌, ◌<◌, ◌≡◌, refl, List, [], ◌∷◌, ◌++◌, length, arith}
-use Rattle.std.specs.Prelude.{slice_index_or}
-use Rattle.c_tree.specs.RawTrees.{RawItemTree}
-use Rattle.grammar_laws.specs.Nested.{is_call}
-use Rattle.grammar_laws.specs.Places.{items_places}
-use Rattle.grammar_laws.specs.Ranks.{lesser, no_greater, ranks, site_numbers}
-use Rattle.grammar_laws.specs.Rising.{RiseWithin}
-use Rattle.grammar_laws.proofs.RankLaws.{ranks_length, rank_is}
-use Rattle.hoist_parts.specs.Statements.{items_hoisted}
-use Rattle.hoist_meaning.specs.CallPlaces.{times, StandsAt}
-use Rattle.hoist_meaning.specs.SpawnArguments.{AreItemsPlain}
+use Rattle.hoist_meaning.proofs.Common.{ℕ, zero, suc, ◌+◌, ◌<◌, ◌≡◌, refl, List, [], ◌∷◌, ◌++◌, length, arith, slice_index_or, RawItemTree, is_call, items_places, lesser, no_greater, ranks, site_numbers, RiseWithin, ranks_length, rank_is, items_hoisted, times, StandsAt, AreItemsPlain, no_greater_both}
 use Rattle.hoist_meaning.proofs.StmtCounts.{items_count}
 
 -- ---- counts that add up over lists
@@ -25,10 +15,6 @@ length_both (x ∷ xs) ys = let rest = length_both xs ys in omega (arith, rest)
 lesser_both : (at : ℕ) (xs ys : List ℕ) → lesser at (xs ++ ys) ≡ lesser at xs + lesser at ys
 lesser_both at [] ys = omega arith
 lesser_both at (x ∷ xs) ys = let rest = lesser_both at xs ys in omega (arith, rest)
-
-no_greater_both : (at : ℕ) (xs ys : List ℕ) → no_greater at (xs ++ ys) ≡ no_greater at xs + no_greater at ys
-no_greater_both at [] ys = omega arith
-no_greater_both at (x ∷ xs) ys = let rest = no_greater_both at xs ys in omega (arith, rest)
 
 pub each_stays : (items : List RawItemTree) (at : ℕ) → AreItemsPlain items → times at (items_places is_call (items_hoisted items)) ≡ times at (items_places is_call items)
 each_stays items at h = items_count (times at) refl (times_both at) items h

@@ -1,11 +1,6 @@
 -- Runs of two machines that put values, of which the second follows the first: where one of them is cut at the first moment at which it has
 -- put so many, so is the other, and they have put the same.
-use Rattle.std.proofs.Common.{ℕ, zero, suc, ◌+◌, ◌-◌, ◌<◌, ◌≤◌, ◌≡◌, ◌≢◌, refl, sym, ap, subst, ◌∙◌, ⊎_elim, List, [], ◌∷◌, ◌++◌, length, length-append, append_assoc, arith}
-use Rattle.std.proofs.lemmas.Bool.{cases_lt, cases_eq}
-use Rattle.std.proofs.lemmas.List.{append-nil}
-use Rattle.cap_word.specs.Runs.{Move, Goes, Asks, Stops, Machine, and_then, moves, Follows}
-use Rattle.cap_word.proofs.RunLemmas.{asks_stay, goes_on}
-use Rattle.cap_word.proofs.Following.{Comes, comes}
+use Rattle.hoist_meaning.proofs.Common.{ℕ, zero, suc, ◌+◌, ◌-◌, ◌<◌, ◌≤◌, ◌≡◌, ◌≢◌, refl, sym, ap, subst, ◌∙◌, ⊎_elim, List, [], ◌∷◌, ◌++◌, length, length-append, append_assoc, arith, cases_lt, cases_eq, append-nil, Move, Goes, Asks, Stops, Machine, and_then, moves, Follows, asks_stay, goes_on, Comes, comes}
 
 abbrev pub Outputs : Type 0
 Outputs = List (ℕ × ℕ)

@@ -1,22 +1,6 @@
 -- Names outside functions, and the place where a function's body begins.
-use Rattle.std.proofs.Common.{ℕ, zero, suc, ◌≡◌, ◌+◌, ◌<◌, ◌≤◌, inl, inr, refl, sym, ap, subst, ◌∙◌, Bool, true, false, List, [], ◌∷◌, ◌++◌, length, Option, Some, arith, if◌then◌else◌}
-use Rattle.std.specs.Prelude.{codes}
-use Rattle.std.specs.Str.{bytes_eq}
-use Rattle.std.proofs.lemmas.Slice.Eq.{bytes_eq-Decides}
-use Rattle.cap_word.specs.ModelledCalls.{all_calls, name_of}
-use Rattle.cap_word.specs.declared.modelled_calls.ModelledCall.{ModelledCall}
-use Rattle.c_tree.specs.RawTrees.{NameTree, RawItemTree, RawGlobal, RawGlobalArray, RawTableItem, RawPrototypeItem, RawFunctionItem}
-use Rattle.c_tree.specs.Temporaries.{capped}
-use Rattle.scope_rules.specs.declared.meanings.Meaning.{Meaning}
-use Rattle.scope_rules.specs.declared.meanings.Found.{Found}
-use Rattle.scope_rules.specs.Names.{Binding, find, is_fixed, bound}
-use Rattle.scope_rules.specs.Meanings.{function_of, callee_in, callee_of}
-use Rattle.scope_rules.specs.Places.{Spot}
-use Rattle.scope_rules.specs.Simples.{next_variable, with_variable}
-use Rattle.scope_rules.specs.Items.{modelled, with_calls, modelled_names, is_defined, with_function, params_after, params_spot, body_spot}
+use Rattle.hoist_meaning.proofs.Common.{ℕ, zero, suc, ◌≡◌, ◌+◌, ◌<◌, ◌≤◌, inl, inr, refl, sym, ap, subst, ◌∙◌, Bool, true, false, List, [], ◌∷◌, ◌++◌, length, Option, Some, arith, if◌then◌else◌, codes, bytes_eq, bytes_eq-Decides, all_calls, name_of, ModelledCall, NameTree, RawItemTree, RawGlobal, RawGlobalArray, RawTableItem, RawPrototypeItem, RawFunctionItem, capped, Meaning, Found, Binding, find, is_fixed, bound, function_of, callee_in, callee_of, Spot, next_variable, with_variable, modelled, with_calls, modelled_names, is_defined, with_function, params_after, params_spot, body_spot, DeepSofar, is_spawn_by, IsSourceName, AreNamed, IsItemNamed}
 use Rattle.deep_mean.specs.Naming as deep
-use Rattle.deep_mean.specs.Naming.{DeepSofar, is_spawn_by}
-use Rattle.hoist_meaning.specs.SourceNames.{IsSourceName, AreNamed, IsItemNamed}
 use Rattle.hoist_meaning.proofs.Bindings.{Agreement, Outside, in_text, IsOutside, AreOutside, AreBelow, Paired}
 use Rattle.hoist_meaning.proofs.Declarations.{declared_or, with_declared, BothStand, declaration_stands}
 use Rattle.hoist_meaning.proofs.Premises.{KnowsSpawnAlone}

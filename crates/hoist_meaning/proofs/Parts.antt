@@ -1,30 +1,7 @@
 -- A part of an expression before a later one that holds a call: it comes to its value, which a number or a new name holds from then on, or it
 -- stops. The silent steps at the declaration and the setting of a new name.
-use Rattle.std.proofs.Common.{ℕ, ◌≡◌, ◌+◌, ◌<◌, ◌≤◌, refl, sym, ap, subst, ◌∙◌, Bool, true, false, List, [], ◌∷◌, ◌++◌, length, Some, arith}
-use Rattle.std.specs.Prelude.{◌%◌, ◌^◌, slice_index, Ok, Err}
-use Rattle.cap_word.specs.Rows.{row, with_word, with_zeros}
-use Rattle.cap_word.specs.declared.traps.TrapKind.{TrapKind}
-use Rattle.c_tree.specs.RawTrees.{RawExprTree, RawNumber, RawName, RawElement, RawUnary, RawParenthesized, RawBinary, RawLogicalAnd, RawLogicalOr, RawConditional, RawCall, RawTableCall, RawStmtTree}
-use Rattle.c_tree.specs.Trees.{Computed, DeclareWith, DeclareScalar, SetLocal, ProgramTree}
-use Rattle.c_tree.specs.WholeCalls.{HasNoCall}
-use Rattle.c_mean.specs.Values.{Value, value}
-use Rattle.c_mean.specs.ToDo.{Item, Simply}
-use Rattle.scope_rules.specs.declared.meanings.Meaning.{Meaning}
-use Rattle.scope_rules.specs.declared.meanings.Variable.{Variable}
-use Rattle.scope_rules.specs.Names.{Binding, find}
-use Rattle.scope_rules.specs.Meanings.{is_scalar, variable_of}
-use Rattle.scope_rules.specs.Expressions.{use_faults, scalar_value, expr_faults, expr_of}
-use Rattle.scope_rules.specs.Calls.{right_faults, right_of}
-use Rattle.scope_rules.specs.Places.{Spot}
-use Rattle.scope_rules.specs.Simples.{declare_faults, set_scalar}
-use Rattle.scope_rules.specs.Numbered.{simple_numbered, right_numbered}
-use Rattle.scope_rules.proofs.NoFaults.{both_none}
-use Rattle.deep_mean.specs.Evaluation.{of_value, evaluate}
+use Rattle.hoist_meaning.proofs.Common.{ℕ, ◌≡◌, ◌+◌, ◌<◌, ◌≤◌, refl, sym, ap, subst, ◌∙◌, Bool, true, false, List, [], ◌∷◌, ◌++◌, length, Some, arith, ◌%◌, ◌^◌, slice_index, Ok, Err, row, with_word, with_zeros, TrapKind, RawExprTree, RawNumber, RawName, RawElement, RawUnary, RawParenthesized, RawBinary, RawLogicalAnd, RawLogicalOr, RawConditional, RawCall, RawTableCall, RawStmtTree, Computed, DeclareWith, DeclareScalar, SetLocal, ProgramTree, HasNoCall, Value, value, Item, Simply, Meaning, Variable, Binding, find, is_scalar, variable_of, use_faults, scalar_value, expr_faults, expr_of, right_faults, right_of, Spot, declare_faults, set_scalar, simple_numbered, right_numbered, both_none, of_value, evaluate, new_name, used, declared, declared_as, set_to, holds_call, is_named, is_spawn, one_if, names_in, arguments_names, part_after, part_or, part_named, left_of, before, left_whole}
 use Rattle.deep_mean.specs.Naming as deep
-use Rattle.hoist_parts.specs.NewNames.{new_name, used, declared, declared_as, set_to}
-use Rattle.hoist_parts.specs.Calls.{holds_call, is_named, is_spawn}
-use Rattle.hoist_parts.specs.Expressions.{one_if, names_in, arguments_names, part_after, part_or, part_named, left_of, before}
-use Rattle.hoist_parts.proofs.Whole.{left_whole}
 use Rattle.hoist_meaning.proofs.KnownSpawn.{AreFine, both_fine, one_fine}
 use Rattle.hoist_meaning.proofs.Bindings.{Agreement, New, in_tree, last_found}
 use Rattle.hoist_meaning.proofs.Items.{items_of, after, after_both, at, stop_step, declared_leads, declared_stops, set_leads, set_stops, zeroed_leads}

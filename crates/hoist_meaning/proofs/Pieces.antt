@@ -1,18 +1,8 @@
 -- What is known of a place and of all statements there is known of their parts.
-use Rattle.std.proofs.Common.{ℕ, ◌≡◌, ◌≤◌, refl, sym, ap, subst, ◌∙◌, Bool, List, [], ◌∷◌, ◌++◌, length, length-append, Option, Some, None, arith}
-use Rattle.std.proofs.lemmas.List.{append-nil}
-use Rattle.c_tree.specs.RawTrees.{RawExprTree, RawSimpleTree, RawDeclareScalar, RawDeclareArray, RawDeclareWith, RawStmtTree, RawStmtTrees, RawDo, RawBlock, RawIf, RawIfElse, RawWhile, RawFor, RawReturn, NoRawStmts, RawThen}
-use Rattle.c_tree.specs.RawViews.{raw_in_order, as_body}
+use Rattle.hoist_meaning.proofs.Common.{ℕ, ◌≡◌, ◌≤◌, refl, sym, ap, subst, ◌∙◌, Bool, List, [], ◌∷◌, ◌++◌, length, length-append, Option, Some, None, arith, append-nil, RawExprTree, RawSimpleTree, RawDeclareScalar, RawDeclareArray, RawDeclareWith, RawStmtTree, RawStmtTrees, RawDo, RawBlock, RawIf, RawIfElse, RawWhile, RawFor, RawReturn, NoRawStmts, RawThen, raw_in_order, as_body, Item, Spot, inside, left, stmt_after, stmts_after, stmt_faults, stmt_numbered, is_call, stmt_places, stmts_places, calls_in, counted}
 use Rattle.c_mean.specs.ToDo as items
-use Rattle.c_mean.specs.ToDo.{Item}
-use Rattle.scope_rules.specs.Places.{Spot}
 use Rattle.scope_rules.specs.Statements as tree_stmts
-use Rattle.scope_rules.specs.Statements.{inside, left, stmt_after, stmts_after, stmt_faults}
-use Rattle.scope_rules.specs.Numbered.{stmt_numbered}
-use Rattle.grammar_laws.specs.Nested.{is_call}
-use Rattle.grammar_laws.specs.Places.{stmt_places, stmts_places}
 use Rattle.deep_mean.specs.Naming as deep
-use Rattle.deep_mean.specs.Naming.{calls_in, counted}
 use Rattle.hoist_meaning.proofs.KnownSpawn.{AreFine}
 use Rattle.hoist_meaning.proofs.Bindings.{Agreement, Outside, Both, New, AreBelow}
 use Rattle.hoist_meaning.proofs.Items.{items_of, after}

@@ -1,27 +1,7 @@
 -- The ends of numbers, names, elements, unary operators and parentheses: they add no item of their own.
-use Rattle.std.proofs.Common.{ℕ, ◌≡◌, ◌+◌, refl, sym, ap, subst, ◌∙◌, Bool, true, false, not, List, [], length, Option, Some, None}
-use Rattle.std.specs.Prelude.{◌%◌, ◌^◌, nat_lt, slice_index, Ok, Err}
-use Rattle.c_tree.specs.declared.operators.UnaryOperator.{UnaryOperator}
-use Rattle.c_tree.specs.RawTrees.{NameTree, RawExprTree, RawNumber, RawName, RawElement, RawUnary, RawParenthesized}
-use Rattle.c_tree.specs.Trees.{ProgramTree}
-use Rattle.c_mean.specs.Operators.{unary_value}
-use Rattle.c_mean.specs.Values.{Value, value, in_range, element, on_one}
-use Rattle.c_mean.specs.ToDo.{Item}
-use Rattle.scope_rules.specs.declared.meanings.Meaning.{Meaning}
-use Rattle.scope_rules.specs.declared.meanings.Variable.{Variable}
-use Rattle.scope_rules.specs.declared.meanings.Found.{Found}
-use Rattle.scope_rules.specs.declared.faults.Rule.{Rule}
-use Rattle.scope_rules.specs.Names.{Binding, find}
-use Rattle.scope_rules.specs.Meanings.{is_scalar, is_array, variable_in, variable_of}
+use Rattle.hoist_meaning.proofs.Common.{ℕ, ◌≡◌, ◌+◌, refl, sym, ap, subst, ◌∙◌, Bool, true, false, not, List, [], length, Option, Some, None, ◌%◌, ◌^◌, nat_lt, slice_index, Ok, Err, UnaryOperator, NameTree, RawExprTree, RawNumber, RawName, RawElement, RawUnary, RawParenthesized, ProgramTree, unary_value, Value, value, in_range, element, on_one, Item, Meaning, Variable, Found, Rule, Binding, find, is_scalar, is_array, variable_in, variable_of, use_faults, array_faults, expr_faults, both_none, not_broken, DeepExpr, IndexOfLocal, IndexOfGlobal, OperandOf, InParentheses, of_value, evaluate, holds_call, names_in, left_of, before, AreSourceNames, not-false}
 use Rattle.scope_rules.specs.Expressions as scope
-use Rattle.scope_rules.specs.Expressions.{use_faults, array_faults, expr_faults}
-use Rattle.scope_rules.proofs.NoFaults.{both_none, not_broken, not_false}
-use Rattle.deep_mean.specs.DeepTrees.{DeepExpr}
-use Rattle.deep_mean.specs.Evaluation.{IndexOfLocal, IndexOfGlobal, OperandOf, InParentheses, of_value, evaluate}
 use Rattle.deep_mean.specs.Naming as deep
-use Rattle.hoist_parts.specs.Calls.{holds_call}
-use Rattle.hoist_parts.specs.Expressions.{names_in, left_of, before}
-use Rattle.hoist_meaning.specs.SourceNames.{AreSourceNames}
 use Rattle.hoist_meaning.proofs.Bindings.{Agreement, in_text, in_tree, IsAgreement, Paired, NamesStand, LocalAlike, MeaningAlike, FoundAlike, found_alike}
 use Rattle.hoist_meaning.proofs.Values.{value_alike}
 use Rattle.hoist_meaning.proofs.Items.{items_of, after}
@@ -65,7 +45,7 @@ pair_meaning b _ n h v = absurd (subst IsVariable h v)
 
 pub variable_found : (b : Agreement) (may : Meaning → Bool) (is : (n : Meaning) → may n ≡ true → IsVariable n) (o p : Option Found) (at : ℕ) → FoundAlike b o p → use_faults may p at ≡ [] → VariablePair b (variable_of o) (variable_of p)
 variable_found b may is None None at h f = absurd (let wrong = f in cc)
-variable_found b may is (Some d) (Some g) at h f = pair_meaning b d.meaning g.meaning h (is g.meaning (not_false (may g.meaning) (not_broken (not (may g.meaning)) at Rule.Kind f)))
+variable_found b may is (Some d) (Some g) at h f = pair_meaning b d.meaning g.meaning h (is g.meaning (not-false (may g.meaning) (not_broken (not (may g.meaning)) at Rule.Kind f)))
 variable_found b may is _ _ at h f = absurd h
 
 -- ---- an expression without a call has its value at once

@@ -1,29 +1,8 @@
 -- What is asked of an expression of the text and of the place in the rewritten tree from which what goes before it stands, and what is then
 -- so where it is left.
-use Rattle.std.proofs.Common.{ℕ, ◌+◌, ◌≡◌, ◌<◌, ◌≤◌, Bool, true, false, List, [], ◌∷◌, ◌++◌}
-use Rattle.std.specs.Prelude.{codes, Ok, Err}
-use Rattle.std.specs.Str.{bytes_eq}
-use Rattle.cap_word.specs.Rows.{row, width}
-use Rattle.c_tree.specs.RawTrees.{RawExprTree, RawExprTrees, RawElement, RawUnary, RawParenthesized, RawBinary, RawLogicalAnd, RawLogicalOr, RawConditional, RawCall, RawTableCall, NoExprs, And, RawStmtTree}
-use Rattle.c_tree.specs.Trees.{ExprTree, RightTree, Computed, Called}
-use Rattle.c_mean.specs.Values.{Value, value, values}
+use Rattle.hoist_meaning.proofs.Common.{ℕ, ◌+◌, ◌≡◌, ◌<◌, ◌≤◌, Bool, true, false, List, [], ◌∷◌, ◌++◌, codes, Ok, Err, bytes_eq, row, width, RawExprTree, RawExprTrees, RawElement, RawUnary, RawParenthesized, RawBinary, RawLogicalAnd, RawLogicalOr, RawConditional, RawCall, RawTableCall, NoExprs, And, RawStmtTree, ExprTree, RightTree, Computed, Called, Value, value, values, Binding, find, callee_of, expr_faults, exprs_faults, listed, expr_of, exprs_of, call_faults, table_call_faults, right_of, Spot, inside, left, stmt_after, number_at, right_numbered, Callee, Ready, ReadyCall, calls_in, is_spawn_by, declared, declared_as, set_to, holds_call, hold_call, holds_nested, is_named, is_spawn, names_in, part_after, part_or, part_named, left_of, arguments_left, is_true, in_block, before, arguments_before, value_left, value_before, AreSourceNames, AllSourceNames}
 use Rattle.scope_rules.specs.declared.faults.Fault.{Fault}
-use Rattle.scope_rules.specs.Names.{Binding, find}
-use Rattle.scope_rules.specs.Meanings.{callee_of}
-use Rattle.scope_rules.specs.Expressions.{expr_faults, exprs_faults, listed, expr_of, exprs_of}
-use Rattle.scope_rules.specs.Calls.{call_faults, table_call_faults, right_of}
-use Rattle.scope_rules.specs.Places.{Spot}
-use Rattle.scope_rules.specs.Statements.{inside, left, stmt_after}
-use Rattle.scope_rules.specs.Numbered.{number_at, right_numbered}
-use Rattle.deep_mean.specs.DeepTrees.{Callee}
-use Rattle.deep_mean.specs.Evaluation.{Ready, ReadyCall}
-use Rattle.deep_mean.specs.Naming.{calls_in, is_spawn_by}
-use Rattle.hoist_parts.specs.NewNames.{declared, declared_as, set_to}
-use Rattle.hoist_parts.specs.Calls.{holds_call, hold_call, holds_nested, is_named, is_spawn}
-use Rattle.hoist_parts.specs.Expressions.{names_in, part_after, part_or, part_named, left_of, arguments_left, is_true, in_block, before, arguments_before}
-use Rattle.hoist_parts.specs.Statements.{value_left, value_before}
 use Rattle.hoist_meaning.proofs.KnownSpawn.{AreFine}
-use Rattle.hoist_meaning.specs.SourceNames.{AreSourceNames, AllSourceNames}
 use Rattle.hoist_meaning.proofs.Bindings.{Agreement, in_text, in_tree, NamesStand}
 use Rattle.hoist_meaning.proofs.Items.{after, call_parts, ReadyAlike}
 use Rattle.hoist_meaning.proofs.Spots.{StandsAt, with_part, with_names, with_argument_names}

@@ -1,26 +1,12 @@
 -- A program and a text run the same where each function of the one is sound for that of the other.
-use Rattle.std.proofs.Common.{ℕ, ◌≡◌, sym, ap, subst, ◌∙◌, List, [], ◌++◌, length, drop, Some, None}
-use Rattle.cap_word.specs.Rows.{zeros, scalars}
-use Rattle.c_tree.specs.RawTrees.{RawStmtTrees}
-use Rattle.c_tree.specs.RawViews.{raw_in_order}
-use Rattle.c_tree.specs.Trees.{CallTree, CallFunction, ProgramTree}
-use Rattle.c_tree.specs.WellScoped.{IsWellScoped}
+use Rattle.hoist_meaning.proofs.Common.{ℕ, ◌≡◌, sym, ap, subst, ◌∙◌, List, [], ◌++◌, length, drop, Some, None, zeros, scalars, RawStmtTrees, raw_in_order, CallTree, CallFunction, ProgramTree, IsWellScoped, Item, Loop, WaitingFrame, Running, function_at, Stands, Spot, stmts_numbered, DeepProgram, DeepWaitingFrame, all_hoisted, RunsTheSame}
 use Rattle.c_mean.specs.ToDo as items
-use Rattle.c_mean.specs.ToDo.{Item, Loop}
-use Rattle.c_mean.specs.Frames.{WaitingFrame, Running, function_at}
 use Rattle.c_mean.specs.Frames as source_frames
-use Rattle.c_mean.proofs.StandLemmas.{Stands}
-use Rattle.scope_rules.specs.Places.{Spot}
 use Rattle.scope_rules.specs.Statements as tree_stmts
-use Rattle.scope_rules.specs.Numbered.{stmts_numbered}
-use Rattle.deep_mean.specs.DeepTrees.{DeepProgram}
 use Rattle.deep_mean.specs.DeepToDo as deep_items
 use Rattle.deep_mean.specs.DeepFrames as frames
-use Rattle.deep_mean.specs.DeepFrames.{DeepWaitingFrame}
 use Rattle.deep_mean.specs.DeepSteps as deep_steps
 use Rattle.deep_mean.specs.Naming as deep
-use Rattle.hoist_parts.specs.Statements.{all_hoisted}
-use Rattle.hoist_meaning.specs.SameRuns.{RunsTheSame}
 use Rattle.hoist_meaning.proofs.Bindings.{Agreement}
 use Rattle.hoist_meaning.proofs.Items.{items_of, at}
 use Rattle.hoist_meaning.proofs.Ends.{Rows}

@@ -1,28 +1,9 @@
 -- A right side in which no call is nested is evaluated at once: to an outcome, or to the call that it is.
-use Rattle.std.proofs.Common.{ℕ, ◌≡◌, ◌+◌, ◌≤◌, refl, sym, ap, subst, ◌∙◌, Bool, true, false, List, [], ◌++◌, length, arith}
-use Rattle.std.specs.Prelude.{Result, Ok, Err}
-use Rattle.cap_word.specs.declared.traps.TrapKind.{TrapKind}
-use Rattle.c_tree.specs.RawTrees.{NameTree, RawExprTree, RawExprTrees, RawNumber, RawName, RawElement, RawUnary, RawParenthesized, RawBinary, RawLogicalAnd, RawLogicalOr, RawConditional, RawCall, RawTableCall, NoExprs, And}
-use Rattle.c_tree.specs.Trees.{CallTree, CallTable, RightTree, Computed, Called}
-use Rattle.c_mean.specs.Values.{Value, value, values, with_first}
+use Rattle.hoist_meaning.proofs.Common.{ℕ, ◌≡◌, ◌+◌, ◌≤◌, refl, sym, ap, subst, ◌∙◌, Bool, true, false, List, [], ◌++◌, length, arith, Result, Ok, Err, TrapKind, NameTree, RawExprTree, RawExprTrees, RawNumber, RawName, RawElement, RawUnary, RawParenthesized, RawBinary, RawLogicalAnd, RawLogicalOr, RawConditional, RawCall, RawTableCall, NoExprs, And, CallTree, CallTable, RightTree, Computed, Called, Value, value, values, with_first, Binding, find, callee_of, table_of, expr_faults, exprs_faults, listed, expr_of, exprs_of, Spot, number_at, call_numbered, right_numbered, both_none, DeepExpr, Callee, calls_in, callee_by, is_spawn_by, holds_call, hold_call, holds_nested, is_named, is_spawn, names_in, arguments_names, part_after, part_or, part_named, left_of, arguments_left, before, arguments_before, value_names, table_before, no_left, left_whole, AreSourceNames, AllSourceNames, or_parts}
 use Rattle.scope_rules.specs.declared.meanings.Callee as called
-use Rattle.scope_rules.specs.Names.{Binding, find}
-use Rattle.scope_rules.specs.Meanings.{callee_of, table_of}
-use Rattle.scope_rules.specs.Expressions.{expr_faults, exprs_faults, listed, expr_of, exprs_of}
 use Rattle.scope_rules.specs.Calls.{call_name_faults, arguments_faults, table_name_faults, call_by, call_of, right_of}
-use Rattle.scope_rules.specs.Places.{Spot}
-use Rattle.scope_rules.specs.Numbered.{number_at, call_numbered, right_numbered}
-use Rattle.scope_rules.proofs.NoFaults.{both_none, neither}
-use Rattle.deep_mean.specs.DeepTrees.{DeepExpr, Callee}
 use Rattle.deep_mean.specs.Evaluation.{TableIndexOf, TableArgumentOf, Ready, ReadyCall, ReadyTableCall, Evaluation, Calls, of_value, and_then, evaluate, evaluate_arguments}
 use Rattle.deep_mean.specs.Naming as deep
-use Rattle.deep_mean.specs.Naming.{calls_in, callee_by, is_spawn_by}
-use Rattle.hoist_parts.specs.Calls.{holds_call, hold_call, holds_nested, is_named, is_spawn}
-use Rattle.hoist_parts.specs.Expressions.{names_in, arguments_names, part_after, part_or, part_named, left_of, arguments_left, before, arguments_before}
-use Rattle.hoist_parts.specs.Statements.{value_names, table_before}
-use Rattle.hoist_parts.proofs.NoCalls.{no_left}
-use Rattle.hoist_parts.proofs.Whole.{left_whole}
-use Rattle.hoist_meaning.specs.SourceNames.{AreSourceNames, AllSourceNames}
 use Rattle.hoist_meaning.proofs.Bindings.{Agreement, in_text, in_tree, IsAgreement, NamesStand, callee_alike, table_alike}
 use Rattle.hoist_meaning.proofs.Items.{after, call_parts, ReadyAlike}
 use Rattle.hoist_meaning.proofs.Spots.{StandsAt, with_names, with_argument_names, before_stands, arguments_stand}
@@ -58,7 +39,7 @@ quiet_evaluated : (text later globals : Rows) (ds : List Binding) (b : Agreement
     exprs_faults (in_tree b) (evaluated stays k es) ≡ [] → evaluate_arguments text globals call callee [] (deep.arguments_of ds stays site es) ≡ calls_with call callee [] (values later globals (exprs_of (in_tree b) (evaluated stays k es)))
 quiet_evaluated text later globals ds b k call callee true NoExprs site agrees same stand source quiet fine = no_argument call callee []
 quiet_evaluated text later globals ds b k call callee true (And x es) site agrees same stand source quiet fine =
-    let rest = (neither (holds_call x) (hold_call es) quiet).1 in
+    let rest = (or_parts (holds_call x) (hold_call es) quiet).1 in
     let left = no_arguments_left k es rest in
     quiet_arguments text later globals ds b (site + calls_in x) call callee es [] agrees same stand source.1 rest (ap (λ xs. exprs_faults (in_tree b) (listed xs)) (sym left) ∙ fine)
     ∙ ap (λ xs. calls_with call callee [] (values later globals (exprs_of (in_tree b) (listed xs)))) (sym left)
@@ -152,7 +133,7 @@ module _ (ns : List ℕ) (text : Rows) (ds : List Binding) (spawns : KnowsSpawnA
   -- a right side in which no call is nested
   pub quiet_side : (e : RawExprTree) → v + value_names e ≤ 65536 → holds_nested e ≡ false → IsSideSound ns gives loop used_ b k v site e t → AtOnce (side_left ns t k e) globals names (evaluate text globals (deep.expr_of ds site e))
   quiet_side (RawCall n es) few quiet sound = quiet_call n es few quiet sound
-  quiet_side (RawTableCall n i e) few quiet sound = let two = neither (holds_call i) (holds_call e) quiet in quiet_table n i e few two.0 two.1 sound
+  quiet_side (RawTableCall n i e) few quiet sound = let two = or_parts (holds_call i) (holds_call e) quiet in quiet_table n i e few two.0 two.1 sound
   quiet_side (RawNumber w) few quiet sound = quiet_plain (RawNumber w) tt few quiet sound.source (sym (plain_side_faults used_ (in_tree (with_names k v (RawNumber w) b)) (left_of k (RawNumber w)) (left_whole k (RawNumber w))) ∙ sound.left_fine)
   quiet_side (RawName n) few quiet sound = quiet_plain (RawName n) tt few quiet sound.source (sym (plain_side_faults used_ (in_tree (with_names k v (RawName n) b)) (left_of k (RawName n)) (left_whole k (RawName n))) ∙ sound.left_fine)
   quiet_side (RawElement n i) few quiet sound = quiet_plain (RawElement n i) tt few quiet sound.source (sym (plain_side_faults used_ (in_tree (with_names k v (RawElement n i) b)) (left_of k (RawElement n i)) (left_whole k (RawElement n i))) ∙ sound.left_fine)

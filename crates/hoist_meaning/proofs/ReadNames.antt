@@ -1,7 +1,5 @@
 -- The names of a source that is read begin with no digit: each is the text of a name token.
-use Rattle.std.proofs.Common.{ℕ, ◌≡◌, ◌<◌, inr, sym, subst, Bool, true, List, [], ◌∷◌, ◌++◌, Option, Some, None, arith}
-use Rattle.std.specs.List.{AllByRecursion}
-use Rattle.std.proofs.lemmas.Bool.Decides.{nat_tests}
+use Rattle.hoist_meaning.proofs.Common.{ℕ, ◌≡◌, ◌<◌, inr, sym, subst, Bool, true, List, [], ◌∷◌, ◌++◌, Option, Some, None, arith, AllByRecursion, nat_tests, NameTree, RawExprTree, RawExprTrees, RawSimpleTree, RawStmtTree, RawStmtTrees, RawItemTree, raw_joined, IsSourceName, AreSourceNames, AllSourceNames, IsSimpleNamed, AreSimplesNamed, IsOptionNamed, IsStepNamed, IsStmtNamed, AreStmtsNamed, AreNamed, AreParamsNamed, IsItemNamed, AreItemsNamed}
 use Rattle.c_lex.specs.declared.keywords.Keyword.{Keyword}
 use Rattle.c_lex.specs.declared.keywords.Keyword.TheVariants as keywords
 use Rattle.c_lex.specs.declared.marks.Mark.{Mark}
@@ -15,15 +13,12 @@ use Rattle.c_lex.specs.Places.{lexeme_of}
 use Rattle.c_lex.specs.Tokens.{AreTokensOf}
 use Rattle.c_lex.proofs.PlaceLemmas.{tokens_spelled}
 use Rattle.c_tree.specs.declared.operators.Infix.{Infix}
-use Rattle.c_tree.specs.RawTrees.{NameTree, RawExprTree, RawExprTrees, RawSimpleTree, RawStmtTree, RawStmtTrees, RawItemTree}
-use Rattle.c_tree.specs.RawViews.{raw_joined}
 use Rattle.c_grammar.specs.declared.signs.Sign.{Sign}
 use Rattle.c_grammar.specs.declared.signs.Sign.TheVariants as signs
 use Rattle.c_grammar.specs.Signs.{sign_of_keyword, sign_of_mark, sign_of_token}
 use Rattle.c_grammar.specs.Tokens.{rest_of, Passes, PassesName, PassesNumber}
 use Rattle.c_grammar.specs.Grammar as grammar
 use Rattle.c_grammar.specs.Grammar.{IsExpr, IsBinary, IsRepeated, IsUnary, IsPrimary, IsIndex, IsParenthesized, AreArguments, AreMoreArguments, IsSize, IsSimple, IsLocal, AreMoreLocals, AreLocals, IsUpToSemicolon, IsForInit, IsForStep, declared_before, IsBody, IsBlock, AreStmts, IsStart, IsGlobal, AreMoreGlobals, AreMoreMembers, IsNameOption, AreMoreParameters, AreMoreNamed, AreParameters, IsResult, AreItem, AreItems, IsProgram}
-use Rattle.hoist_meaning.specs.SourceNames.{IsSourceName, AreSourceNames, AllSourceNames, IsSimpleNamed, AreSimplesNamed, IsOptionNamed, IsStepNamed, IsStmtNamed, AreStmtsNamed, AreNamed, AreParamsNamed, IsItemNamed, AreItemsNamed}
 
 -- ---- which token a name is
 

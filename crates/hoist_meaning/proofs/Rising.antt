@@ -1,21 +1,5 @@
 -- Places that stand for one another, after what goes before an expression, and what is known of them.
-use Rattle.std.proofs.Common.{ℕ, ◌≡◌, ◌+◌, ◌≤◌, refl, sym, ap, subst, ◌∙◌, Bool, true, false, ◌||◌, List, ◌∷◌, length, length-append, Option, Some, None, arith, if◌then◌else◌}
-use Rattle.std.specs.Prelude.{codes}
-use Rattle.std.specs.Str.{bytes_eq}
-use Rattle.std.proofs.lemmas.Slice.Eq.{bytes_eq-Decides}
-use Rattle.c_tree.specs.RawTrees.{RawExprTree, RawExprTrees, RawNumber, RawName, RawElement, RawUnary, RawParenthesized, RawBinary, RawLogicalAnd, RawLogicalOr, RawConditional, RawCall, RawTableCall, NoExprs, And}
-use Rattle.c_tree.specs.Trees.{ProgramTree}
-use Rattle.c_mean.specs.Frames.{function_at}
-use Rattle.scope_rules.specs.declared.meanings.Meaning.{Meaning}
-use Rattle.scope_rules.specs.declared.meanings.Found.{Found}
-use Rattle.scope_rules.specs.Names.{Binding, find, is_fixed, bound}
-use Rattle.scope_rules.specs.Meanings.{callee_in, callee_of}
-use Rattle.scope_rules.specs.Places.{Spot}
-use Rattle.deep_mean.specs.DeepTrees.{DeepProgram}
-use Rattle.deep_mean.specs.Naming.{is_spawn_by}
-use Rattle.hoist_parts.specs.Calls.{holds_call, hold_call, holds_nested, is_named, is_spawn}
-use Rattle.hoist_parts.specs.Expressions.{one_if, names_in, arguments_names, part_after}
-use Rattle.hoist_parts.specs.Statements.{value_names}
+use Rattle.hoist_meaning.proofs.Common.{ℕ, ◌≡◌, ◌+◌, ◌≤◌, refl, sym, ap, subst, ◌∙◌, Bool, true, false, ◌||◌, List, ◌∷◌, length, length-append, Option, Some, None, arith, if◌then◌else◌, codes, bytes_eq, bytes_eq-Decides, RawExprTree, RawExprTrees, RawNumber, RawName, RawElement, RawUnary, RawParenthesized, RawBinary, RawLogicalAnd, RawLogicalOr, RawConditional, RawCall, RawTableCall, NoExprs, And, ProgramTree, function_at, Meaning, Found, Binding, find, is_fixed, bound, callee_in, callee_of, Spot, DeepProgram, is_spawn_by, holds_call, hold_call, holds_nested, is_named, is_spawn, one_if, names_in, arguments_names, part_after, value_names}
 use Rattle.hoist_meaning.proofs.Bindings.{Agreement, Outside, Both, New, AreBelow, Paired}
 use Rattle.hoist_meaning.proofs.Spots.{StandsAt, with_part, with_names, with_argument_names}
 use Rattle.hoist_meaning.proofs.Declarations.{BothStand}

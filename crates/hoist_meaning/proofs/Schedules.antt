@@ -1,25 +1,9 @@
 -- When the threads of the tree follow those of the text, both do the same over whole schedules, runs of a thread, and runs that are cut.
-use Rattle.std.proofs.Common.{ℕ, ◌+◌, ◌<◌, ◌≤◌, ◌≡◌, refl, sym, ap, subst, ◌∙◌, List, [], ◌∷◌, ◌++◌, length, Option, Some, None, option_map, arith}
-use Rattle.std.specs.Prelude.{map, replicate}
-use Rattle.std.proofs.lemmas.List.{append-nil}
-use Rattle.cap_word.specs.Calls.{Call, Blocking, Immediate, Question, Finish}
-use Rattle.cap_word.specs.Runs.{Move, Goes, Asks, Stops, moves, Progress, Unfinished, Over, run, seen}
-use Rattle.cap_word.specs.declared.traps.TrapKind.{TrapKind}
-use Rattle.cap_word.proofs.Following.{Comes, comes, Came, came, RunComes, run_comes, run_came}
+use Rattle.hoist_meaning.proofs.Common.{ℕ, ◌+◌, ◌<◌, ◌≤◌, ◌≡◌, refl, sym, ap, subst, ◌∙◌, List, [], ◌∷◌, ◌++◌, length, Option, Some, None, option_map, arith, map, replicate, append-nil, Call, Blocking, Immediate, Question, Finish, Move, Goes, Asks, Stops, moves, Progress, Unfinished, Over, run, seen, TrapKind, Comes, comes, Came, came, RunComes, run_comes, run_came, ProgramTree, Running, Waiting, blocking_row, immediate_row, Delivery, with_delivery, SourceMove, source_step, source_machine, started, Rest, World, Segment, Rested, Entry, Deliver, Run, with_printed, empty_exchange, DeepProgram, DeepRunning, DeepWaiting, DeepMove, deep_step, deep_machine, DeepRest, DeepWorld, DeepSegment, DeepRested, RestsAlike, BothFresh, BothBlocked, BothEnded, RestAlike, WorldsAlike, ThreadStart, FitsFunction, shown_by_program, shown_by_text, RunsTheSame}
 use Rattle.c_tree.specs.declared.facts.GlobalFact.{GlobalFact}
-use Rattle.c_tree.specs.Trees.{ProgramTree}
-use Rattle.c_mean.specs.Frames.{Running, Waiting}
-use Rattle.c_mean.specs.ModelledCalls.{blocking_row, immediate_row, Delivery, with_delivery}
-use Rattle.c_mean.specs.Steps.{SourceMove, source_step, source_machine, started}
 use Rattle.c_mean.specs.World as source
-use Rattle.c_mean.specs.World.{Rest, World, Segment, Rested, Entry, Deliver, Run, with_printed, empty_exchange}
-use Rattle.deep_mean.specs.DeepTrees.{DeepProgram}
-use Rattle.deep_mean.specs.DeepFrames.{DeepRunning, DeepWaiting}
-use Rattle.deep_mean.specs.DeepSteps.{DeepMove, deep_step, deep_machine}
 use Rattle.deep_mean.specs.DeepSteps as deep_steps
 use Rattle.deep_mean.specs.DeepWorld as deep
-use Rattle.deep_mean.specs.DeepWorld.{DeepRest, DeepWorld, DeepSegment, DeepRested}
-use Rattle.hoist_meaning.specs.SameRuns.{RestsAlike, BothFresh, BothBlocked, BothEnded, RestAlike, WorldsAlike, ThreadStart, FitsFunction, shown_by_program, shown_by_text, RunsTheSame}
 use Rattle.hoist_meaning.proofs.Asking.{asked, asked_moves, went, stopped}
 use Rattle.hoist_meaning.proofs.Outputs.{Outputs, Grows, cut_there, cut_here}
 use Rattle.hoist_meaning.proofs.Matching.{ThreadsFollow, RestsMatch, ThreadsMatch, WorldsMatch, SegmentsMatch, BegunMatch, text_machine, tree_machine, segments_follow, begins}

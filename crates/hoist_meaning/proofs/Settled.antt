@@ -1,18 +1,6 @@
 -- What stays on the way: the words of earlier variables, the widths of all, and the value of a part that is done, which is a number or a new
 -- name that holds it, whatever the globals are by then.
-use Rattle.std.proofs.Common.{ℕ, ◌≡◌, ◌≢◌, ◌+◌, ◌<◌, ◌≤◌, ⊎_elim, refl, sym, ap, ◌∙◌, false, List, [], ◌∷◌, ◌++◌, length, set, replicate, arith}
-use Rattle.std.specs.Prelude.{◌%◌, ◌^◌, slice_index, Ok}
-use Rattle.std.proofs.lemmas.List.{get_or-set_other}
-use Rattle.cap_word.specs.Rows.{row, width, with_word, with_zeros}
-use Rattle.c_tree.specs.RawTrees.{RawExprTree, RawNumber}
-use Rattle.c_mean.specs.Values.{value}
-use Rattle.scope_rules.specs.declared.meanings.Meaning.{Meaning}
-use Rattle.scope_rules.specs.declared.meanings.Variable.{Variable}
-use Rattle.scope_rules.specs.Names.{Binding, find}
-use Rattle.scope_rules.specs.Meanings.{variable_of}
-use Rattle.scope_rules.specs.Expressions.{scalar_value, expr_of}
-use Rattle.scope_rules.specs.Places.{Spot}
-use Rattle.hoist_parts.specs.NewNames.{new_name, used}
+use Rattle.hoist_meaning.proofs.Common.{ℕ, ◌≡◌, ◌≢◌, ◌+◌, ◌<◌, ◌≤◌, refl, sym, ap, ◌∙◌, false, List, [], ◌∷◌, ◌++◌, length, set, replicate, arith, ◌%◌, ◌^◌, slice_index, Ok, get_or-set_other, row, width, with_word, with_zeros, RawExprTree, RawNumber, value, Meaning, Variable, Binding, find, variable_of, scalar_value, expr_of, Spot, new_name, used}
 use Rattle.hoist_meaning.proofs.Bindings.{Agreement, New, in_tree, NamesStand, row_written, last_found}
 use Rattle.hoist_meaning.proofs.Spots.{StandsAt}
 use Rattle.hoist_meaning.proofs.Extends.{Extends, TreeBelow, extends_text, extends_paired, extends_find, extends_below, pair_below}

@@ -1,12 +1,5 @@
 -- Where the rewritten tree stands after what goes before a right side, and before an element that is set.
-use Rattle.std.proofs.Common.{ℕ, ◌≡◌, ◌+◌, ◌≤◌, refl, ◌∙◌, Bool, true, false, [], ◌++◌, arith}
-use Rattle.c_tree.specs.RawTrees.{RawExprTree, RawExprTrees, RawNumber, RawName, RawElement, RawUnary, RawParenthesized, RawBinary, RawLogicalAnd, RawLogicalOr, RawConditional, RawCall, RawTableCall, NoExprs, And}
-use Rattle.scope_rules.specs.Places.{Spot}
-use Rattle.scope_rules.proofs.NoFaults.{neither}
-use Rattle.hoist_parts.specs.Calls.{holds_call, hold_call, holds_nested, is_named, is_spawn}
-use Rattle.hoist_parts.specs.Expressions.{one_if, names_in, part_after, part_named, left_of, before, arguments_before}
-use Rattle.hoist_parts.specs.Statements.{value_names, value_before, table_before}
-use Rattle.hoist_parts.proofs.NoCalls.{no_before}
+use Rattle.hoist_meaning.proofs.Common.{ℕ, ◌≡◌, ◌+◌, ◌≤◌, refl, ◌∙◌, Bool, true, false, [], ◌++◌, arith, RawExprTree, RawExprTrees, RawNumber, RawName, RawElement, RawUnary, RawParenthesized, RawBinary, RawLogicalAnd, RawLogicalOr, RawConditional, RawCall, RawTableCall, NoExprs, And, Spot, holds_call, hold_call, holds_nested, is_named, is_spawn, one_if, names_in, part_after, part_named, left_of, before, arguments_before, value_names, value_before, table_before, no_before, or_parts}
 use Rattle.hoist_meaning.proofs.Bindings.{Agreement}
 use Rattle.hoist_meaning.proofs.Items.{after}
 use Rattle.hoist_meaning.proofs.Spots.{StandsAt, as_many, with_part, with_names, with_argument_names, before_stands, arguments_stand, part_leaves}
@@ -71,13 +64,13 @@ element_place a k v i e s place few =
 
 quiet_names : (stays : Bool) (k v : ℕ) (es : RawExprTrees) (a : Agreement) → hold_call es ≡ false → with_argument_names stays k v es a ≡ a
 quiet_names stays k v NoExprs a h = refl
-quiet_names true k v (And x es) a h = no_more_argument_names k v es a (neither (holds_call x) (hold_call es) h).1
+quiet_names true k v (And x es) a h = no_more_argument_names k v es a (or_parts (holds_call x) (hold_call es) h).1
 quiet_names false k v (And x es) a h = no_more_argument_names k v (And x es) a h
 
 pub no_value_names : (k v : ℕ) (e : RawExprTree) (a : Agreement) → holds_nested e ≡ false → with_value_names k v e a ≡ a
 no_value_names k v (RawCall n es) a h = quiet_names (is_spawn n) k v es a h
 no_value_names k v (RawTableCall n i e) a h =
-    let two = neither (holds_call i) (holds_call e) h in
+    let two = or_parts (holds_call i) (holds_call e) h in
     let q = two.1 in
     (λ j. with_names (part_after k (q j) i) (part_after v (q j) i) e (with_part (is_named (q j) i) (k + names_in i) (v + names_in i) (with_names k v i a)))
     ∙ no_more_names (part_after k false i) (part_after v false i) e (with_names k v i a) q ∙ no_more_names k v i a two.0
@@ -92,13 +85,13 @@ no_value_names k v _ a h = refl
 
 quiet_before : (stays : Bool) (k : ℕ) (es : RawExprTrees) → hold_call es ≡ false → arguments_before stays k es ≡ []
 quiet_before stays k NoExprs h = refl
-quiet_before true k (And x es) h = no_arguments_before k es (neither (holds_call x) (hold_call es) h).1
+quiet_before true k (And x es) h = no_arguments_before k es (or_parts (holds_call x) (hold_call es) h).1
 quiet_before false k (And x es) h = no_arguments_before k (And x es) h
 
 pub no_value_before : (k : ℕ) (e : RawExprTree) → holds_nested e ≡ false → value_before k e ≡ []
 no_value_before k (RawCall n es) h = quiet_before (is_spawn n) k es h
 no_value_before k (RawTableCall n i e) h =
-    let two = neither (holds_call i) (holds_call e) h in
+    let two = or_parts (holds_call i) (holds_call e) h in
     let q = two.1 in
     let first = no_before k i two.0 in
     (λ j. first j ++ part_named (is_named (q j) i) (k + names_in i) (left_of k i) ++ before (part_after k (q j) i) e) ∙ no_before (part_after k false i) e q

@@ -1,15 +1,6 @@
 -- What simple statements declare, and what their faults say of their right sides.
-use Rattle.std.proofs.Common.{ℕ, ◌≡◌, ◌+◌, ⊎_elim, inl, inr, refl, sym, ap, subst, ◌∙◌, Bool, true, false, List, [], ◌∷◌, ◌++◌, length, arith}
-use Rattle.std.specs.Prelude.{slice_index}
-use Rattle.c_tree.specs.RawTrees.{RawExprTree, RawNumber, RawSimpleTree, RawDeclareScalar, RawDeclareArray, RawDeclareWith}
-use Rattle.scope_rules.specs.Names.{Binding, find, is_fixed}
-use Rattle.scope_rules.specs.Calls.{right_faults}
-use Rattle.scope_rules.specs.Places.{Spot}
-use Rattle.scope_rules.specs.Simples.{next_variable}
+use Rattle.hoist_meaning.proofs.Common.{ℕ, ◌≡◌, ◌+◌, ⊎_elim, inl, inr, refl, sym, ap, subst, ◌∙◌, Bool, true, false, List, [], ◌∷◌, ◌++◌, length, arith, slice_index, RawExprTree, RawNumber, RawSimpleTree, RawDeclareScalar, RawDeclareArray, RawDeclareWith, Binding, find, is_fixed, right_faults, Spot, next_variable, holds_nested, is_named, names_in, part_after, value_names}
 use Rattle.deep_mean.specs.Naming as deep
-use Rattle.hoist_parts.specs.Calls.{holds_nested, is_named}
-use Rattle.hoist_parts.specs.Expressions.{names_in, part_after}
-use Rattle.hoist_parts.specs.Statements.{value_names}
 use Rattle.hoist_meaning.proofs.Bindings.{Agreement, in_text, AreBelow}
 use Rattle.hoist_meaning.proofs.Spots.{with_part, with_names}
 use Rattle.hoist_meaning.proofs.Declarations.{declared_or, BothStand, simple_declares}

@@ -1,35 +1,13 @@
 -- What is known of a place makes its right sides and its simple statements sound.
-use Rattle.std.proofs.Common.{ℕ, ◌≡◌, ◌+◌, ◌≤◌, refl, sym, ap, subst, ◌∙◌, Bool, true, false, List, [], ◌∷◌, ◌++◌, append-nil, length, length-append, arith}
-use Rattle.std.specs.Prelude.{slice_index}
-use Rattle.c_tree.specs.RawTrees.{NameTree, RawExprTree, RawExprTrees, RawCall, RawTableCall, RawSimpleTree, RawDeclareScalar, RawDeclareArray, RawDeclareWith, RawSet, RawSetElement, RawCalling, RawTableCalling, RawDo}
-use Rattle.c_tree.specs.RawViews.{raw_in_order}
+use Rattle.hoist_meaning.proofs.Common.{ℕ, ◌≡◌, ◌+◌, ◌≤◌, refl, sym, ap, subst, ◌∙◌, Bool, true, false, List, [], ◌∷◌, ◌++◌, append-nil, length, length-append, arith, slice_index, NameTree, RawExprTree, RawExprTrees, RawCall, RawTableCall, RawSimpleTree, RawDeclareScalar, RawDeclareArray, RawDeclareWith, RawSet, RawSetElement, RawCalling, RawTableCalling, RawDo, raw_in_order, ExprTree, RightTree, ProgramTree, Place, InLocal, InGlobal, Nowhere, function_at, Variable, find, is_fixed, is_scalar, is_array, variable_of, scalar_faults, array_faults, expr_faults, listed, expr_of, Spot, next_variable, declare_faults, simple_faults, set_scalar, set_element, simple_numbered, right_numbered, call_numbered, both_none, is_call, expr_places, simple_places, calls_in, counted, holds_nested, is_named, is_spawn, names_in, part_after, part_or, part_named, left_of, arguments_left, index_left, argument_left, before, value_names, value_left, value_before, simple_left, simple_before, left_whole, IsPlain, AreSourceNames}
 use Rattle.c_tree.specs.Trees as tree
-use Rattle.c_tree.specs.Trees.{ExprTree, RightTree, ProgramTree}
-use Rattle.c_mean.specs.Frames.{Place, InLocal, InGlobal, Nowhere, function_at}
-use Rattle.scope_rules.specs.declared.meanings.Variable.{Variable}
-use Rattle.scope_rules.specs.Names.{find, is_fixed}
-use Rattle.scope_rules.specs.Meanings.{is_scalar, is_array, variable_of}
-use Rattle.scope_rules.specs.Expressions.{scalar_faults, array_faults, expr_faults, listed, expr_of}
 use Rattle.scope_rules.specs.Calls.{right_faults, right_of, call_of, table_call_of}
-use Rattle.scope_rules.specs.Places.{Spot}
-use Rattle.scope_rules.specs.Simples.{next_variable, declare_faults, simple_faults, set_scalar, set_element}
 use Rattle.scope_rules.specs.Simples as tree_simples
-use Rattle.scope_rules.specs.Numbered.{simple_numbered, right_numbered, call_numbered}
-use Rattle.scope_rules.proofs.NoFaults.{both_none}
-use Rattle.grammar_laws.specs.Nested.{is_call}
-use Rattle.grammar_laws.specs.Places.{expr_places, simple_places}
 use Rattle.deep_mean.specs.DeepTrees.{DeepExpr, DeclareScalar, DeclareArray, DeepProgram}
 use Rattle.deep_mean.specs.DeepFrames as frames
 use Rattle.deep_mean.specs.Naming as deep
-use Rattle.deep_mean.specs.Naming.{calls_in, counted}
-use Rattle.hoist_parts.specs.Calls.{holds_nested, is_named, is_spawn}
-use Rattle.hoist_parts.specs.Expressions.{names_in, part_after, part_or, part_named, left_of, arguments_left, index_left, argument_left, before}
-use Rattle.hoist_parts.specs.Statements.{value_names, value_left, value_before, simple_left, simple_before}
-use Rattle.hoist_parts.proofs.Whole.{left_whole}
-use Rattle.hoist_meaning.specs.SpawnArguments.{IsPlain}
 use Rattle.hoist_meaning.proofs.KnownSpawn.{AreFine, both_fine, one_fine}
 use Rattle.hoist_meaning.proofs.CallCounts.{part_places}
-use Rattle.hoist_meaning.specs.SourceNames.{AreSourceNames}
 use Rattle.hoist_meaning.proofs.Bindings.{Agreement, in_text, in_tree, AreBelow, found_alike}
 use Rattle.hoist_meaning.proofs.Items.{after, after_both}
 use Rattle.hoist_meaning.proofs.Spots.{StandsAt, below_limit}

@@ -1,28 +1,6 @@
 -- The calls of the tree have the numbers of the text's: a call stands at one place in both, and the j-th place of the tree has the number of
 -- the k-th of the text where both are one.
-use Rattle.std.proofs.Common.{ℕ, zero, suc, ◌≡◌, ◌+◌, ◌≤◌, refl, sym, ap, subst, ◌∙◌, Bool, true, false, ◌||◌, List, [], ◌∷◌, ◌++◌, append_assoc, append-nil, length, length-append, Option, Some, None, arith, if◌then◌else◌}
-use Rattle.std.specs.Prelude.{slice_index_or}
-use Rattle.c_tree.specs.RawTrees.{RawExprTree, RawExprTrees, RawNumber, RawName, RawElement, RawUnary, RawParenthesized, RawBinary, RawLogicalAnd, RawLogicalOr, RawConditional, RawCall, RawTableCall, NoExprs, And, RawSimpleTree, RawDeclareWith, RawSet, RawSetElement, RawCalling, RawTableCalling, RawStmtTree, RawStmtTrees, RawDo, RawBlock, RawIf, RawIfElse, RawWhile, RawFor, RawReturn, NoRawStmts, RawThen, RawItemTree}
-use Rattle.c_tree.specs.RawViews.{raw_in_order}
-use Rattle.c_tree.specs.WholeCalls.{HasNoCall, IsValueWhole, IsSimpleWhole, AreSimplesWhole, IsStepWhole, IsConditionWhole, IsReturnWhole, IsStmtWhole, AreStmtsWhole}
-use Rattle.grammar_laws.specs.Nested.{is_call}
-use Rattle.grammar_laws.specs.Places.{expr_places, exprs_places, simple_places, simples_places, optional_places, step_places, stmt_places, stmts_places, items_places}
-use Rattle.grammar_laws.specs.Ranks.{site_numbers}
-use Rattle.grammar_laws.specs.Rising.{RiseWithin}
-use Rattle.scope_rules.specs.Places.{Spot}
-use Rattle.scope_rules.specs.Calls.{right_after}
-use Rattle.scope_rules.specs.Simples.{simple_after, simples_after}
-use Rattle.scope_rules.specs.Statements.{inside, left, step_after, stmt_after, stmts_after, returned_after}
-use Rattle.scope_rules.specs.Numbered.{number_at}
-use Rattle.scope_rules.proofs.NoFaults.{neither}
-use Rattle.deep_mean.specs.Naming.{calls_in, all_calls_in}
-use Rattle.hoist_parts.specs.NewNames.{used, declared, declared_as, set_to}
-use Rattle.hoist_parts.specs.Calls.{holds_call, hold_call, is_named, is_spawn}
-use Rattle.hoist_parts.specs.Expressions.{names_in, arguments_names, part_after, part_named, left_of, arguments_left, call_left, index_left, argument_left, table_call_left, is_true, is_false, in_block, decided, before, arguments_before}
-use Rattle.hoist_parts.specs.Statements.{value_left, value_before, table_before, items_hoisted}
-use Rattle.hoist_parts.proofs.Whole.{AllWhole, in_order_whole}
-use Rattle.hoist_meaning.specs.CallPlaces.{StandsAt}
-use Rattle.hoist_meaning.specs.SpawnArguments.{IsPlain, ArePlain, AreItemsPlain}
+use Rattle.hoist_meaning.proofs.Common.{ℕ, zero, suc, ◌≡◌, ◌+◌, ◌≤◌, refl, sym, ap, subst, ◌∙◌, Bool, true, false, ◌||◌, List, [], ◌∷◌, ◌++◌, append_assoc, append-nil, length, length-append, Option, Some, None, arith, if◌then◌else◌, slice_index_or, RawExprTree, RawExprTrees, RawNumber, RawName, RawElement, RawUnary, RawParenthesized, RawBinary, RawLogicalAnd, RawLogicalOr, RawConditional, RawCall, RawTableCall, NoExprs, And, RawSimpleTree, RawDeclareWith, RawSet, RawSetElement, RawCalling, RawTableCalling, RawStmtTree, RawStmtTrees, RawDo, RawBlock, RawIf, RawIfElse, RawWhile, RawFor, RawReturn, NoRawStmts, RawThen, RawItemTree, raw_in_order, HasNoCall, IsValueWhole, IsSimpleWhole, AreSimplesWhole, IsStepWhole, IsConditionWhole, IsReturnWhole, IsStmtWhole, AreStmtsWhole, is_call, expr_places, exprs_places, simple_places, simples_places, optional_places, step_places, stmt_places, stmts_places, items_places, site_numbers, RiseWithin, Spot, right_after, simple_after, simples_after, inside, left, step_after, stmt_after, stmts_after, returned_after, number_at, calls_in, all_calls_in, used, declared, declared_as, set_to, holds_call, hold_call, is_named, is_spawn, names_in, arguments_names, part_after, part_named, left_of, arguments_left, call_left, index_left, argument_left, table_call_left, is_true, is_false, in_block, decided, before, arguments_before, value_left, value_before, table_before, items_hoisted, AllWhole, in_order_whole, StandsAt, IsPlain, ArePlain, AreItemsPlain, or_parts}
 use Rattle.hoist_meaning.proofs.CallCounts.{no_places, none_of_them}
 use Rattle.hoist_meaning.proofs.Numbers.{numbers_kept}
 use Rattle.hoist_meaning.proofs.Items.{after, after_both}
@@ -255,17 +233,17 @@ quiet_sites ns s k site (RawElement n i) h = quiet_sites ns s k site i h
 quiet_sites ns s k site (RawUnary op e) h = quiet_sites ns s k site e h
 quiet_sites ns s k site (RawParenthesized e) h = quiet_sites ns s k site e h
 quiet_sites ns s k site (RawBinary op l r) h =
-    let two = neither (holds_call l) (holds_call r) h in
+    let two = or_parts (holds_call l) (holds_call r) h in
     (quiet_sites ns s k site l two.0, quiet_sites ns (after_part s k (holds_call r) l) (part_after k (holds_call r) l) (site + calls_in l) r two.1)
 quiet_sites ns s k site (RawLogicalAnd l r) h =
-    let two = neither (holds_call l) (holds_call r) h in
+    let two = or_parts (holds_call l) (holds_call r) h in
     (quiet_sites ns s k site l two.0, quiet_sites ns (in_branch (after_left s k l)) (k + names_in l + 1) (site + calls_in l) r two.1)
 quiet_sites ns s k site (RawLogicalOr l r) h =
-    let two = neither (holds_call l) (holds_call r) h in
+    let two = or_parts (holds_call l) (holds_call r) h in
     (quiet_sites ns s k site l two.0, quiet_sites ns (in_branch (after_left s k l)) (k + names_in l + 1) (site + calls_in l) r two.1)
 quiet_sites ns s k site (RawConditional c x y) h =
-    let two = neither (holds_call c) (holds_call x || holds_call y) h in
-    let three = neither (holds_call x) (holds_call y) two.1 in (
+    let two = or_parts (holds_call c) (holds_call x || holds_call y) h in
+    let three = or_parts (holds_call x) (holds_call y) two.1 in (
       quiet_sites ns s k site c two.0,
       quiet_sites ns (in_branch (after_condition s k c)) (k + names_in c + 1) (site + calls_in c) x three.0,
       quiet_sites ns (in_branch (after_branch (after_condition s k c) (before (k + names_in c + 1) x ++ set_to (k + names_in c) (left_of (k + names_in c + 1) x) ∷ []))) (k + names_in c + 1 + names_in x) (site + calls_in c + calls_in x) y three.1,
@@ -327,7 +305,7 @@ module _ (ns tree text : List ℕ) (same : (j k at : ℕ) → StandsAt tree j at
       let blocks = tree_branches tree t1 (left_of k c) first second whole.0 (block_whole first whole.1) (block_whole second whole.2) inner.1 in
       (rest_x (tree_both tree (in_branch t1) (before (n + 1) x) (set_to n (left_of (n + 1) x) ∷ []) blocks.0).0, rest_y (tree_both tree (in_branch (after_branch t1 first)) (before m y) (set_to n (left_of m y) ∷ []) blocks.1).0)
   conditional_sites false k site c x y s e h rest_x rest_y =
-      let two = neither (holds_call x) (holds_call y) e in (
+      let two = or_parts (holds_call x) (holds_call y) e in (
         quiet_sites ns (in_branch (after_condition s k c)) (k + names_in c + 1) (site + calls_in c) x two.0,
         quiet_sites ns (in_branch (after_branch (after_condition s k c) (before (k + names_in c + 1) x ++ set_to (k + names_in c) (left_of (k + names_in c + 1) x) ∷ []))) (k + names_in c + 1 + names_in x) (site + calls_in c + calls_in x) y two.1,
       )

@@ -1,16 +1,6 @@
 -- The variables of a function: each statement adds some after those before it, and what goes before an expression adds one of one word for
 -- each new name.
-use Rattle.std.proofs.Common.{ℕ, zero, suc, ◌≡◌, ◌+◌, ◌<◌, ◌≤◌, refl, sym, ap, subst, ◌∙◌, Bool, true, false, ◌||◌, List, [], ◌∷◌, ◌++◌, append_assoc, append-nil, length, length-append, Option, Some, None, arith, if◌then◌else◌}
-use Rattle.std.specs.Prelude.{slice_index}
-use Rattle.c_tree.specs.RawTrees.{RawExprTree, RawExprTrees, RawNumber, RawName, RawElement, RawUnary, RawParenthesized, RawBinary, RawLogicalAnd, RawLogicalOr, RawConditional, RawCall, RawTableCall, NoExprs, And, RawSimpleTree, RawDeclareScalar, RawDeclareArray, RawDeclareWith, RawStmtTree, RawStmtTrees, RawDo, RawBlock, RawIf, RawIfElse, RawWhile, RawFor, RawReturn, NoRawStmts, RawThen}
-use Rattle.scope_rules.specs.Places.{Spot}
-use Rattle.scope_rules.specs.Simples.{simple_after, simples_after}
-use Rattle.scope_rules.specs.Statements.{inside, left, step_after, stmt_after, stmts_after, returned_after}
-use Rattle.hoist_parts.specs.NewNames.{used, declared, declared_as, set_to}
-use Rattle.hoist_parts.specs.Calls.{holds_call, hold_call, holds_nested, is_named, is_spawn}
-use Rattle.hoist_parts.specs.Expressions.{one_if, names_in, arguments_names, part_after, part_named, left_of, call_left, table_call_left, is_true, is_false, in_block, decided, before, arguments_before}
-use Rattle.hoist_parts.specs.Statements.{value_names, value_before, table_before}
-use Rattle.hoist_parts.proofs.NoCalls.{or_left, or_right, no_names}
+use Rattle.hoist_meaning.proofs.Common.{ℕ, zero, suc, ◌≡◌, ◌+◌, ◌<◌, ◌≤◌, refl, sym, ap, subst, ◌∙◌, Bool, true, false, ◌||◌, List, [], ◌∷◌, ◌++◌, append_assoc, append-nil, length, length-append, Option, Some, None, arith, if◌then◌else◌, slice_index, RawExprTree, RawExprTrees, RawNumber, RawName, RawElement, RawUnary, RawParenthesized, RawBinary, RawLogicalAnd, RawLogicalOr, RawConditional, RawCall, RawTableCall, NoExprs, And, RawSimpleTree, RawDeclareScalar, RawDeclareArray, RawDeclareWith, RawStmtTree, RawStmtTrees, RawDo, RawBlock, RawIf, RawIfElse, RawWhile, RawFor, RawReturn, NoRawStmts, RawThen, Spot, simple_after, simples_after, inside, left, step_after, stmt_after, stmts_after, returned_after, used, declared, declared_as, set_to, holds_call, hold_call, holds_nested, is_named, is_spawn, one_if, names_in, arguments_names, part_after, part_named, left_of, call_left, table_call_left, is_true, is_false, in_block, decided, before, arguments_before, value_names, value_before, table_before, or_left, or_right, no_names}
 use Rattle.hoist_meaning.proofs.Items.{after, after_both}
 use Rattle.hoist_meaning.proofs.Premises.{after_part, in_branch, after_left, after_condition, after_branch}
 use Rattle.hoist_meaning.proofs.TableEnds.{three_after}

@@ -1,25 +1,12 @@
 -- What is asked of a statement of the text and of the place in the rewritten tree from which what stands for it is: for each expression its
 -- names, rules and numbers, for each name that is set the variable of both, and where `break` and `continue` lead.
-use Rattle.std.proofs.Common.{ℕ, ◌+◌, ◌≡◌, ◌⊎◌, Bool, true, false, List, [], ◌∷◌, Option, Some, None}
-use Rattle.c_tree.specs.RawTrees.{RawExprTree, RawCall, RawTableCall, RawSimpleTree, RawDeclareScalar, RawDeclareArray, RawDeclareWith, RawSet, RawSetElement, RawCalling, RawTableCalling, RawStmtTree, RawStmtTrees, RawDo, RawEmpty, RawBlock, RawIf, RawIfElse, RawWhile, RawFor, RawBreak, RawReturn, NoRawStmts, RawThen}
-use Rattle.c_tree.specs.Trees.{ExprTree, RightTree, SimpleTree, ProgramTree}
+use Rattle.hoist_meaning.proofs.Common.{ℕ, ◌+◌, ◌≡◌, ◌⊎◌, Bool, true, false, List, [], ◌∷◌, Option, Some, None, RawExprTree, RawCall, RawTableCall, RawSimpleTree, RawDeclareScalar, RawDeclareArray, RawDeclareWith, RawSet, RawSetElement, RawCalling, RawTableCalling, RawStmtTree, RawStmtTrees, RawDo, RawEmpty, RawBlock, RawIf, RawIfElse, RawWhile, RawFor, RawBreak, RawReturn, NoRawStmts, RawThen, ExprTree, RightTree, SimpleTree, ProgramTree, IsSimpleWhole, HasNoCall, as_body, Item, Place, Spot, inside, left, stmt_after, simple_numbered, stmt_numbered, calls_in, counted, holds_call, holds_nested, names_in, part_after, left_of, before, is_false, value_names, simple_left, simple_before, stmt_names, hoisted}
 use Rattle.c_tree.specs.Trees as tree
-use Rattle.c_tree.specs.WholeCalls.{IsSimpleWhole, HasNoCall}
-use Rattle.c_tree.specs.RawViews.{as_body}
 use Rattle.c_mean.specs.ToDo as items
-use Rattle.c_mean.specs.ToDo.{Item}
-use Rattle.c_mean.specs.Frames.{Place}
-use Rattle.scope_rules.specs.Places.{Spot}
 use Rattle.scope_rules.specs.Simples as tree_simples
 use Rattle.scope_rules.specs.Statements as tree_stmts
-use Rattle.scope_rules.specs.Statements.{inside, left, stmt_after}
-use Rattle.scope_rules.specs.Numbered.{simple_numbered, stmt_numbered}
 use Rattle.deep_mean.specs.DeepTrees.{DeepExpr, DeepSimple, SetLocalElement, SetGlobalElement, DeepProgram}
 use Rattle.deep_mean.specs.Naming as deep
-use Rattle.deep_mean.specs.Naming.{calls_in, counted}
-use Rattle.hoist_parts.specs.Calls.{holds_call, holds_nested}
-use Rattle.hoist_parts.specs.Expressions.{names_in, part_after, left_of, before, is_false}
-use Rattle.hoist_parts.specs.Statements.{value_names, simple_left, simple_before, stmt_names, hoisted}
 use Rattle.hoist_meaning.proofs.Bindings.{Agreement, Paired, AreBelow}
 use Rattle.hoist_meaning.proofs.Items.{items_of, after}
 use Rattle.hoist_meaning.proofs.Premises.{after_part, IsSound, IsSideSound, side_left, IsElementSound, index_tree}

@@ -1,36 +1,10 @@
 -- Each function of the text is sound in the tree.
-use Rattle.std.proofs.Common.{ℕ, ◌+◌, ◌≡◌, ◌<◌, ◌≤◌, refl, sym, ap, subst, ◌∙◌, ⊎_elim, Bool, true, false, List, [], ◌∷◌, ◌++◌, length, drop, map, append_assoc, length-append, None, arith}
-use Rattle.std.specs.Prelude.{slice_index_or}
-use Rattle.std.proofs.lemmas.Bool.{cases_lt}
-use Rattle.cap_word.specs.Rows.{zeros, scalars}
-use Rattle.c_tree.specs.RawTrees.{NameTree, RawStmtTrees, RawItemTree, RawTableItem, RawPrototypeItem, RawFunctionItem, NoRawStmts}
-use Rattle.c_tree.specs.RawViews.{raw_in_order}
-use Rattle.c_tree.specs.Trees.{FunctionTree, ProgramTree}
+use Rattle.hoist_meaning.proofs.Common.{ℕ, ◌+◌, ◌≡◌, ◌<◌, ◌≤◌, refl, sym, ap, subst, ◌∙◌, ⊎_elim, Bool, true, false, List, [], ◌∷◌, ◌++◌, length, drop, map, append_assoc, length-append, None, arith, slice_index_or, cases_lt, zeros, scalars, NameTree, RawStmtTrees, RawItemTree, RawTableItem, RawPrototypeItem, RawFunctionItem, NoRawStmts, raw_in_order, FunctionTree, ProgramTree, capped, AreForsWhole, IsItemForWhole, AreForPartsWhole, function_at, Binding, find, Spot, stmts_after, stmts_faults, Sofar, function_faults, main_faults, params_faults, params_spot, body_spot, function_tree_of, item_faults, items_faults, item_after, items_after, number_at, stmts_numbered, function_numbered, both_none, is_call, Used, Declared, stmts_places, names_places, parameters_places, item_places, items_places, no_declared, no_used, no_parameters, DeepFunction, DeepProgram, DeepSofar, item_hoisted, items_hoisted, all_hoisted, in_order_whole, all_hoisted_whole, StandsAt, IsItemPlain, AreItemsPlain, IsItemNamed, AreItemsNamed, params_site}
 use Rattle.c_tree.specs.Trees as tree
-use Rattle.c_tree.specs.Temporaries.{capped}
-use Rattle.c_tree.specs.WholeForParts.{AreForsWhole, IsItemForWhole, AreForPartsWhole}
-use Rattle.c_mean.specs.Frames.{function_at}
-use Rattle.scope_rules.specs.Names.{Binding, find}
-use Rattle.scope_rules.specs.Places.{Spot}
-use Rattle.scope_rules.specs.Simples.{with_variable}
 use Rattle.scope_rules.specs.Statements as tree_stmts
-use Rattle.scope_rules.specs.Statements.{stmts_after, stmts_faults}
-use Rattle.scope_rules.specs.Items.{Sofar, function_faults, main_faults, params_faults, params_spot, params_after, body_spot, function_tree_of, item_faults, items_faults, item_after, items_after}
-use Rattle.scope_rules.specs.Numbered.{number_at, stmts_numbered, function_numbered}
-use Rattle.scope_rules.proofs.NoFaults.{both_none}
-use Rattle.grammar_laws.specs.Nested.{is_call}
-use Rattle.grammar_laws.specs.Places.{Used, Declared, stmts_places, names_places, parameters_places, item_places, items_places}
-use Rattle.grammar_laws.proofs.NoNames.{no_declared, no_used, no_parameters}
-use Rattle.deep_mean.specs.DeepTrees.{DeepFunction, DeepProgram}
 use Rattle.deep_mean.specs.DeepTrees as deep_tree
 use Rattle.deep_mean.specs.DeepFrames as frames
 use Rattle.deep_mean.specs.Naming as deep
-use Rattle.deep_mean.specs.Naming.{DeepSofar}
-use Rattle.hoist_parts.specs.Statements.{item_hoisted, items_hoisted, all_hoisted}
-use Rattle.hoist_parts.proofs.Whole.{in_order_whole, all_hoisted_whole}
-use Rattle.hoist_meaning.specs.CallPlaces.{StandsAt}
-use Rattle.hoist_meaning.specs.SpawnArguments.{IsItemPlain, AreItemsPlain}
-use Rattle.hoist_meaning.specs.SourceNames.{IsItemNamed, AreItemsNamed}
 use Rattle.hoist_meaning.proofs.Bindings.{Outside}
 use Rattle.hoist_meaning.proofs.Items.{after}
 use Rattle.hoist_meaning.proofs.Frames.{Words}
@@ -46,11 +20,6 @@ use Rattle.hoist_meaning.proofs.Fewer.{stmts_no_more}
 use Rattle.hoist_meaning.proofs.Parameters.{OuterNames, BodyStarts, item_outer, body_starts}
 use Rattle.hoist_meaning.proofs.SourceItems.{SofarAlike, item_alike, text_later, tree_later, seam, at_numbered, past}
 use Rattle.hoist_meaning.proofs.Programs.{FunctionSound}
-
--- parameters are no calls
-params_site : (s : Spot) (ns : List NameTree) → (params_after s ns).site ≡ s.site
-params_site s [] = refl
-params_site s (n ∷ ns) = params_site (with_variable s n false 1) ns
 
 module _ (text : DeepProgram) (program : ProgramTree) (ns text_calls tree_calls : List ℕ) where
   -- a function whose body begins here

@@ -1,20 +1,8 @@
 -- Items one after another: the rewriting declares nothing outside functions, so names, globals and tables are the same, and each function of
 -- the text is one of the tree, whose statements are sound.
-use Rattle.std.proofs.Common.{ℕ, zero, suc, ◌≡◌, ◌≤◌, refl, sym, ap, ◌∙◌, true, false, List, [], ◌∷◌, ◌++◌, length, map, append_assoc, append-nil, length-append, arith}
-use Rattle.std.specs.Prelude.{slice_index_or}
-use Rattle.c_tree.specs.RawTrees.{RawItemTree, RawGlobal, RawGlobalArray, RawTableItem, RawPrototypeItem, RawFunctionItem}
-use Rattle.c_tree.specs.RawViews.{raw_in_order}
-use Rattle.c_tree.specs.Trees.{FunctionTree}
+use Rattle.hoist_meaning.proofs.Common.{ℕ, zero, suc, ◌≡◌, ◌≤◌, refl, sym, ap, ◌∙◌, true, false, List, [], ◌∷◌, ◌++◌, length, map, append_assoc, append-nil, length-append, arith, slice_index_or, RawItemTree, RawGlobal, RawGlobalArray, RawTableItem, RawPrototypeItem, RawFunctionItem, raw_in_order, FunctionTree, capped, Meaning, Binding, find, bound, Sofar, with_definition, with_definitions, with_function, is_defined, members_of, body_spot, function_tree_of, item_after, items_after, function_numbered, DeepFunction, DeepSofar, item_hoisted, items_hoisted, all_hoisted}
 use Rattle.c_tree.specs.Trees as tree
-use Rattle.c_tree.specs.Temporaries.{capped}
-use Rattle.scope_rules.specs.declared.meanings.Meaning.{Meaning}
-use Rattle.scope_rules.specs.Names.{Binding, find, bound}
-use Rattle.scope_rules.specs.Items.{Sofar, with_definition, with_definitions, with_function, is_defined, members_of, body_spot, function_tree_of, item_after, items_after}
-use Rattle.scope_rules.specs.Numbered.{function_numbered}
-use Rattle.deep_mean.specs.DeepTrees.{DeepFunction}
 use Rattle.deep_mean.specs.Naming as deep
-use Rattle.deep_mean.specs.Naming.{DeepSofar}
-use Rattle.hoist_parts.specs.Statements.{item_hoisted, items_hoisted, all_hoisted}
 
 -- ---- what is declared outside functions
 

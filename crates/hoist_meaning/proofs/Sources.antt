@@ -1,29 +1,9 @@
 -- The program of the rewritten tree runs as the text does.
-use Rattle.std.proofs.Common.{ℕ, zero, suc, ◌≡◌, ◌≤◌, refl, sym, ap, subst, ◌∙◌, false, List, [], ◌∷◌, length, append-nil, arith}
-use Rattle.std.specs.Prelude.{codes, slice_index_or}
-use Rattle.std.proofs.lemmas.List.{length-map}
-use Rattle.c_tree.specs.RawTrees.{RawItemTree}
-use Rattle.c_tree.specs.Trees.{FunctionTree, ProgramTree}
+use Rattle.hoist_meaning.proofs.Common.{ℕ, zero, suc, ◌≡◌, ◌≤◌, refl, sym, ap, subst, ◌∙◌, false, List, [], ◌∷◌, length, append-nil, arith, codes, slice_index_or, length-map, RawItemTree, FunctionTree, ProgramTree, AreFunctionsScoped, IsWellScoped, AreForPartsWhole, Binding, find, function_of, definitions, at_start, items_after, program_of, function_numbered, numbered, IsResolvedBy, is_call, items_places, site_numbers, RiseWithin, ranks_length, deep_start, deep_program, items_hoisted, items_hoisted_whole, RunsTheSame, AreItemsNamed}
 use Rattle.c_tree.specs.Trees as tree
-use Rattle.c_tree.specs.WellScoped.{AreFunctionsScoped, IsWellScoped}
-use Rattle.c_tree.specs.WholeForParts.{AreForPartsWhole}
-use Rattle.scope_rules.specs.Names.{Binding, find}
-use Rattle.scope_rules.specs.Meanings.{function_of}
-use Rattle.scope_rules.specs.Items.{definitions, at_start, items_after, program_of}
-use Rattle.scope_rules.specs.Numbered.{function_numbered, numbered, IsResolvedBy}
 use Rattle.scope_rules.proofs.WithinLimits.{within}
-use Rattle.grammar_laws.specs.Nested.{is_call}
-use Rattle.grammar_laws.specs.Places.{items_places}
-use Rattle.grammar_laws.specs.Ranks.{site_numbers}
-use Rattle.grammar_laws.specs.Rising.{RiseWithin}
-use Rattle.grammar_laws.proofs.RankLaws.{ranks_length}
 use Rattle.deep_mean.specs.Naming as deep
-use Rattle.deep_mean.specs.Naming.{deep_start, deep_program}
-use Rattle.hoist_parts.specs.Statements.{items_hoisted}
-use Rattle.hoist_parts.proofs.Whole.{items_hoisted_whole}
 use Rattle.hoist_meaning.proofs.SpawnedSources.{scoped_plain}
-use Rattle.hoist_meaning.specs.SameRuns.{RunsTheSame}
-use Rattle.hoist_meaning.specs.SourceNames.{AreItemsNamed}
 use Rattle.hoist_meaning.proofs.SiteNumbers.{Occurs, same_numbers}
 use Rattle.hoist_meaning.proofs.TreeCounts.{each_call}
 use Rattle.hoist_meaning.proofs.Parameters.{start_outer}

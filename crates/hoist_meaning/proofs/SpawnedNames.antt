@@ -1,26 +1,7 @@
 -- Where the rewritten expressions break no rule of scope, no call stands in the first argument of a `spawn`: such an argument became the
 -- number 0, which is no function's name.
-use Rattle.std.proofs.Common.{ℕ, ◌+◌, ◌≡◌, refl, sym, ap, ◌∙◌, inl, inr, ◌⊎◌, ⊎_elim, Bool, true, false, ◌||◌, List, [], ◌∷◌, ◌++◌}
-use Rattle.std.specs.Prelude.{codes, length, if◌then◌else◌}
-use Rattle.std.proofs.lemmas.Slice.Eq.{bytes_eq-Decides}
-use Rattle.c_tree.specs.RawTrees.{NameTree, RawExprTree, RawExprTrees, RawNumber, RawElement, RawUnary, RawParenthesized, RawBinary, RawLogicalAnd, RawLogicalOr, RawConditional, RawCall, RawTableCall, NoExprs, And, RawStmtTree, RawIf, RawIfElse}
-use Rattle.c_tree.specs.RawViews.{raw_in_order}
-use Rattle.c_tree.specs.WholeCalls.{HasNoCall}
+use Rattle.hoist_meaning.proofs.Common.{ℕ, ◌+◌, ◌≡◌, refl, sym, ap, ◌∙◌, inl, inr, ◌⊎◌, ⊎_elim, Bool, true, false, ◌||◌, List, [], ◌∷◌, ◌++◌, codes, length, if◌then◌else◌, bytes_eq-Decides, NameTree, RawExprTree, RawExprTrees, RawNumber, RawElement, RawUnary, RawParenthesized, RawBinary, RawLogicalAnd, RawLogicalOr, RawConditional, RawCall, RawTableCall, NoExprs, And, RawStmtTree, RawIf, RawIfElse, raw_in_order, HasNoCall, Binding, find, callee_of, expr_faults, exprs_faults, listed, call_name_faults, spawned_faults, arguments_faults, call_faults, right_faults, Spot, declare_faults, inside, left, stmt_after, stmt_faults, both_none, new_name, used, declared, declared_as, set_to, holds_call, hold_call, is_named, is_spawn, names_in, arguments_names, part_after, part_named, spawned_left, left_of, arguments_left, call_left, table_call_left, is_true, is_false, in_block, decided, before, arguments_before, or_left, or_right, not_held, IsPlain, ArePlain}
 use Rattle.scope_rules.specs.declared.meanings.Callee.{Callee}
-use Rattle.scope_rules.specs.Names.{Binding, find}
-use Rattle.scope_rules.specs.Meanings.{callee_of}
-use Rattle.scope_rules.specs.Expressions.{expr_faults, exprs_faults, listed}
-use Rattle.scope_rules.specs.Calls.{call_name_faults, spawned_faults, arguments_faults, call_faults, right_faults}
-use Rattle.scope_rules.specs.Places.{Spot}
-use Rattle.scope_rules.specs.Simples.{declare_faults}
-use Rattle.scope_rules.specs.Statements.{inside, left, stmt_after, stmt_faults}
-use Rattle.scope_rules.proofs.NoFaults.{both_none}
-use Rattle.hoist_parts.specs.NewNames.{new_name, used, declared, declared_as, set_to}
-use Rattle.hoist_parts.specs.Calls.{holds_call, hold_call, is_named, is_spawn}
-use Rattle.hoist_parts.specs.Expressions.{names_in, arguments_names, part_after, part_named, spawned_left, left_of, arguments_left, call_left, table_call_left, is_true, is_false, in_block, decided, before, arguments_before}
-use Rattle.hoist_parts.proofs.NoCalls.{or_left, or_right}
-use Rattle.hoist_parts.proofs.Whole.{not_held}
-use Rattle.hoist_meaning.specs.SpawnArguments.{IsPlain, ArePlain}
 use Rattle.hoist_meaning.proofs.KnownSpawn.{KnowsSpawn, stmt_knows, stmts_know, AreFine, after_all, both_fine, one_fine, SomewhereFine}
 
 -- ---- the first argument of a call

@@ -1,24 +1,6 @@
 -- The same of statements and sources: where a rewritten source breaks no rule of scope, no call of the text stands in the first argument
 -- of a `spawn`.
-use Rattle.std.proofs.Common.{ℕ, ◌+◌, ◌≡◌, refl, ◌∙◌, Bool, true, false, not, List, [], ◌∷◌, ◌++◌, append-nil, Option, Some, None}
-use Rattle.std.specs.Prelude.{length, if◌then◌else◌}
-use Rattle.c_tree.specs.RawTrees.{RawExprTree, RawCall, RawTableCall, RawSimpleTree, RawDeclareWith, RawSet, RawSetElement, RawCalling, RawTableCalling, RawStmtTree, RawStmtTrees, RawDo, RawBlock, RawIf, RawIfElse, RawWhile, RawFor, RawBreak, RawReturn, NoRawStmts, RawThen, RawItemTree, RawGlobal, RawGlobalArray, RawTableItem, RawPrototypeItem, RawFunctionItem}
-use Rattle.c_tree.specs.RawViews.{raw_in_order, as_body}
-use Rattle.scope_rules.specs.declared.faults.Rule.{Rule}
-use Rattle.scope_rules.specs.Names.{Binding, find}
-use Rattle.scope_rules.specs.Faults.{broken}
-use Rattle.scope_rules.specs.Expressions.{scalar_faults, array_faults, expr_faults}
-use Rattle.scope_rules.specs.Calls.{right_faults}
-use Rattle.scope_rules.specs.Places.{Spot}
-use Rattle.scope_rules.specs.Simples.{declare_faults, simple_faults, simples_faults, simples_after}
-use Rattle.scope_rules.specs.Statements.{inside, left, condition_faults, step_faults, step_after, stmt_after, stmt_faults, stmts_faults}
-use Rattle.scope_rules.specs.Items.{Sofar, definitions, at_start, function_faults, main_faults, params_faults, params_spot, body_spot, item_faults, item_after, items_faults, faults_of}
-use Rattle.scope_rules.proofs.NoFaults.{both_none}
-use Rattle.hoist_parts.specs.Calls.{holds_call, holds_nested, is_named, is_spawn}
-use Rattle.hoist_parts.specs.Expressions.{names_in, part_after, part_or, part_named, left_of, is_false, in_block, before}
-use Rattle.hoist_parts.specs.Statements.{value_left, value_before, simple_left, simple_before, returned_left, returned_before, while_calling, stmt_names, hoisted, all_hoisted, item_hoisted, items_hoisted}
-use Rattle.hoist_parts.proofs.Whole.{not_held}
-use Rattle.hoist_meaning.specs.SpawnArguments.{IsPlain, IsSimplePlain, IsOptionPlain, IsStmtPlain, AreStmtsPlain, IsItemPlain, AreItemsPlain}
+use Rattle.hoist_meaning.proofs.Common.{ℕ, ◌+◌, ◌≡◌, refl, ◌∙◌, Bool, true, false, not, List, [], ◌∷◌, ◌++◌, append-nil, Option, Some, None, length, if◌then◌else◌, RawExprTree, RawCall, RawTableCall, RawSimpleTree, RawDeclareWith, RawSet, RawSetElement, RawCalling, RawTableCalling, RawStmtTree, RawStmtTrees, RawDo, RawBlock, RawIf, RawIfElse, RawWhile, RawFor, RawBreak, RawReturn, NoRawStmts, RawThen, RawItemTree, RawGlobal, RawGlobalArray, RawTableItem, RawPrototypeItem, RawFunctionItem, raw_in_order, as_body, Rule, Binding, find, broken, scalar_faults, array_faults, expr_faults, right_faults, Spot, declare_faults, simple_faults, simples_faults, simples_after, inside, left, condition_faults, step_faults, step_after, stmt_after, stmt_faults, stmts_faults, Sofar, definitions, at_start, function_faults, main_faults, params_faults, params_spot, body_spot, item_faults, item_after, items_faults, faults_of, both_none, holds_call, holds_nested, is_named, is_spawn, names_in, part_after, part_or, part_named, left_of, is_false, in_block, before, value_left, value_before, simple_left, simple_before, returned_left, returned_before, while_calling, stmt_names, hoisted, all_hoisted, item_hoisted, items_hoisted, not_held, IsPlain, IsSimplePlain, IsOptionPlain, IsStmtPlain, AreStmtsPlain, IsItemPlain, AreItemsPlain}
 use Rattle.hoist_meaning.proofs.KnownSpawn.{KnowsSpawn, bound_knows, simples_know, step_knows, stmt_knows, stmts_know, params_know, AreFine, after_all, both_fine, one_fine, SomewhereFine}
 use Rattle.hoist_meaning.proofs.SpawnedNames.{first_plain, no_call_plain, part_fine, plain, arguments_plain}
 

@@ -1,16 +1,6 @@
 -- Where the rewritten tree stands after what goes before an expression: the new names at the top level of those statements are in scope,
 -- each under the next number of a variable, and each new name has taken one, those in branches included.
-use Rattle.std.proofs.Common.{ℕ, ◌+◌, ◌≤◌, ◌≡◌, refl, sym, ap, subst, ◌∙◌, Bool, true, false, ◌||◌, List, [], ◌∷◌, ◌++◌, length, length-append, arith, if◌then◌else◌}
-use Rattle.c_tree.specs.RawTrees.{RawExprTree, RawExprTrees, RawElement, RawUnary, RawParenthesized, RawBinary, RawLogicalAnd, RawLogicalOr, RawConditional, RawCall, RawTableCall, NoExprs, And, RawStmtTree, RawIfElse}
-use Rattle.c_tree.specs.Temporaries.{capped}
-use Rattle.scope_rules.specs.declared.meanings.Meaning.{Meaning}
-use Rattle.scope_rules.specs.Names.{bound}
-use Rattle.scope_rules.specs.Places.{Spot}
-use Rattle.scope_rules.specs.Statements.{inside, left, stmt_after}
-use Rattle.hoist_parts.specs.NewNames.{new_name, used, declared, declared_as, set_to}
-use Rattle.hoist_parts.specs.Calls.{holds_call, hold_call, is_named, is_spawn}
-use Rattle.hoist_parts.specs.Expressions.{one_if, names_in, arguments_names, part_after, part_named, left_of, is_true, is_false, in_block, decided, before, arguments_before, call_left, table_call_left}
-use Rattle.hoist_parts.proofs.NoCalls.{or_left, or_right, no_names}
+use Rattle.hoist_meaning.proofs.Common.{ℕ, ◌+◌, ◌≤◌, ◌≡◌, refl, sym, ap, subst, ◌∙◌, Bool, true, false, ◌||◌, List, [], ◌∷◌, ◌++◌, length, length-append, arith, if◌then◌else◌, RawExprTree, RawExprTrees, RawElement, RawUnary, RawParenthesized, RawBinary, RawLogicalAnd, RawLogicalOr, RawConditional, RawCall, RawTableCall, NoExprs, And, RawStmtTree, RawIfElse, capped, Meaning, bound, Spot, inside, left, stmt_after, new_name, used, declared, declared_as, set_to, holds_call, hold_call, is_named, is_spawn, one_if, names_in, arguments_names, part_after, part_named, left_of, is_true, is_false, in_block, decided, before, arguments_before, call_left, table_call_left, or_left, or_right, no_names}
 use Rattle.hoist_meaning.proofs.Bindings.{Agreement, New, in_tree, IsAgreement, new_bound}
 use Rattle.hoist_meaning.proofs.Items.{after, after_both}
 

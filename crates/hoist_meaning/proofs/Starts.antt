@@ -1,11 +1,5 @@
 -- Where a function begins: its arguments are the words of its parameters in both, and every other name has as many words of 0 as it has.
-use Rattle.std.proofs.Common.{ℕ, zero, suc, ◌≡◌, ◌<◌, refl, sym, ap, subst, ◌∙◌, List, [], ◌∷◌, ◌++◌, length, drop, arith}
-use Rattle.std.specs.Prelude.{slice_index}
-use Rattle.std.proofs.lemmas.List.{length-replicate}
-use Rattle.cap_word.specs.Rows.{row, width, zeros, scalars}
-use Rattle.c_tree.specs.Trees.{ProgramTree}
-use Rattle.c_mean.specs.Frames.{function_at}
-use Rattle.deep_mean.specs.DeepTrees.{DeepProgram}
+use Rattle.hoist_meaning.proofs.Common.{ℕ, zero, suc, ◌≡◌, ◌<◌, refl, sym, ap, subst, ◌∙◌, List, [], ◌∷◌, ◌++◌, length, drop, arith, slice_index, length-replicate, row, width, zeros, scalars, ProgramTree, function_at, DeepProgram}
 use Rattle.deep_mean.specs.DeepFrames as frames
 use Rattle.hoist_meaning.proofs.Bindings.{Agreement, Paired}
 use Rattle.hoist_meaning.proofs.Ends.{Rows}

@@ -1,27 +1,10 @@
 -- The items of a statement of the text and of what stands for it in the tree are alike, and so are the turns of loops.
-use Rattle.std.proofs.Common.{ℕ, ◌+◌, ◌≡◌, refl, subst, Bool, List, [], ◌∷◌, ◌++◌, map, Option, Some, None}
-use Rattle.std.specs.Prelude.{option_map}
-use Rattle.c_tree.specs.RawTrees.{RawExprTree, RawCall, RawTableCall, RawSimpleTree, RawDeclareScalar, RawDeclareArray, RawDeclareWith, RawSet, RawSetElement, RawCalling, RawTableCalling}
-use Rattle.c_tree.specs.RawViews.{raw_in_order}
-use Rattle.c_tree.specs.Trees.{ExprTree, RightTree, SimpleTree, ProgramTree}
-use Rattle.c_tree.specs.WholeCalls.{IsSimpleWhole}
+use Rattle.hoist_meaning.proofs.Common.{ℕ, ◌+◌, ◌≡◌, refl, subst, Bool, List, [], ◌∷◌, ◌++◌, map, Option, Some, None, option_map, RawExprTree, RawCall, RawTableCall, RawSimpleTree, RawDeclareScalar, RawDeclareArray, RawDeclareWith, RawSet, RawSetElement, RawCalling, RawTableCalling, raw_in_order, ExprTree, RightTree, SimpleTree, ProgramTree, IsSimpleWhole, Item, Loop, Simply, Test, InLocalElement, InGlobalElement, expr_of, Spot, simple_numbered, stmts_numbered, DeepExpr, DeepSimple, DeepProgram, calls_in, holds_nested, is_named, names_in, part_after, part_named, left_of, before, value_before, simple_left, simple_before, held_not, simple_kept, no_simple_before}
 use Rattle.c_mean.specs.ToDo as items
-use Rattle.c_mean.specs.ToDo.{Item, Loop, WhileLoop, ForLoop, Simply, Choose, Test, Leave, Skip, GiveBack, Back}
-use Rattle.c_mean.specs.Frames.{InLocalElement, InGlobalElement}
-use Rattle.scope_rules.specs.Expressions.{expr_of}
-use Rattle.scope_rules.specs.Places.{Spot}
 use Rattle.scope_rules.specs.Simples as tree_simples
 use Rattle.scope_rules.specs.Statements as tree_stmts
-use Rattle.scope_rules.specs.Statements.{inside, left, stmt_after}
-use Rattle.scope_rules.specs.Numbered.{simple_numbered, stmts_numbered}
-use Rattle.deep_mean.specs.DeepTrees.{DeepExpr, DeepSimple, DeepProgram}
 use Rattle.deep_mean.specs.DeepToDo as deep_items
 use Rattle.deep_mean.specs.Naming as deep
-use Rattle.deep_mean.specs.Naming.{calls_in, counted}
-use Rattle.hoist_parts.specs.Calls.{holds_nested, is_named}
-use Rattle.hoist_parts.specs.Expressions.{names_in, part_after, part_named, left_of, before}
-use Rattle.hoist_parts.specs.Statements.{value_before, simple_left, simple_before}
-use Rattle.hoist_parts.proofs.Kept.{held_not, simple_kept, no_simple_before}
 use Rattle.hoist_meaning.proofs.Bindings.{Agreement}
 use Rattle.hoist_meaning.proofs.Items.{items_of, after}
 use Rattle.hoist_meaning.proofs.Premises.{after_part, side_left, index_tree}

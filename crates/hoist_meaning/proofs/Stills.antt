@@ -1,24 +1,11 @@
 -- Where a frame of the tree has items that stand for those of the text, each step of the text is answered.
-use Rattle.std.proofs.Common.{ℕ, zero, suc, ◌≡◌, ◌≢◌, refl, sym, ap, subst, ◌∙◌, ◌⊎◌, inl, inr, ⊎_elim, true, false, List, [], ◌∷◌, length, replicate, Some, None, arith}
-use Rattle.std.proofs.lemmas.Bool.{cases_eq}
-use Rattle.std.proofs.lemmas.List.{get_or-set_other, length-replicate}
-use Rattle.cap_word.specs.Rows.{row, width, with_zeros}
-use Rattle.cap_word.specs.Runs.{Goes, Asks, Stops, and_then, moves}
+use Rattle.hoist_meaning.proofs.Common.{ℕ, zero, suc, ◌≡◌, ◌≢◌, refl, sym, ap, subst, ◌∙◌, ◌⊎◌, inl, inr, ⊎_elim, true, false, List, [], ◌∷◌, length, replicate, Some, None, arith, cases_eq, get_or-set_other, length-replicate, row, width, with_zeros, Goes, Asks, Stops, and_then, moves, CallTree, SimpleTree, ProgramTree, Item, Loop, Simply, Enter, Back, Leave, Skip, GiveBack, Place, WaitingFrame, Running, function_at, source_step, source_machine, Stands, DeepExpr, DeepSimple, DeepProgram, evaluate, Stores, IndexesLocal, IndexesGlobal, Branches, Tests, Returns, DeepWaitingFrame}
 use Rattle.c_tree.specs.Trees as tree
-use Rattle.c_tree.specs.Trees.{CallTree, SimpleTree, ProgramTree}
 use Rattle.c_mean.specs.ToDo as items
-use Rattle.c_mean.specs.ToDo.{Item, Loop, Simply, Enter, Back, Leave, Skip, GiveBack}
-use Rattle.c_mean.specs.Frames.{Place, WaitingFrame, Running, function_at}
 use Rattle.c_mean.specs.Frames as source_frames
 use Rattle.c_mean.specs.Steps as tree_steps
-use Rattle.c_mean.specs.Steps.{source_step, source_machine}
-use Rattle.c_mean.proofs.StandLemmas.{Stands}
-use Rattle.deep_mean.specs.DeepTrees.{DeepExpr, DeepSimple, DeepProgram}
-use Rattle.deep_mean.specs.Evaluation.{evaluate}
 use Rattle.deep_mean.specs.DeepToDo as deep_items
-use Rattle.deep_mean.specs.DeepToDo.{Stores, IndexesLocal, IndexesGlobal, Branches, Tests, Returns}
 use Rattle.deep_mean.specs.DeepFrames as frames
-use Rattle.deep_mean.specs.DeepFrames.{DeepWaitingFrame}
 use Rattle.deep_mean.specs.DeepSteps as deep_steps
 use Rattle.hoist_meaning.proofs.Bindings.{Agreement, Both, Paired, AreBelow, NamesStand, paired_below, row_zeroed}
 use Rattle.hoist_meaning.proofs.Items.{stays, at}

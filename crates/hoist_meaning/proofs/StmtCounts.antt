@@ -1,15 +1,5 @@
 -- The calls of a rewritten source are those of the text: statements and items.
-use Rattle.std.proofs.Common.{ℕ, ◌+◌, ◌≡◌, refl, ap, ◌∙◌, Bool, true, false, List, [], ◌∷◌, ◌++◌, append-nil, Option, Some, None, arith, if◌then◌else◌}
-use Rattle.c_tree.specs.RawTrees.{NameTree, RawExprTree, RawExprTrees, RawCall, RawTableCall, RawSimpleTree, RawDeclareWith, RawSet, RawSetElement, RawCalling, RawTableCalling, RawStmtTree, RawStmtTrees, RawDo, RawBlock, RawIf, RawIfElse, RawWhile, RawFor, RawBreak, RawReturn, NoRawStmts, RawThen, RawItemTree, RawFunctionItem}
-use Rattle.c_tree.specs.RawViews.{raw_in_order, as_body}
-use Rattle.c_tree.specs.WholeCalls.{HasNoCall}
-use Rattle.grammar_laws.specs.Nested.{is_call}
-use Rattle.grammar_laws.specs.Places.{Declared, expr_places, exprs_places, simple_places, simples_places, optional_places, step_places, stmt_places, stmts_places, names_places, item_places, items_places}
-use Rattle.hoist_parts.specs.Calls.{holds_call, holds_nested, is_named, is_spawn}
-use Rattle.hoist_parts.specs.Expressions.{names_in, part_after, part_or, left_of, arguments_left, call_left, table_call_left, is_false, in_block, before}
-use Rattle.hoist_parts.specs.Statements.{value_left, value_before, simple_left, simple_before, returned_left, returned_before, while_calling, stmt_names, hoisted, all_hoisted, item_hoisted, items_hoisted}
-use Rattle.hoist_parts.proofs.Whole.{left_whole, arguments_whole}
-use Rattle.hoist_meaning.specs.SpawnArguments.{IsPlain, IsSimplePlain, IsOptionPlain, IsStmtPlain, AreStmtsPlain, IsItemPlain, AreItemsPlain}
+use Rattle.hoist_meaning.proofs.Common.{ℕ, ◌+◌, ◌≡◌, refl, ap, ◌∙◌, Bool, true, false, List, [], ◌∷◌, ◌++◌, append-nil, Option, Some, None, arith, if◌then◌else◌, NameTree, RawExprTree, RawExprTrees, RawCall, RawTableCall, RawSimpleTree, RawDeclareWith, RawSet, RawSetElement, RawCalling, RawTableCalling, RawStmtTree, RawStmtTrees, RawDo, RawBlock, RawIf, RawIfElse, RawWhile, RawFor, RawBreak, RawReturn, NoRawStmts, RawThen, RawItemTree, RawFunctionItem, raw_in_order, as_body, HasNoCall, is_call, Declared, expr_places, exprs_places, simple_places, simples_places, optional_places, step_places, stmt_places, stmts_places, names_places, item_places, items_places, holds_call, holds_nested, is_named, is_spawn, names_in, part_after, part_or, left_of, arguments_left, call_left, table_call_left, is_false, in_block, before, value_left, value_before, simple_left, simple_before, returned_left, returned_before, while_calling, stmt_names, hoisted, all_hoisted, item_hoisted, items_hoisted, left_whole, arguments_whole, IsPlain, IsSimplePlain, IsOptionPlain, IsStmtPlain, AreStmtsPlain, IsItemPlain, AreItemsPlain}
 use Rattle.hoist_meaning.proofs.CallCounts.{no_places, none_of_them, part_places, stmts_count, both_count, part_count, before_count, arguments_count, body_count}
 
 -- ---- places of what is left

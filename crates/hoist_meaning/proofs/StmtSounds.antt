@@ -1,36 +1,11 @@
 -- What is known of a place makes the statements there sound.
-use Rattle.std.proofs.Common.{ℕ, ◌+◌, ◌≡◌, ◌≤◌, refl, sym, ap, subst, ◌∙◌, inl, inr, Bool, true, false, not, List, [], ◌∷◌, ◌++◌, length, append-nil, length-append, Option, Some, None, arith}
-use Rattle.c_tree.specs.RawTrees.{RawExprTree, RawStmtTree, RawStmtTrees, RawDo, RawEmpty, RawBlock, RawIf, RawIfElse, RawWhile, RawFor, RawBreak, RawContinue, RawReturn, NoRawStmts, RawThen}
-use Rattle.c_tree.specs.RawViews.{raw_in_order, as_body}
-use Rattle.c_tree.specs.WholeCalls.{HasNoCall, IsStmtWhole, AreStmtsWhole}
-use Rattle.c_tree.specs.WholeForParts.{IsForWhole}
-use Rattle.c_tree.specs.Trees.{ProgramTree}
-use Rattle.c_mean.specs.Frames.{function_at}
-use Rattle.scope_rules.specs.declared.faults.Rule.{Rule}
-use Rattle.scope_rules.specs.Expressions.{expr_faults}
-use Rattle.scope_rules.specs.Faults.{broken}
-use Rattle.scope_rules.specs.Calls.{right_faults}
-use Rattle.scope_rules.specs.Places.{Spot}
+use Rattle.hoist_meaning.proofs.Common.{ℕ, ◌+◌, ◌≡◌, ◌≤◌, refl, sym, ap, subst, ◌∙◌, inl, inr, Bool, true, false, not, List, [], ◌∷◌, ◌++◌, length, append-nil, length-append, Option, Some, None, arith, RawExprTree, RawStmtTree, RawStmtTrees, RawDo, RawEmpty, RawBlock, RawIf, RawIfElse, RawWhile, RawFor, RawBreak, RawContinue, RawReturn, NoRawStmts, RawThen, raw_in_order, as_body, HasNoCall, IsStmtWhole, AreStmtsWhole, IsForWhole, ProgramTree, function_at, Rule, expr_faults, broken, right_faults, Spot, simples_faults, inside, left, condition_faults, step_faults, stmt_after, stmts_after, stmt_faults, both_none, not_broken, is_call, expr_places, simples_places, optional_places, step_places, stmt_places, stmts_places, DeepProgram, calls_in, counted, holds_call, names_in, left_of, before, is_false, in_block, value_before, value_left, stmt_names, hoisted, all_hoisted, while_calling, AllWhole, not_held, left_whole, no_before, no_left, IsStmtPlain, IsStmtNamed}
 use Rattle.scope_rules.specs.Statements as tree_stmts
 use Rattle.scope_rules.specs.Simples as tree_simples
-use Rattle.scope_rules.specs.Simples.{simples_faults}
-use Rattle.scope_rules.specs.Statements.{inside, left, condition_faults, step_faults, stmt_after, stmts_after, stmt_faults}
-use Rattle.scope_rules.proofs.NoFaults.{both_none, not_broken}
-use Rattle.grammar_laws.specs.Nested.{is_call}
-use Rattle.grammar_laws.specs.Places.{expr_places, simples_places, optional_places, step_places, stmt_places, stmts_places}
-use Rattle.deep_mean.specs.DeepTrees.{DeepProgram}
 use Rattle.deep_mean.specs.DeepFrames as frames
 use Rattle.deep_mean.specs.Naming as deep
-use Rattle.deep_mean.specs.Naming.{calls_in, counted}
-use Rattle.hoist_parts.specs.Calls.{holds_call}
-use Rattle.hoist_parts.specs.Expressions.{names_in, left_of, before, is_false, in_block}
-use Rattle.hoist_parts.specs.Statements.{value_before, value_left, stmt_names, hoisted, all_hoisted, while_calling}
-use Rattle.hoist_parts.proofs.Whole.{AllWhole, not_held, left_whole}
-use Rattle.hoist_parts.proofs.NoCalls.{no_before, no_left}
-use Rattle.hoist_meaning.specs.SpawnArguments.{IsStmtPlain}
 use Rattle.hoist_meaning.proofs.CallCounts.{no_places}
 use Rattle.hoist_meaning.proofs.KnownSpawn.{AreFine, both_fine, one_fine}
-use Rattle.hoist_meaning.specs.SourceNames.{IsStmtNamed}
 use Rattle.hoist_meaning.proofs.Bindings.{Agreement}
 use Rattle.hoist_meaning.proofs.Items.{after, after_both}
 use Rattle.hoist_meaning.proofs.Alike.{Within}

@@ -1,17 +1,7 @@
 -- A word that goes to the same place in the text and in the tree: both store it, and names stand again, or both meet the trap of an index.
-use Rattle.std.proofs.Common.{ℕ, ◌≡◌, ◌≢◌, refl, sym, ap, subst, ◌∙◌, ⊎_elim, Bool, true, false, List, [], ◌∷◌, length, length-set, set, arith}
-use Rattle.std.specs.Prelude.{Result, Ok, Err, nat_lt}
-use Rattle.std.proofs.lemmas.Bool.{cases_eq}
-use Rattle.std.proofs.lemmas.List.{get_or-set_other}
-use Rattle.cap_word.specs.Rows.{row, width, with_word}
-use Rattle.cap_word.specs.declared.traps.TrapKind.{TrapKind}
-use Rattle.c_tree.specs.Trees.{ProgramTree}
-use Rattle.c_mean.specs.ToDo.{Item}
-use Rattle.c_mean.specs.Frames.{Place, InLocalElement, WaitingFrame, Running}
+use Rattle.hoist_meaning.proofs.Common.{ℕ, ◌≡◌, ◌≢◌, refl, sym, ap, subst, ◌∙◌, ⊎_elim, Bool, true, false, List, [], ◌∷◌, length, length-set, set, arith, Result, Ok, Err, nat_lt, cases_eq, get_or-set_other, row, width, with_word, TrapKind, ProgramTree, Item, Place, InLocalElement, WaitingFrame, Running, DeepProgram, DeepWaitingFrame, DeepRunning}
 use Rattle.c_mean.specs.Steps as tree_steps
-use Rattle.deep_mean.specs.DeepTrees.{DeepProgram}
 use Rattle.deep_mean.specs.DeepToDo as deep_items
-use Rattle.deep_mean.specs.DeepFrames.{DeepWaitingFrame, DeepRunning}
 use Rattle.deep_mean.specs.DeepSteps as deep_steps
 use Rattle.hoist_meaning.proofs.Bindings.{Agreement, Both, Paired, AreBelow, NamesStand, paired_below, row_written, write_stands}
 use Rattle.hoist_meaning.proofs.Items.{at}

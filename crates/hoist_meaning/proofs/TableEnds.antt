@@ -1,28 +1,8 @@
 -- The ends of calls by a table: the index, the argument, and the call.
-use Rattle.std.proofs.Common.{ℕ, ◌≡◌, ◌+◌, refl, sym, ap, subst, ◌∙◌, Bool, true, false, List, [], ◌∷◌, ◌++◌, length, arith}
-use Rattle.std.specs.Prelude.{Ok, Err}
-use Rattle.c_tree.specs.RawTrees.{NameTree, RawExprTree, RawTableCall, RawStmtTree}
-use Rattle.c_tree.specs.Trees.{CallTable, Called, DeclareWith, ProgramTree}
-use Rattle.c_mean.specs.Values.{Value, value, with_first}
-use Rattle.c_mean.specs.ToDo.{Item, Simply}
-use Rattle.scope_rules.specs.Names.{Binding, find}
-use Rattle.scope_rules.specs.Meanings.{table_of}
-use Rattle.scope_rules.specs.Expressions.{expr_faults, expr_of}
-use Rattle.scope_rules.specs.Calls.{right_faults, table_name_faults, table_call_faults}
-use Rattle.scope_rules.specs.Places.{Spot}
-use Rattle.scope_rules.specs.Simples.{declare_faults}
-use Rattle.scope_rules.specs.Numbered.{number_at}
-use Rattle.scope_rules.proofs.NoFaults.{both_none}
+use Rattle.hoist_meaning.proofs.Common.{ℕ, ◌≡◌, ◌+◌, refl, sym, ap, subst, ◌∙◌, Bool, true, false, List, [], ◌∷◌, ◌++◌, length, arith, Ok, Err, NameTree, RawExprTree, RawTableCall, RawStmtTree, CallTable, Called, DeclareWith, ProgramTree, Value, value, with_first, Item, Simply, Binding, find, table_of, expr_faults, expr_of, right_faults, table_name_faults, table_call_faults, Spot, declare_faults, number_at, both_none, calls_in, new_name, used, declared_as, holds_call, is_named, one_if, names_in, part_after, part_or, part_named, left_of, table_call_left, before, table_before, no_left, no_before, AreSourceNames}
 use Rattle.deep_mean.specs.Evaluation.{TableIndexOf, TableArgumentOf, Ready, ReadyTableCall, of_value, and_then, evaluate, filled}
 use Rattle.deep_mean.specs.Naming as deep
-use Rattle.deep_mean.specs.Naming.{calls_in}
-use Rattle.hoist_parts.specs.NewNames.{new_name, used, declared_as}
-use Rattle.hoist_parts.specs.Calls.{holds_call, is_named}
-use Rattle.hoist_parts.specs.Expressions.{one_if, names_in, part_after, part_or, part_named, left_of, table_call_left, before}
-use Rattle.hoist_parts.specs.Statements.{table_before}
-use Rattle.hoist_parts.proofs.NoCalls.{no_left, no_before}
 use Rattle.hoist_meaning.proofs.KnownSpawn.{AreFine, both_fine, one_fine}
-use Rattle.hoist_meaning.specs.SourceNames.{AreSourceNames}
 use Rattle.hoist_meaning.proofs.Bindings.{Agreement, New, in_text, in_tree, table_alike}
 use Rattle.hoist_meaning.proofs.Items.{items_of, after, after_both, items_both, items_three, ReadyAlike}
 use Rattle.hoist_meaning.proofs.Spots.{below_limit, with_part, with_names, before_stands}

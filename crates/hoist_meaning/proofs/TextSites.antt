@@ -1,12 +1,6 @@
 -- The number of the text's next call after a statement: each call of it has taken one.
-use Rattle.std.proofs.Common.{ℕ, ◌+◌, ◌≡◌, List, [], ◌∷◌, ◌++◌, length, length-append, Option, Some, None, arith}
-use Rattle.c_tree.specs.RawTrees.{RawExprTree, RawSimpleTree, RawDeclareWith, RawSet, RawSetElement, RawCalling, RawTableCalling, RawStmtTree, RawStmtTrees, RawDo, RawBlock, RawIf, RawIfElse, RawWhile, RawFor, RawReturn, NoRawStmts, RawThen}
-use Rattle.scope_rules.specs.Places.{Spot}
-use Rattle.scope_rules.specs.Statements.{inside, left}
-use Rattle.grammar_laws.specs.Nested.{is_call}
-use Rattle.grammar_laws.specs.Places.{expr_places, simple_places, simples_places, optional_places, step_places, stmt_places, stmts_places}
+use Rattle.hoist_meaning.proofs.Common.{ℕ, ◌+◌, ◌≡◌, List, [], ◌∷◌, ◌++◌, length, length-append, Option, Some, None, arith, RawExprTree, RawSimpleTree, RawDeclareWith, RawSet, RawSetElement, RawCalling, RawTableCalling, RawStmtTree, RawStmtTrees, RawDo, RawBlock, RawIf, RawIfElse, RawWhile, RawFor, RawReturn, NoRawStmts, RawThen, Spot, inside, left, is_call, expr_places, simple_places, simples_places, optional_places, step_places, stmt_places, stmts_places, calls_in, counted}
 use Rattle.deep_mean.specs.Naming as deep
-use Rattle.deep_mean.specs.Naming.{calls_in, counted}
 use Rattle.hoist_meaning.proofs.SiteNumbers.{calls_length, all_calls_length}
 
 -- two lists one after another

@@ -1,28 +1,13 @@
 -- The items of every statement of the text and of what stands for it in the tree are alike; so are the next turn of a loop, and what is to do
 -- after a `continue`.
-use Rattle.std.proofs.Common.{ℕ, ◌+◌, ◌≡◌, refl, sym, subst, inl, inr, true, false, List, [], ◌∷◌, ◌++◌, Option, Some, None}
-use Rattle.std.specs.Prelude.{option_map, if◌then◌else◌}
-use Rattle.c_tree.specs.declared.operators.UnaryOperator.{UnaryOperator}
-use Rattle.c_tree.specs.RawTrees.{RawExprTree, RawStmtTree, RawStmtTrees, RawDo, RawEmpty, RawBlock, RawIf, RawIfElse, RawWhile, RawFor, RawBreak, RawContinue, RawReturn, NoRawStmts, RawThen}
-use Rattle.c_tree.specs.RawViews.{raw_in_order, as_body}
-use Rattle.c_tree.specs.Trees.{Number, Unary, ProgramTree}
+use Rattle.hoist_meaning.proofs.Common.{ℕ, ◌+◌, ◌≡◌, refl, sym, subst, inl, inr, true, false, List, [], ◌∷◌, ◌++◌, Option, Some, None, option_map, if◌then◌else◌, UnaryOperator, RawExprTree, RawStmtTree, RawStmtTrees, RawDo, RawEmpty, RawBlock, RawIf, RawIfElse, RawWhile, RawFor, RawBreak, RawContinue, RawReturn, NoRawStmts, RawThen, raw_in_order, as_body, Number, Unary, ProgramTree, Item, Loop, WhileLoop, ForLoop, Simply, Choose, Test, GiveBack, Back, expr_of, Spot, inside, left, stmt_after, simple_numbered, stmt_numbered, stmts_numbered, DeepProgram, calls_in, counted, holds_call, names_in, left_of, before, value_before, value_left, simple_left, simple_before, stmt_names, hoisted, all_hoisted, while_calling}
 use Rattle.c_tree.specs.Trees as tree
 use Rattle.c_mean.specs.ToDo as items
-use Rattle.c_mean.specs.ToDo.{Item, Loop, WhileLoop, ForLoop, Simply, Choose, Test, GiveBack, Back}
-use Rattle.scope_rules.specs.Expressions.{expr_of}
-use Rattle.scope_rules.specs.Places.{Spot}
 use Rattle.scope_rules.specs.Simples as tree_simples
 use Rattle.scope_rules.specs.Statements as tree_stmts
-use Rattle.scope_rules.specs.Statements.{inside, left, stmt_after}
-use Rattle.scope_rules.specs.Numbered.{simple_numbered, stmt_numbered, stmts_numbered}
-use Rattle.deep_mean.specs.DeepTrees.{DeepProgram}
 use Rattle.deep_mean.specs.DeepTrees as deep_tree
 use Rattle.deep_mean.specs.DeepToDo as deep_items
 use Rattle.deep_mean.specs.Naming as deep
-use Rattle.deep_mean.specs.Naming.{calls_in, counted}
-use Rattle.hoist_parts.specs.Calls.{holds_call}
-use Rattle.hoist_parts.specs.Expressions.{names_in, left_of, before}
-use Rattle.hoist_parts.specs.Statements.{value_before, value_left, simple_left, simple_before, stmt_names, hoisted, all_hoisted, while_calling}
 use Rattle.hoist_meaning.proofs.Bindings.{Agreement}
 use Rattle.hoist_meaning.proofs.Items.{items_of, items_both, after}
 use Rattle.hoist_meaning.proofs.Premises.{side_left}

@@ -1,25 +1,9 @@
 -- Threads of the tree follow those of the text, where items that are alike are answered.
-use Rattle.std.proofs.Common.{ℕ, suc, ◌≡◌, refl, sym, subst, inl, ⊎_elim, List, [], ◌∷◌, length, Some, map}
-use Rattle.std.specs.Prelude.{take}
-use Rattle.std.specs.List.{AllByRecursion}
-use Rattle.cap_word.specs.Calls.{Immediate}
-use Rattle.cap_word.specs.Runs.{Goes, Asks, Stops, IsAnswered, Follows}
-use Rattle.cap_word.specs.declared.calls.Ask.{Ask}
-use Rattle.cap_word.proofs.Following.{asks_at}
-use Rattle.c_tree.specs.Trees.{CallTree, ProgramTree}
-use Rattle.c_mean.specs.ToDo.{Item, GiveBackWord}
-use Rattle.c_mean.specs.Frames.{WaitingFrame, Running, Waiting, function_at, key_of}
+use Rattle.hoist_meaning.proofs.Common.{ℕ, suc, ◌≡◌, refl, sym, subst, inl, ⊎_elim, List, [], ◌∷◌, length, Some, map, take, AllByRecursion, Immediate, Goes, Asks, Stops, IsAnswered, Follows, Ask, asks_at, CallTree, ProgramTree, Item, GiveBackWord, WaitingFrame, Running, Waiting, function_at, key_of, source_step, source_machine, WaitsInText, Stands, MoveStands, resume_stands, started_stands, DeepProgram, go_on, DeepWaitingFrame, DeepRunning, DeepWaiting}
 use Rattle.c_mean.specs.Frames as source_frames
 use Rattle.c_mean.specs.Steps as tree_steps
-use Rattle.c_mean.specs.Steps.{source_step, source_machine}
-use Rattle.c_mean.specs.Sites.{WaitsInText}
-use Rattle.c_mean.proofs.StandLemmas.{Stands, MoveStands, resume_stands, started_stands}
-use Rattle.deep_mean.specs.DeepTrees.{DeepProgram}
-use Rattle.deep_mean.specs.Evaluation.{go_on}
 use Rattle.deep_mean.specs.DeepToDo as deep_items
-use Rattle.deep_mean.specs.DeepToDo.{Returns}
 use Rattle.deep_mean.specs.DeepFrames as frames
-use Rattle.deep_mean.specs.DeepFrames.{DeepWaitingFrame, DeepRunning, DeepWaiting}
 use Rattle.deep_mean.specs.DeepSteps as deep_steps
 use Rattle.hoist_meaning.proofs.Bindings.{Agreement}
 use Rattle.hoist_meaning.proofs.Items.{stays, at}

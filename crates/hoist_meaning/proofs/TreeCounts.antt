@@ -1,24 +1,5 @@
 -- A tree in which each call is whole has as many calls as the program that it is resolved to.
-use Rattle.std.proofs.Common.{ℕ, ◌≡◌, ◌+◌, refl, sym, ap, ◌∙◌, List, [], ◌∷◌, ◌++◌, length, length-append, Option, Some, None, arith}
-use Rattle.std.specs.Prelude.{option_map}
-use Rattle.c_tree.specs.RawTrees.{RawExprTree, RawElement, RawUnary, RawParenthesized, RawBinary, RawLogicalAnd, RawLogicalOr, RawConditional, RawCall, RawTableCall, RawSimpleTree, RawDeclareWith, RawSet, RawSetElement, RawCalling, RawTableCalling, RawStmtTree, RawStmtTrees, RawDo, RawBlock, RawIf, RawIfElse, RawWhile, RawFor, RawReturn, NoRawStmts, RawThen, RawItemTree, RawTableItem, RawPrototypeItem, RawFunctionItem}
-use Rattle.c_tree.specs.Trees.{ExprTree, RightTree, FunctionTree}
-use Rattle.c_tree.specs.TextOrder.{right_sites, returned_sites, simple_sites, simples_sites, step_sites, stmt_sites, stmts_sites, functions_sites, program_sites}
-use Rattle.c_tree.specs.WholeCalls.{IsValueWhole, IsSimpleWhole, AreSimplesWhole, IsConditionWhole, IsStepWhole, IsReturnWhole, IsStmtWhole, AreStmtsWhole, IsItemWhole, AreCallsWhole}
-use Rattle.scope_rules.specs.declared.meanings.Variable.{Variable}
-use Rattle.scope_rules.specs.Names.{Binding, find}
-use Rattle.scope_rules.specs.Meanings.{variable_of}
-use Rattle.scope_rules.specs.Expressions.{expr_of}
-use Rattle.scope_rules.specs.Calls.{right_of}
-use Rattle.scope_rules.specs.Places.{Spot}
-use Rattle.scope_rules.specs.Simples.{set_scalar, set_element, simple_of, simple_after, simples_of, simples_after}
-use Rattle.scope_rules.specs.Statements.{inside, left, step_after, returned_of, stmt_of, stmt_after, stmts_of}
-use Rattle.scope_rules.specs.Items.{Sofar, definitions, at_start, body_spot, function_tree_of, item_after, items_after, program_of}
-use Rattle.grammar_laws.specs.Nested.{is_call}
-use Rattle.grammar_laws.specs.Places.{Used, expr_places, exprs_places, optional_places, simple_places, simples_places, step_places, stmt_places, stmts_places, names_places, parameters_places, item_places, items_places}
-use Rattle.grammar_laws.specs.Ranks.{site_numbers}
-use Rattle.grammar_laws.proofs.NoNames.{no_declared, no_used, no_parameters}
-use Rattle.grammar_laws.proofs.RankLaws.{ranks_length}
+use Rattle.hoist_meaning.proofs.Common.{ℕ, ◌≡◌, ◌+◌, refl, sym, ap, ◌∙◌, List, [], ◌∷◌, ◌++◌, length, length-append, Option, Some, None, arith, option_map, RawExprTree, RawElement, RawUnary, RawParenthesized, RawBinary, RawLogicalAnd, RawLogicalOr, RawConditional, RawCall, RawTableCall, RawSimpleTree, RawDeclareWith, RawSet, RawSetElement, RawCalling, RawTableCalling, RawStmtTree, RawStmtTrees, RawDo, RawBlock, RawIf, RawIfElse, RawWhile, RawFor, RawReturn, NoRawStmts, RawThen, RawItemTree, RawTableItem, RawPrototypeItem, RawFunctionItem, ExprTree, RightTree, FunctionTree, right_sites, returned_sites, simple_sites, simples_sites, step_sites, stmt_sites, stmts_sites, functions_sites, program_sites, IsValueWhole, IsSimpleWhole, AreSimplesWhole, IsConditionWhole, IsStepWhole, IsReturnWhole, IsStmtWhole, AreStmtsWhole, IsItemWhole, AreCallsWhole, Variable, Binding, find, variable_of, expr_of, right_of, Spot, set_scalar, set_element, simple_of, simple_after, simples_of, simples_after, inside, left, step_after, returned_of, stmt_of, stmt_after, stmts_of, Sofar, definitions, at_start, body_spot, function_tree_of, item_after, items_after, program_of, is_call, Used, expr_places, exprs_places, optional_places, simple_places, simples_places, step_places, stmt_places, stmts_places, names_places, parameters_places, item_places, items_places, site_numbers, no_declared, no_used, no_parameters, ranks_length}
 use Rattle.hoist_meaning.proofs.CallCounts.{no_places, none_of_them}
 
 both : {A B : Type 0} (ks js : List A) (ps qs : List B) → length ks ≡ length ps → length js ≡ length qs → length (ks ++ js) ≡ length (ps ++ qs)

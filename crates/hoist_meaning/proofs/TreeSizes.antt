@@ -1,13 +1,9 @@
 -- A function of a well-scoped program has few variables: each has a word at least.
-use Rattle.std.proofs.Common.{ℕ, zero, suc, ◌≡◌, ◌≤◌, refl, ap, Bool, true, false, List, [], ◌∷◌, ◌++◌, length, map, length-append, Option, Some, None, arith}
-use Rattle.std.specs.Prelude.{slice_index_or, sum}
-use Rattle.std.proofs.lemmas.List.{length-map}
+use Rattle.hoist_meaning.proofs.Common.{ℕ, zero, suc, ◌≡◌, ◌≤◌, ap, Bool, true, false, List, [], ◌∷◌, ◌++◌, length, map, length-append, Option, Some, None, arith, slice_index_or, sum, length-map, Context, context_of, with_names, scope_after, scope_after_all, IsSimpleScoped, AreSimplesScoped, IsStepScoped, IsStmtScoped, AreStmtsScoped, IsFunctionScoped, AreFunctionsScoped, IsWellScoped, function_at, scalars_length}
 use Rattle.std.proofs.lemmas.List.Sums.{sum_by-cons}
 use Rattle.c_tree.specs.Sizes.{below, scalars, declared_words}
 use Rattle.c_tree.specs.TextOrder.{Declared, simple_names, simples_names, step_names, stmt_names, stmts_names}
 use Rattle.c_tree.specs.Trees.{SimpleTree, DeclareScalar, DeclareArray, DeclareWith, StmtTree, StmtTrees, Do, Block, If, IfElse, While, For, NoStmts, Then, FunctionTree, ProgramTree}
-use Rattle.c_tree.specs.WellScoped.{Context, context_of, with_names, scope_after, scope_after_all, IsSimpleScoped, AreSimplesScoped, IsStepScoped, IsStmtScoped, AreStmtsScoped, IsFunctionScoped, AreFunctionsScoped, IsWellScoped}
-use Rattle.c_mean.specs.Frames.{function_at}
 
 abbrev HaveWords : List Declared → Type 0
 HaveWords [] = Unit {0}
@@ -51,10 +47,6 @@ module _ (c : Context) where
     stmts_have : (ss : StmtTrees) (loop : Bool) (scope : List ℕ) → AreStmtsScoped c loop scope ss → HaveWords (stmts_names ss)
     stmts_have NoStmts loop scope h = tt
     stmts_have (Then s ss) loop scope h = both_have (stmt_names s) (stmts_names ss) (stmt_have s loop scope h.0) (stmts_have ss loop (scope_after scope s) h.1)
-
-scalars_length : (n : ℕ) → length (scalars n) ≡ n
-scalars_length zero = refl
-scalars_length (suc n) = ap suc (scalars_length n)
 
 function_few : (program : ProgramTree) (f : FunctionTree) → IsFunctionScoped program f → length f.sizes ≤ 65536
 function_few program f h =

@@ -1,34 +1,12 @@
 -- Loops of both, and the silent steps of the tree at the test of a `while` with a call: `while (1) { .. if (!c) break; .. }`.
-use Rattle.std.proofs.Common.{ℕ, zero, suc, ◌+◌, ◌≡◌, refl, sym, ap, subst, ◌∙◌, false, List, [], ◌∷◌, Option, Some, arith}
-use Rattle.std.specs.Prelude.{Ok, Err, nat_eq, option_map}
-use Rattle.std.proofs.lemmas.Bool.Decides.{nat_tests}
-use Rattle.cap_word.specs.Word.{flag}
-use Rattle.cap_word.specs.Runs.{Goes, and_then, moves}
-use Rattle.c_tree.specs.declared.operators.UnaryOperator.{UnaryOperator}
-use Rattle.c_tree.specs.RawTrees.{RawExprTree, RawSimpleTree, RawStmtTree, RawIf, RawBreak}
-use Rattle.c_tree.specs.Trees.{ExprTree, Number, Unary, StmtTree, StmtTrees, Block, ProgramTree}
+use Rattle.hoist_meaning.proofs.Common.{ℕ, zero, suc, ◌+◌, ◌≡◌, refl, sym, ap, subst, ◌∙◌, false, List, [], ◌∷◌, Option, Some, arith, Ok, Err, nat_eq, option_map, nat_tests, flag, Goes, and_then, moves, UnaryOperator, RawExprTree, RawSimpleTree, RawStmtTree, RawIf, RawBreak, ExprTree, Number, Unary, StmtTree, StmtTrees, Block, ProgramTree, as_body, unary_value, Value, value, on_one, Item, Loop, WhileLoop, ForLoop, Choose, Test, Leave, Back, on_value, branched, source_machine, expr_of, Spot, inside, simple_numbered, stmt_numbered, DeepProgram, calls_in, counted, holds_call, names_in, left_of, before, is_false, in_block, hoisted, turn_of, no_left, no_before}
 use Rattle.c_tree.specs.Trees as tree
-use Rattle.c_tree.specs.RawViews.{as_body}
-use Rattle.c_mean.specs.Operators.{unary_value}
-use Rattle.c_mean.specs.Values.{Value, value, on_one}
 use Rattle.c_mean.specs.ToDo as items
-use Rattle.c_mean.specs.ToDo.{Item, Loop, WhileLoop, ForLoop, Choose, Test, Leave, Back}
-use Rattle.c_mean.specs.Steps.{on_value, branched, source_machine}
 use Rattle.c_mean.proofs.JumpLemmas.{leave_passes, skip_passes}
-use Rattle.scope_rules.specs.Expressions.{expr_of}
-use Rattle.scope_rules.specs.Places.{Spot}
 use Rattle.scope_rules.specs.Simples as tree_simples
 use Rattle.scope_rules.specs.Statements as tree_stmts
-use Rattle.scope_rules.specs.Statements.{inside}
-use Rattle.scope_rules.specs.Numbered.{simple_numbered, stmt_numbered}
-use Rattle.deep_mean.specs.DeepTrees.{DeepProgram}
 use Rattle.deep_mean.specs.DeepToDo as deep_items
 use Rattle.deep_mean.specs.Naming as deep
-use Rattle.deep_mean.specs.Naming.{calls_in, counted}
-use Rattle.hoist_parts.specs.Calls.{holds_call}
-use Rattle.hoist_parts.specs.Expressions.{names_in, left_of, before, is_false, in_block}
-use Rattle.hoist_parts.specs.Statements.{hoisted, turn_of}
-use Rattle.hoist_parts.proofs.NoCalls.{no_left, no_before}
 use Rattle.hoist_meaning.proofs.Bindings.{Agreement}
 use Rattle.hoist_meaning.proofs.Items.{items_of, items_both, after, at}
 use Rattle.hoist_meaning.proofs.Ends.{Rows, NoCall, Comes, ends_on}

@@ -1,23 +1,5 @@
 -- The value of what is left of an expression stays as it is where one more new name is declared, whose variable comes after those in it.
-use Rattle.std.proofs.Common.{ℕ, ◌≡◌, ◌+◌, ◌<◌, ◌≤◌, refl, ap, ◌∙◌, Bool, true, false, not, ◌||◌, List, [], ◌∷◌, ◌++◌, length, Option, Some, None, arith, if◌then◌else◌}
-use Rattle.std.specs.Prelude.{nat_lt, slice_index, Ok, Err}
-use Rattle.std.specs.Str.{bytes_eq}
-use Rattle.cap_word.specs.Rows.{row}
-use Rattle.c_tree.specs.RawTrees.{RawExprTree, RawNumber, RawName, RawElement, RawUnary, RawParenthesized, RawBinary, RawLogicalAnd, RawLogicalOr, RawConditional, RawCall, RawTableCall}
-use Rattle.c_tree.specs.Trees.{ExprTree}
-use Rattle.c_mean.specs.Operators.{unary_value, binary_value}
-use Rattle.c_mean.specs.Values.{Value, value, in_range, element, on_one, on_both, truth, choice}
-use Rattle.scope_rules.specs.declared.meanings.Meaning.{Meaning}
-use Rattle.scope_rules.specs.declared.meanings.Found.{Found}
-use Rattle.scope_rules.specs.declared.faults.Rule.{Rule}
-use Rattle.scope_rules.specs.Names.{Binding, find}
-use Rattle.scope_rules.specs.Meanings.{is_scalar, is_array, variable_in, variable_of}
-use Rattle.scope_rules.specs.Expressions.{use_faults, array_faults, expr_faults, scalar_value, element_value, expr_of}
-use Rattle.scope_rules.proofs.NoFaults.{both_none, not_broken, not_false, neither}
-use Rattle.hoist_parts.specs.NewNames.{new_name, used}
-use Rattle.hoist_parts.specs.Calls.{holds_call, is_named, is_spawn}
-use Rattle.hoist_parts.specs.Expressions.{one_if, names_in, arguments_names, part_after, part_or, left_of}
-use Rattle.hoist_meaning.specs.SourceNames.{AreSourceNames}
+use Rattle.hoist_meaning.proofs.Common.{ℕ, ◌≡◌, ◌+◌, ◌<◌, ◌≤◌, refl, ap, ◌∙◌, Bool, true, false, not, ◌||◌, List, [], ◌∷◌, ◌++◌, length, Option, Some, None, arith, if◌then◌else◌, nat_lt, slice_index, Ok, Err, bytes_eq, row, RawExprTree, RawNumber, RawName, RawElement, RawUnary, RawParenthesized, RawBinary, RawLogicalAnd, RawLogicalOr, RawConditional, RawCall, RawTableCall, ExprTree, unary_value, binary_value, Value, value, in_range, element, on_one, on_both, truth, choice, Meaning, Found, Rule, Binding, find, is_scalar, is_array, variable_in, variable_of, use_faults, array_faults, expr_faults, scalar_value, element_value, expr_of, both_none, not_broken, new_name, used, holds_call, is_named, is_spawn, one_if, names_in, arguments_names, part_after, part_or, left_of, AreSourceNames, or_parts, not-false}
 use Rattle.hoist_meaning.proofs.Bindings.{Agreement, Outside, Both, New, in_tree, IsOutside, AreOutside, IsAgreement, new_apart}
 use Rattle.hoist_meaning.proofs.Extends.{TreeBelow, later_apart}
 use Rattle.hoist_meaning.proofs.Ends.{Rows}
@@ -43,12 +25,12 @@ source_apart h (RawName n) s q = new_apart h n.text s
 source_apart h (RawElement n i) s q = (new_apart h n.text s.0, source_apart h i s.1 q)
 source_apart h (RawUnary op e) s q = source_apart h e s q
 source_apart h (RawParenthesized e) s q = source_apart h e s q
-source_apart h (RawBinary op l r) s q = let n = neither (holds_call l) (holds_call r) q in (source_apart h l s.0 n.0, source_apart h r s.1 n.1)
-source_apart h (RawLogicalAnd l r) s q = let n = neither (holds_call l) (holds_call r) q in (source_apart h l s.0 n.0, source_apart h r s.1 n.1)
-source_apart h (RawLogicalOr l r) s q = let n = neither (holds_call l) (holds_call r) q in (source_apart h l s.0 n.0, source_apart h r s.1 n.1)
+source_apart h (RawBinary op l r) s q = let n = or_parts (holds_call l) (holds_call r) q in (source_apart h l s.0 n.0, source_apart h r s.1 n.1)
+source_apart h (RawLogicalAnd l r) s q = let n = or_parts (holds_call l) (holds_call r) q in (source_apart h l s.0 n.0, source_apart h r s.1 n.1)
+source_apart h (RawLogicalOr l r) s q = let n = or_parts (holds_call l) (holds_call r) q in (source_apart h l s.0 n.0, source_apart h r s.1 n.1)
 source_apart h (RawConditional c x y) s q =
-    let n = neither (holds_call c) (holds_call x || holds_call y) q in
-    let m = neither (holds_call x) (holds_call y) n.1 in
+    let n = or_parts (holds_call c) (holds_call x || holds_call y) q in
+    let m = or_parts (holds_call x) (holds_call y) n.1 in
     (source_apart h c s.0 n.0, source_apart h x s.1 m.0, source_apart h y s.2 m.1)
 source_apart h _ s q = absurd (let wrong : true ≡ false = q in cc)
 
@@ -81,7 +63,7 @@ left_apart h k (RawLogicalOr l r) less s =
     if_apart (holds_call r) h (k + names_in l) (RawLogicalOr (left_of k l) r) (λ e. name_below h k (names_in l) (holds_call r) (names_in r) e less) (λ e. (left_apart h k l (omega (arith, less)) s.0, source_apart h r s.1 e))
 left_apart h k (RawConditional c x y) less s =
     if_apart (holds_call x || holds_call y) h (k + names_in c) (RawConditional (left_of k c) x y) (λ e. name_below h k (names_in c) (holds_call x || holds_call y) (names_in x + names_in y) e (omega (arith, less)))
-    (λ e. let n = neither (holds_call x) (holds_call y) e in (left_apart h k c (omega (arith, less)) s.0, source_apart h x s.1 n.0, source_apart h y s.2 n.1))
+    (λ e. let n = or_parts (holds_call x) (holds_call y) e in (left_apart h k c (omega (arith, less)) s.0, source_apart h x s.1 n.0, source_apart h y s.2 n.1))
 left_apart h k (RawCall n es) less s = later_apart h (k + arguments_names (is_spawn n) es) (omega (arith, less))
 left_apart h k (RawTableCall n i e) less s = later_apart h (part_after k (holds_call e) i + names_in e) (omega (arith, less))
 
@@ -156,7 +138,7 @@ module _ (m : ℕ) (names later globals : Rows) (kept : (y : ℕ) → y < m → 
 
   scalar_found : (o : Option Found) (at : ℕ) → FoundBelow m o → use_faults is_scalar o at ≡ [] → value later globals (scalar_value (variable_of o)) ≡ value names globals (scalar_value (variable_of o))
   scalar_found None at less f = absurd (let wrong = f in cc)
-  scalar_found (Some g) at less f = scalar_unmoved g.meaning less (not_false (is_scalar g.meaning) (not_broken (not (is_scalar g.meaning)) at Rule.Kind f))
+  scalar_found (Some g) at less f = scalar_unmoved g.meaning less (not-false (is_scalar g.meaning) (not_broken (not (is_scalar g.meaning)) at Rule.Kind f))
 
   module _ (i j : ExprTree) (same : value later globals i ≡ value names globals j) where
     array_unmoved : (n : Meaning) → MeaningBelow m n → is_array n ≡ true → value later globals (element_value (variable_in n) i) ≡ value names globals (element_value (variable_in n) j)
@@ -166,7 +148,7 @@ module _ (m : ℕ) (names later globals : Rows) (kept : (y : ℕ) → y < m → 
 
     array_found : (o : Option Found) (at : ℕ) → FoundBelow m o → use_faults is_array o at ≡ [] → value later globals (element_value (variable_of o) i) ≡ value names globals (element_value (variable_of o) j)
     array_found None at less f = absurd (let wrong = f in cc)
-    array_found (Some g) at less f = array_unmoved g.meaning less (not_false (is_array g.meaning) (not_broken (not (is_array g.meaning)) at Rule.Kind f))
+    array_found (Some g) at less f = array_unmoved g.meaning less (not-false (is_array g.meaning) (not_broken (not (is_array g.meaning)) at Rule.Kind f))
 
   module _ (h x : ℕ) (b : Agreement) (below : TreeBelow m b) (agrees : IsAgreement b) where
     pub value_unmoved : (e : RawExprTree) → AreApart h e → expr_faults (in_tree b) e ≡ [] → value later globals (expr_of (in_tree (New h x b)) e) ≡ value names globals (expr_of (in_tree b) e)

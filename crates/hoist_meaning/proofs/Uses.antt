@@ -1,23 +1,10 @@
 -- What is done with an evaluation of the text is answered by the tree: the value is stored, decides, or is returned; the trap stops both; and
 -- the call is made by both, after which each waits for its result.
-use Rattle.std.proofs.Common.{ℕ, zero, suc, ◌≡◌, refl, sym, subst, inl, inr, true, false, List, [], ◌∷◌, length, Some}
-use Rattle.std.specs.Prelude.{Result, Ok}
-use Rattle.cap_word.specs.Rows.{with_word}
-use Rattle.cap_word.specs.Runs.{Goes, Stops, and_then, moves}
-use Rattle.cap_word.specs.declared.traps.TrapKind.{TrapKind}
-use Rattle.c_tree.specs.Trees.{CallTree, Called, DeclareWith, ProgramTree}
-use Rattle.c_mean.specs.ToDo.{Item, Simply, GiveBackWord}
-use Rattle.c_mean.specs.Frames.{Place, InLocal, InLocalElement, InGlobalElement, Returned, WaitingFrame, Running, function_at}
+use Rattle.hoist_meaning.proofs.Common.{ℕ, zero, suc, ◌≡◌, refl, sym, subst, inl, inr, true, false, List, [], ◌∷◌, length, Some, Result, Ok, with_word, Goes, Stops, and_then, moves, TrapKind, CallTree, Called, DeclareWith, ProgramTree, Item, Simply, GiveBackWord, Place, InLocal, InLocalElement, InGlobalElement, Returned, WaitingFrame, Running, function_at, SourceMove, on_value, source_step, source_machine, Stands, MoveStands, step_stands, DeepExpr, DeepProgram, Around, Ready, Evaluation, Done, Trapped, Calls, evaluate, go_on, Use, Stores, IndexesLocal, IndexesGlobal, Returns, DeepWaitingFrame, DeepRunning}
 use Rattle.c_mean.specs.Frames as source_frames
 use Rattle.c_mean.specs.Steps as tree_steps
-use Rattle.c_mean.specs.Steps.{SourceMove, on_value, source_step, source_machine}
-use Rattle.c_mean.proofs.StandLemmas.{Stands, MoveStands, step_stands}
-use Rattle.deep_mean.specs.DeepTrees.{DeepExpr, DeepProgram}
-use Rattle.deep_mean.specs.Evaluation.{Around, Ready, Evaluation, Done, Trapped, Calls, evaluate, go_on}
 use Rattle.deep_mean.specs.DeepToDo as deep_items
-use Rattle.deep_mean.specs.DeepToDo.{Use, Stores, IndexesLocal, IndexesGlobal, Returns}
 use Rattle.deep_mean.specs.DeepFrames as frames
-use Rattle.deep_mean.specs.DeepFrames.{DeepWaitingFrame, DeepRunning}
 use Rattle.deep_mean.specs.DeepSteps as deep_steps
 use Rattle.hoist_meaning.proofs.Bindings.{Agreement, Paired, AreBelow}
 use Rattle.hoist_meaning.proofs.Items.{Leads, stays, at}

@@ -1,25 +1,8 @@
 -- An expression in which no call stands has one value in the text and in the rewritten tree.
-use Rattle.std.proofs.Common.{ℕ, zero, suc, ◌+◌, ◌≡◌, refl, ap, subst, ◌∙◌, Bool, true, false, not, List, [], ◌++◌, length, Option, Some, None}
-use Rattle.std.specs.Prelude.{nat_lt, slice_index, ◌||◌, Ok, Err}
-use Rattle.cap_word.specs.Rows.{row}
-use Rattle.c_mean.specs.Operators.{unary_value, binary_value}
-use Rattle.c_mean.specs.Values.{Value, value, in_range, element, on_one, on_both, truth, choice}
-use Rattle.c_tree.specs.RawTrees.{RawExprTree, RawNumber, RawName, RawElement, RawUnary, RawParenthesized, RawBinary, RawLogicalAnd, RawLogicalOr, RawConditional}
-use Rattle.c_tree.specs.Trees.{ExprTree}
-use Rattle.scope_rules.specs.declared.meanings.Meaning.{Meaning}
-use Rattle.scope_rules.specs.declared.meanings.Found.{Found}
-use Rattle.scope_rules.specs.declared.faults.Rule.{Rule}
-use Rattle.scope_rules.specs.Names.{find}
-use Rattle.scope_rules.specs.Meanings.{is_scalar, is_array, variable_in, variable_of}
+use Rattle.hoist_meaning.proofs.Common.{ℕ, zero, suc, ◌+◌, ◌≡◌, refl, ap, subst, ◌∙◌, Bool, true, false, not, List, [], ◌++◌, length, Option, Some, None, nat_lt, slice_index, ◌||◌, Ok, Err, row, unary_value, binary_value, Value, value, in_range, element, on_one, on_both, truth, choice, RawExprTree, RawNumber, RawName, RawElement, RawUnary, RawParenthesized, RawBinary, RawLogicalAnd, RawLogicalOr, RawConditional, ExprTree, Meaning, Found, Rule, find, is_scalar, is_array, variable_in, variable_of, use_faults, array_faults, expr_faults, both_none, not_broken, DeepExpr, calls_in, holds_call, AreSourceNames, or_parts, not-false}
 use Rattle.scope_rules.specs.Expressions as scope
-use Rattle.scope_rules.specs.Expressions.{use_faults, array_faults, expr_faults}
-use Rattle.scope_rules.proofs.NoFaults.{both_none, not_broken, not_false, neither}
-use Rattle.deep_mean.specs.DeepTrees.{DeepExpr}
 use Rattle.deep_mean.specs.Evaluation.{Around, IndexOfLocal, IndexOfGlobal, OperandOf, InParentheses, LeftOf, RightOf, LeftOfAnd, LeftOfOr, Decides, ConditionOf, Chosen, Done, of_value, and_then, truth_of, chosen, evaluate}
 use Rattle.deep_mean.specs.Naming as deep
-use Rattle.deep_mean.specs.Naming.{calls_in}
-use Rattle.hoist_parts.specs.Calls.{holds_call}
-use Rattle.hoist_meaning.specs.SourceNames.{AreSourceNames}
 use Rattle.hoist_meaning.proofs.Bindings.{Agreement, in_text, in_tree, IsAgreement, NamesStand, LocalAlike, MeaningAlike, FoundAlike, found_alike}
 
 -- ---- one construct over values
@@ -71,7 +54,7 @@ module _ (a : Agreement) (text tree globals : List (List ℕ)) (stand : NamesSta
 
   scalar_found : (o p : Option Found) (at : ℕ) → FoundAlike a o p → use_faults is_scalar p at ≡ [] → evaluate text globals (deep.scalar_value (variable_of o)) ≡ of_value (value tree globals (scope.scalar_value (variable_of p)))
   scalar_found None None at h f = cc
-  scalar_found (Some d) (Some g) at h f = scalar_alike d.meaning g.meaning h (not_false (is_scalar g.meaning) (not_broken (not (is_scalar g.meaning)) at Rule.Kind f))
+  scalar_found (Some d) (Some g) at h f = scalar_alike d.meaning g.meaning h (not-false (is_scalar g.meaning) (not_broken (not (is_scalar g.meaning)) at Rule.Kind f))
   scalar_found _ _ at h f = absurd h
 
   module _ (i : DeepExpr) (j : ExprTree) (same : evaluate text globals i ≡ of_value (value tree globals j)) where
@@ -88,7 +71,7 @@ module _ (a : Agreement) (text tree globals : List (List ℕ)) (stand : NamesSta
 
     array_found : (o p : Option Found) (at : ℕ) → FoundAlike a o p → use_faults is_array p at ≡ [] → evaluate text globals (deep.element_value (variable_of o) i) ≡ of_value (value tree globals (scope.element_value (variable_of p) j))
     array_found None None at h f = cc
-    array_found (Some d) (Some g) at h f = array_alike d.meaning g.meaning h (not_false (is_array g.meaning) (not_broken (not (is_array g.meaning)) at Rule.Kind f))
+    array_found (Some d) (Some g) at h f = array_alike d.meaning g.meaning h (not-false (is_array g.meaning) (not_broken (not (is_array g.meaning)) at Rule.Kind f))
     array_found _ _ at h f = absurd h
 
   -- ---- expressions
@@ -105,7 +88,7 @@ module _ (a : Agreement) (text tree globals : List (List ℕ)) (stand : NamesSta
   value_alike k (RawParenthesized e) g s c f =
       ap (λ d. and_then d InParentheses Done) (value_alike k e g s c f) ∙ then_done (value tree globals (scope.expr_of (in_tree a) e)) InParentheses
   value_alike k (RawBinary op l r) g s c f =
-      let cs = neither (holds_call l) (holds_call r) c in
+      let cs = or_parts (holds_call l) (holds_call r) c in
       let fs = both_none (expr_faults (in_tree a) l) (expr_faults (in_tree a) r) f in
       let right = deep.expr_of (in_text a) (k + calls_in l) r in
       let first = value_alike k l g s.0 cs.0 fs.0 in
@@ -113,7 +96,7 @@ module _ (a : Agreement) (text tree globals : List (List ℕ)) (stand : NamesSta
       (λ i. and_then (first i) (LeftOf op right) (λ x. and_then (second i) (RightOf op x) (λ y. Done (binary_value op x y))))
       ∙ then_both (value tree globals (scope.expr_of (in_tree a) l)) (value tree globals (scope.expr_of (in_tree a) r)) (LeftOf op right) (RightOf op) (binary_value op)
   value_alike k (RawLogicalAnd l r) g s c f =
-      let cs = neither (holds_call l) (holds_call r) c in
+      let cs = or_parts (holds_call l) (holds_call r) c in
       let fs = both_none (expr_faults (in_tree a) l) (expr_faults (in_tree a) r) f in
       let right = deep.expr_of (in_text a) (k + calls_in l) r in
       let first = value_alike k l g s.0 cs.0 fs.0 in
@@ -121,7 +104,7 @@ module _ (a : Agreement) (text tree globals : List (List ℕ)) (stand : NamesSta
       (λ i. and_then (first i) (LeftOfAnd right) (λ x. chosen x (and_then (second i) Decides (λ y. Done (truth_of y))) (Done 0)))
       ∙ then_and (value tree globals (scope.expr_of (in_tree a) l)) (value tree globals (scope.expr_of (in_tree a) r)) (LeftOfAnd right)
   value_alike k (RawLogicalOr l r) g s c f =
-      let cs = neither (holds_call l) (holds_call r) c in
+      let cs = or_parts (holds_call l) (holds_call r) c in
       let fs = both_none (expr_faults (in_tree a) l) (expr_faults (in_tree a) r) f in
       let right = deep.expr_of (in_text a) (k + calls_in l) r in
       let first = value_alike k l g s.0 cs.0 fs.0 in
@@ -129,8 +112,8 @@ module _ (a : Agreement) (text tree globals : List (List ℕ)) (stand : NamesSta
       (λ i. and_then (first i) (LeftOfOr right) (λ x. chosen x (Done 1) (and_then (second i) Decides (λ y. Done (truth_of y)))))
       ∙ then_or (value tree globals (scope.expr_of (in_tree a) l)) (value tree globals (scope.expr_of (in_tree a) r)) (LeftOfOr right)
   value_alike k (RawConditional d x y) g s c f =
-      let cs = neither (holds_call d) (holds_call x || holds_call y) c in
-      let cxy = neither (holds_call x) (holds_call y) cs.1 in
+      let cs = or_parts (holds_call d) (holds_call x || holds_call y) c in
+      let cxy = or_parts (holds_call x) (holds_call y) cs.1 in
       let fs = both_none (expr_faults (in_tree a) d ++ expr_faults (in_tree a) x) (expr_faults (in_tree a) y) f in
       let fdx = both_none (expr_faults (in_tree a) d) (expr_faults (in_tree a) x) fs.0 in
       let kx = k + calls_in d in

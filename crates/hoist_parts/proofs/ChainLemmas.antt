@@ -1,9 +1,6 @@
 -- Operators one after another, with one more.
-use Rattle.std.proofs.Common.{◌≡◌, refl, List, [], ◌∷◌, ◌++◌}
-use Rattle.c_tree.specs.declared.operators.Infix.{Infix}
+use Rattle.hoist_parts.proofs.Common.{◌≡◌, refl, List, [], ◌∷◌, ◌++◌, Infix, RawExprTree, raw_expr_tree, raw_joined, raw_chained}
 use Rattle.c_tree.specs.declared.raw_expressions.RawExpr.{RawExpr}
-use Rattle.c_tree.specs.RawTrees.{RawExprTree}
-use Rattle.c_tree.specs.RawViews.{raw_expr_tree, raw_joined, raw_chained}
 use Rattle.hoist_parts.specs.Chains.{operand_trees}
 
 pub chained_more : (l : RawExprTree) (ps : List (Infix × RawExpr)) (op : Infix) (e : RawExpr) → raw_chained l (operand_trees (ps ++ (op, e) ∷ [])) ≡ raw_joined (raw_chained l (operand_trees ps)) op (raw_expr_tree e)

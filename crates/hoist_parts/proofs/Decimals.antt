@@ -1,8 +1,7 @@
 -- The decimal of a number of 32 bits, as it is written.
-use Rattle.std.proofs.Common.{◌≡◌, ℕ, ℤ, pos, ◌^◌, ◌<◌, refl, ap, ◌∙◌, arith, to_z, of_z, FitsSigned}
 use Rattle.std.specs.Int.{w128}
 use Rattle.std.proofs.lemmas.Int.{to_z-of_z}
-use Rattle.cap_text.specs.Decimals.{canonical_decimal, canonical_integer}
+use Rattle.hoist_parts.proofs.Common.{◌≡◌, ℕ, ℤ, pos, ◌^◌, ◌<◌, refl, ap, ◌∙◌, arith, to_z, of_z, FitsSigned, canonical_decimal, canonical_integer}
 
 decimal_of_pos : (n : ℕ) → canonical_integer (pos n) ≡ canonical_decimal n
 unfolding canonical_integer

@@ -1,10 +1,6 @@
 -- Whether a call stands in operators one after another, looked for from the left.
-use Rattle.std.proofs.Common.{ℕ, ◌≡◌, ◌≢◌, refl, ap, ◌∙◌, Bool, false, ◌||◌, nat_eq, List, [], ◌∷◌, length, map, arith}
 use Rattle.std.proofs.lemmas.Bool.Decides.{nat_tests}
-use Rattle.c_tree.specs.declared.operators.Infix.{Infix}
-use Rattle.c_tree.specs.RawTrees.{RawExprTree}
-use Rattle.c_tree.specs.RawViews.{raw_joined, raw_chained}
-use Rattle.hoist_parts.specs.Calls.{holds_call, holds_nested, is_left_alone}
+use Rattle.hoist_parts.proofs.Common.{ℕ, ◌≡◌, ◌≢◌, refl, ap, ◌∙◌, Bool, false, ◌||◌, nat_eq, List, [], ◌∷◌, length, map, arith, Infix, RawExprTree, raw_joined, raw_chained, holds_call, holds_nested, is_left_alone}
 
 abbrev pub chain_held : Bool → List (Infix × RawExprTree) → Bool
 chain_held b [] = b

@@ -1,10 +1,5 @@
 -- A declaration, an assignment or a call in which each call is whole stays as it is: so do the parts in the parentheses of a `for`.
-use Rattle.std.proofs.Common.{ℕ, ◌≡◌, refl, ap, Bool, true, false, []}
-use Rattle.c_tree.specs.RawTrees.{RawExprTree, RawExprTrees, RawElement, RawUnary, RawParenthesized, RawBinary, RawLogicalAnd, RawLogicalOr, RawConditional, RawCall, RawTableCall, NoExprs, And, RawSimpleTree, RawDeclareWith, RawSet, RawSetElement, RawCalling, RawTableCalling}
-use Rattle.c_tree.specs.WholeCalls.{HasNoCall, HaveNoCall, IsValueWhole, IsSimpleWhole}
-use Rattle.hoist_parts.specs.Calls.{holds_call, hold_call, holds_nested, is_spawn}
-use Rattle.hoist_parts.specs.Expressions.{part_after, arguments_left, arguments_before}
-use Rattle.hoist_parts.specs.Statements.{value_left, value_before, simple_left, simple_before}
+use Rattle.hoist_parts.proofs.Common.{ℕ, ◌≡◌, refl, ap, Bool, true, false, [], RawExprTree, RawExprTrees, RawElement, RawUnary, RawParenthesized, RawBinary, RawLogicalAnd, RawLogicalOr, RawConditional, RawCall, RawTableCall, NoExprs, And, RawSimpleTree, RawDeclareWith, RawSet, RawSetElement, RawCalling, RawTableCalling, HasNoCall, HaveNoCall, IsValueWhole, IsSimpleWhole, holds_call, hold_call, holds_nested, is_spawn, part_after, arguments_left, arguments_before, value_left, value_before, simple_left, simple_before}
 use Rattle.hoist_parts.proofs.NoCalls.{no_left, no_before}
 
 pub held_not : (e : RawExprTree) → HasNoCall e → holds_call e ≡ false

@@ -1,9 +1,7 @@
 -- New names differ from one another and from the names of a source, which begin with a letter or `_`.
-use Rattle.std.proofs.Common.{ℕ, ◌≡◌, ◌<◌, ◌≤◌, List, [], ◌∷◌, length, arith}
 use Rattle.std.specs.Str.Parse.{AllDigits}
-use Rattle.cap_text.specs.Decimals.{canonical_decimal}
+use Rattle.hoist_parts.proofs.Common.{ℕ, ◌≡◌, ◌<◌, ◌≤◌, List, [], ◌∷◌, length, arith, canonical_decimal, new_name}
 use Rattle.cap_text.proofs.DecimalLaws.{glyph_back, decimal_digits, decimal_unique, length_decimal}
-use Rattle.hoist_parts.specs.NewNames.{new_name}
 
 -- the first byte is a digit
 abbrev pub BeginsWithDigit : List ℕ → Type 0

@@ -1,8 +1,5 @@
 -- An expression in which no call stands stays as it is: nothing goes before it, and it takes no new name.
-use Rattle.std.proofs.Common.{ℕ, ◌≡◌, refl, ap, Bool, true, false, ◌||◌, []}
-use Rattle.c_tree.specs.RawTrees.{RawExprTree, RawElement, RawUnary, RawParenthesized, RawBinary, RawLogicalAnd, RawLogicalOr, RawConditional, RawCall, RawTableCall}
-use Rattle.hoist_parts.specs.Calls.{holds_call}
-use Rattle.hoist_parts.specs.Expressions.{names_in, part_after, left_of, before}
+use Rattle.hoist_parts.proofs.Common.{ℕ, ◌≡◌, refl, ap, Bool, true, false, ◌||◌, [], RawExprTree, RawElement, RawUnary, RawParenthesized, RawBinary, RawLogicalAnd, RawLogicalOr, RawConditional, RawCall, RawTableCall, holds_call, names_in, part_after, left_of, before}
 
 pub or_left : (a b : Bool) → (a || b) ≡ false → a ≡ false
 or_left true b h = h

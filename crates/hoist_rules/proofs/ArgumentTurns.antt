@@ -1,12 +1,6 @@
 -- The arguments of a call, rewritten one after another.
-use Rattle.std.proofs.Common.{ℕ, ◌+◌, ◌≡◌, refl, sym, ap, ◌∙◌, Bool, true, false, ◌||◌, nat_lt, List, [], ◌∷◌, ◌++◌, arith}
 use Rattle.std.proofs.lemmas.Bool.Decides.{nat_tests}
-use Rattle.c_tree.specs.RawTrees.{RawExprTree, RawExprTrees, NoExprs, And}
-use Rattle.c_tree.specs.RawViews.{raw_arguments}
-use Rattle.hoist_parts.specs.Calls.{holds_call, hold_call}
-use Rattle.hoist_parts.specs.Expressions.{one_if, arguments_names, arguments_left, arguments_before}
-use Rattle.hoist_parts.specs.Arguments.{calls_among, passed_left, passed_before, passed_after}
-use Rattle.hoist_rules.specs.Receivers.{Received, then_all}
+use Rattle.hoist_rules.proofs.Common.{ℕ, ◌+◌, ◌≡◌, refl, sym, ap, ◌∙◌, Bool, true, false, ◌||◌, nat_lt, List, [], ◌∷◌, ◌++◌, arith, RawExprTree, RawExprTrees, NoExprs, And, raw_arguments, holds_call, hold_call, one_if, arguments_names, arguments_left, arguments_before, calls_among, passed_left, passed_before, passed_after, Received, then_all}
 use Rattle.hoist_rules.proofs.Followed.{then_then}
 
 -- expressions, and then arguments

@@ -1,14 +1,5 @@
 -- A turn over the statements of a block, and statements with a body.
-use Rattle.std.proofs.Common.{ℕ, ◌+◌, ◌≡◌, ◌∙◌, sym, ap, true, false, [], ◌∷◌, arith}
-use Rattle.c_tree.specs.RawTrees.{RawExprTree, RawStmtTree, RawStmtTrees, RawBlock, RawIfElse, RawWhile, RawThen}
-use Rattle.c_tree.specs.RawViews.{as_body}
-use Rattle.scope_rules.specs.Openings.{OpeningTree, OpenBlock, OpenIf, whole}
-use Rattle.hoist_parts.specs.Calls.{holds_call}
-use Rattle.hoist_parts.specs.Expressions.{names_in, left_of, before}
-use Rattle.hoist_parts.specs.Statements.{stmt_names, stmts_names, hoisted, all_hoisted}
-use Rattle.hoist_parts.proofs.NoCalls.{no_names}
-use Rattle.hoist_rules.specs.Receivers.{Received, then_all, then_open, then_else, then_close}
-use Rattle.hoist_rules.specs.Singles.{stmt_moves}
+use Rattle.hoist_rules.proofs.Common.{ℕ, ◌+◌, ◌≡◌, ◌∙◌, sym, ap, true, false, [], ◌∷◌, arith, RawExprTree, RawStmtTree, RawStmtTrees, RawBlock, RawIfElse, RawWhile, RawThen, as_body, OpeningTree, OpenBlock, OpenIf, whole, holds_call, names_in, left_of, before, stmt_names, stmts_names, hoisted, all_hoisted, no_names, Received, then_all, then_open, then_else, then_close, stmt_moves}
 use Rattle.hoist_rules.proofs.Followed.{then_then, closed_then, closed_block, closed_both}
 use Rattle.hoist_rules.proofs.MovedCalls.{single, many}
 

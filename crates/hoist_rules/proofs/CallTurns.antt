@@ -1,13 +1,6 @@
 -- A call, a call through a table, and a conditional, after the statements before their parts.
-use Rattle.std.proofs.Common.{ℕ, ◌+◌, ◌≡◌, refl, sym, ap, ◌∙◌, Bool, true, false, ◌||◌, List, [], ◌∷◌, ◌++◌, append_assoc, arith}
-use Rattle.c_tree.specs.RawTrees.{NameTree, RawExprTree, RawExprTrees, RawConditional, RawCall, RawTableCall, RawStmtTree, RawIfElse}
-use Rattle.hoist_parts.specs.NewNames.{declared, declared_as, set_to}
-use Rattle.hoist_parts.specs.Calls.{holds_call, is_spawn}
-use Rattle.hoist_parts.specs.Expressions.{names_in, arguments_names, part_after, left_of, arguments_left, call_left, index_left, argument_left, table_call_left, before, arguments_before, in_block}
-use Rattle.hoist_parts.specs.Statements.{table_before}
-use Rattle.hoist_parts.proofs.NoCalls.{or_left, or_right, no_names}
+use Rattle.hoist_rules.proofs.Common.{ℕ, ◌+◌, ◌≡◌, refl, sym, ap, ◌∙◌, Bool, true, false, ◌||◌, List, [], ◌∷◌, ◌++◌, append_assoc, arith, NameTree, RawExprTree, RawExprTrees, RawConditional, RawCall, RawTableCall, RawStmtTree, RawIfElse, declared, declared_as, set_to, holds_call, is_spawn, names_in, arguments_names, part_after, left_of, arguments_left, call_left, index_left, argument_left, table_call_left, before, arguments_before, in_block, table_before, or_left, or_right, no_names, Received, then_all}
 use Rattle.hoist_rules.specs.EarlierParts.{part_left, part_before}
-use Rattle.hoist_rules.specs.Receivers.{Received, then_all}
 use Rattle.hoist_rules.proofs.Followed.{then_then, then_pushed}
 
 -- `w` is the expression, `s` what stood before it

@@ -1,15 +1,8 @@
 -- Statements so far, followed by more.
-use Rattle.std.proofs.Common.{◌≡◌, refl, ap, ◌∙◌, sym, List, [], ◌∷◌, ◌++◌, append_assoc, append-nil, Option}
 use Rattle.std.proofs.lemmas.Grind.{common_steps}
-use Rattle.c_tree.specs.RawTrees.{RawExprTree, RawSimpleTree, RawStmtTree, RawIf, RawIfElse, RawWhile, RawFor}
-use Rattle.c_tree.specs.RawViews.{raw_in_order, as_body, as_body}
-use Rattle.grammar_laws.specs.Nested.{is_call}
-use Rattle.grammar_laws.specs.Places.{expr_places, stmt_places, stmts_places}
+use Rattle.hoist_rules.proofs.Common.{◌≡◌, refl, ap, ◌∙◌, sym, List, [], ◌∷◌, ◌++◌, append_assoc, append-nil, Option, RawExprTree, RawSimpleTree, RawStmtTree, RawIf, RawIfElse, RawWhile, RawFor, raw_in_order, as_body, is_call, expr_places, stmt_places, stmts_places, OpeningTree, OpenBlock, OpenIf, OpenWhile, OpenFor, whole, in_block, Received, opening_places, then_all, then_open, then_else, then_close}
 use Rattle.scope_rules.specs.Making.{Making, with_statement, with_statements}
-use Rattle.scope_rules.specs.Openings.{OpeningTree, OpenBlock, OpenIf, OpenWhile, OpenFor, whole}
 use Rattle.scope_rules.proofs.WholeStatements.{closed_whole, closed_else}
-use Rattle.hoist_parts.specs.Expressions.{in_block}
-use Rattle.hoist_rules.specs.Receivers.{Received, opening_places, then_all, then_open, then_else, then_close}
 
 -- ---- more statements
 

@@ -1,3 +1,4 @@
+mod Common
 pub mod ValueChains
 pub mod Operands
 pub mod ArgumentTurns

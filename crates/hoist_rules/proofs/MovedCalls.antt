@@ -1,17 +1,6 @@
 -- One statement replaces a statement exactly if nothing goes before it.
-use Rattle.std.proofs.Common.{ℕ, ◌≡◌, ◌<◌, ◌≤◌, ◌+◌, ◌-◌, drop, take, refl, ap, ◌∙◌, Bool, true, false, ◌||◌, List, [], ◌∷◌, ◌++◌, length, length-append, Option, Some, None, arith}
-use Rattle.std.proofs.lemmas.List.{take_all}
-use Rattle.std.specs.Prelude.{nat_lt, if◌then◌else◌}
-use Rattle.c_tree.specs.declared.operators.Infix.{Infix}
-use Rattle.c_tree.specs.RawViews.{raw_expr_trees, raw_joined, as_body}
-use Rattle.c_tree.specs.declared.raw_expressions.RawExpr.{RawExpr}
-use Rattle.hoist_parts.specs.Arguments.{calls_among}
+use Rattle.hoist_rules.proofs.Common.{ℕ, ◌≡◌, ◌<◌, ◌≤◌, ◌+◌, ◌-◌, drop, take, refl, ap, ◌∙◌, Bool, true, false, ◌||◌, List, [], ◌∷◌, ◌++◌, length, length-append, Option, Some, None, arith, take_all, nat_lt, if◌then◌else◌, Infix, raw_expr_trees, raw_joined, as_body, RawExpr, calls_among, RawExprTree, RawExprTrees, RawElement, RawUnary, RawParenthesized, RawBinary, RawLogicalAnd, RawLogicalOr, RawConditional, RawCall, RawTableCall, NoExprs, And, RawSimpleTree, RawDeclareWith, RawSet, RawSetElement, RawCalling, RawTableCalling, RawStmtTree, RawDo, RawIf, RawIfElse, RawReturn, holds_call, hold_call, holds_nested, is_named, is_spawn, names_in, part_after, part_named, left_of, before, arguments_before, in_block, value_before, simple_before, returned_before, hoisted, table_before, move_call, moves_call, simple_moves, returned_moves, stmt_moves}
 use Rattle.hoist_rules.proofs.ArgumentTurns.{some_hold}
-use Rattle.c_tree.specs.RawTrees.{RawExprTree, RawExprTrees, RawElement, RawUnary, RawParenthesized, RawBinary, RawLogicalAnd, RawLogicalOr, RawConditional, RawCall, RawTableCall, NoExprs, And, RawSimpleTree, RawDeclareWith, RawSet, RawSetElement, RawCalling, RawTableCalling, RawStmtTree, RawDo, RawIf, RawIfElse, RawReturn}
-use Rattle.hoist_parts.specs.Calls.{holds_call, hold_call, holds_nested, is_named, is_spawn}
-use Rattle.hoist_parts.specs.Expressions.{names_in, part_after, part_named, left_of, before, arguments_before, in_block}
-use Rattle.hoist_parts.specs.Statements.{value_before, simple_before, returned_before, hoisted, table_before}
-use Rattle.hoist_rules.specs.Singles.{move_call, moves_call, simple_moves, returned_moves, stmt_moves}
 
 -- some statements, if any go before
 abbrev Goes : Bool → List RawStmtTree → Type 0

@@ -1,15 +1,5 @@
 -- The operators of a chain, rewritten one after another from the left.
-use Rattle.std.proofs.Common.{ℕ, ◌+◌, ◌≡◌, refl, sym, ap, ◌∙◌, Bool, false, not, ◌&&◌, List, [], ◌∷◌, ◌++◌, map, append_assoc, append-nil, arith}
-use Rattle.c_tree.specs.declared.operators.Infix.{Infix}
-use Rattle.c_tree.specs.declared.raw_expressions.RawExpr.{RawExpr}
-use Rattle.c_tree.specs.RawTrees.{RawExprTree}
-use Rattle.c_tree.specs.RawViews.{raw_joined, raw_chained}
-use Rattle.c_tree.proofs.RawExprEquations.{raw_operand_tree}
-use Rattle.hoist_parts.specs.Calls.{holds_call, is_left_alone}
-use Rattle.hoist_parts.specs.Expressions.{one_if, names_in, part_named, left_of, before}
-use Rattle.hoist_parts.specs.Chains.{operand_trees, operand_left, operand_before, operand_after, operands_left, operands_before, operands_after}
-use Rattle.hoist_parts.proofs.HeldChains.{joined_alone}
-use Rattle.hoist_rules.specs.Receivers.{Received, then_all}
+use Rattle.hoist_rules.proofs.Common.{ℕ, ◌+◌, ◌≡◌, refl, sym, ap, ◌∙◌, Bool, false, not, ◌&&◌, List, [], ◌∷◌, ◌++◌, map, append_assoc, append-nil, arith, Infix, RawExpr, RawExprTree, raw_joined, raw_chained, raw_operand_tree, holds_call, is_left_alone, one_if, names_in, part_named, left_of, before, operand_trees, operand_left, operand_before, operand_after, operands_left, operands_before, operands_after, joined_alone, Received, then_all}
 use Rattle.hoist_rules.proofs.Followed.{then_then}
 
 pub operands_seen : (ps : List (Infix × RawExpr)) → operand_trees ps ≡ map raw_operand_tree ps

@@ -1,13 +1,5 @@
 -- One operator and its right operand, if that isn't evaluated in a branch: `&&` and `||` are rewritten as any other.
-use Rattle.std.proofs.Common.{ℕ, ◌+◌, ◌≡◌, refl, sym, ap, ◌∙◌, Bool, false, not, ◌&&◌, ◌++◌}
-use Rattle.c_tree.specs.declared.operators.Infix.{Infix}
-use Rattle.c_tree.specs.RawTrees.{RawExprTree}
-use Rattle.c_tree.specs.RawViews.{raw_joined}
-use Rattle.hoist_parts.specs.Calls.{holds_call}
-use Rattle.hoist_parts.specs.Expressions.{one_if, part_or, part_named, left_of, before}
-use Rattle.hoist_parts.specs.Chains.{branches, operand_left, operand_before}
-use Rattle.hoist_parts.proofs.NoCalls.{no_left, no_before}
-use Rattle.hoist_rules.specs.Receivers.{Received, then_all}
+use Rattle.hoist_rules.proofs.Common.{ℕ, ◌+◌, ◌≡◌, refl, sym, ap, ◌∙◌, Bool, false, not, ◌&&◌, ◌++◌, Infix, RawExprTree, raw_joined, holds_call, one_if, part_or, part_named, left_of, before, branches, operand_left, operand_before, no_left, no_before, Received, then_all}
 use Rattle.hoist_rules.proofs.Followed.{then_then}
 
 plain_left_is : (k : ℕ) (op : Infix) (alone : Bool) (l r : RawExprTree) → branches op (holds_call r) ≡ false →

@@ -1,10 +1,5 @@
 -- A right side of operators is no call itself, so it is rewritten as any other expression.
-use Rattle.std.proofs.Common.{ℕ, ◌≡◌, refl}
-use Rattle.c_tree.specs.declared.operators.Infix.{Infix}
-use Rattle.c_tree.specs.RawTrees.{RawExprTree}
-use Rattle.c_tree.specs.RawViews.{raw_joined}
-use Rattle.hoist_parts.specs.Expressions.{names_in, left_of, before}
-use Rattle.hoist_parts.specs.Statements.{value_names, value_left, value_before}
+use Rattle.hoist_rules.proofs.Common.{ℕ, ◌≡◌, refl, Infix, RawExprTree, raw_joined, names_in, left_of, before, value_names, value_left, value_before}
 
 pub joined_value_left : (k : ℕ) (l : RawExprTree) (op : Infix) (r : RawExprTree) → left_of k (raw_joined l op r) ≡ value_left k (raw_joined l op r)
 joined_value_left k l (Infix.Binary op) r = refl

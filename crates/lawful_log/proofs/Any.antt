@@ -1,14 +1,11 @@
 -- What holds of some live thread holds of some thread that waits, and the other way round.
-use Rattle.std.proofs.Common.{◌≡◌, ℕ, ◌+◌, ◌≤◌, Bool, true, false, nat_eq, List, [], ◌∷◌, Some, None, refl, sym, ap, ◌∙◌, arith, ⊎_elim}
-use Rattle.std.specs.List.{AllByRecursion, list_any}
-use Rattle.std.proofs.lemmas.Bool.{cases_eq, cond-true, cond-false, eq-eqb, ne_eqb, eqb-true}
-use Rattle.choice_rules.specs.Seen.{Waiter}
-use Rattle.choice_rules.specs.Waiting.{waits}
-use Rattle.choice_rules.proofs.Tests.{either, left_true, right_true}
-use Rattle.machine_world.specs.Numbered.{RiseBetween, IsNumbered}
-use Rattle.machine_world.specs.Threads.{Thread, World, first_with, thread_of}
-use Rattle.lawful_log.specs.Waiting.{IsWaiting, AreWaiting}
+use Rattle.lawful_log.proofs.Common.{◌≡◌, ℕ, ◌+◌, ◌≤◌, Bool, true, nat_eq, List, [], ◌∷◌, Some, None, refl, sym, ap, ◌∙◌, arith, ⊎_elim, AllByRecursion, list_any, cases_eq, cond-true, cond-false, eq-eqb, ne_eqb, eqb-true, Waiter, waits, either, RiseBetween, IsNumbered, Thread, World, first_with, thread_of, IsWaiting, AreWaiting, or_right, or_left, false}
 use Rattle.lawful_log.proofs.Kept.{is_some_of}
+
+both_ways : (a b : Bool) → (a ≡ true → b ≡ true) → (b ≡ true → a ≡ true) → a ≡ b
+both_ways true b there back = sym (there refl)
+both_ways false true there back = back refl
+both_ways false false there back = refl
 
 -- a list has an element with P that passes the test
 pub record Has {X : Type 0} (P : X → Type 0) (test : X → Bool) : Type 0 where
@@ -49,8 +46,8 @@ found_any number [] t test found passes = absurd (cc)
 found_any number (u ∷ us) t test found passes = ⊎_elim
     (λ (same : u.number ≡ number).
     let here : Some u ≡ Some t = sym (cond-true (nat_eq u.number number) (Some u) (first_with number us) (eq-eqb u.number number same)) ∙ found in
-    let is : u ≡ t = cc in left_true (test u) (list_any test us) (ap test is ∙ passes))
-    (λ apart. right_true (test u) (list_any test us) (found_any number us t test (sym (cond-false (nat_eq u.number number) (Some u) (first_with number us) (ne_eqb u.number number apart)) ∙ found) passes))
+    let is : u ≡ t = cc in or_left (test u) (list_any test us) (ap test is ∙ passes))
+    (λ apart. or_right (test u) (list_any test us) (found_any number us t test (sym (cond-false (nat_eq u.number number) (Some u) (first_with number us) (ne_eqb u.number number apart)) ∙ found) passes))
     (cases_eq u.number number)
 
 -- the waiter of a number, and that a test passes for the list where it does for the waiter
@@ -63,14 +60,9 @@ pub record WaiterOf (P : Waiter → Type 0) (waiting : List Waiter) (number : �
 pub waiter_of : (P : Waiter → Type 0) (waiting : List Waiter) (number : ℕ) → AllByRecursion P waiting → waits waiting number ≡ true → WaiterOf P waiting number
 waiter_of P [] number all e = absurd (cc)
 waiter_of P (x ∷ waiting) number all e = either (nat_eq x.thread number) (waits waiting number) e _
-    (λ yes. record { waiter = x; holds = all.0; thread_is = eqb-true x.thread number yes; settles = λ test passes. left_true (test x) (list_any test waiting) passes })
+    (λ yes. record { waiter = x; holds = all.0; thread_is = eqb-true x.thread number yes; settles = λ test passes. or_left (test x) (list_any test waiting) passes })
     (λ later. let rest = waiter_of P waiting number all.1 later in
-    record { waiter = rest.waiter; holds = rest.holds; thread_is = rest.thread_is; settles = λ test passes. right_true (test x) (list_any test waiting) (rest.settles test passes) })
-
-same_bool : (a b : Bool) → (a ≡ true → b ≡ true) → (b ≡ true → a ≡ true) → a ≡ b
-same_bool true b f h = sym (f refl)
-same_bool false true f h = h refl
-same_bool false false f h = refl
+    record { waiter = rest.waiter; holds = rest.holds; thread_is = rest.thread_is; settles = λ test passes. or_right (test x) (list_any test waiting) (rest.settles test passes) })
 
 module _ (w : World) (waiting : List Waiter) (numbered : IsNumbered w) (between : w.running ≡ None) (are : AreWaiting w waiting) where
   -- the waiter of a live thread
@@ -80,7 +72,7 @@ module _ (w : World) (waiting : List Waiter) (numbered : IsNumbered w) (between 
       (are.all number (λ e. let no : None ≡ Some number = sym between ∙ e in absurd (cc)) (is_some_of (thread_of w number) t live))
 
   pub any_same : (test : Thread → Bool) (other : Waiter → Bool) → ((x : Waiter) (v : IsWaiting w x) → test v.thread ≡ other x) → list_any test w.threads ≡ list_any other waiting
-  any_same test other same = same_bool (list_any test w.threads) (list_any other waiting)
+  any_same test other same = both_ways (list_any test w.threads) (list_any other waiting)
       (λ e.
       let f = any_found 0 w.next w.threads test numbered e in
       let x = waiter_of_live f.thread.number f.thread f.found in

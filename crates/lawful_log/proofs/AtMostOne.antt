@@ -1,12 +1,5 @@
 -- At most one log is lawful.
-use Rattle.std.proofs.Common.{◌≡◌, ℕ, List, ◌∷◌, ◌++◌, Some, None, refl, sym, ◌∙◌, ap, subst, ◌⊎◌, inl, inr, true, false, append_assoc, append-nil}
-use Rattle.choice_rules.proofs.Points.{not_refused, one_refusal}
-use Rattle.machine_world.specs.Threads.{World}
-use Rattle.schedule_log.specs.declared.entries.Entry.{Entry}
-use Rattle.schedule_log.specs.declared.entries.StopLine.{StopLine}
-use Rattle.lawful_log.specs.Setup.{Setup, start_machine}
-use Rattle.lawful_log.specs.State.{State, start_of}
-use Rattle.lawful_log.specs.Stops.{IsStop}
+use Rattle.lawful_log.proofs.Common.{◌≡◌, ℕ, List, ◌∷◌, ◌++◌, Some, None, refl, sym, ◌∙◌, ap, subst, ◌⊎◌, inl, inr, true, false, append_assoc, append-nil, not_refused, one_refusal, World, Entry, StopLine, Setup, start_machine, State, start_of, IsStop}
 use Rattle.lawful_log.specs.Lawful.{IsAllowed, Leads, nowhere, by_entry, ending, IsLawfulLog}
 use Rattle.lawful_log.proofs.Going.{IsGoing, one_going, going_not_cut, one_cut, out_goes, block_goes, end_goes, stop_cuts, going_under_way, cut_under_way}
 use Rattle.lawful_log.proofs.OneChoice.{IsAtPoint, one_at_point, coming_point, run_point, point_not_done, point_not_bad, point_not_idle}

@@ -1,31 +1,6 @@
 -- How a choice point goes on: what comes, and the choice of a thread.
-use Rattle.std.proofs.Common.{◌≡◌, ◌≢◌, ℕ, ◌-◌, ◌≤◌, ◌&&◌, ◌||◌, Bool, true, false, List, [], ◌∷◌, ◌++◌, length, map, Option, Some, None, refl, sym, ap, ◌∙◌, arith, subst, inl, append-nil}
-use Rattle.std.specs.Prelude.{nat_le, is_none, is_some, if◌then◌else◌}
-use Rattle.std.specs.List.{AllByRecursion, range_with_len}
-use Rattle.std.proofs.lemmas.Bool.Decides.{nat_tests}
+use Rattle.lawful_log.proofs.Common.{◌≡◌, ◌≢◌, ℕ, ◌-◌, ◌≤◌, ◌&&◌, ◌||◌, Bool, true, false, List, [], ◌∷◌, ◌++◌, length, map, Option, Some, None, refl, sym, ap, ◌∙◌, arith, subst, inl, append-nil, nat_le, is_none, is_some, if◌then◌else◌, AllByRecursion, range_with_len, nat_tests, Delivery, is_dropped, with_delivery, Event, IsLawful, any_ready, waking_times, IsNext, behind, Waiter, uses_of, is_due, event_times, IsLeastOf, IsChoicePoint, delivery_of, item_of, received, IsRun, chosen_from, IsComing, checked_of, Setup, setting_of, Segment, State, seen_of, Action, Deliver, Advance, Pick, delivered, advanced, after_action, after_actions, and_then, StandsForWorld, World, Setting, IsWellFormed, IsWellFormedIf, DeliversWords, IsWellFormedIf-action, goes_on, IsWaiting, AreWaiting, IsBetween, IsWithin, or_right}
 use Rattle.std.proofs.lemmas.List.{nil_from_length}
-use Rattle.c_mean.specs.ModelledCalls.{Delivery, is_dropped, with_delivery}
-use Rattle.event_trace.specs.declared.events.Event.{Event}
-use Rattle.choice_rules.specs.Choice.{IsLawful}
-use Rattle.choice_rules.specs.Readiness.{any_ready, waking_times}
-use Rattle.choice_rules.specs.Trace.{IsNext, behind}
-use Rattle.choice_rules.specs.Seen.{Waiter, uses_of}
-use Rattle.choice_rules.specs.Clock.{is_due, event_times, IsLeastOf, IsChoicePoint}
-use Rattle.choice_rules.specs.Deliveries.{delivery_of, item_of, received}
-use Rattle.choice_rules.proofs.Tests.{right_true}
-use Rattle.lawful_log.specs.Choice.{IsRun, chosen_from}
-use Rattle.lawful_log.specs.Deliveries.{IsComing}
-use Rattle.lawful_log.specs.Good.{checked_of}
-use Rattle.lawful_log.specs.Setup.{Setup, setting_of}
-use Rattle.lawful_log.specs.State.{Segment, State, seen_of}
-use Rattle.machine_world.specs.Runs.{Action, Deliver, Advance, Pick, delivered, advanced, after_action, after_actions, and_then}
-use Rattle.machine_world.specs.StandsForWorld.{StandsForWorld}
-use Rattle.machine_world.specs.Threads.{World, Setting}
-use Rattle.machine_world.specs.WellFormed.{IsWellFormed, IsWellFormedIf, DeliversWords}
-use Rattle.machine_world.proofs.FormWorlds.{IsWellFormedIf-action}
-use Rattle.lawful_log.specs.Clocks.{goes_on}
-use Rattle.lawful_log.specs.Waiting.{IsWaiting, AreWaiting}
-use Rattle.lawful_log.specs.Within.{IsBetween, IsWithin}
 use Rattle.lawful_log.proofs.Clocks.{clock_by, moves_to}
 use Rattle.lawful_log.proofs.Picked.{is_picked, waiting_picked}
 
@@ -176,7 +151,7 @@ module _ (g : Setup) (state : State) where
       chosen = chosen;
       choice = record {
         next = next;
-        point = point next machine is live next_is (right_true (is_due next machine.clock) (any_ready g.policy (seen_of state) machine.clock) ready);
+        point = point next machine is live next_is (or_right (is_due next machine.clock) (any_ready g.policy (seen_of state) machine.clock) ready);
         not_due = due;
         lawful = lawful;
       };

@@ -1,22 +1,5 @@
 -- The clients of a stride rule beside what waits, from call to call.
-use Rattle.std.proofs.Common.{◌≡◌, ◌≢◌, ℕ, ◌<◌, Bool, List, [], ◌∷◌, ◌++◌, length, Option, Some, None, refl, sym, ap, ◌∙◌, subst, arith, ⊎_elim, slice_index_or}
-use Rattle.std.specs.Prelude.{slice_index}
-use Rattle.std.specs.List.{AllByRecursion}
-use Rattle.std.proofs.lemmas.Bool.{cases_eq}
-use Rattle.cap_word.specs.declared.threads.ThreadId.{ThreadId}
-use Rattle.choice_rules.specs.Seen.{Waiter}
-use Rattle.choice_rules.specs.Waiting.{IsPlaced}
-use Rattle.ready_tree.specs.declared.needs.Need.{Need}
-use Rattle.rule_state.specs.Strides.{StridesState, IsFirstAtNode, IsStarted, IsRejoined, stride_choice}
-use Rattle.scheduler.specs.declared.choices.Choice.{Choice}
-use Rattle.stride_rule.specs.declared.choices.StrideChoice.{StrideChoice}
-use Rattle.stride_rule.specs.declared.clients.Client.{Client}
-use Rattle.stride_rule.specs.Clients.{IsAbsent, client_of, with_growth}
-use Rattle.stride_rule.specs.State.{StrideState, new_rule, with_client, after_choice, after_segment_for, after_leaving, waiting_in, waiting_of}
-use Rattle.stride_rule.specs.Tickets.{stride_of}
-use Rattle.stride_rule.proofs.ClientLemmas.{once-grown, once-without, once-append}
-use Rattle.stride_rule.proofs.NotingLemmas.{waiting-none}
-use Rattle.lawful_log.specs.Clients.{waiter_of, IsClientOf, AreBoth, AreClients, HasRunner}
+use Rattle.lawful_log.proofs.Common.{◌≡◌, ◌≢◌, ℕ, ◌<◌, Bool, List, [], ◌∷◌, ◌++◌, length, Option, Some, None, refl, sym, ap, ◌∙◌, subst, arith, ⊎_elim, slice_index_or, slice_index, AllByRecursion, cases_eq, ThreadId, Waiter, IsPlaced, Need, StridesState, IsFirstAtNode, IsStarted, IsRejoined, stride_choice, Choice, StrideChoice, Client, IsAbsent, client_of, with_growth, StrideState, new_rule, with_client, after_choice, after_segment_for, after_leaving, waiting_in, waiting_of, stride_of, once-grown, once-without, once-append, waiting-none, waiter_of, IsClientOf, AreBoth, AreClients, HasRunner}
 use Rattle.lawful_log.proofs.Finding.{all_both, all_at, key_is, apart_at, append_other, append_self, append_there, but, but_self, but_other, grown_other, grown_self, without_other, without_self, own_clients, filtered_other}
 use Rattle.lawful_log.proofs.StrideChoices.{waiter_for}
 

@@ -1,25 +1,10 @@
 -- The clock of a choice point: when it stays, where it goes on to, and that something then goes on.
-use Rattle.std.proofs.Common.{◌≡◌, ℕ, zero, suc, ◌<◌, ◌≤◌, ◌⊎◌, inl, inr, Bool, true, false, List, [], ◌∷◌, ◌++◌, length, Option, Some, None, refl, sym, ap, ◌∙◌, arith, subst, cond, ⊎_elim}
-use Rattle.std.specs.Prelude.{Contains, filter_map, nat_le, nat_eq, slice_index_or}
-use Rattle.std.specs.List.{AllByRecursion, list_any, cons_option}
-use Rattle.std.proofs.lemmas.Bool.Decides.{nat_tests}
-use Rattle.cap_word.specs.declared.calls.Block.{Block}
+use Rattle.lawful_log.proofs.Common.{◌≡◌, ℕ, zero, suc, ◌<◌, ◌≤◌, ◌⊎◌, inl, inr, Bool, true, false, List, [], ◌∷◌, ◌++◌, length, Option, Some, None, refl, sym, ap, ◌∙◌, arith, subst, cond, ⊎_elim, Contains, filter_map, nat_le, nat_eq, slice_index_or, AllByRecursion, list_any, cons_option, nat_tests, Block, Exchange, blocking_row, wake_of, wakes_at, Event, event_times, IsLeastOf, IsClockBy, is_ready, any_ready, waking_times, either, Setup, State, seen_of, may_run, asleep_until, Blocked, World, Setting, goes_on, IsClockOf, waking_time, or_right, or_left}
 use Rattle.c_mean.specs.ModelledCalls as table
-use Rattle.c_mean.specs.ModelledCalls.{Exchange, blocking_row, wake_of, wakes_at}
 use Rattle.c_mean.specs.World.{Rest, Fresh, Blocked as Blocks}
 use Rattle.c_mean.proofs.CallLemmas.{waits_alone}
-use Rattle.event_trace.specs.declared.events.Event.{Event}
 use Rattle.choice_rules.specs.Readiness as rules
-use Rattle.choice_rules.specs.Clock.{event_times, IsLeastOf, IsClockBy}
-use Rattle.choice_rules.specs.Readiness.{is_ready, any_ready, waking_times}
 use Rattle.choice_rules.proofs.Clocks.{awake_by, clock_moves, clock_stays, later_by}
-use Rattle.choice_rules.proofs.Tests.{either, left_true, right_true}
-use Rattle.lawful_log.specs.Setup.{Setup}
-use Rattle.lawful_log.specs.State.{State, seen_of}
-use Rattle.machine_world.specs.Runs.{may_run, asleep_until}
-use Rattle.machine_world.specs.Threads.{Blocked, World, Setting}
-use Rattle.lawful_log.specs.Clocks.{goes_on, IsClockOf}
-use Rattle.lawful_log.specs.Tests.{waking_time}
 
 -- ---- elements of lists
 
@@ -44,10 +29,10 @@ contains_none y c = omega (arith, c.1)
 module _ {X : Type 0} (h : X → Option ℕ) where
   any_on : (test : X → Bool) (time : ℕ) (x : X) (xs : List X) (o : Option ℕ) → h x ≡ o → (o ≡ Some time → test x ≡ true) → Contains (cons_option o (filter_map h xs)) time →
       (Contains (filter_map h xs) time → list_any test xs ≡ true) → list_any test (x ∷ xs) ≡ true
-  any_on test time x xs None e passes c later = right_true (test x) (list_any test xs) (later c)
+  any_on test time x xs None e passes c later = or_right (test x) (list_any test xs) (later c)
   any_on test time x xs (Some t) e passes c later = ⊎_elim
-      (λ (same : t ≡ time). left_true (test x) (list_any test xs) (passes (ap Some same)))
-      (λ rest. right_true (test x) (list_any test xs) (later rest))
+      (λ (same : t ≡ time). or_left (test x) (list_any test xs) (passes (ap Some same)))
+      (λ rest. or_right (test x) (list_any test xs) (later rest))
       (contains_tail t (filter_map h xs) time c)
 
   gives_any : (test : X → Bool) (time : ℕ) → ((x : X) → h x ≡ Some time → test x ≡ true) → (xs : List X) → Contains (filter_map h xs) time → list_any test xs ≡ true
@@ -107,8 +92,8 @@ le_self n = grind (arith, nat_tests)
 pub moved_goes_on : (g : Setup) (state : State) (next : Option Event) (clock : ℕ) → Contains (event_times next ++ waking_times (seen_of state)) clock → goes_on g state next clock ≡ true
 moved_goes_on g state None clock c = ready_at_wake g state clock c
 moved_goes_on g state (Some event) clock c = ⊎_elim
-    (λ (same : event.time ≡ clock). left_true (nat_le event.time clock) (any_ready g.policy (seen_of state) clock) (subst (λ (n : ℕ). nat_le event.time n ≡ true) same (le_self event.time)))
-    (λ later. right_true (nat_le event.time clock) (any_ready g.policy (seen_of state) clock) (ready_at_wake g state clock later))
+    (λ (same : event.time ≡ clock). or_left (nat_le event.time clock) (any_ready g.policy (seen_of state) clock) (subst (λ (n : ℕ). nat_le event.time n ≡ true) same (le_self event.time)))
+    (λ later. or_right (nat_le event.time clock) (any_ready g.policy (seen_of state) clock) (ready_at_wake g state clock later))
     (contains_tail event.time (waking_times (seen_of state)) clock c)
 
 -- ---- the clock of a choice point

@@ -1,23 +1,9 @@
 -- The entries of a segment, from the way to them.
-use Rattle.std.proofs.Common.{◌≡◌, ℕ, ◌-◌, List, None, refl, subst}
-use Rattle.std.specs.Prelude.{IsSome, slice_get}
-use Rattle.blocking_graph.specs.Nodes.{node_number}
-use Rattle.cap_word.specs.declared.stops.Stop.{Stop}
-use Rattle.c_mean.specs.Frames.{key_of}
+use Rattle.lawful_log.proofs.Common.{◌≡◌, ℕ, ◌-◌, List, None, refl, subst, IsSome, slice_get, node_number, Stop, key_of, Waiter, checked_of, HasRun, IsBlock, IsEnd, Setup, setting_of, Segment, State, IsCutBy, IsStopped, StandsForWorld, World, Blocks, Ends, Puts, Stops, step, IsWithin, free_count}
 use Rattle.c_mean.specs.World as source
-use Rattle.choice_rules.specs.Seen.{Waiter}
-use Rattle.lawful_log.specs.Good.{checked_of}
-use Rattle.lawful_log.specs.Segments.{HasRun, IsBlock, IsEnd}
-use Rattle.lawful_log.specs.Setup.{Setup, setting_of}
-use Rattle.lawful_log.specs.State.{Segment, State}
-use Rattle.lawful_log.specs.Stops.{IsCutBy, IsStopped}
-use Rattle.machine_world.specs.StandsForWorld.{StandsForWorld}
-use Rattle.machine_world.specs.Threads.{World, Blocks, Ends, Puts, Stops, step}
 use Rattle.lawful_log.specs.Entries.{PutsHere, BlocksHere, EndsHere}
-use Rattle.lawful_log.specs.Within.{IsWithin}
 use Rattle.lawful_log.proofs.Between.{between_after}
 use Rattle.lawful_log.proofs.Within.{put_state, put_segment, out_allowed, within_puts, cost_is, over_block, over_end, rests_blocked, blocked_state, block_allowed, threads_blocked, formed_after_block, ended_state, end_allowed, threads_ended, formed_after_end, stop_allowed, stop_cost}
-use Rattle.chunk_pool.specs.Pool.{free_count}
 
 module _ (g : Setup) (state : State) (segment : Segment) (begun : ℕ) (here : World) (waiting : List Waiter) where
   pub puts_here : (word : ℕ) (after : World) → IsWithin g state segment begun here waiting → step (setting_of g) here ≡ Puts word after → PutsHere g state segment begun word after waiting

@@ -1,15 +1,6 @@
 -- What is found by a number: clients by the numbers of their threads, and what waits by those of the threads.
-use Rattle.std.proofs.Common.{◌≡◌, ◌≢◌, ℕ, ◌&&◌, Bool, true, false, cond, nat_eq, not, List, [], ◌∷◌, ◌++◌, Option, Some, None, find, refl, sym, ap, ◌∙◌, subst}
-use Rattle.std.specs.Prelude.{filter}
-use Rattle.std.specs.List.{AllByRecursion, list_any}
-use Rattle.std.proofs.lemmas.Bool.{eq-eqb}
-use Rattle.choice_rules.specs.Seen.{Waiter}
-use Rattle.choice_rules.specs.Waiting.{IsOnce, waits}
-use Rattle.stride_rule.specs.declared.clients.Client.{Client}
+use Rattle.lawful_log.proofs.Common.{◌≡◌, ◌≢◌, ℕ, ◌&&◌, Bool, true, false, cond, nat_eq, not, List, [], ◌∷◌, ◌++◌, Option, Some, None, find, refl, sym, ap, ◌∙◌, subst, filter, AllByRecursion, list_any, eq-eqb, Waiter, IsOnce, waits, Client, AreOnce, other_number, waiter_of, by_test, eq_true}
 use Rattle.stride_rule.specs.Clients.{IsAbsent, client_of, with_growth, grown, without}
-use Rattle.stride_rule.specs.State.{AreOnce}
-use Rattle.stride_rule.proofs.ClientLemmas.{by_test, same_number, other_number}
-use Rattle.lawful_log.specs.Clients.{waiter_of}
 
 pub all_both : {X : Type 0} (P Q R : X → Type 0) → ((x : X) → P x → Q x → R x) → (xs : List X) → AllByRecursion P xs → AllByRecursion Q xs → AllByRecursion R xs
 all_both P Q R gives [] p q = tt
@@ -25,7 +16,7 @@ module _ {X : Type 0} (key : X → ℕ) where
   key_is number [] x e = absurd (cc)
   key_is number (y ∷ ys) x e =
       by_test (nat_eq (key y) number) _
-      (λ same. let here : Some y ≡ Some x = rw same at e in let is : y ≡ x = cc in ap key (sym is) ∙ same_number (key y) number same)
+      (λ same. let here : Some y ≡ Some x = rw same at e in let is : y ≡ x = cc in ap key (sym is) ∙ eq_true (key y) number same)
       (λ other. let later : at number ys ≡ Some x = rw other at e in key_is number ys x later)
 
   pub all_at : (P : X → Type 0) (number : ℕ) (xs : List X) (x : X) → AllByRecursion P xs → at number xs ≡ Some x → P x
@@ -94,7 +85,7 @@ module _ {X : Type 0} (key : X → ℕ) where
   but_other number other (x ∷ xs) apart =
       by_test (nat_eq (key x) number) _
       (λ same.
-      let differs : nat_eq (key x) other ≡ false = other_number (key x) other (λ e. apart (sym e ∙ same_number (key x) number same)) in
+      let differs : nat_eq (key x) other ≡ false = other_number (key x) other (λ e. apart (sym e ∙ eq_true (key x) number same)) in
       rw (same, differs) (but_other number other xs apart))
       (λ differs.
       by_test (nat_eq (key x) other) _
@@ -108,7 +99,7 @@ grown_other number other [] apart = refl
 grown_other number other (c ∷ cs) apart =
     by_test (nat_eq c.thread.number number) _
     (λ same.
-    let differs : nat_eq c.thread.number other ≡ false = other_number c.thread.number other (λ e. apart (sym e ∙ same_number c.thread.number number same)) in
+    let differs : nat_eq c.thread.number other ≡ false = other_number c.thread.number other (λ e. apart (sym e ∙ eq_true c.thread.number number same)) in
     rw (same, differs) refl)
     (λ differs.
     by_test (nat_eq c.thread.number other) _
@@ -127,7 +118,7 @@ without_other number other [] apart = refl
 without_other number other (c ∷ cs) apart =
     by_test (nat_eq c.thread.number number) _
     (λ same.
-    let differs : nat_eq c.thread.number other ≡ false = other_number c.thread.number other (λ e. apart (sym e ∙ same_number c.thread.number number same)) in
+    let differs : nat_eq c.thread.number other ≡ false = other_number c.thread.number other (λ e. apart (sym e ∙ eq_true c.thread.number number same)) in
     rw (same, differs) refl)
     (λ differs.
     by_test (nat_eq c.thread.number other) _
@@ -139,7 +130,7 @@ without_self number [] once = refl
 without_self number (c ∷ cs) once =
     by_test (nat_eq c.thread.number number) _
     (λ same.
-    let gone : IsAbsent number cs = subst (λ (n : ℕ). IsAbsent n cs) (same_number c.thread.number number same) once.0 in
+    let gone : IsAbsent number cs = subst (λ (n : ℕ). IsAbsent n cs) (eq_true c.thread.number number same) once.0 in
     rw same (none_at (λ (x : Client). x.thread.number) number cs gone))
     (λ other. rw (other, other) (without_self number cs once.1))
 

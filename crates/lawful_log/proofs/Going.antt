@@ -1,24 +1,8 @@
 -- What the log has of a step in a segment is one.
-use Rattle.std.proofs.Common.{◌≡◌, ℕ, ◌+◌, true, false, List, [], ◌∷◌, ◌++◌, Option, Some, None, refl, sym, ◌∙◌, ap, subst}
-use Rattle.std.specs.Prelude.{slice_get, is_some, ℤ}
-use Rattle.blocking_graph.specs.Nodes.{keys_with, node_number}
-use Rattle.cap_word.specs.Word.{signed}
-use Rattle.cap_word.specs.declared.calls.Block.{Block}
-use Rattle.cap_word.specs.declared.stops.Stop.{Stop}
-use Rattle.cap_word.specs.declared.traps.TrapKind.{TrapKind}
-use Rattle.c_mean.specs.Frames.{Waiting, key_of}
+use Rattle.lawful_log.proofs.Common.{◌≡◌, ℕ, ◌+◌, true, false, List, [], ◌∷◌, ◌++◌, Option, Some, None, refl, sym, ◌∙◌, ap, subst, slice_get, is_some, ℤ, keys_with, node_number, signed, Block, Stop, TrapKind, Waiting, key_of, end_node, World, Move, Puts, Blocks, Ends, Stops, step, Entry, StopLine, Setup, setting_of, Segment, State, quiet_world, IsOnTheWay, HasRun, IsOut, IsBlock, IsEnd, rested, IsStopped, free_count}
 use Rattle.c_mean.specs.World as source
 use Rattle.c_mean.proofs.WorldLemmas.{one_run}
-use Rattle.choice_rules.specs.Seen.{end_node}
-use Rattle.machine_world.specs.Threads.{World, Move, Puts, Blocks, Ends, Stops, step}
-use Rattle.schedule_log.specs.declared.entries.Entry.{Entry}
-use Rattle.schedule_log.specs.declared.entries.StopLine.{StopLine}
-use Rattle.lawful_log.specs.Setup.{Setup, setting_of}
-use Rattle.lawful_log.specs.State.{Segment, State}
-use Rattle.lawful_log.specs.Segments.{quiet_world, IsOnTheWay, HasRun, IsOut, IsBlock, IsEnd, rested}
-use Rattle.lawful_log.specs.Stops.{IsStopped}
 use Rattle.lawful_log.proofs.Quiet.{one_place}
-use Rattle.chunk_pool.specs.Pool.{free_count}
 
 module _ (g : Setup) (state : State) where
   -- ---- what a step has in the log

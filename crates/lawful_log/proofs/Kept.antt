@@ -1,19 +1,6 @@
 -- The threads that wait are the live ones, after each step of the running thread and each action.
-use Rattle.std.proofs.Common.{◌≡◌, ◌≢◌, ℕ, ◌<◌, ◌||◌, Bool, true, false, nat_eq, List, [], ◌∷◌, ◌++◌, Option, Some, None, refl, sym, ap, ◌∙◌, arith, subst, ⊎_elim}
-use Rattle.std.specs.Prelude.{IsSome, if◌then◌else◌}
-use Rattle.std.specs.List.{AllByRecursion}
-use Rattle.std.proofs.lemmas.Bool.{cases_eq, ne_eqb}
-use Rattle.choice_rules.specs.Seen.{Waiter}
-use Rattle.choice_rules.specs.Waiting.{waits}
-use Rattle.choice_rules.proofs.Tests.{left_true, one_false, right_true}
-use Rattle.choice_rules.proofs.Waiters.{all_append, differ_all, once_append, waits_append, waits_one, waits_other}
-use Rattle.chunk_pool.specs.Pool.{Taken}
+use Rattle.lawful_log.proofs.Common.{◌≡◌, ◌≢◌, ℕ, ◌<◌, ◌||◌, Bool, true, false, nat_eq, List, [], ◌∷◌, ◌++◌, Option, Some, None, refl, sym, ap, ◌∙◌, arith, subst, ⊎_elim, IsSome, if◌then◌else◌, AllByRecursion, cases_eq, ne_eqb, Waiter, waits, differ_all, once_append, waits_append, waits_one, waits_other, Taken, IsNumbered, empty_world, Blocked, Thread, World, thread_of, with_thread, SinceIs, IsWaiting, AreWaiting, StartsOne, IsOver, All-append, or_right, or_left, or_from}
 use Rattle.machine_world.specs.Areas.{Areas}
-use Rattle.machine_world.specs.Numbered.{IsNumbered}
-use Rattle.machine_world.specs.Runs.{empty_world}
-use Rattle.machine_world.specs.Threads.{Blocked, Thread, World, thread_of, with_thread}
-use Rattle.lawful_log.specs.Waiting.{SinceIs, IsWaiting, AreWaiting}
-use Rattle.machine_world.proofs.Counts.{StartsOne, IsOver}
 use Rattle.lawful_log.proofs.Own.{found_below, StandsBlocked, StandsFresh, IsBlockedSince}
 
 pub some_of : (o : Option Thread) → IsSome o → (t : Thread) × (o ≡ Some t)
@@ -75,7 +62,7 @@ module _ (w after : World) (numbered : IsNumbered w) (after_numbered : IsNumbere
   next_waits [] all = refl
   next_waits (x ∷ waiting) all =
       let under = below x.thread all.0.thread all.0.live in
-      one_false (nat_eq x.thread w.next) (waits waiting w.next) (ne_eqb x.thread w.next (λ e. omega (arith, under, e))) (next_waits waiting all.1)
+      or_from (nat_eq x.thread w.next) (waits waiting w.next) (ne_eqb x.thread w.next (λ e. omega (arith, under, e))) (next_waits waiting all.1)
 
   pub waiting_started : (waiting : List Waiter) (number : ℕ) → StartsOne w after number → StandsFresh after number → ((n : ℕ) → w.running ≡ Some n → n < w.next) →
       AreWaiting w waiting → AreWaiting after (waiting ++ record { thread = number; node = 0; since = 0 } ∷ [])
@@ -83,16 +70,16 @@ module _ (w after : World) (numbered : IsNumbered w) (after_numbered : IsNumbere
       let new : Waiter = record { thread = number; node = 0; since = 0 } in
       let at_next : waits waiting number ≡ false = subst (λ (n : ℕ). waits waiting n ≡ false) (sym starts.number_is) (next_waits waiting are.each) in
       record {
-        each = all_append (IsWaiting after) waiting (new ∷ []) (all_kept waiting are)
+        each = All-append (IsWaiting after) waiting (new ∷ []) (all_kept waiting are)
             (record { thread = fresh.thread; live = fresh.live; since = since_fresh fresh.thread.blocked fresh.unblocked }, tt);
         once = once_append waiting new are.once at_next;
         running = λ n e.
             let before : w.running ≡ Some n = sym starts.running ∙ e in
             let under = runs_below n before in
-            waits_append waiting (new ∷ []) n ∙ one_false (waits waiting n) (waits (new ∷ []) n) (are.running n before) (waits_other new n (λ same. omega (arith, under, same, starts.number_is)));
+            waits_append waiting (new ∷ []) n ∙ or_from (waits waiting n) (waits (new ∷ []) n) (are.running n before) (waits_other new n (λ same. omega (arith, under, same, starts.number_is)));
         all = λ n apart live. waits_append waiting (new ∷ []) n ∙ ⊎_elim
-            (λ (same : n ≡ number). right_true (waits waiting n) (waits (new ∷ []) n) (subst (λ (m : ℕ). waits (new ∷ []) m ≡ true) (sym same) (waits_one new)))
-            (λ differ. left_true (waits waiting n) (waits (new ∷ []) n) (old_waits waiting are n (λ e. apart (starts.running ∙ e)) (λ e. differ (e ∙ sym starts.number_is)) live))
+            (λ (same : n ≡ number). or_right (waits waiting n) (waits (new ∷ []) n) (subst (λ (m : ℕ). waits (new ∷ []) m ≡ true) (sym same) (waits_one new)))
+            (λ differ. or_left (waits waiting n) (waits (new ∷ []) n) (old_waits waiting are n (λ e. apart (starts.running ∙ e)) (λ e. differ (e ∙ sym starts.number_is)) live))
             (cases_eq n number);
       }
 
@@ -105,16 +92,16 @@ module _ (w after : World) (numbered : IsNumbered w) (after_numbered : IsNumbere
     waiting_blocked waiting node blocked are =
         let new : Waiter = record { thread = number; node = node; since = after.clock } in
         record {
-          each = all_append (IsWaiting after) waiting (new ∷ []) (all_kept waiting are)
+          each = All-append (IsWaiting after) waiting (new ∷ []) (all_kept waiting are)
               (record { thread = blocked.thread; live = blocked.live; since = since_blocked blocked.thread.blocked after.clock blocked.since }, tt);
           once = once_append waiting new are.once (are.running number runs);
           running = λ n e. absurd (let no : None ≡ Some n = sym over.running ∙ e in cc);
           all = λ n apart live. waits_append waiting (new ∷ []) n ∙ ⊎_elim
-              (λ (same : n ≡ number). right_true (waits waiting n) (waits (new ∷ []) n) (subst (λ (m : ℕ). waits (new ∷ []) m ≡ true) (sym same) (waits_one new)))
+              (λ (same : n ≡ number). or_right (waits waiting n) (waits (new ∷ []) n) (subst (λ (m : ℕ). waits (new ∷ []) m ≡ true) (sym same) (waits_one new)))
               (λ differ.
               let found = some_of (thread_of after n) live in
               let under = below_after n found.0 found.1 in
-              left_true (waits waiting n) (waits (new ∷ []) n) (old_waits waiting are n (others n differ) (λ e. omega (arith, under, over.next, e)) live))
+              or_left (waits waiting n) (waits (new ∷ []) n) (old_waits waiting are n (others n differ) (λ e. omega (arith, under, over.next, e)) live))
               (cases_eq n number);
         }
 

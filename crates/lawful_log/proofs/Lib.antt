@@ -1,3 +1,4 @@
+mod Common
 pub mod Quiet
 pub mod Going
 pub mod OneChoice

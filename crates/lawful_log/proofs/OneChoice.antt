@@ -1,22 +1,7 @@
 -- What the log has at a choice point is one.
-use Rattle.std.proofs.Common.{◌≡◌, ℕ, Bool, true, false, [], ◌∷◌, Option, Some, None, sym, ◌∙◌, ap, subst}
-use Rattle.c_mean.specs.ModelledCalls.{is_dropped}
-use Rattle.choice_rules.specs.Choice.{IsLawful}
-use Rattle.choice_rules.specs.Clock.{is_due, IsChoicePoint}
-use Rattle.choice_rules.specs.Deliveries.{delivery_of, item_of, received, coming_entry}
-use Rattle.choice_rules.specs.Seen.{Waiter}
+use Rattle.lawful_log.proofs.Common.{◌≡◌, ℕ, Bool, true, false, [], ◌∷◌, Option, Some, None, sym, ◌∙◌, ap, subst, is_dropped, IsLawful, is_due, IsChoicePoint, delivery_of, item_of, received, coming_entry, Waiter, behind, one_clock, one_choice, not_done, not_bad, not_idle, Event, Advance, Deliver, Pick, after_actions, World, Entry, Setup, setting_of, State, seen_of, IsRun, chosen_from, IsComing}
 use Rattle.choice_rules.specs.Stops.{IsDone, IsBadTrace, IsIdle}
-use Rattle.choice_rules.specs.Trace.{behind}
-use Rattle.choice_rules.proofs.Points.{one_clock, one_choice, not_done, not_bad, not_idle}
-use Rattle.event_trace.specs.declared.events.Event.{Event}
-use Rattle.machine_world.specs.Runs.{Advance, Deliver, Pick, after_actions}
-use Rattle.machine_world.specs.Threads.{World}
-use Rattle.schedule_log.specs.declared.entries.Entry.{Entry}
 use Rattle.schedule_log.specs.declared.entries.Item.{Item}
-use Rattle.lawful_log.specs.Setup.{Setup, setting_of}
-use Rattle.lawful_log.specs.State.{State, seen_of}
-use Rattle.lawful_log.specs.Choice.{IsRun, chosen_from}
-use Rattle.lawful_log.specs.Deliveries.{IsComing}
 
 module _ (g : Setup) (state : State) where
   record Comes (event : Event) (clock : ℕ) (entry : Entry) (after : State) : Type 0 where

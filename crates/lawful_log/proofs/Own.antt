@@ -1,39 +1,14 @@
 -- What a step of the world leaves of the running thread, and a thread that it starts.
-use Rattle.std.proofs.Common.{◌≡◌, ◌≢◌, ℕ, ◌+◌, ◌<◌, ◌≤◌, Bool, true, false, nat_eq, not, List, [], ◌∷◌, ◌++◌, length, Option, Some, None, refl, sym, ap, ◌∙◌, cond, arith, subst, ⊎_elim}
-use Rattle.std.specs.Prelude.{nat_le}
-use Rattle.std.proofs.lemmas.Bool.{cond_both, cases_eq, cond-true, cond-false, eq-eqb, ne_eqb}
-use Rattle.cap_word.specs.Calls.{Call, Blocking, Immediate, most_threads}
-use Rattle.cap_word.specs.Runs as runs
-use Rattle.cap_word.specs.declared.stops.Stop.{Stop}
-use Rattle.cap_word.specs.declared.traps.TrapKind.{TrapKind}
-use Rattle.c_mean.specs.ModelledCalls.{blocking_row, immediate_row}
-use Rattle.chunk_pool.specs.Pool.{Taken, taken_for}
-use Rattle.machine_world.specs.Local as local
-use Rattle.machine_world.specs.Local.{LocalMove, local_step}
-use Rattle.machine_world.specs.Numbered.{RiseBetween, IsNumbered}
-use Rattle.machine_world.specs.Threads.{Blocked, Thread, World, Setting, first_with, thread_of, replaced, without, resumed, Move, Goes, Puts, Spawns, Blocks, Ends, Stops, Wrong, unless_trap, printed, package_call, spawned, asked, stopped, moved, step_of, step_on, step}
+use Rattle.lawful_log.proofs.Common.{◌≡◌, ◌≢◌, ℕ, ◌+◌, ◌<◌, ◌≤◌, Bool, true, false, nat_eq, not, List, [], ◌∷◌, ◌++◌, Option, Some, None, refl, sym, ap, ◌∙◌, cond, arith, subst, ⊎_elim, cond_both, cases_eq, cond-true, cond-false, eq-eqb, ne_eqb, RiseBetween, IsNumbered, Blocked, Thread, World, Setting, first_with, thread_of, replaced, without, resumed, Move, Goes, Puts, Spawns, Blocks, Ends, Stops, Wrong, step, RiseBetween-bound, first_with-number}
+use Rattle.machine_world.proofs.StepCases.{Ways, on_printed, on_step, row_for}
 
 -- ---- threads by number
-
-pub number_of_found : (number : ℕ) (threads : List Thread) (t : Thread) → first_with number threads ≡ Some t → t.number ≡ number
-number_of_found number [] t found = absurd (cc)
-number_of_found number (u ∷ us) t found = ⊎_elim
-    (λ (same : u.number ≡ number).
-    let here : Some u ≡ Some t = sym (cond-true (nat_eq u.number number) (Some u) (first_with number us) (eq-eqb u.number number same)) ∙ found in
-    let equal : u ≡ t = cc in
-    ap (λ (v : Thread). v.number) (sym equal) ∙ same)
-    (λ apart. number_of_found number us t (sym (cond-false (nat_eq u.number number) (Some u) (first_with number us) (ne_eqb u.number number apart)) ∙ found))
-    (cases_eq u.number number)
-
-rise_bound : (from next : ℕ) (threads : List Thread) → RiseBetween from next threads → from ≤ next
-rise_bound from next [] rise = rise
-rise_bound from next (u ∷ us) rise = let above = rise_bound (u.number + 1) next us rise.1 in omega (arith, rise.0, above)
 
 -- a live thread's number is below the next one
 pub found_below : (number from next : ℕ) (threads : List Thread) (t : Thread) → RiseBetween from next threads → first_with number threads ≡ Some t → number < next
 found_below number from next [] t rise found = absurd (cc)
 found_below number from next (u ∷ us) t rise found = ⊎_elim
-    (λ (same : u.number ≡ number). let above = rise_bound (u.number + 1) next us rise.1 in omega (arith, same, above))
+    (λ (same : u.number ≡ number). let above = RiseBetween-bound (u.number + 1) next us rise.1 in omega (arith, same, above))
     (λ apart. found_below number (u.number + 1) next us t rise.1 (sym (cond-false (nat_eq u.number number) (Some u) (first_with number us) (ne_eqb u.number number apart)) ∙ found))
     (cases_eq u.number number)
 
@@ -119,66 +94,24 @@ LeavesOwn w number (Puts value after) = Unit {0}
 LeavesOwn w number (Stops stop) = Unit {0}
 LeavesOwn w number Wrong = Unit {0}
 
-module _ (w : World) (numbered : IsNumbered w) (old : Thread) (found : thread_of w old.number ≡ Some old) where
-  own_trap : (trap : Option TrapKind) (move : Move) → LeavesOwn w old.number move → LeavesOwn w old.number (unless_trap trap move)
-  own_trap (Some kind) move o = tt
-  own_trap None move o = o
-
-  own_printed : (value : Option ℕ) (after : World) → LeavesOwn w old.number (printed value after)
-  own_printed None after = tt
-  own_printed (Some value) after = tt
-
-  own_call : (s : Setting) (call : Call) → LeavesOwn w old.number (package_call s w old call)
-  own_call s (Blocking block) = own_trap (blocking_row s.caps w.exchange block).trap _
-      (record { thread = _; live = found_replaced _ w.threads old found; since = refl })
-  own_call s (Immediate ask) =
-      let row = immediate_row s.caps w.exchange old.number w.next ask in
-      own_trap row.trap _ (own_printed row.prints _)
-
-  own_spawned : (entry argument : ℕ) (taken : Option Taken) → LeavesOwn w old.number (spawned w old entry argument taken)
-  own_spawned entry argument None = tt
-  own_spawned entry argument (Some taken) =
-      let below = found_below old.number 0 w.next w.threads old numbered found in
-      let none = none_at_next w.next 0 w.next w.threads numbered (omega arith) in
-      record { thread = _; live = found_appended _ (replaced (resumed old (Some w.next)) w.threads) (none_replaced w.next _ w.threads (λ same. omega (arith, below, same)) none); unblocked = refl }
-
-  own_asked : (s : Setting) (question : local.Question) → LeavesOwn w old.number (asked s w old question)
-  own_asked s (local.Calls call) = own_call s call
-  own_asked s (local.Starts entry argument need) =
-      cond_both (nat_le most_threads (length w.threads)) (Stops Stop.Threads) (spawned w old entry argument (taken_for w.areas.pool need)) (LeavesOwn w old.number)
-      (λ _. tt)
-      (λ _. own_spawned entry argument (taken_for w.areas.pool need))
-
-  own_stopped : (end : local.End) → LeavesOwn w old.number (stopped w old end)
-  own_stopped (local.Ended areas) = none_without old.number w.threads
-  own_stopped (local.Trapped kind) = tt
-  own_stopped local.NoRoom = tt
-  own_stopped local.Wrong = tt
-
-  own_moved : (s : Setting) (move : LocalMove) → LeavesOwn w old.number (moved s w old move)
-  own_moved s (runs.Goes after) = tt
-  own_moved s (runs.Asks question waiting) = own_asked s question
-  own_moved s (runs.Stops end) = own_stopped end
-
-  own_step_of : (s : Setting) → LeavesOwn w old.number (step_of s w (Some old))
-  own_step_of s =
-      cond_both (nat_eq w.cost s.fuel) (Stops Stop.Fuel) (moved s w old (local_step s.code (record { areas = w.areas; core = old.core }))) (LeavesOwn w old.number)
-      (λ _. tt)
-      (λ _. own_moved s (local_step s.code (record { areas = w.areas; core = old.core })))
-
-own_found : (s : Setting) (w : World) (number : ℕ) (found : Option Thread) → IsNumbered w → thread_of w number ≡ found → LeavesOwn w number (step_of s w found)
-own_found s w number None numbered e = tt
-own_found s w number (Some old) numbered e =
-    let own = number_of_found number w.threads old e in
-    subst (λ (n : ℕ). LeavesOwn w n (step_of s w (Some old))) own (own_step_of w numbered old (subst (λ (n : ℕ). thread_of w n ≡ Some old) (sym own) e) s)
-
-own_on : (s : Setting) (w : World) (number : ℕ) (running : Option ℕ) → IsNumbered w → running ≡ Some number → LeavesOwn w number (step_on s w running)
-own_on s w number None numbered e = absurd (cc)
-own_on s w number (Some other) numbered e =
-    let same : other ≡ number = cc in
-    subst (λ (n : ℕ). LeavesOwn w n (step_on s w (Some other))) same (own_found s w other (thread_of w other) numbered refl)
+module _ (s : Setting) (w : World) (numbered : IsNumbered w) (old : Thread) (found : thread_of w old.number ≡ Some old) where
+  own_ways : Ways s w (LeavesOwn w old.number) old
+  own_ways = record {
+    goes = λ after e. tt;
+    answers = λ ask still e. on_printed (LeavesOwn w old.number) (row_for s w old ask).prints _ tt (λ word prints. tt);
+    blocks = λ block. record { thread = _; live = found_replaced _ w.threads old found; since = refl };
+    spawns = λ entry argument need still taken e few some.
+        let below = found_below old.number 0 w.next w.threads old numbered found in
+        let none = none_at_next w.next 0 w.next w.threads numbered (omega arith) in
+        record { thread = _; live = found_appended _ (replaced (resumed old (Some w.next)) w.threads) (none_replaced w.next _ w.threads (λ same. omega (arith, below, same)) none); unblocked = refl };
+    ends = λ areas e. none_without old.number w.threads;
+  }
 
 -- what a step leaves of the thread that runs
 pub own_step : (s : Setting) (w : World) (number : ℕ) → IsNumbered w → w.running ≡ Some number → LeavesOwn w number (step s w)
-unfolding step
-own_step s w number numbered e = own_on s w number w.running numbered e
+own_step s w number numbered e = on_step s w (LeavesOwn w number) (λ stop. tt) tt ways where
+  ways : (n : ℕ) (thread : Thread) → w.running ≡ Some n → thread_of w n ≡ Some thread → (nat_eq w.cost s.fuel ≡ false) → Ways s w (LeavesOwn w number) thread
+  ways n thread runs there left =
+      let own = first_with-number n w.threads thread there in
+      let same : n ≡ number = cc in
+      subst (λ (m : ℕ). Ways s w (LeavesOwn w m) thread) (own ∙ same) (own_ways s w numbered thread (subst (λ (m : ℕ). thread_of w m ≡ Some thread) (sym own) there))

@@ -1,19 +1,7 @@
 -- The passes of a stride rule from call to call.
-use Rattle.std.proofs.Common.{◌≡◌, ◌≢◌, ℕ, ◌+◌, ◌<◌, ◌≤◌, true, false, nat_eq, List, [], ◌∷◌, Some, refl, sym, ap, ◌∙◌, subst, arith}
-use Rattle.std.specs.List.{AllByRecursion}
-use Rattle.std.proofs.lemmas.Bool.{eq-eqb}
-use Rattle.cap_word.specs.declared.threads.ThreadId.{ThreadId}
-use Rattle.choice_rules.specs.Seen.{PastChoice}
-use Rattle.choice_rules.specs.Strides.{pass_of, latest_pass}
+use Rattle.lawful_log.proofs.Common.{◌≡◌, ◌≢◌, ℕ, ◌+◌, ◌<◌, ◌≤◌, true, false, nat_eq, List, [], ◌∷◌, Some, refl, sym, ap, ◌∙◌, subst, arith, AllByRecursion, eq-eqb, ThreadId, PastChoice, pass_of, latest_pass, Need, StrideChoice, Client, client_of, with_growth, grown, StrideState, AreOnce, new_rule, with_client, after_choice, after_segment_for, after_leaving, stride_of, IsAtPass, HasPasses, StartedBy, by_test, eq_true}
 use Rattle.choice_rules.proofs.Strides.{pass_of-newcomer, pass_of-chosen, pass_of-other}
-use Rattle.ready_tree.specs.declared.needs.Need.{Need}
-use Rattle.stride_rule.specs.declared.choices.StrideChoice.{StrideChoice}
-use Rattle.stride_rule.specs.declared.clients.Client.{Client}
-use Rattle.stride_rule.specs.Clients.{client_of, with_growth, grown}
-use Rattle.stride_rule.specs.State.{StrideState, AreOnce, new_rule, with_client, after_choice, after_segment_for, after_leaving}
-use Rattle.stride_rule.specs.Tickets.{stride_of}
-use Rattle.stride_rule.proofs.ClientLemmas.{by_test, same_number, all_append, all-without, pass-of_client}
-use Rattle.lawful_log.specs.Passes.{IsAtPass, HasPasses, StartedBy}
+use Rattle.stride_rule.proofs.ClientLemmas.{all_append, all-without, pass-of_client}
 use Rattle.lawful_log.proofs.Finding.{all_at, key_is}
 
 -- ---- a choice
@@ -45,7 +33,7 @@ module _ (tickets : List (ℕ × ℕ)) (taken : List PastChoice) (number node st
   all_grown (c ∷ cs) once below all =
       by_test (nat_eq c.thread.number number) _
       (λ same.
-      let is : c.thread.number ≡ number = same_number c.thread.number number same in
+      let is : c.thread.number ≡ number = eq_true c.thread.number number same in
       let apart : AllByRecursion (λ (x : Client). x.thread.number ≢ number) cs = subst (λ (n : ℕ). AllByRecursion (λ (x : Client). x.thread.number ≢ n) cs) is once.0 in
       rw same (grows c is below.0 all.0, all_stay cs apart below.1 all.1))
       (λ other.

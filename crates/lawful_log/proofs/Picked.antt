@@ -1,16 +1,5 @@
 -- What the pick of a thread leaves as it was.
-use Rattle.std.proofs.Common.{◌≡◌, ◌≢◌, ℕ, Bool, true, false, not, List, [], ◌∷◌, Option, Some, None, refl, sym, ap, ◌∙◌, subst, cond, ⊎_elim}
-use Rattle.std.specs.Prelude.{IsSome, if◌then◌else◌}
-use Rattle.std.specs.List.{AllByRecursion}
-use Rattle.std.proofs.lemmas.Bool.{cases_eq, eq-eqb, ne_eqb}
-use Rattle.choice_rules.specs.Seen.{Waiter}
-use Rattle.choice_rules.specs.Waiting.{waits}
-use Rattle.choice_rules.proofs.Waiters.{but, once_but, waits_but_other, waits_but_self}
-use Rattle.machine_world.specs.Runs.{Pick, picked, picked_at, may_run, after_action, is_between}
-use Rattle.machine_world.specs.Threads.{Blocked, Thread, World, Setting, thread_of}
-use Rattle.lawful_log.specs.Waiting.{IsWaiting, AreWaiting}
-use Rattle.lawful_log.proofs.Own.{number_of_found}
-use Rattle.machine_world.proofs.OtherThreads.{first_with-replaced}
+use Rattle.lawful_log.proofs.Common.{◌≡◌, ◌≢◌, ℕ, Bool, true, false, not, List, [], ◌∷◌, Option, Some, None, refl, sym, ap, ◌∙◌, subst, cond, ⊎_elim, IsSome, if◌then◌else◌, AllByRecursion, cases_eq, eq-eqb, ne_eqb, Waiter, waits, but, once_but, waits_but_other, waits_but_self, Pick, picked, picked_at, may_run, after_action, is_between, Blocked, Thread, World, Setting, thread_of, IsWaiting, AreWaiting, first_with-replaced, first_with-number}
 
 pub record IsPicked (w : World) (number : ℕ) (after : World) : Type 0 where
   pub cost : after.cost ≡ w.cost
@@ -31,7 +20,7 @@ picked_found : (s : Setting) (w : World) (number : ℕ) (found : Option Thread) 
 picked_found s w number None after e p = absurd (cc)
 picked_found s w number (Some thread) after e p =
     let is : picked_at s w thread thread.blocked ≡ after = given_if (may_run s w thread.blocked) _ after p in
-    subst (IsPicked w number) is (subst (λ (n : ℕ). IsPicked w n (picked_at s w thread thread.blocked)) (number_of_found number w.threads thread e) (picked_kept s w thread thread.blocked))
+    subst (IsPicked w number) is (subst (λ (n : ℕ). IsPicked w n (picked_at s w thread thread.blocked)) (first_with-number number w.threads thread e) (picked_kept s w thread thread.blocked))
 
 pub between_if : (b : Bool) (o : Option World) (after : World) → (if b then o else None) ≡ Some after → o ≡ Some after
 between_if true o after e = e

@@ -1,8 +1,5 @@
 -- Steps without an entry come to one place from which the log has one.
-use Rattle.std.proofs.Common.{◌≡◌, ℕ, zero, suc, Option, Some, None, refl, ◌∙◌, ap}
-use Rattle.machine_world.specs.Runs.{and_then}
-use Rattle.machine_world.specs.Threads.{World, Setting, step}
-use Rattle.lawful_log.specs.Segments.{quiet_world, after_quiet}
+use Rattle.lawful_log.proofs.Common.{◌≡◌, ℕ, zero, suc, Option, Some, None, refl, ◌∙◌, ap, and_then, World, Setting, step, quiet_world, after_quiet}
 
 module _ (s : Setting) where
   stuck : (o : Option World) (m : ℕ) (b : World) (P : Type 0) → o ≡ None → and_then o (after_quiet s m) ≡ Some b → P

@@ -1,20 +1,10 @@
 -- A thread is ready, at `accept` and asleep in the machine world as it is in the source world.
-use Rattle.std.proofs.Common.{◌≡◌, ℕ, List, Option, Some, None, option_map, refl, ap, ◌∙◌}
-use Rattle.cap_word.specs.declared.calls.Block.{Block}
-use Rattle.chunk_pool.specs.Pool.{Pool}
-use Rattle.c_mean.specs.Frames.{Waiting}
+use Rattle.lawful_log.proofs.Common.{◌≡◌, ℕ, List, Option, Some, None, option_map, refl, ap, ◌∙◌, Block, Pool, Waiting, wakes_at, is_accept, may_run, is_blocked_at_accept, StandsForRest, Blocked, Thread, World, Setting, waking_time, SinceIs}
 use Rattle.c_mean.specs.ModelledCalls as table
-use Rattle.c_mean.specs.ModelledCalls.{wakes_at}
 use Rattle.c_mean.specs.World.{Rest, Fresh, Blocked as Blocks}
 use Rattle.c_tree.specs.Trees.{ProgramTree}
 use Rattle.choice_rules.specs.Readiness as rules
-use Rattle.cap_word.specs.Calls.{is_accept}
 use Rattle.machine_world.specs.Places.{Checked}
-use Rattle.machine_world.specs.Runs.{may_run, is_blocked_at_accept}
-use Rattle.machine_world.specs.StandsForWorld.{StandsForRest}
-use Rattle.machine_world.specs.Threads.{Blocked, Thread, World, Setting}
-use Rattle.lawful_log.specs.Tests.{waking_time}
-use Rattle.lawful_log.specs.Waiting.{SinceIs}
 
 -- blocked at the same since the same clock, or at the start
 abbrev pub RestsAlike : Option Blocked → ℕ → Option Rest → Type 0

@@ -1,35 +1,8 @@
 -- The choice of a stride rule is the lawful one, and there is one where a thread is ready.
-use Rattle.std.proofs.Common.{◌≡◌, ◌≢◌, ℕ, ◌&&◌, ◌||◌, Bool, true, false, nat_eq, not, List, Option, Some, None, find, refl, sym, ap, ◌∙◌, subst}
-use Rattle.std.specs.Prelude.{IsTrue, slice_index}
-use Rattle.std.specs.List.{AllByRecursion, list_any}
-use Rattle.cap_word.specs.declared.threads.ThreadId.{ThreadId}
-use Rattle.choice_rules.specs.Choice.{is_open}
-use Rattle.choice_rules.specs.Policy.{by_stride}
-use Rattle.choice_rules.specs.Readiness.{is_ready, at_accept, any_ready, any_elsewhere}
-use Rattle.choice_rules.specs.Seen.{Waiter}
-use Rattle.choice_rules.specs.Strides.{pass_of}
+use Rattle.lawful_log.proofs.Common.{◌≡◌, ◌≢◌, ℕ, ◌&&◌, ◌||◌, Bool, true, false, nat_eq, not, List, Option, Some, None, find, refl, sym, ap, ◌∙◌, subst, IsTrue, slice_index, AllByRecursion, list_any, ThreadId, is_open, by_stride, is_ready, at_accept, any_ready, any_elsewhere, Waiter, pass_of, IsPlaced, any_eligible, lawful_by_stride, checked_of, Setup, setting_of, State, seen_of, IsChosenAs, IsChosen, IsWaiting, AreWaiting, advanced, may_run, is_blocked_at_accept, StandsForWorld, StridesState, IsFirstAtNode, IsChoiceByStrides, Choice, is_eligible, Client, client_of, goes_before, waiting_in, waiting_of, waiting-none, waiter_of, IsClientOf, AreBoth, AreClients, IsAtPass, HasPasses}
 use Rattle.choice_rules.specs.Choice as rules
-use Rattle.choice_rules.specs.Waiting.{IsPlaced}
-use Rattle.choice_rules.proofs.GraphChoices.{any_eligible}
-use Rattle.choice_rules.proofs.Rules.{lawful_by_stride}
-use Rattle.lawful_log.specs.Good.{checked_of}
-use Rattle.lawful_log.specs.Setup.{Setup, setting_of}
-use Rattle.lawful_log.specs.State.{State, seen_of}
-use Rattle.lawful_log.specs.Beside.{IsChosenAs, IsChosen}
-use Rattle.lawful_log.specs.Waiting.{IsWaiting, AreWaiting}
 use Rattle.lawful_log.proofs.Told.{ready_same, accept_same}
-use Rattle.machine_world.specs.Runs.{advanced, may_run, is_blocked_at_accept}
-use Rattle.machine_world.specs.StandsForWorld.{StandsForWorld}
-use Rattle.rule_state.specs.Strides.{StridesState, IsFirstAtNode, IsChoiceByStrides}
-use Rattle.scheduler.specs.declared.choices.Choice.{Choice}
-use Rattle.scheduler.specs.LawfulChoice.{is_eligible}
-use Rattle.stride_rule.specs.declared.clients.Client.{Client}
-use Rattle.stride_rule.specs.Clients.{client_of, goes_before}
-use Rattle.stride_rule.specs.State.{waiting_in, waiting_of}
-use Rattle.stride_rule.proofs.NotingLemmas.{waiting-none}
 use Rattle.stride_rule.proofs.OrderLemmas.{goes_before-total}
-use Rattle.lawful_log.specs.Clients.{waiter_of, IsClientOf, AreBoth, AreClients}
-use Rattle.lawful_log.specs.Passes.{IsAtPass, HasPasses}
 use Rattle.lawful_log.proofs.Finding.{all_both, all_at, key_is, own, none_passes, found_passing}
 
 -- ---- a client and what waits

@@ -1,30 +1,9 @@
 -- What the machine world tells, at a choice.
-use Rattle.std.proofs.Common.{◌≡◌, ℕ, ◌&&◌, Bool, true, not, List, Option, Some, None, refl, ap, ◌∙◌, subst}
-use Rattle.std.specs.List.{list_any}
+use Rattle.lawful_log.proofs.Common.{◌≡◌, ℕ, ◌&&◌, Bool, true, not, List, Option, Some, None, refl, ap, ◌∙◌, subst, list_any, ThreadId, Exchange, monitor_of, by_graph, Waiter, is_ready_at, is_ready, at_accept, any_ready, any_elsewhere, rest_of, IsPlaced, AreQueued, some_choice, lawful_choice, lawful_by_graph, checked_of, Setup, setting_of, State, seen_of, IsNumbered, advanced, may_run, is_blocked_at_accept, StandsForWorld, StandsForRest, Thread, is_eligible, IsLawfulChoice, Choice, HasLasts, IsChosen, IsWaiting, AreWaiting}
 use Rattle.blocking_graph.specs.Edges.{edges_of}
-use Rattle.cap_word.specs.declared.threads.ThreadId.{ThreadId}
-use Rattle.c_mean.specs.ModelledCalls.{Exchange}
-use Rattle.choice_rules.specs.Choice.{monitor_of}
-use Rattle.choice_rules.specs.Policy.{by_graph}
-use Rattle.choice_rules.specs.Seen.{Waiter}
-use Rattle.choice_rules.specs.Readiness.{is_ready_at, is_ready, at_accept, any_ready, any_elsewhere, rest_of}
-use Rattle.choice_rules.specs.Waiting.{IsPlaced, AreQueued}
-use Rattle.choice_rules.proofs.GraphChoices.{some_choice, lawful_choice}
-use Rattle.choice_rules.proofs.Rules.{lawful_by_graph}
-use Rattle.lawful_log.specs.Good.{checked_of}
-use Rattle.lawful_log.specs.Setup.{Setup, setting_of}
-use Rattle.lawful_log.specs.State.{State, seen_of}
-use Rattle.machine_world.specs.Numbered.{IsNumbered}
-use Rattle.machine_world.specs.Runs.{advanced, may_run, is_blocked_at_accept}
-use Rattle.machine_world.specs.StandsForWorld.{StandsForWorld, StandsForRest}
-use Rattle.machine_world.specs.Threads.{Thread}
 use Rattle.resource_monitor.specs.Monitor.{MonitorState}
-use Rattle.scheduler.specs.LawfulChoice.{is_eligible, IsLawfulChoice}
 use Rattle.scheduler.specs.Scores.{score}
 use Rattle.scheduler.specs.State.{SchedulerState, queue_of, last_of}
-use Rattle.scheduler.specs.declared.choices.Choice.{Choice}
-use Rattle.lawful_log.specs.Beside.{HasLasts, IsChosen}
-use Rattle.lawful_log.specs.Waiting.{IsWaiting, AreWaiting}
 use Rattle.lawful_log.proofs.Any.{any_same}
 use Rattle.lawful_log.proofs.Same.{RestsAlike, alike_rest, ready_alike, accept_alike}
 

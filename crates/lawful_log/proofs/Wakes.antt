@@ -1,23 +1,7 @@
 -- The earliest sleeper of the machine world is the earliest of those that wait.
-use Rattle.std.proofs.Common.{◌≡◌, ℕ, ◌≤◌, Bool, true, false, List, [], ◌∷◌, Option, Some, None, map, sym, ap, ◌∙◌, subst, ⊎_elim}
-use Rattle.std.specs.Prelude.{All, Contains, filter_map, nat_eq}
-use Rattle.std.specs.List.{AllByRecursion, list_any}
-use Rattle.std.proofs.lemmas.Bool.{cases_eq, cond-true, cond-false, eq-eqb, ne_eqb, eqb-true}
+use Rattle.lawful_log.proofs.Common.{◌≡◌, ℕ, ◌≤◌, Bool, true, false, List, [], ◌∷◌, Option, Some, None, map, sym, ap, ◌∙◌, subst, ⊎_elim, All, Contains, filter_map, nat_eq, AllByRecursion, list_any, cases_eq, cond-true, cond-false, eq-eqb, ne_eqb, eqb-true, Exchange, is_ready, any_ready, waking_times, Waiter, IsLeastOf, Setup, setting_of, State, seen_of, IsNumbered, advanced, may_run, asleep_until, StandsForWorld, StandsForRest, Blocked, Thread, World, first_with, thread_of, checked_of, IsWaiting, AreWaiting, All-weaker, or_right, or_left, or_parts}
 use Rattle.std.proofs.lemmas.List.Elements.{All-contains, All-from_recursion}
-use Rattle.c_mean.specs.ModelledCalls.{Exchange}
-use Rattle.choice_rules.specs.Readiness.{is_ready, any_ready, waking_times}
-use Rattle.choice_rules.specs.Seen.{Waiter}
 use Rattle.choice_rules.specs.Readiness as rules
-use Rattle.choice_rules.specs.Clock.{IsLeastOf}
-use Rattle.choice_rules.proofs.Tests.{left_true, not_both, right_true}
-use Rattle.lawful_log.specs.Setup.{Setup, setting_of}
-use Rattle.lawful_log.specs.State.{State, seen_of}
-use Rattle.machine_world.specs.Numbered.{IsNumbered}
-use Rattle.machine_world.specs.Runs.{advanced, may_run, asleep_until}
-use Rattle.machine_world.specs.StandsForWorld.{StandsForWorld, StandsForRest}
-use Rattle.machine_world.specs.Threads.{Blocked, Thread, World, first_with, thread_of}
-use Rattle.lawful_log.specs.Good.{checked_of}
-use Rattle.lawful_log.specs.Waiting.{IsWaiting, AreWaiting}
 use Rattle.lawful_log.proofs.Any.{any_found, waiter_of}
 use Rattle.lawful_log.proofs.Clocks.{gives_contains, gives_none, gives_above, is_time, asleep_is, contains_later, contains_head, contains_tail, contains_none}
 use Rattle.lawful_log.proofs.Kept.{is_some_of}
@@ -28,11 +12,7 @@ use Rattle.lawful_log.proofs.Finding.{all_both}
 
 pub all_false : {X : Type 0} (test : X → Bool) (xs : List X) → list_any test xs ≡ false → AllByRecursion (λ x. test x ≡ false) xs
 all_false test [] e = tt
-all_false test (x ∷ xs) e = let both : (test x ≡ false) × (list_any test xs ≡ false) = not_both (test x) (list_any test xs) e in (both.0, all_false test xs both.1)
-
-pub weakened : {X : Type 0} (P Q : X → Type 0) → ((x : X) → P x → Q x) → (xs : List X) → AllByRecursion P xs → AllByRecursion Q xs
-weakened P Q f [] p = tt
-weakened P Q f (x ∷ xs) p = (f x p.0, weakened P Q f xs p.1)
+all_false test (x ∷ xs) e = let both : (test x ≡ false) × (list_any test xs ≡ false) = or_parts (test x) (list_any test xs) e in (both.0, all_false test xs both.1)
 
 found_contains : (number : ℕ) (threads : List Thread) (t : Thread) → first_with number threads ≡ Some t → Contains threads t
 found_contains number [] t e = absurd (cc)
@@ -61,8 +41,8 @@ is_time_is time (Some t) e = ap Some (eqb-true t time e)
 map_any : (f : Thread → Option ℕ) (time : ℕ) (threads : List Thread) → Contains (map f threads) (Some time) → list_any (λ t. is_time time (f t)) threads ≡ true
 map_any f time [] c = absurd (contains_none (Some time) c)
 map_any f time (u ∷ us) c = ⊎_elim
-    (λ (here : f u ≡ Some time). left_true (is_time time (f u)) (list_any (λ t. is_time time (f t)) us) (time_is time (f u) here))
-    (λ later. right_true (is_time time (f u)) (list_any (λ t. is_time time (f t)) us) (map_any f time us later))
+    (λ (here : f u ≡ Some time). or_left (is_time time (f u)) (list_any (λ t. is_time time (f t)) us) (time_is time (f u) here))
+    (λ later. or_right (is_time time (f u)) (list_any (λ t. is_time time (f t)) us) (map_any f time us later))
     (contains_tail (f u) (map f us) (Some time) c)
 
 -- ---- the sleepers
@@ -74,7 +54,7 @@ module _ (w : World) (waiting : List Waiter) (numbered : IsNumbered w) (between 
 
   pub none_sleeps : All (λ thread. time_of thread.blocked ≡ None) w.threads → filter_map h waiting ≡ []
   none_sleeps all = gives_none h waiting
-      (weakened Fits (λ x. h x ≡ None)
+      (All-weaker Fits (λ x. h x ≡ None)
       (λ x fits. fits.1 ∙ All-contains (λ thread. time_of thread.blocked ≡ None) w.threads fits.0.thread all (found_contains x.thread w.threads fits.0.thread fits.0.live)) waiting same)
 
   pub least_sleeps : (time : ℕ) → Contains (map (λ thread. time_of thread.blocked) w.threads) (Some time) →
@@ -88,7 +68,7 @@ module _ (w : World) (waiting : List Waiter) (numbered : IsNumbered w) (between 
       record {
         one = gives_contains h time (λ y. is_time time (h y)) (λ y e. is_time_is time (h y) e) waiting (x.settles (λ y. is_time time (h y)) (time_is time (h x.waiter) gives));
         least = All-from_recursion (λ other. time ≤ other) (filter_map h waiting)
-            (gives_above h time waiting (weakened Fits (λ y. (t : ℕ) → h y ≡ Some t → time ≤ t)
+            (gives_above h time waiting (All-weaker Fits (λ y. (t : ℕ) → h y ≡ Some t → time ≤ t)
             (λ y fits t e. least t (map_contains (λ thread. time_of thread.blocked) y.thread w.threads fits.0.thread (Some t) fits.0.live (sym fits.1 ∙ e))) waiting same));
       }
 

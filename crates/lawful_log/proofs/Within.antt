@@ -1,34 +1,9 @@
 -- How a segment goes on: steps without an entry, and each entry.
-use Rattle.std.proofs.Common.{◌≡◌, ◌≢◌, ℕ, zero, suc, ◌+◌, ◌-◌, ◌<◌, List, [], ◌∷◌, ◌++◌, length, Option, Some, None, refl, sym, ap, ◌∙◌, arith, subst, append_assoc, append-nil, true, false}
-use Rattle.std.specs.Prelude.{IsSome, slice_get}
-use Rattle.std.specs.List.{AllByRecursion}
-use Rattle.blocking_graph.specs.Nodes.{keys_with, node_number}
-use Rattle.cap_word.specs.Word.{signed}
-use Rattle.cap_word.specs.declared.calls.Block.{Block}
-use Rattle.cap_word.specs.declared.stops.Stop.{Stop}
-use Rattle.c_mean.specs.Frames.{Waiting, key_of}
+use Rattle.lawful_log.proofs.Common.{◌≡◌, ◌≢◌, ℕ, zero, suc, ◌+◌, ◌-◌, ◌<◌, List, [], ◌∷◌, ◌++◌, length, Option, Some, None, refl, sym, ap, ◌∙◌, arith, subst, append_assoc, append-nil, true, false, IsSome, slice_get, AllByRecursion, keys_with, node_number, signed, Block, Stop, Waiting, key_of, newcomers, end_node, Waiter, newcomers_more, checked_of, quiet_world, after_quiet, HasRun, IsOut, IsBlock, IsEnd, rested, Setup, setting_of, Segment, State, IsCutBy, IsStopped, IsNumbered, and_then, StandsForWorld, StandsForRest, IsBlockedAt, Blocked, Thread, World, Setting, Move, Goes, Puts, Spawns, Blocks, Ends, Stops, Wrong, thread_of, step_of, step_on, step, IsWellFormed, KeepsWellFormed, KeepsWellFormed-step, KeepsThread-step, AreWaiting, IsWaiting, IsWithin, Counts, Retires, StartsOne, IsOver, counts_step, free_count}
 use Rattle.c_mean.specs.World as source
-use Rattle.choice_rules.specs.Seen.{newcomers, end_node, Waiter}
-use Rattle.choice_rules.proofs.Waiters.{newcomers_more}
-use Rattle.lawful_log.specs.Good.{checked_of}
-use Rattle.lawful_log.specs.Segments.{quiet_world, after_quiet, HasRun, IsOut, IsBlock, IsEnd, rested}
-use Rattle.lawful_log.specs.Setup.{Setup, setting_of}
-use Rattle.lawful_log.specs.State.{Segment, State}
-use Rattle.lawful_log.specs.Stops.{IsCutBy, IsStopped}
 use Rattle.machine_world.specs.Alone.{KeepsThread}
-use Rattle.machine_world.specs.Numbered.{IsNumbered}
-use Rattle.machine_world.specs.Runs.{and_then}
-use Rattle.machine_world.specs.StandsForWorld.{StandsForWorld, StandsForRest, IsBlockedAt}
-use Rattle.machine_world.specs.Threads.{Blocked, Thread, World, Setting, Move, Goes, Puts, Spawns, Blocks, Ends, Stops, Wrong, thread_of, step_of, step_on, step}
-use Rattle.machine_world.specs.WellFormed.{IsWellFormed, KeepsWellFormed}
-use Rattle.machine_world.proofs.FormWorlds.{KeepsWellFormed-step}
-use Rattle.machine_world.proofs.OtherThreads.{KeepsThread-step}
-use Rattle.lawful_log.specs.Waiting.{AreWaiting, IsWaiting}
-use Rattle.lawful_log.specs.Within.{IsWithin}
-use Rattle.machine_world.proofs.Counts.{Counts, Retires, StartsOne, IsOver, counts_step}
 use Rattle.lawful_log.proofs.Kept.{all_kept, waiting_on, waiting_started, waiting_blocked, waiting_ended}
 use Rattle.lawful_log.proofs.Own.{found_below, LeavesOwn, StandsFresh, StandsBlocked, IsBlockedSince, own_step}
-use Rattle.chunk_pool.specs.Pool.{free_count}
 
 -- ---- one more step without an entry
 

@@ -9,7 +9,7 @@ pub mod Good
 pub mod Clients
 pub mod Passes
 pub mod Waiting
-pub mod Tests
+pub mod Waking
 pub mod Beside
 pub mod Clocks
 pub mod Within

@@ -1,15 +1,6 @@
 -- A line that is allowed, and within the steps in no way, needs more than may be taken.
-use Rattle.std.proofs.Common.{◌≡◌, ℕ, ◌+◌, ◌<◌, ◌≤◌, inl, inr, None, refl, ap, arith, ⊎_elim}
-use Rattle.std.proofs.lemmas.Bool.{cases_lt}
-use Rattle.cap_word.specs.declared.stops.Stop.{Stop}
+use Rattle.lawful_reading.proofs.Common.{◌≡◌, ℕ, ◌+◌, ◌<◌, ◌≤◌, inl, inr, None, refl, ap, arith, ⊎_elim, cases_lt, Stop, Entry, StopLine, Given, ComesAt, IsCrowdedNext, State, Stopped, IsStop, IsAllowed, IsBeyond}
 use Rattle.c_mean.specs.World as source
-use Rattle.schedule_log.specs.declared.entries.Entry.{Entry}
-use Rattle.schedule_log.specs.declared.entries.StopLine.{StopLine}
-use Rattle.lawful_reading.specs.Given.{Given}
-use Rattle.lawful_reading.specs.Happenings.{ComesAt, IsCrowdedNext}
-use Rattle.lawful_reading.specs.State.{State, Stopped}
-use Rattle.lawful_reading.specs.Ends.{IsStop}
-use Rattle.lawful_reading.specs.Reading.{IsAllowed, IsBeyond}
 use Rattle.lawful_reading.proofs.Moves.{not_put_and_rest, one_put, one_rest, silent_puts, silent_rests}
 
 -- ---- steps

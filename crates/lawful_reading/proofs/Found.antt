@@ -1,13 +1,5 @@
 -- A log is read line by line, and something is said of it.
-use Rattle.std.proofs.Common.{◌≡◌, ℕ, zero, suc, ◌≤◌, inl, inr, List, [], ◌∷◌, ◌++◌, length, refl, sym, ap, ◌∙◌, arith, append-nil, length-append}
-use Rattle.schedule_log.specs.EntryRanges.{FitsEntry}
-use Rattle.schedule_log.specs.EntryText.{entry_text, log_text}
-use Rattle.schedule_log.specs.declared.entries.Entry.{Entry}
-use Rattle.lawful_reading.specs.Given.{Given}
-use Rattle.lawful_reading.specs.State.{State, Stopped, start_of}
-use Rattle.lawful_reading.specs.Reading.{IsAllowed, IsBeyond, Leads, nowhere, by_line, BeginsWith}
-use Rattle.lawful_reading.specs.Verdicts.{IsVerdict}
-use Rattle.lawful_reading.specs.declared.judgement.Verdict.{Verdict}
+use Rattle.lawful_reading.proofs.Common.{◌≡◌, ℕ, zero, suc, ◌≤◌, inl, inr, List, [], ◌∷◌, ◌++◌, length, refl, sym, ap, ◌∙◌, arith, append-nil, length-append, FitsEntry, entry_text, log_text, Entry, Given, State, Stopped, start_of, IsAllowed, IsBeyond, Leads, nowhere, by_line, BeginsWith, IsVerdict, Verdict}
 use Rattle.lawful_reading.proofs.Deciding.{Decided, both_decided, line_decided, text_same}
 use Rattle.lawful_reading.proofs.Searching.{Found, entries}
 use Rattle.lawful_reading.proofs.Lines.{GoesOn, goes_decided, beyond_decided, is_stopped_decided}

@@ -1,3 +1,4 @@
+mod Common
 pub mod Refused
 pub mod Moves
 pub mod Once

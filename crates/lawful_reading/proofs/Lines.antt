@@ -1,25 +1,7 @@
 -- Of a line it is decided whether it is allowed within the steps, and whether it needs more than may be taken.
-use Rattle.std.proofs.Common.{◌≡◌, ◌≢◌, ℕ, suc, ◌+◌, ◌-◌, ◌<◌, ◌≤◌, ℤ, Bool, false, true, inl, inr, List, [], ◌∷◌, Option, Some, None, refl, ap, arith, ⊎_elim}
-use Rattle.std.specs.Prelude.{is_some, slice_get}
-use Rattle.std.proofs.lemmas.Bool.{cases_lt}
-use Rattle.blocking_graph.specs.Nodes.{keys_with, node_number}
-use Rattle.cap_word.specs.declared.stops.Stop.{Stop}
+use Rattle.lawful_reading.proofs.Common.{◌≡◌, ◌≢◌, ℕ, suc, ◌+◌, ◌-◌, ◌<◌, ◌≤◌, ℤ, Bool, false, true, inl, inr, List, [], ◌∷◌, Option, Some, None, refl, ap, arith, ⊎_elim, is_some, slice_get, cases_lt, keys_with, node_number, Stop, delivery_of, received, IsDelivery, Waiter, end_node, IsChoice, behind, Event, Entry, Item, StopLine, Given, Segment, State, End, NotYet, Edges, Stopped, seen_of, IsPossible, IsComing, IsRun, chosen_from, IsOut, IsBlock, IsEnd, rested, edges_left, MayStop, IsStop, StopsBy, IsAllowed, Needs, StopNeeds, IsBeyond}
 use Rattle.c_mean.specs.World as source
 use Rattle.c_mean.specs.World.{begun}
-use Rattle.choice_rules.specs.Deliveries.{delivery_of, received, IsDelivery}
-use Rattle.choice_rules.specs.Seen.{Waiter, end_node}
-use Rattle.choice_rules.specs.Choice.{IsChoice}
-use Rattle.choice_rules.specs.Trace.{behind}
-use Rattle.event_trace.specs.declared.events.Event.{Event}
-use Rattle.schedule_log.specs.declared.entries.Entry.{Entry}
-use Rattle.schedule_log.specs.declared.entries.Item.{Item}
-use Rattle.schedule_log.specs.declared.entries.StopLine.{StopLine}
-use Rattle.lawful_reading.specs.Given.{Given}
-use Rattle.lawful_reading.specs.State.{Segment, State, End, NotYet, Edges, Stopped, seen_of, IsPossible}
-use Rattle.lawful_reading.specs.Choice.{IsComing, IsRun, chosen_from}
-use Rattle.lawful_reading.specs.Segments.{IsOut, IsBlock, IsEnd, rested}
-use Rattle.lawful_reading.specs.Ends.{edges_left, MayStop, IsStop, StopsBy}
-use Rattle.lawful_reading.specs.Reading.{IsAllowed, Needs, StopNeeds, IsBeyond}
 use Rattle.lawful_reading.proofs.Deciding.{Decided, decided_by, both_decided, either_decided, denied, le_decided, number_same, bool_same, integer_same, Below, below_decided, list_same, held_decided}
 use Rattle.lawful_reading.proofs.DecidedHappenings.{crowded_decided, comes_decided}
 use Rattle.lawful_reading.proofs.Points.{done_decided, idle_decided, some_bad_decided, delivery_decided, choice_decided}

@@ -1,16 +1,8 @@
 -- What the running thread comes to next is one thing, after one number of steps.
-use Rattle.std.proofs.Common.{◌≡◌, ℕ, zero, suc, ◌+◌, ◌-◌, ◌<◌, ◌≤◌, List, [], ◌∷◌, ◌++◌, length, Option, Some, None, refl, sym, ap, ◌∙◌, subst, arith, length-append, ⊎_elim}
-use Rattle.std.proofs.lemmas.Bool.{cases_lt}
-use Rattle.cap_word.specs.Calls.{Call, Blocking, Immediate}
-use Rattle.cap_word.specs.Runs.{Goes, Asks, Stops, and_then, moves}
-use Rattle.cap_word.specs.declared.traps.TrapKind.{TrapKind}
+use Rattle.lawful_reading.proofs.Common.{◌≡◌, ℕ, zero, suc, ◌+◌, ◌-◌, ◌<◌, ◌≤◌, List, [], ◌∷◌, ◌++◌, length, Option, Some, None, refl, sym, ap, ◌∙◌, subst, arith, length-append, ⊎_elim, cases_lt, Call, Blocking, Immediate, Goes, Asks, Stops, and_then, moves, TrapKind, ProgramTree, Waiting, ImmediateRow, blocking_row, immediate_row, IsSilent, PutsNext, RestsNext}
 use Rattle.cap_word.proofs.RunLemmas.{goes_on}
-use Rattle.c_tree.specs.Trees.{ProgramTree}
-use Rattle.c_mean.specs.Frames.{Waiting}
-use Rattle.c_mean.specs.ModelledCalls.{ImmediateRow, blocking_row, immediate_row}
 use Rattle.c_mean.specs.Steps.{SourceMove, source_step, source_resume}
 use Rattle.c_mean.specs.World.{Rest, Segment, SegmentMove, Rested, Ended, Blocked, rests, unless_trap, with_printed, after_ask, calls, segment_move, segment_step, segment_machine}
-use Rattle.lawful_reading.specs.Happenings.{IsSilent, PutsNext, RestsNext}
 
 -- ---- small things
 

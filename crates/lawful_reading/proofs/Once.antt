@@ -1,24 +1,6 @@
 -- A line that is allowed leads to one state, within the steps that it needs, and none is allowed after the stop.
-use Rattle.std.proofs.Common.{◌≡◌, ℕ, ◌+◌, ◌<◌, ◌≤◌, ◌⊎◌, inl, inr, Bool, true, false, List, [], ◌∷◌, Option, Some, None, refl, sym, ap, ◌∙◌, subst, arith}
-use Rattle.std.specs.Prelude.{ℤ}
-use Rattle.blocking_graph.specs.Nodes.{keys_with}
-use Rattle.cap_word.specs.declared.stops.Stop.{Stop}
+use Rattle.lawful_reading.proofs.Common.{◌≡◌, ℕ, ◌+◌, ◌<◌, ◌≤◌, ◌⊎◌, inl, inr, Bool, true, false, List, [], ◌∷◌, Option, Some, None, refl, sym, ap, ◌∙◌, subst, arith, ℤ, keys_with, Stop, delivery_of, received, Waiter, end_node, behind, one_clock, one_choice, Event, Entry, Item, StopLine, Given, PutsNext, RestsNext, IsCrowdedNext, ComesAt, Segment, State, End, NotYet, Edges, Stopped, seen_of, IsComing, IsRun, chosen_from, IsOut, IsBlock, IsEnd, IsClosed, rested, edges_left, IsEdge, StopsBy, IsAllowed, IsBeyond}
 use Rattle.c_mean.specs.World as source
-use Rattle.choice_rules.specs.Deliveries.{delivery_of, received}
-use Rattle.choice_rules.specs.Seen.{Waiter, end_node}
-use Rattle.choice_rules.specs.Trace.{behind}
-use Rattle.choice_rules.proofs.Points.{one_clock, one_choice}
-use Rattle.event_trace.specs.declared.events.Event.{Event}
-use Rattle.schedule_log.specs.declared.entries.Entry.{Entry}
-use Rattle.schedule_log.specs.declared.entries.Item.{Item}
-use Rattle.schedule_log.specs.declared.entries.StopLine.{StopLine}
-use Rattle.lawful_reading.specs.Given.{Given}
-use Rattle.lawful_reading.specs.Happenings.{PutsNext, RestsNext, IsCrowdedNext, ComesAt}
-use Rattle.lawful_reading.specs.State.{Segment, State, End, NotYet, Edges, Stopped, seen_of}
-use Rattle.lawful_reading.specs.Choice.{IsComing, IsRun, chosen_from}
-use Rattle.lawful_reading.specs.Segments.{IsOut, IsBlock, IsEnd, IsClosed, rested}
-use Rattle.lawful_reading.specs.Ends.{edges_left, IsEdge, StopsBy}
-use Rattle.lawful_reading.specs.Reading.{IsAllowed, IsBeyond}
 use Rattle.lawful_reading.proofs.Moves.{one_put, one_rest}
 use Rattle.lawful_reading.proofs.Refused.{stopped-not}
 
@@ -36,7 +18,7 @@ same_some a b e = cc
 same_rest : (e : Entry) (a b : List Entry) → e ∷ a ≡ e ∷ b → a ≡ b
 same_rest e a b h = cc
 
-same_segment : (s : State) (a b : Segment) → s.segment ≡ Some a → s.segment ≡ Some b → a ≡ b
+pub same_segment : (s : State) (a b : Segment) → s.segment ≡ Some a → s.segment ≡ Some b → a ≡ b
 same_segment s a b p q = same_some a b (sym p ∙ q)
 
 -- ---- choice points

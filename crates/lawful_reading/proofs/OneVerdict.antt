@@ -1,9 +1,6 @@
 -- Of a log one thing is said.
-use Rattle.std.proofs.Common.{◌≡◌, ℕ, List, refl, ap}
-use Rattle.lawful_reading.specs.Given.{Given}
+use Rattle.lawful_reading.proofs.Common.{◌≡◌, ℕ, List, refl, ap, Given, IsVerdict, Verdict}
 use Rattle.lawful_reading.proofs.Verdicts.{lawful_unlawful, lawful_too_long, unlawful_too_long, one_unlawful, one_too_long}
-use Rattle.lawful_reading.specs.Verdicts.{IsVerdict}
-use Rattle.lawful_reading.specs.declared.judgement.Verdict.{Verdict}
 
 module _ (g : Given) (trace log : List ℕ) where
   pub one_verdict : (a b : Verdict) → IsVerdict g trace log a → IsVerdict g trace log b → a ≡ b

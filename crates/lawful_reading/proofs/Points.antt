@@ -1,22 +1,11 @@
 -- At a choice point it is decided which event comes, which thread is the lawful choice, and whether a run stops there.
-use Rattle.std.proofs.Common.{◌≡◌, ◌≢◌, ℕ, suc, ◌+◌, ◌≤◌, ◌&&◌, ◌||◌, Bool, true, false, inr, List, [], ◌∷◌, ◌++◌, length, get_or, Option, Some, None, find, refl, sym, ◌∙◌, subst, arith}
-use Rattle.std.specs.Prelude.{Contains, IsTrue, IsSome, is_some, filter, nat_eq}
-use Rattle.std.specs.List.{AllByRecursion}
-use Rattle.std.proofs.lemmas.Bool.{ne_eqb}
+use Rattle.lawful_reading.proofs.Common.{◌≡◌, ◌≢◌, ℕ, suc, ◌+◌, ◌≤◌, ◌&&◌, ◌||◌, Bool, true, false, inr, List, [], ◌∷◌, ◌++◌, length, get_or, Option, Some, None, find, refl, sym, ◌∙◌, subst, arith, Contains, IsTrue, IsSome, is_some, filter, nat_eq, AllByRecursion, ne_eqb, Event, Item, is_dropped, Trace, IsNext, IsRefused, Waiter, Seen, last_choice, delivery_of, item_of, IsDelivery, is_eligible, queue_at, score_of, IsGraphChoice, goes_before_at, IsStrideChoice, IsLawfulBy, IsLawful, IsChoice, one_next, not_refused, one_refusal, refused_number}
 use Rattle.std.proofs.lemmas.List.Elements.{All-from_recursion, recursion_from_All}
-use Rattle.event_trace.specs.declared.events.Event.{Event}
-use Rattle.schedule_log.specs.declared.entries.Item.{Item}
 use Rattle.scheduler.specs.Scores.{comes_before}
-use Rattle.c_mean.specs.ModelledCalls.{is_dropped}
 use Rattle.choice_rules.specs.Policy.{Rule, by_graph, by_stride, Policy}
-use Rattle.choice_rules.specs.Trace.{Trace, IsNext, IsRefused}
-use Rattle.choice_rules.specs.Seen.{Waiter, Seen, last_choice}
 use Rattle.choice_rules.specs.Readiness.{any_ready, waking_times}
 use Rattle.choice_rules.specs.Clock.{is_due, event_times, IsLeastOf, IsClockBy, IsChoicePoint}
-use Rattle.choice_rules.specs.Deliveries.{delivery_of, item_of, IsDelivery}
-use Rattle.choice_rules.specs.Choice.{is_eligible, queue_at, score_of, IsGraphChoice, goes_before_at, IsStrideChoice, IsLawfulBy, IsLawful, IsChoice}
 use Rattle.choice_rules.specs.Stops.{IsDone, IsBadTrace, IsIdle}
-use Rattle.choice_rules.proofs.Points.{one_next, not_refused, one_refusal, refused_number}
 use Rattle.lawful_reading.proofs.Deciding.{Decided, decided_by, both_decided, denied, implied_decided, only_decided, le_decided, number_same, bool_same, integer_same, Below, below_decided, everywhere, all_decided, option_same, text_same}
 use Rattle.lawful_reading.proofs.TraceLines.{Next, Over, Line, Refused, next_of}
 

@@ -1,9 +1,5 @@
 -- Logs that are refused at once.
-use Rattle.std.proofs.Common.{◌≡◌, ℕ, suc, ◌+◌, List, [], ◌∷◌, ◌++◌, length, refl, ap, ◌∙◌, arith, length-append, subst}
-use Rattle.schedule_log.specs.EntryText.{entry_text, log_text}
-use Rattle.lawful_reading.specs.Given.{Given}
-use Rattle.lawful_reading.specs.State.{End, NotYet, Stopped, start_of}
-use Rattle.lawful_reading.specs.Reading.{nowhere, IsUnlawful}
+use Rattle.lawful_reading.proofs.Common.{◌≡◌, ℕ, suc, ◌+◌, List, [], ◌∷◌, ◌++◌, length, refl, ap, ◌∙◌, arith, length-append, subst, entry_text, log_text, Given, End, NotYet, Stopped, start_of, nowhere, IsUnlawful}
 
 pub not-empty : (xs rest : List ℕ) → [] ≡ xs ++ 10 ∷ rest → ⊥
 not-empty xs rest e =

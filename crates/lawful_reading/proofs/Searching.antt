@@ -1,13 +1,7 @@
 -- Of all entries of the format some has what is decided of each, or none has: what fits is finite.
-use Rattle.std.proofs.Common.{ℕ, ℤ, pos, negsuc, zero, suc, ◌^◌, ◌<◌, ◌≤◌, ◌⊎◌, inl, inr, List, [], ◌∷◌, length, FitsSigned, arith}
 use Rattle.std.specs.Int.{w32, w128}
-use Rattle.std.specs.List.{AllByRecursion}
-use Rattle.cap_word.specs.declared.traps.TrapKind.{TrapKind}
+use Rattle.lawful_reading.proofs.Common.{ℕ, ℤ, pos, negsuc, zero, suc, ◌^◌, ◌<◌, ◌≤◌, ◌⊎◌, inl, inr, List, [], ◌∷◌, length, FitsSigned, arith, AllByRecursion, TrapKind, Item, StopLine, Entry, FitsKey, FitsAverages, FitsItem, FitsStop, FitsEntry}
 use Rattle.cap_word.specs.declared.stops.Stop.{Stop as Cause}
-use Rattle.schedule_log.specs.declared.entries.Item.{Item}
-use Rattle.schedule_log.specs.declared.entries.StopLine.{StopLine}
-use Rattle.schedule_log.specs.declared.entries.Entry.{Entry}
-use Rattle.schedule_log.specs.EntryRanges.{FitsKey, FitsAverages, FitsItem, FitsStop, FitsEntry}
 use Rattle.lawful_reading.proofs.Deciding.{Decided, decided_by, both_decided, either_decided, below_decided, le_decided}
 use mir.Syntax.{Width}
 use mir.Val.{hbits}

@@ -1,17 +1,8 @@
 -- It is decided whether the thread under way rests with a step as a line says, and whether the line of a stop is that of what it comes to.
-use Rattle.std.proofs.Common.{◌≡◌, ℕ, ◌+◌, ◌≤◌, ℤ, List, Option, Some, None, inl, inr, refl, sym, ap, ◌∙◌, subst}
-use Rattle.std.specs.Prelude.{slice_get}
+use Rattle.lawful_reading.proofs.Common.{◌≡◌, ℕ, ◌+◌, ◌≤◌, ℤ, List, Option, Some, None, inl, inr, refl, sym, ap, ◌∙◌, subst, slice_get, Stop, TrapKind, Waiting, key_of, StopLine, Given, chunks_of, PutsNext, RestsNext, Segment, State, seen_of, IsPossible, IsCause, IsCut, StopsBy}
 use Rattle.cap_word.specs.Word.{signed}
 use Rattle.cap_word.specs.declared.calls.Block.{Block}
-use Rattle.cap_word.specs.declared.stops.Stop.{Stop}
-use Rattle.cap_word.specs.declared.traps.TrapKind.{TrapKind}
-use Rattle.c_mean.specs.Frames.{Waiting, key_of}
 use Rattle.c_mean.specs.World as source
-use Rattle.schedule_log.specs.declared.entries.StopLine.{StopLine}
-use Rattle.lawful_reading.specs.Given.{Given, chunks_of}
-use Rattle.lawful_reading.specs.Happenings.{PutsNext, RestsNext}
-use Rattle.lawful_reading.specs.State.{Segment, State, seen_of, IsPossible}
-use Rattle.lawful_reading.specs.Ends.{IsCause, IsCut, StopsBy}
 use Rattle.lawful_reading.proofs.Moves.{one_put, one_rest}
 use Rattle.lawful_reading.proofs.Deciding.{Decided, decided_by, both_decided, only_decided, le_decided, number_same, integer_same, option_same, held_decided, text_same}
 use Rattle.lawful_reading.proofs.DecidedHappenings.{puts_decided, rests_decided, crowded_decided}

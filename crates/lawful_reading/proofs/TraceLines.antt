@@ -1,11 +1,9 @@
 -- The next line of a trace: there is none, it is refused, or it is that of one event.
-use Rattle.std.proofs.Common.{◌≡◌, ℕ, suc, ◌+◌, ◌<◌, ◌≤◌, ◌^◌, ◌⊎◌, inl, inr, List, [], ◌∷◌, length, Some, refl, ap, arith}
 use Rattle.event_trace.specs.Lines.{event_text, FitsKind, IsTraceLine, SpellsOnly, line_of}
-use Rattle.event_trace.specs.declared.events.Event.{Event}
+use Rattle.lawful_reading.proofs.Common.{◌≡◌, ℕ, suc, ◌+◌, ◌<◌, ◌≤◌, ◌^◌, ◌⊎◌, inl, inr, List, [], ◌∷◌, length, Some, refl, ap, arith, Event, Trace, IsNext, IsRefused}
 use Rattle.event_trace.specs.declared.events.EventKind.{EventKind}
 use Rattle.event_trace.specs.declared.events.EventKind.TheVariants.{Arrive, Message}
 use Rattle.event_trace.proofs.LineTexts.{event_unique}
-use Rattle.choice_rules.specs.Trace.{Trace, IsNext, IsRefused}
 use Rattle.lawful_reading.proofs.Deciding.{Decided, decided_by, both_decided, either_decided, le_decided, text_same}
 use Rattle.lawful_reading.proofs.Searching.{Found, Searched, Number, numbers}
 

@@ -1,13 +1,8 @@
 -- Of a log at most one thing is said, of one line at most.
-use Rattle.std.proofs.Common.{◌≡◌, ℕ, suc, ◌≤◌, inl, inr, true, false, ◌==◌, List, [], ◌∷◌, ◌++◌, length, Some, None, refl, sym, ap, ◌∙◌, subst, append_assoc, append-nil}
 use Rattle.cap_text.specs.Pieces.{Lacks}
-use Rattle.schedule_log.specs.EntryRanges.{FitsEntry}
-use Rattle.schedule_log.specs.EntryText.{entry_text, log_text}
-use Rattle.schedule_log.specs.declared.entries.Entry.{Entry}
+use Rattle.lawful_reading.proofs.Common.{◌≡◌, ℕ, suc, ◌≤◌, inl, inr, true, false, ◌==◌, List, [], ◌∷◌, ◌++◌, length, Some, None, refl, sym, ap, ◌∙◌, subst, append_assoc, append-nil, FitsEntry, entry_text, log_text, Entry, Given, Segment, State, Stopped, start_of}
 use Rattle.schedule_log.proofs.EntryUnique.{text_unique}
 use Rattle.schedule_log.proofs.LogLines.{no_line_feed}
-use Rattle.lawful_reading.specs.Given.{Given}
-use Rattle.lawful_reading.specs.State.{Segment, State, Stopped, start_of}
 use Rattle.lawful_reading.specs.Reading.{IsAllowed, IsBeyond, Leads, nowhere, by_line, BeginsWith, IsLawful, IsRefused, IsUnlawful, IsTooLong}
 use Rattle.lawful_reading.proofs.Once.{Same, same_after, none_after, within_steps}
 use Rattle.lawful_reading.proofs.Refused.{not-empty}

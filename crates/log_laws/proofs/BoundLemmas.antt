@@ -1,21 +1,7 @@
 -- A thread whose first function is main or is started by some site holds at most as many chunks as a budget gives it.
-use Rattle.std.proofs.Common.{◌≡◌, ℕ, zero, ◌+◌, ◌<◌, ◌≤◌, Bool, true, false, nat_eq, cond, List, [], ◌∷◌, length, Option, Some, None, refl, sym, ap, subst, ◌∙◌, arith, suc}
-use Rattle.std.specs.List.{AllByRecursion}
-use Rattle.chunk_budget.specs.declared.budgets.Budget.{Budget}
-use Rattle.chunk_budget.specs.Budgets.{height_of, chunks_added, IsCovered, IsBudget}
-use Rattle.chunk_budget.proofs.CoverLemmas.{HasMember, has_member}
-use Rattle.chunk_pool.specs.Pool.{Pool}
-use Rattle.flat_code.specs.declared.operations.Op.{Op}
-use Rattle.flat_code.specs.Codes.{operation_at, members_of}
+use Rattle.log_laws.proofs.Common.{◌≡◌, ℕ, zero, ◌+◌, ◌<◌, ◌≤◌, Bool, true, false, nat_eq, cond, List, [], ◌∷◌, length, Option, Some, None, refl, sym, ap, subst, ◌∙◌, arith, suc, AllByRecursion, Budget, height_of, chunks_added, IsCovered, IsBudget, HasMember, has_member, Pool, Op, operation_at, members_of, LinkKind, kind_of, Frame, IsStack, FramesAt, HasFrames, called_at_links, chunk_ahead, is_linked, Core, Checked, Place, InStub, InPrologue, InOperation, Row, NoFrame, Empty, Fresh, Linking, Whole, row_of, row_in, row_at, prologue_row, transfer_row, before_transfer, function_of, root_of, StartsAtRoot}
 use Rattle.flat_code.specs.WellFormed.{IsWellFormed}
-use Rattle.stack_certificate.specs.declared.sites.LinkKind.{LinkKind}
-use Rattle.stack_certificate.specs.Templates.{kind_of}
-use Rattle.machine_world.specs.InPlace.{Frame, IsStack, FramesAt, HasFrames}
-use Rattle.machine_world.specs.Keys.{called_at_links, chunk_ahead, is_linked}
-use Rattle.machine_world.specs.Local.{Core}
-use Rattle.machine_world.specs.Places.{Checked, Place, InStub, InPrologue, InOperation, Row, NoFrame, Empty, Fresh, Linking, Whole, row_of, row_in, row_at, prologue_row, transfer_row, before_transfer, function_of}
 use Rattle.machine_world.proofs.ChainLaws.{length-chain}
-use Rattle.log_laws.specs.Roots.{root_of, StartsAtRoot}
 use Rattle.log_laws.proofs.StackLemmas.{added_is, stack_heights}
 
 -- ---- where a link has no frame in its chunk

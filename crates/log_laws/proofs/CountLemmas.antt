@@ -1,17 +1,7 @@
 -- Where no free chunk fits a need, all large enough chunks are held.
-use Rattle.std.proofs.Common.{◌≡◌, ◌≢◌, ℕ, zero, suc, ◌+◌, ◌*◌, ◌<◌, ◌≤◌, Bool, true, false, nat_eq, nat_lt, cond, List, [], ◌∷◌, length, Some, None, refl, sym, ap, subst, ◌∙◌, arith, ⊎_elim, All}
-use Rattle.std.specs.List.{AllByRecursion}
-use Rattle.std.proofs.lemmas.Bool.{cases_eq, lt-ltb, leb-true, le-leb, eq-eqb, ne_eqb, cond-true, cond-false}
-use Rattle.std.proofs.lemmas.List.Elements.{All-contains}
-use Rattle.call_graph.proofs.ListLemmas.{by_test}
-use Rattle.chunk_pool.specs.Pool.{fits, all_free, taken_for, payload_bytes_of, IsPool, IsFree}
+use Rattle.log_laws.proofs.Common.{◌≡◌, ◌≢◌, ℕ, zero, suc, ◌+◌, ◌*◌, ◌<◌, ◌≤◌, Bool, true, false, nat_eq, nat_lt, cond, List, [], ◌∷◌, length, Some, None, refl, sym, ap, subst, ◌∙◌, arith, ⊎_elim, All, AllByRecursion, cases_eq, lt-ltb, leb-true, le-leb, eq-eqb, ne_eqb, cond-true, cond-false, All-contains, by_test, fits, all_free, taken_for, payload_bytes_of, IsPool, IsFree, taken_for-none, copies-cons, copies, Thread, World, first_with, roomy_below, roomy, all_held}
 use Rattle.chunk_pool.proofs.FreeLaws.{copies-held}
-use Rattle.chunk_pool.proofs.NeedLaws.{taken_for-none}
-use Rattle.machine_world.proofs.HeldLaws.{copies-cons}
 use Rattle.machine_world.specs.Chains.{held_copies, IsPartition}
-use Rattle.machine_world.specs.Held.{copies}
-use Rattle.machine_world.specs.Threads.{Thread, World, first_with}
-use Rattle.log_laws.specs.Rooms.{roomy_below, roomy, all_held}
 
 -- one where it holds
 abbrev pub once : Bool → ℕ

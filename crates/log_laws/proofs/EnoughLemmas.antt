@@ -1,48 +1,11 @@
 -- Where the pool has as many chunks that are large enough as a budget gives the threads, no step stops for want of a chunk.
-use Rattle.std.proofs.Common.{◌≡◌, ◌≢◌, ℕ, ◌+◌, ◌*◌, ◌≤◌, List, [], ◌∷◌, length, Some, None, refl, sym, ap, subst, ◌∙◌, arith, ⊎_elim}
-use Rattle.std.specs.Prelude.{Option, slice_get}
-use Rattle.std.specs.List.{AllByRecursion}
-use Rattle.std.proofs.lemmas.Bool.{cases_eq}
-use Rattle.std.proofs.lemmas.Option.{none-some, same_Some}
-use Rattle.c_lower.specs.ProgramCode.{lowered}
-use Rattle.c_mean.specs.Frames.{Waiting}
-use Rattle.c_tree.specs.WellScoped.{IsWellScoped}
-use Rattle.cap_word.specs.Calls.{Question}
+use Rattle.log_laws.proofs.Common.{◌≡◌, ◌≢◌, ℕ, ◌+◌, ◌*◌, ◌≤◌, List, [], ◌∷◌, length, Some, None, refl, sym, ap, subst, ◌∙◌, arith, ⊎_elim, Option, slice_get, AllByRecursion, cases_eq, none-some, same_Some, lowered, Waiting, IsWellScoped, Question, Stop, source_machine, IsValid, Budget, IsRoot, IsBudget, has_member, taken_for, Shape, Op, Setup, setting_of, checked_of, formed, Frame, is_linked, Local, LocalMove, NoRoom, local_step, before_transfer, IsAtCall, StandAtCall, World, Thread, step, thread_of, local_in, AsksCall, IsStepAsSource, first_of, asks-first, need_of, kind_of, LinkKind, each_live, starting, starting_by, starting_under, live, root_of, roomy}
 use Rattle.cap_word.specs.Runs.{Asks, Stops, moves}
-use Rattle.cap_word.specs.declared.stops.Stop.{Stop}
-use Rattle.c_mean.specs.Steps.{source_machine}
 use Rattle.certificate_rules.specs.Sites.{certified_site}
-use Rattle.certificate_rules.specs.Validity.{IsValid}
-use Rattle.chunk_budget.specs.declared.budgets.Budget.{Budget}
-use Rattle.chunk_budget.specs.Budgets.{IsRoot, IsBudget}
-use Rattle.chunk_budget.proofs.CoverLemmas.{has_member}
-use Rattle.chunk_pool.specs.Pool.{taken_for}
-use Rattle.chunk_pool.specs.declared.shape.Shape.{Shape}
-use Rattle.flat_code.specs.declared.operations.Op.{Op}
-use Rattle.lawful_log.specs.Setup.{Setup, setting_of}
-use Rattle.lawful_log.specs.Good.{checked_of}
-use Rattle.machine_meaning.proofs.Formed.{formed}
-use Rattle.machine_world.specs.InPlace.{Frame}
-use Rattle.machine_world.specs.Keys.{is_linked}
 use Rattle.machine_world.specs.Local as local
-use Rattle.machine_world.specs.Local.{Local, LocalMove, NoRoom, local_step}
-use Rattle.machine_world.specs.Places.{before_transfer}
-use Rattle.machine_world.specs.Rests.{IsAtCall}
-use Rattle.machine_world.specs.StandsFor.{StandAtCall}
 use Rattle.machine_world.specs.Threads as machine
-use Rattle.machine_world.specs.Threads.{World, Thread, step, thread_of, local_in}
-use Rattle.machine_meaning.specs.AsSource.{AsksCall, IsStepAsSource}
 use Rattle.segment_laws.specs.Alike.{last_function as last_frame, IsCutOff, IsCutMove}
 use Rattle.segment_laws.proofs.Needs.{need_path}
-use Rattle.machine_meaning.specs.Firsts.{first_of}
-use Rattle.machine_meaning.proofs.FirstLemmas.{asks-first}
-use Rattle.stack_certificate.specs.Certificates.{need_of}
-use Rattle.stack_certificate.specs.Templates.{kind_of}
-use Rattle.stack_certificate.specs.declared.sites.LinkKind.{LinkKind}
-use Rattle.machine_meaning.proofs.Sound.{each_live}
-use Rattle.log_laws.specs.Lives.{starting, starting_by, starting_under, live}
-use Rattle.log_laws.specs.Roots.{root_of}
-use Rattle.log_laws.specs.Rooms.{roomy}
 use Rattle.log_laws.proofs.BoundLemmas.{linked_high, holds_at_most, holds_fewer}
 use Rattle.log_laws.proofs.CountLemmas.{finds_for_link, finds_for_start}
 use Rattle.log_laws.proofs.RestLemmas.{IsRootedRest, IsRootedThread, all-get, rest-rooted, call-root}

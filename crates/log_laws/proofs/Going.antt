@@ -1,28 +1,10 @@
 -- From the entries of a lawful log to a good run of the machine.
-use Rattle.std.proofs.Common.{◌≡◌, ℕ, ℤ, Bool, true, false, ◌+◌, List, [], ◌∷◌, ◌++◌, map, Option, Some, None, refl, sym, ap, subst, ◌∙◌}
-use Rattle.std.specs.Prelude.{is_some}
+use Rattle.log_laws.proofs.Common.{◌≡◌, ℕ, ℤ, Bool, true, false, ◌+◌, List, [], ◌∷◌, ◌++◌, map, Option, Some, None, refl, sym, ap, subst, ◌∙◌, is_some, Delivery, delivery_of, IsRun, IsComing, delivered, stop_turns, machine_entries, checked_of, IsGoodLog, IsAllowed, Leads, nowhere, by_entry, ending, IsLawfulLog, IsOut, IsBlock, IsEnd, Setup, setting_of, start_machine, Segment, State, start_of, IsStop, Checked, Action, Deliver, Advance, Pick, after_action, after_actions, and_then, after_steps, IsGoodStretch, World, Setting, Entry, Item, StopLine}
 use Rattle.blocking_graph.specs.Edges.{edges_of}
 use Rattle.blocking_graph.specs.declared.edges.EdgeLine.{EdgeLine}
-use Rattle.c_mean.specs.ModelledCalls.{Delivery}
-use Rattle.choice_rules.specs.Deliveries.{delivery_of}
 use Rattle.choice_rules.specs.EdgeLines.{edge_entry}
-use Rattle.lawful_log.specs.Choice.{IsRun}
-use Rattle.lawful_log.specs.Deliveries.{IsComing}
-use Rattle.lawful_log.specs.Good.{delivered, stop_turns, machine_entries, checked_of, IsGoodLog}
-use Rattle.lawful_log.specs.Lawful.{IsAllowed, Leads, nowhere, by_entry, ending, IsLawfulLog}
-use Rattle.lawful_log.specs.Segments.{IsOut, IsBlock, IsEnd}
-use Rattle.lawful_log.specs.Setup.{Setup, setting_of, start_machine}
-use Rattle.lawful_log.specs.State.{Segment, State, start_of}
-use Rattle.lawful_log.specs.Stops.{IsStop}
 use Rattle.machine_world.specs.GoodRuns as runs
 use Rattle.machine_world.specs.GoodRuns.{InWorld, IsGoodRun}
-use Rattle.machine_world.specs.Places.{Checked}
-use Rattle.machine_world.specs.Runs.{Action, Deliver, Advance, Pick, after_action, after_actions, and_then, after_steps}
-use Rattle.machine_world.specs.Stretches.{IsGoodStretch}
-use Rattle.machine_world.specs.Threads.{World, Setting}
-use Rattle.schedule_log.specs.declared.entries.Entry.{Entry}
-use Rattle.schedule_log.specs.declared.entries.Item.{Item}
-use Rattle.schedule_log.specs.declared.entries.StopLine.{StopLine}
 use Rattle.log_laws.proofs.Words.{delivered_is, delivers_words}
 use Rattle.log_laws.proofs.Stretching.{AreKept, Way, way_begun, way_quiet, way_puts, Rested, way_blocks, way_ends}
 

@@ -1,15 +1,5 @@
 -- Every lawful log of a valid pair is good.
-use Rattle.std.proofs.Common.{ℕ, ◌≤◌, List}
-use Rattle.c_lower.specs.ProgramCode.{lowered}
-use Rattle.c_tree.specs.WellScoped.{IsWellScoped}
-use Rattle.certificate_rules.specs.Validity.{IsValid}
-use Rattle.lawful_log.specs.Good.{IsGoodLog, checked_of}
-use Rattle.lawful_log.specs.Lawful.{IsLawfulLog}
-use Rattle.lawful_log.specs.Setup.{Setup, start_areas}
-use Rattle.machine_world.specs.Threads.{World}
-use Rattle.machine_world.specs.WellFormed.{AreWellFormed, most_fuel}
-use Rattle.schedule_log.specs.declared.entries.Entry.{Entry}
-use Rattle.schedule_log.specs.declared.entries.StopLine.{StopLine}
+use Rattle.log_laws.proofs.Common.{ℕ, ◌≤◌, List, lowered, IsWellScoped, IsValid, IsGoodLog, checked_of, IsLawfulLog, Setup, start_areas, World, AreWellFormed, most_fuel, Entry, StopLine}
 use Rattle.log_laws.proofs.Going.{log_is_good}
 use Rattle.log_laws.proofs.Kept.{Rests, Runs, kept, starts}
 

@@ -1,26 +1,9 @@
 -- What holds between and within segments of the world of a valid pair: it is well formed, and its threads rest, or the running
 -- one runs as some source thread.
-use Rattle.std.proofs.Common.{◌≡◌, ℕ, ◌/◌, ◌≤◌, List, [], Some, refl, subst, arith}
-use Rattle.c_lower.specs.ProgramCode.{lowered}
+use Rattle.log_laws.proofs.Common.{◌≡◌, ℕ, ◌/◌, ◌≤◌, List, [], Some, refl, subst, arith, lowered, IsWellScoped, IsValid, Setup, setting_of, start_machine, start_areas, checked_of, formed, Action, Deliver, Advance, Pick, after_action, World, Move, Goes, Puts, Spawns, Blocks, Ends, step, AreWellFormed, IsWellFormed, IsWellFormedIf, KeepsWellFormed, DeliversWords, most_fuel, KeepsWellFormed-step, IsWellFormedIf-action, IsWellFormedIf-start, CallFacts-valid, fact_at, IsReached, StepReaches, IsSettled, StandsSettled, delivered_law, advanced_law, starts_law, settled_sound, under_way_sound, all_free-new}
 use Rattle.c_mean.specs.World as source
-use Rattle.c_tree.specs.WellScoped.{IsWellScoped}
-use Rattle.certificate_rules.specs.Validity.{IsValid}
-use Rattle.lawful_log.specs.Setup.{Setup, setting_of, start_machine, start_areas}
-use Rattle.lawful_log.specs.Good.{checked_of}
-use Rattle.machine_meaning.proofs.Formed.{formed}
-use Rattle.machine_world.specs.Runs.{Action, Deliver, Advance, Pick, after_action}
-use Rattle.machine_world.specs.Threads.{World, Move, Goes, Puts, Spawns, Blocks, Ends, step}
-use Rattle.machine_world.specs.WellFormed.{AreWellFormed, IsWellFormed, IsWellFormedIf, KeepsWellFormed, DeliversWords, most_fuel}
-use Rattle.machine_world.proofs.FormWorlds.{KeepsWellFormed-step, IsWellFormedIf-action, IsWellFormedIf-start}
-use Rattle.segment_laws.proofs.ValidCalls.{CallFacts-valid}
-use Rattle.stack_certificate.specs.Certificates.{fact_at}
 use Rattle.log_laws.proofs.Stretching.{AreKept}
-use Rattle.machine_meaning.specs.Reached.{IsReached, StepReaches}
-use Rattle.machine_meaning.specs.UnderWay.{IsSettled, StandsSettled}
-use Rattle.machine_meaning.proofs.BetweenSegments.{delivered_law, advanced_law, starts_law}
 use Rattle.machine_meaning.proofs.WorldLaws as laws
-use Rattle.machine_meaning.proofs.Sound.{settled_sound, under_way_sound}
-use Rattle.machine_world.proofs.CountedLaws.{all_free-new}
 
 module _ (g : Setup) (scoped : IsWellScoped g.program) (valid : IsValid (lowered g.program) g.image g.certificate) where
   -- between segments

@@ -1,21 +1,13 @@
 -- Where a thread is ready there is a lawful choice.
-use Rattle.std.proofs.Common.{◌≡◌, ◌≢◌, ℕ, ◌&&◌, ◌||◌, ◌⊎◌, inl, inr, Bool, true, false, List, [], ◌∷◌, Option, Some, None, find, refl, sym, ◌∙◌, subst, ⊎_elim}
-use Rattle.std.specs.Prelude.{IsSome, IsTrue}
-use Rattle.std.specs.List.{AllByRecursion, list_any}
-use Rattle.std.proofs.lemmas.Bool.{cases_eq}
+use Rattle.log_laws.proofs.Common.{◌≡◌, ◌≢◌, ℕ, ◌&&◌, ◌||◌, ◌⊎◌, inl, inr, Bool, true, false, List, [], ◌∷◌, Option, Some, None, find, refl, sym, ◌∙◌, subst, ⊎_elim, IsSome, IsTrue, AllByRecursion, list_any, cases_eq, is_ready, any_ready, last_choice, Waiter, Setup, State, seen_of, or_parts}
 use Rattle.choice_rules.specs.Choice.{IsLawful, is_eligible, score_of}
 use Rattle.choice_rules.specs.Policy.{Rule, by_graph, by_stride}
-use Rattle.choice_rules.specs.Readiness.{is_ready, any_ready}
-use Rattle.choice_rules.specs.Seen.{last_choice, Waiter}
 use Rattle.choice_rules.specs.Strides.{pass_of}
 use Rattle.choice_rules.specs.Waiting.{at_node}
 use Rattle.choice_rules.proofs.GraphChoices.{any_eligible, node_of_found, some_here, some_later}
 use Rattle.choice_rules.proofs.Queues.{all_at_node}
 use Rattle.choice_rules.proofs.Rules.{lawful_by_graph, lawful_by_stride}
 use Rattle.choice_rules.proofs.Strides.{all_found, first_of as first_by_strides, found_passes}
-use Rattle.choice_rules.proofs.Tests.{not_both}
-use Rattle.lawful_log.specs.Setup.{Setup}
-use Rattle.lawful_log.specs.State.{State, seen_of}
 use Rattle.scheduler.specs.Scores.{comes_before}
 use Rattle.scheduler.proofs.OrderLemmas.{comes_before-asym, comes_before-total, comes_before-cotrans}
 
@@ -61,7 +53,7 @@ module _ (g : Setup) (state : State) (clock : ℕ) where
   none_behind : (node : ℕ) (waiting : List Waiter) → list_any test waiting ≡ false → AllByRecursion (IsBehind node) waiting
   none_behind node [] e = tt
   none_behind node (x ∷ xs) e =
-      let parts : (test x ≡ false) × (list_any test xs ≡ false) = not_both (test x) (list_any test xs) e in
+      let parts : (test x ≡ false) × (list_any test xs ≡ false) = or_parts (test x) (list_any test xs) e in
       ((λ passing. absurd (let no : true ≡ false = sym passing ∙ parts.0 in cc)), none_behind node xs parts.1)
 
   -- an earlier node still has the others behind it

@@ -1,5 +1,6 @@
+mod Common
 pub mod Good
-mod Words
+pub mod Words
 mod Stretching
 mod Going
 mod Kept

@@ -1,13 +1,6 @@
 -- The next line of a trace: there is none, it is refused, or it is that of one event.
-use Rattle.std.proofs.Common.{◌≡◌, ℕ, zero, suc, ◌+◌, ◌<◌, ◌≤◌, ◌^◌, ◌⊎◌, inl, inr, List, [], ◌∷◌, length, Some, refl, sym, ap, arith, subst, ⊎_elim}
-use Rattle.std.specs.Prelude.{nat_eq}
-use Rattle.std.proofs.lemmas.Bool.{cases_eq, cond-true, cond-false, eq-eqb, ne_eqb}
-use Rattle.event_trace.specs.Lines.{event_text, FitsKind, IsTraceLine, SpellsOnly, HasNoEvent, line_of, rest_of}
-use Rattle.event_trace.specs.declared.events.Event.{Event}
-use Rattle.event_trace.specs.declared.events.EventKind.{EventKind}
-use Rattle.event_trace.specs.declared.events.EventKind.TheVariants.{Arrive, Message}
+use Rattle.log_laws.proofs.Common.{◌≡◌, ℕ, zero, suc, ◌+◌, ◌<◌, ◌≤◌, ◌^◌, ◌⊎◌, inl, inr, List, [], ◌∷◌, length, Some, refl, sym, ap, arith, subst, ⊎_elim, nat_eq, cases_eq, cond-true, cond-false, eq-eqb, ne_eqb, event_text, FitsKind, IsTraceLine, SpellsOnly, HasNoEvent, line_of, rest_of, Event, EventKind, Arrive, Message, Trace, IsNext, IsRefused}
 use Rattle.event_trace.proofs.LineTexts.{event_unique}
-use Rattle.choice_rules.specs.Trace.{Trace, IsNext, IsRefused}
 
 -- ---- searches
 

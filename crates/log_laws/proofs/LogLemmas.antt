@@ -1,41 +1,10 @@
 -- No lawful log stops for want of a chunk where its pool has as many chunks that are large enough as the budget says.
-use Rattle.std.proofs.Common.{◌≡◌, inl, ℕ, zero, suc, ◌*◌, ◌≤◌, Bool, List, [], ◌∷◌, Some, refl, sym, ap, subst, ◌∙◌, arith}
-use Rattle.std.proofs.lemmas.Option.{none-some, same_Some}
-use Rattle.c_lower.specs.ProgramCode.{lowered}
-use Rattle.c_tree.specs.WellScoped.{IsWellScoped}
-use Rattle.cap_word.specs.declared.stops.Stop.{Stop}
-use Rattle.certificate_rules.specs.Validity.{IsValid}
-use Rattle.choice_rules.specs.Deliveries.{delivery_of}
-use Rattle.chunk_budget.specs.declared.budgets.Budget.{Budget}
-use Rattle.chunk_budget.specs.Budgets.{IsBudget}
-use Rattle.chunk_pool.specs.Pool.{shape_of}
-use Rattle.chunk_pool.specs.declared.shape.Shape.{Shape}
-use Rattle.event_trace.specs.Lines.{FitsKind}
-use Rattle.event_trace.specs.declared.events.EventKind.{EventKind}
+use Rattle.log_laws.proofs.Common.{◌≡◌, inl, ℕ, zero, suc, ◌*◌, ◌≤◌, Bool, List, [], ◌∷◌, Some, refl, sym, ap, subst, ◌∙◌, arith, none-some, same_Some, lowered, IsWellScoped, Stop, IsValid, delivery_of, Budget, IsBudget, shape_of, Shape, IsRun, IsComing, checked_of, IsAllowed, Leads, nowhere, by_entry, IsLawfulLog, quiet_world, after_quiet, Setup, setting_of, start_machine, start_areas, State, start_of, Advance, Deliver, Pick, Step, world_of, World, Move, step, AreWellFormed, most_fuel, Entry, Item, StopLine, live, roomy}
 use Rattle.event_trace.specs.declared.events.EventKind.TheVariants as events
-use Rattle.lawful_log.specs.Choice.{IsRun}
-use Rattle.lawful_log.specs.Deliveries.{IsComing}
-use Rattle.lawful_log.specs.Good.{checked_of}
-use Rattle.lawful_log.specs.Lawful.{IsAllowed, Leads, nowhere, by_entry, IsLawfulLog}
-use Rattle.lawful_log.specs.Segments.{quiet_world, after_quiet}
-use Rattle.lawful_log.specs.Setup.{Setup, setting_of, start_machine, start_areas}
-use Rattle.lawful_log.specs.State.{State, start_of}
-use Rattle.machine_world.specs.Runs.{Advance, Deliver, Pick, Step, world_of}
 use Rattle.machine_world.specs.Threads as machine
-use Rattle.machine_world.specs.Threads.{World, Move, step}
-use Rattle.machine_world.specs.WellFormed.{AreWellFormed, DeliversWords, most_fuel}
-use Rattle.schedule_log.specs.declared.entries.Entry.{Entry}
-use Rattle.schedule_log.specs.declared.entries.Item.{Item}
-use Rattle.schedule_log.specs.declared.entries.StopLine.{StopLine}
-use Rattle.log_laws.specs.Lives.{live}
-use Rattle.log_laws.specs.Rooms.{roomy}
 use Rattle.log_laws.proofs.RoomLemmas.{first_roomy, start-shape}
 use Rattle.log_laws.proofs.RunLemmas.{Stage, stage-on, then-on, all-on, starts, stage-short, stage-shape, roomy-same}
-
--- an event of the trace delivers a word
-delivers-word : (kind : EventKind) → FitsKind kind → DeliversWords (Deliver (delivery_of kind))
-delivers-word (events.Arrive value) fits = fits
-delivers-word (events.Message channel value) fits = fits.1
+use Rattle.log_laws.proofs.Words.{delivers_words}
 
 -- a step without an entry is a step
 quiet-is : (move : Move) (next : World) → quiet_world move ≡ Some next → world_of move ≡ Some next
@@ -66,7 +35,7 @@ module _ (g : Setup) (scoped : IsWellScoped g.program) (valid : IsValid (lowered
   coming before after clock item drops is at =
       let fits = is.delivery.point.next_is.line.spells.fits.kind in
       subst StandsAt (sym is.after_is)
-      (all-on g scoped valid shape (Advance clock ∷ Deliver (delivery_of is.event.kind) ∷ []) before.machine is.machine (tt, (delivers-word is.event.kind fits, tt)) at is.delivers)
+      (all-on g scoped valid shape (Advance clock ∷ Deliver (delivery_of is.event.kind) ∷ []) before.machine is.machine (tt, (delivers_words is.event.kind fits, tt)) at is.delivers)
 
   chosen : (before after : State) (clock thread node : ℕ) → IsRun g before clock thread node after → StandsAt before → StandsAt after
   chosen before after clock thread node is at =

@@ -1,24 +1,9 @@
 -- Where threads rest whose first functions are main or started by some site, and the machine threads that stand for them.
-use Rattle.std.proofs.Common.{◌≡◌, ℕ, zero, suc, List, [], ◌∷◌, ◌++◌, length, length-append, Option, Some, None, refl, sym, ap, subst, ◌∙◌, arith}
-use Rattle.std.specs.Prelude.{slice_get, slice_set}
-use Rattle.std.specs.List.{AllByRecursion}
-use Rattle.std.proofs.lemmas.Option.{none-some, same_Some}
+use Rattle.log_laws.proofs.Common.{◌≡◌, ℕ, zero, suc, List, [], ◌∷◌, ◌++◌, length, length-append, Option, Some, None, refl, sym, ap, subst, ◌∙◌, arith, slice_get, AllByRecursion, none-some, same_Some, IsRoot, Pool, FlatCode, Op, Frame, HasFrames, Core, Checked, Place, InPrologue, InOperation, IsResting, AtStart, AtCall, PastCall, Starts, Waits, AreWaitingFrames, StandAtStart, StandAtCall, StandsFor, Thread, last_function, first_waiting, IsFirst, Began, IsGrown, root_of, StartsAtRoot}
 use Rattle.c_mean.specs.Frames.{Frame as SourceFrame, WaitingFrame, Waiting}
 use Rattle.c_mean.specs.World.{Rest, Fresh, Blocked, Ended}
 use Rattle.c_tree.specs.Trees.{ProgramTree}
-use Rattle.chunk_budget.specs.Budgets.{IsRoot}
-use Rattle.chunk_pool.specs.Pool.{Pool}
-use Rattle.flat_code.specs.Codes.{FlatCode}
-use Rattle.flat_code.specs.declared.operations.Op.{Op}
-use Rattle.machine_world.specs.InPlace.{Frame, HasFrames}
-use Rattle.machine_world.specs.Local.{Core}
-use Rattle.machine_world.specs.Places.{Checked, Place, InPrologue, InOperation}
-use Rattle.machine_world.specs.Rests.{IsResting, AtStart, AtCall, PastCall}
-use Rattle.machine_world.specs.StandsFor.{Starts, Waits, AreWaitingFrames, StandAtStart, StandAtCall, StandsFor}
 use Rattle.machine_world.specs.StandsForWorld.{StandsForRest}
-use Rattle.machine_world.specs.Threads.{Thread}
-use Rattle.machine_meaning.specs.Firsts.{last_function, first_waiting, IsFirst, Began, IsGrown}
-use Rattle.log_laws.specs.Roots.{root_of, StartsAtRoot}
 
 -- ---- lists
 
@@ -26,19 +11,10 @@ pub all-left : {X : Type 0} (P : X → Type 0) (xs ys : List X) → AllByRecursi
 all-left P [] ys all = tt
 all-left P (x ∷ xs) ys all = (all.0, all-left P xs ys all.1)
 
-pub all-more : {X : Type 0} (P : X → Type 0) (xs : List X) (y : X) → AllByRecursion P xs → P y → AllByRecursion P (xs ++ y ∷ [])
-all-more P [] y all here = (here, tt)
-all-more P (x ∷ xs) y all here = (all.0, all-more P xs y all.1 here)
-
 pub all-get : {X : Type 0} (P : X → Type 0) (xs : List X) (n : ℕ) (x : X) → AllByRecursion P xs → slice_get xs n ≡ Some x → P x
 all-get P [] n x all there = absurd (none-some x there)
 all-get P (y ∷ xs) zero x all there = subst P (same_Some y x there) all.0
 all-get P (y ∷ xs) (suc n) x all there = all-get P xs n x all.1 there
-
-pub all-set : {X : Type 0} (P : X → Type 0) (xs : List X) (n : ℕ) (y : X) → AllByRecursion P xs → P y → AllByRecursion P (slice_set xs n y)
-all-set P [] n y all here = tt
-all-set P (x ∷ xs) zero y all here = (here, all.1)
-all-set P (x ∷ xs) (suc n) y all here = (all.0, all-set P xs n y all.1 here)
 
 -- no thread was added where there are as many
 pub none-added : (old new : List Rest) → IsGrown old new → length new ≡ length old → new ≡ old

@@ -1,16 +1,6 @@
 -- The chunks of the certificate's size have room for the longest path; and a run starts in a pool of the shape of the policy.
-use Rattle.std.proofs.Common.{◌≡◌, ℕ, zero, suc, ◌+◌, ◌*◌, ◌/◌, ◌<◌, ◌≤◌, true, Option, Some, None, refl, ap, subst, arith, ⊎_elim}
-use Rattle.std.proofs.lemmas.Bool.{cases_lt, le-leb}
-use Rattle.c_lower.specs.ProgramCode.{lowered}
-use Rattle.certificate_rules.specs.Validity.{IsValid}
-use Rattle.chunk_pool.specs.Pool.{Pool, Taken, fits, payload_bytes_of, shape_of, taken_for}
-use Rattle.chunk_pool.proofs.NeedLaws.{taken_for-shape}
+use Rattle.log_laws.proofs.Common.{◌≡◌, ℕ, zero, suc, ◌+◌, ◌*◌, ◌/◌, ◌<◌, ◌≤◌, true, Option, Some, None, refl, ap, subst, arith, ⊎_elim, cases_lt, le-leb, lowered, IsValid, Pool, Taken, fits, payload_bytes_of, shape_of, taken_for, taken_for-shape, Setup, main_fact, start_areas, start_machine, Areas, empty_world, start_world, started_on, World, roomy_below, roomy}
 use Rattle.chunk_pool.proofs.Shapes.{words_in-first}
-use Rattle.lawful_log.specs.Setup.{Setup, main_fact, start_areas, start_machine}
-use Rattle.machine_world.specs.Areas.{Areas}
-use Rattle.machine_world.specs.Runs.{empty_world, start_world, started_on}
-use Rattle.machine_world.specs.Threads.{World}
-use Rattle.log_laws.specs.Rooms.{roomy_below, roomy}
 use Rattle.log_laws.proofs.CountLemmas.{once}
 
 -- ---- the chunks of the first size

@@ -1,32 +1,7 @@
 -- No run of a valid pair stops for want of a chunk where its pool has as many chunks that are large enough as the budget says.
-use Rattle.std.proofs.Common.{◌≡◌, ◌≢◌, inl, inr, ◌⊎◌, ℕ, zero, suc, ◌-◌, ◌*◌, ◌/◌, ◌≤◌, nat_le, false, List, [], ◌∷◌, Some, None, refl, sym, ap, subst, ◌∙◌, arith, cond, ⊎_elim}
-use Rattle.std.specs.Prelude.{Option, is_none}
-use Rattle.std.specs.List.{AllByRecursion}
-use Rattle.std.proofs.lemmas.Bool.{cond-false}
-use Rattle.std.proofs.lemmas.Option.{none-some, same_Some}
-use Rattle.c_lower.specs.ProgramCode.{lowered}
+use Rattle.log_laws.proofs.Common.{◌≡◌, ◌≢◌, inl, inr, ◌⊎◌, ℕ, zero, suc, ◌-◌, ◌*◌, ◌/◌, ◌≤◌, nat_le, false, List, [], ◌∷◌, Some, None, refl, sym, ap, subst, ◌∙◌, arith, cond, ⊎_elim, Option, is_none, AllByRecursion, cond-false, none-some, same_Some, lowered, IsWellScoped, Stop, IsValid, Budget, IsBudget, Pool, fits, shape_of, words_in, Shape, Setup, setting_of, start_machine, start_areas, checked_of, formed, Action, Deliver, Advance, Pick, Step, after_action, after_actions, and_then, is_between, world_of, World, Move, step, step_on, AreWellFormed, IsWellFormedIf, DeliversWords, most_fuel, all_free-new, IsWellFormedIf-start, CallFacts-valid, fact_at, starts_law, live, roomy_below, roomy}
 use Rattle.c_mean.specs.World as source
-use Rattle.c_tree.specs.WellScoped.{IsWellScoped}
-use Rattle.cap_word.specs.declared.stops.Stop.{Stop}
-use Rattle.certificate_rules.specs.Validity.{IsValid}
-use Rattle.chunk_budget.specs.declared.budgets.Budget.{Budget}
-use Rattle.chunk_budget.specs.Budgets.{IsBudget}
-use Rattle.chunk_pool.specs.Pool.{Pool, fits, shape_of, words_in}
-use Rattle.chunk_pool.specs.declared.shape.Shape.{Shape}
-use Rattle.lawful_log.specs.Setup.{Setup, setting_of, start_machine, start_areas}
-use Rattle.lawful_log.specs.Good.{checked_of}
-use Rattle.machine_meaning.proofs.Formed.{formed}
-use Rattle.machine_world.specs.Runs.{Action, Deliver, Advance, Pick, Step, after_action, after_actions, and_then, is_between, world_of}
 use Rattle.machine_world.specs.Threads as machine
-use Rattle.machine_world.specs.Threads.{World, Move, step, step_on}
-use Rattle.machine_world.specs.WellFormed.{AreWellFormed, IsWellFormedIf, DeliversWords, most_fuel}
-use Rattle.machine_world.proofs.CountedLaws.{all_free-new}
-use Rattle.machine_world.proofs.FormWorlds.{IsWellFormedIf-start}
-use Rattle.segment_laws.proofs.ValidCalls.{CallFacts-valid}
-use Rattle.stack_certificate.specs.Certificates.{fact_at}
-use Rattle.machine_meaning.proofs.BetweenSegments.{starts_law}
-use Rattle.log_laws.specs.Lives.{live}
-use Rattle.log_laws.specs.Rooms.{roomy_below, roomy}
 use Rattle.log_laws.proofs.CountLemmas.{once}
 use Rattle.log_laws.proofs.EnoughLemmas.{never_short}
 use Rattle.log_laws.proofs.StartLemmas.{Rests, Runs, goes, puts, spawns, blocks, ends, begins, advances, delivers}

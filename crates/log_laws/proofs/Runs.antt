@@ -1,50 +1,12 @@
 -- A run from any state comes to a stop: fuel bounds the steps of its segments, and the trace what comes.
-use Rattle.std.proofs.Common.{◌≡◌, ◌≢◌, ℕ, zero, suc, ◌+◌, ◌<◌, ◌≤◌, ◌&&◌, ◌||◌, Bool, true, false, List, [], ◌∷◌, length, Option, Some, None, refl, sym, ap, ◌∙◌, subst, arith}
-use Rattle.std.specs.Prelude.{IsSome, slice_get, is_none, is_some, nat_le, if◌then◌else◌}
-use Rattle.std.proofs.lemmas.Bool.Decides.{nat_tests}
-use Rattle.std.proofs.lemmas.List.{nil_from_length}
+use Rattle.log_laws.proofs.Common.{◌≡◌, ◌≢◌, ℕ, zero, suc, ◌+◌, ◌<◌, ◌≤◌, ◌&&◌, ◌||◌, Bool, true, false, List, [], ◌∷◌, length, Option, Some, None, refl, sym, ap, ◌∙◌, subst, arith, IsSome, slice_get, is_none, is_some, nat_le, if◌then◌else◌, nat_tests, nil_from_length, signed, Stop, lowered, key_of, Delivery, is_dropped, with_delivery, IsWellScoped, IsValid, Event, any_ready, IsNext, Waiter, is_due, event_times, delivery_of, item_of, IsComing, checked_of, IsAllowed, Leads, nowhere, by_entry, HasRun, Setup, setting_of, Segment, State, seen_of, IsCutBy, IsStop, IsWellFormed, IsWellFormedIf, IsWellFormedIf-action, Entry, Item, StopLine, IsReached, StepReaches, IsSettled, StandsSettled, delivered_law, advanced_law, goes_on, between_after, between_read, between_moved, come_state, coming, between_came, run_state, run_segment, run_allowed, within_run, moved_goes_on, free_count, or_parts}
 use Rattle.blocking_graph.specs.Nodes.{node_number}
-use Rattle.cap_word.specs.Word.{signed}
-use Rattle.cap_word.specs.declared.stops.Stop.{Stop}
-use Rattle.c_lower.specs.ProgramCode.{lowered}
-use Rattle.c_mean.specs.Frames.{key_of}
-use Rattle.c_mean.specs.ModelledCalls.{Delivery, is_dropped, with_delivery}
-use Rattle.c_tree.specs.WellScoped.{IsWellScoped}
-use Rattle.certificate_rules.specs.Validity.{IsValid}
-use Rattle.event_trace.specs.Lines.{FitsKind}
-use Rattle.event_trace.specs.declared.events.Event.{Event}
-use Rattle.event_trace.specs.declared.events.EventKind.{EventKind}
-use Rattle.event_trace.specs.declared.events.EventKind.TheVariants.{Arrive, Message}
-use Rattle.choice_rules.specs.Readiness.{any_ready}
-use Rattle.choice_rules.specs.Trace.{IsNext}
-use Rattle.choice_rules.specs.Seen.{Waiter}
-use Rattle.choice_rules.specs.Clock.{is_due, event_times}
 use Rattle.choice_rules.specs.Stops.{IsDone, IsBadTrace, IsIdle}
-use Rattle.choice_rules.specs.Deliveries.{delivery_of, item_of}
-use Rattle.choice_rules.proofs.Tests.{not_both}
-use Rattle.lawful_log.specs.Deliveries.{IsComing}
-use Rattle.lawful_log.specs.Good.{checked_of}
-use Rattle.lawful_log.specs.Lawful.{IsAllowed, Leads, nowhere, by_entry}
-use Rattle.lawful_log.specs.Segments.{HasRun}
-use Rattle.lawful_log.specs.Setup.{Setup, setting_of}
-use Rattle.lawful_log.specs.State.{Segment, State, seen_of}
-use Rattle.lawful_log.specs.Stops.{IsCutBy, IsStop}
 use Rattle.machine_world.specs.Runs.{Deliver, Advance, Pick, delivered, advanced, after_action, may_run, picked_at, picked}
 use Rattle.machine_world.specs.Threads.{Thread, World, Setting, Move, Goes, Puts, Spawns, Blocks, Ends, Stops, Wrong, step, thread_of}
-use Rattle.machine_world.specs.WellFormed.{IsWellFormed, IsWellFormedIf, DeliversWords}
-use Rattle.machine_world.proofs.FormWorlds.{IsWellFormedIf-action}
-use Rattle.schedule_log.specs.declared.entries.Entry.{Entry}
-use Rattle.schedule_log.specs.declared.entries.Item.{Item}
-use Rattle.schedule_log.specs.declared.entries.StopLine.{StopLine}
-use Rattle.machine_meaning.specs.Reached.{IsReached, StepReaches}
-use Rattle.machine_meaning.specs.UnderWay.{IsSettled, StandsSettled}
-use Rattle.machine_meaning.proofs.BetweenSegments.{delivered_law, advanced_law}
 use Rattle.machine_meaning.proofs.WorldLaws as laws
-use Rattle.lawful_log.specs.Clocks.{goes_on}
 use Rattle.lawful_log.specs.Waiting.{IsWaiting}
 use Rattle.lawful_log.specs.Within.{IsBetween, IsWithin}
-use Rattle.lawful_log.proofs.Between.{between_after, between_read, between_moved, come_state, coming, between_came, run_state, run_segment, run_allowed, within_run}
-use Rattle.lawful_log.proofs.Clocks.{moved_goes_on}
 use Rattle.machine_world.proofs.Counts.{Counts, Retires, StartsOne, IsOver, counts_step}
 use Rattle.lawful_log.proofs.Own.{found_below}
 use Rattle.lawful_log.proofs.Picked.{is_picked}
@@ -53,7 +15,7 @@ use Rattle.lawful_log.proofs.Within.{within_goes, within_spawns, within_puts, pu
 use Rattle.log_laws.proofs.Least.{lawful_choice}
 use Rattle.log_laws.proofs.Lines.{Next, Over, Line, Refused, next_of, shorter}
 use Rattle.log_laws.proofs.Times as times
-use Rattle.chunk_pool.specs.Pool.{free_count}
+use Rattle.log_laws.proofs.Words.{delivers_words}
 
 -- ---- small things
 
@@ -61,10 +23,6 @@ some_get : {X : Type 0} (xs : List X) (k : ℕ) → k < length xs → IsSome (sl
 some_get [] k h = absurd (omega (arith, h))
 some_get (x ∷ xs) zero h = refl
 some_get (x ∷ xs) (suc k) h = some_get xs k (omega (arith, h))
-
-delivers_words : (kind : EventKind) → FitsKind kind → DeliversWords (Deliver (delivery_of kind))
-delivers_words (Arrive value) fits = fits
-delivers_words (Message channel value) fits = fits.1
 
 -- what is left of the fuel after one more step
 record OneLess (fuel left cost : ℕ) : Type 0 where
@@ -283,7 +241,7 @@ module _ (g : Setup) (scoped : IsWellScoped g.program) (valid : IsValid (lowered
         over_by (Some event) e none = absurd (cc)
 
         unready : goes_on g state next state.machine.clock ≡ false → any_ready g.policy (seen_of state) state.machine.clock ≡ false
-        unready stuck = (not_both (is_due next state.machine.clock) (any_ready g.policy (seen_of state) state.machine.clock) stuck).1
+        unready stuck = (or_parts (is_due next state.machine.clock) (any_ready g.policy (seen_of state) state.machine.clock) stuck).1
 
         stuck_by : goes_on g state next state.machine.clock ≡ false → times.Goes g state state.machine.clock next → Rest state
         stuck_by stuck (times.Nothing none asleep) = here state StopLine.Idle state.machine (idle, refl) where

@@ -1,17 +1,6 @@
 -- Linked calls along the frames of a thread, and the heights of their functions.
-use Rattle.std.proofs.Common.{◌≡◌, ℕ, ◌+◌, ◌≤◌, List, [], ◌∷◌, Option, Some, None, refl, subst, arith, cond}
-use Rattle.call_graph.proofs.ListLemmas.{all-at}
-use Rattle.chunk_pool.specs.Pool.{Pool}
-use Rattle.flat_code.specs.declared.operations.Op.{Op}
-use Rattle.flat_code.specs.Codes.{FlatCode, members_of}
+use Rattle.log_laws.proofs.Common.{◌≡◌, ℕ, ◌+◌, ◌≤◌, List, [], ◌∷◌, Option, Some, None, refl, subst, arith, cond, all-at, Pool, Op, FlatCode, members_of, LinkKind, kind_of, Checked, Frame, Calls, ReturnsInto, chain_below, IsStack, standing, is_linked, stands_at_link, called_at_links, height_of, chunks_added, IsCovered, AreCovered, root_of}
 use Rattle.stack_certificate.specs.declared.certificates.Certificate.{Certificate}
-use Rattle.stack_certificate.specs.declared.sites.LinkKind.{LinkKind}
-use Rattle.stack_certificate.specs.Templates.{kind_of}
-use Rattle.machine_world.specs.Places.{Checked}
-use Rattle.machine_world.specs.InPlace.{Frame, Calls, ReturnsInto, chain_below, IsStack}
-use Rattle.machine_world.specs.Keys.{standing, is_linked, stands_at_link, called_at_links}
-use Rattle.chunk_budget.specs.Budgets.{height_of, chunks_added, IsCovered, AreCovered}
-use Rattle.log_laws.specs.Roots.{root_of}
 
 pub added_is : (kind : LinkKind) → chunks_added kind ≡ cond (is_linked kind) 1 0
 added_is LinkKind.Plain = refl

@@ -1,47 +1,16 @@
 -- What holds between and within the segments of a run of a valid pair: every thread started with main or a function that some
 -- site starts a thread with.
-use Rattle.std.proofs.Common.{◌≡◌, ℕ, ◌+◌, ◌&&◌, nat_eq, nat_le, List, [], ◌∷◌, ◌++◌, length, length-append, Some, None, refl, sym, ap, subst, ◌∙◌, arith, cond, ⊎_elim, inr}
-use Rattle.std.specs.Prelude.{Option}
-use Rattle.std.specs.List.{AllByRecursion}
-use Rattle.std.proofs.lemmas.Bool.{cond_both}
-use Rattle.std.proofs.lemmas.List.{length-set}
-use Rattle.c_lower.specs.ProgramCode.{lowered}
+use Rattle.log_laws.proofs.Common.{◌≡◌, ℕ, ◌+◌, ◌&&◌, nat_eq, nat_le, List, [], ◌∷◌, ◌++◌, length, length-append, Some, None, refl, sym, ap, subst, ◌∙◌, arith, cond, ⊎_elim, inr, Option, AllByRecursion, cond_both, length-set, lowered, IsWellScoped, Call, Question, Stop, Waiting, Delivery, is_dropped, with_delivery, source_machine, IsValid, IsRoot, shape_of, Shape, Op, Setup, setting_of, checked_of, LocalMove, local_step, Frame, IsAtCall, Blocked, World, Thread, Move, step, moved, thread_of, local_in, IsWellFormed, IsWellFormedIf, KeepsWellFormed, DeliversWords, row_for, on_thread, on_printed, KeepsWellFormed-step, IsWellFormedIf-action, AsksCall, IsStepAsSource, IsAlongSource, first_of, IsGrown, IsUnderWayFrom, RestsFrom, under-way-from, grown-either, rests-from, thread-on, IsReached, StepReaches, IsFinishedIn, StandsSettled, delivered_law, advanced_law, All-push, all_set}
 use Rattle.c_mean.specs.World as source
 use Rattle.c_mean.specs.World.{Rest, Fresh, Segment, thread_moves, segment_machine}
 use Rattle.c_mean.proofs.SegmentLemmas.{asks_in_world}
-use Rattle.c_tree.specs.WellScoped.{IsWellScoped}
-use Rattle.cap_word.specs.Calls.{Call, Question}
-use Rattle.cap_word.specs.declared.stops.Stop.{Stop}
-use Rattle.c_mean.specs.Frames.{Waiting}
-use Rattle.c_mean.specs.ModelledCalls.{Delivery, is_dropped, with_delivery}
-use Rattle.c_mean.specs.Steps.{source_machine}
 use Rattle.cap_word.specs.Runs.{Goes, Asks, Stops, moves}
-use Rattle.certificate_rules.specs.Validity.{IsValid}
-use Rattle.chunk_budget.specs.Budgets.{IsRoot}
-use Rattle.chunk_pool.specs.Pool.{shape_of}
-use Rattle.chunk_pool.specs.declared.shape.Shape.{Shape}
-use Rattle.flat_code.specs.declared.operations.Op.{Op}
-use Rattle.lawful_log.specs.Setup.{Setup, setting_of}
-use Rattle.lawful_log.specs.Good.{checked_of}
 use Rattle.machine_world.specs.Local as local
-use Rattle.machine_world.specs.Local.{LocalMove, local_step}
-use Rattle.machine_world.specs.InPlace.{Frame}
-use Rattle.machine_world.specs.Rests.{IsAtCall}
 use Rattle.machine_world.specs.Runs.{Action, Deliver, Advance, Pick, Step, after_action, picked, picked_at, may_run, is_between, delivered, advanced}
 use Rattle.machine_world.specs.Threads as machine
-use Rattle.machine_world.specs.Threads.{Blocked, World, Thread, Move, step, moved, thread_of, local_in}
-use Rattle.machine_world.specs.WellFormed.{IsWellFormed, IsWellFormedIf, KeepsWellFormed, DeliversWords}
-use Rattle.machine_world.proofs.StepCases.{row_for, on_thread, on_printed}
-use Rattle.machine_world.proofs.FormWorlds.{KeepsWellFormed-step, IsWellFormedIf-action}
-use Rattle.machine_meaning.specs.AsSource.{AsksCall, IsStepAsSource, IsAlongSource}
-use Rattle.machine_meaning.specs.Firsts.{first_of, IsGrown, IsUnderWayFrom, RestsFrom}
-use Rattle.machine_meaning.proofs.FirstLemmas.{under-way-from, grown-either, rests-from, thread-on}
-use Rattle.machine_meaning.specs.Reached.{IsReached, StepReaches, IsFinishedIn}
-use Rattle.machine_meaning.specs.UnderWay.{StandsSettled}
-use Rattle.machine_meaning.proofs.BetweenSegments.{delivered_law, advanced_law}
 use Rattle.machine_meaning.proofs.WorldLaws as laws
 use Rattle.machine_meaning.proofs.WorldSteps.{step_is}
-use Rattle.log_laws.proofs.RestLemmas.{all-left, all-more, all-get, all-set, none-added, IsRootedRest, began-rooted, first-rooted}
+use Rattle.log_laws.proofs.RestLemmas.{all-left, all-get, none-added, IsRootedRest, began-rooted, first-rooted}
 use Rattle.log_laws.proofs.StepLemmas.{Stays, StaysAt, stays-step}
 
 module _ (g : Setup) (scoped : IsWellScoped g.program) (valid : IsValid (lowered g.program) g.image g.certificate) (shape : Shape) where
@@ -206,7 +175,7 @@ module _ (g : Setup) (scoped : IsWellScoped g.program) (valid : IsValid (lowered
         number = is.number;
         puts = is.puts;
         reached = r;
-        rooted = subst AreRooted (sym threads) (all-more (IsRootedRest (lowered g.program)) is.reached.segment.world.threads (Fresh new.function (new.argument ∷ [])) is.rooted new.root);
+        rooted = subst AreRooted (sym threads) (All-push (IsRootedRest (lowered g.program)) is.reached.segment.world.threads (Fresh new.function (new.argument ∷ [])) is.rooted new.root);
         shape_is = stay.shape ∙ is.shape_is;
       }
 
@@ -226,7 +195,7 @@ module _ (g : Setup) (scoped : IsWellScoped g.program) (valid : IsValid (lowered
       let same : length from.threads ≡ length is.reached.segment.world.threads = omega (arith, a, b, next, set, whole) in
       let threads : from.threads ≡ is.reached.segment.world.threads = none-added is.reached.segment.world.threads from.threads from.grown same in
       let rest = first-rooted (lowered g.program) (first_of is.reached.segment.running) from.rest from.first (running-rooted w is) in
-      let all = all-set (IsRootedRest (lowered g.program)) from.threads is.reached.segment.number from.rest (subst AreRooted (sym threads) is.rooted) rest in
+      let all = all_set (IsRootedRest (lowered g.program)) from.threads is.reached.segment.number from.rest (subst AreRooted (sym threads) is.rooted) rest in
       record { form = form; other = other; stands = finished.2; rooted = subst AreRooted (sym from.is) all; shape_is = stay.shape ∙ is.shape_is }
 
   pub blocks : (w after : World) → Runs w → step (setting_of g) w ≡ machine.Blocks after → Rests after

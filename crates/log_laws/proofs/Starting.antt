@@ -1,33 +1,11 @@
 -- The start of a valid pair, and the log from there.
-use Rattle.std.proofs.Common.{◌≡◌, ℕ, ◌+◌, ◌*◌, ◌/◌, ◌≤◌, ◌||◌, List, [], ◌∷◌, ◌++◌, Some, refl, ap, subst, arith}
-use Rattle.std.specs.Prelude.{if◌then◌else◌}
-use Rattle.c_lower.specs.ProgramCode.{lowered}
-use Rattle.c_tree.specs.WellScoped.{IsWellScoped}
-use Rattle.certificate_rules.specs.Validity.{IsValid}
-use Rattle.chunk_pool.specs.Pool.{Taken, taken_for}
-use Rattle.lawful_log.specs.Good.{checked_of}
-use Rattle.lawful_log.specs.Lawful.{ending, IsLawfulLog}
-use Rattle.lawful_log.specs.Setup.{Setup, setting_of, main_fact, start_machine, start_areas}
-use Rattle.lawful_log.specs.State.{start_of}
+use Rattle.log_laws.proofs.Common.{◌≡◌, ℕ, ◌+◌, ◌*◌, ◌/◌, ◌≤◌, ◌||◌, List, [], ◌∷◌, ◌++◌, Some, refl, ap, subst, arith, if◌then◌else◌, lowered, IsWellScoped, IsValid, Taken, taken_for, checked_of, ending, IsLawfulLog, Setup, setting_of, main_fact, start_machine, start_areas, start_of, formed, Areas, empty_world, started_on, start_world, World, with_thread, AreWellFormed, IsWellFormed, IsWellFormedIf, most_fuel, IsWellFormedIf-start, CallFacts-valid, fact_at, StandsSettled, starts_law, between_after, taken_for-start, all_free-new}
 use Rattle.lawful_log.proofs.AtMostOne.{same_entries, same_stops}
-use Rattle.machine_meaning.proofs.Formed.{formed}
-use Rattle.machine_world.specs.Areas.{Areas}
-use Rattle.machine_world.specs.Runs.{empty_world, started_on, start_world}
-use Rattle.machine_world.specs.Threads.{World, with_thread}
-use Rattle.machine_world.specs.WellFormed.{AreWellFormed, IsWellFormed, IsWellFormedIf, most_fuel}
-use Rattle.machine_world.proofs.FormWorlds.{IsWellFormedIf-start}
-use Rattle.segment_laws.proofs.ValidCalls.{CallFacts-valid}
-use Rattle.stack_certificate.specs.Certificates.{fact_at}
-use Rattle.machine_meaning.specs.UnderWay.{StandsSettled}
-use Rattle.machine_meaning.proofs.BetweenSegments.{starts_law}
 use Rattle.c_mean.specs.World as source
-use Rattle.lawful_log.proofs.Between.{between_after}
 use Rattle.lawful_log.proofs.Kept.{first_waits}
 use Rattle.log_laws.specs.One.{HasOneLog}
 use Rattle.log_laws.proofs.Runs.{Between, rest_of}
-use Rattle.chunk_pool.proofs.NeedLaws.{taken_for-start}
 use Rattle.chunk_pool.proofs.ShapeLaws.{first_bytes-start}
-use Rattle.machine_world.proofs.CountedLaws.{all_free-new}
 
 -- ---- the start
 

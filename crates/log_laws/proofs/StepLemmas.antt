@@ -1,20 +1,9 @@
 -- What a step of the world leaves of the number of the next thread and of the pool's shape, and when it finds no chunk.
-use Rattle.std.proofs.Common.{◌≡◌, ℕ, ◌+◌, nat_eq, nat_le, length, Option, Some, None, refl, subst, arith, cond}
-use Rattle.std.proofs.lemmas.Bool.{cond_both}
-use Rattle.cap_word.specs.Calls.{Call, Blocking, Immediate, most_threads}
+use Rattle.log_laws.proofs.Common.{◌≡◌, ℕ, ◌+◌, nat_eq, nat_le, length, Option, Some, None, refl, subst, arith, cond, cond_both, Call, Blocking, Immediate, most_threads, Stop, immediate_row, blocking_row, Taken, taken_for, shape_of, taken_for-shape, KeepsShape, Local, LocalMove, Ended, Trapped, NoRoom, Wrong, local_step, Thread, World, Setting, Move, step_of, moved, package_call, printed, spawned, unless_trap, local_in, Ways, row_for, on_thread, on_printed, KeepsShape-step}
 use Rattle.cap_word.specs.Runs.{Goes, Asks, Stops}
-use Rattle.cap_word.specs.declared.stops.Stop.{Stop}
 use Rattle.cap_word.specs.declared.traps.TrapKind.{TrapKind}
-use Rattle.c_mean.specs.ModelledCalls.{immediate_row, blocking_row}
-use Rattle.chunk_pool.specs.Pool.{Taken, taken_for, shape_of}
-use Rattle.chunk_pool.proofs.NeedLaws.{taken_for-shape}
-use Rattle.machine_world.specs.Held.{KeepsShape}
 use Rattle.machine_world.specs.Local as local
-use Rattle.machine_world.specs.Local.{Local, LocalMove, Ended, Trapped, NoRoom, Wrong, local_step}
 use Rattle.machine_world.specs.Threads as machine
-use Rattle.machine_world.specs.Threads.{Thread, World, Setting, Move, step_of, moved, package_call, printed, spawned, unless_trap, local_in}
-use Rattle.machine_world.proofs.StepCases.{Ways, row_for, on_thread, on_printed}
-use Rattle.machine_world.proofs.HeldLaws.{KeepsShape-step}
 
 -- the next number is the same, or one more where a thread has started; the pool has its shape
 pub record Stays (w after : World) (more : ℕ) : Type 0 where

@@ -1,14 +1,7 @@
 -- Good stretches of a segment, from what holds between segments and what holds within one.
-use Rattle.std.proofs.Common.{◌≡◌, ℕ, zero, suc, ◌+◌, Option, Some, refl, sym, ap, subst, ◌∙◌}
-use Rattle.c_mean.specs.ModelledCalls.{Delivery}
-use Rattle.machine_world.specs.Places.{Checked}
-use Rattle.machine_world.specs.Runs.{Deliver, Advance, Pick, after_action, world_of, and_then, after_steps}
-use Rattle.machine_world.specs.Stretches.{IsSound, IsFramedNext, OnWorld, IsGoodStretch}
-use Rattle.machine_world.specs.Threads.{World, Setting, Move, Goes, Puts, Spawns, Blocks, Ends, step}
-use Rattle.machine_world.specs.WellFormed.{DeliversWords}
+use Rattle.log_laws.proofs.Common.{◌≡◌, ℕ, zero, suc, ◌+◌, Option, Some, refl, sym, ap, subst, ◌∙◌, Delivery, Checked, Deliver, Advance, Pick, after_action, world_of, and_then, after_steps, IsSound, IsFramedNext, OnWorld, IsGoodStretch, World, Setting, Move, Goes, Puts, Spawns, Blocks, Ends, step, DeliversWords, quiet_world, after_quiet}
 use Rattle.machine_world.proofs.StretchLaws as stretches
 use Rattle.machine_world.proofs.ActionLaws.{after_steps-add}
-use Rattle.lawful_log.specs.Segments.{quiet_world, after_quiet}
 
 -- what holds of a world between segments, and what holds of one within a segment, are kept, and give that it is sound
 pub record AreKept (c : Checked) (s : Setting) (B U : World → Type 0) : Type 0 where

@@ -1,21 +1,8 @@
 -- The clock of a choice point at which nothing goes on: the least time there is, which is to come.
-use Rattle.std.proofs.Common.{◌≡◌, ℕ, zero, suc, ◌+◌, ◌≤◌, ◌⊎◌, inl, inr, false, List, [], ◌∷◌, ◌++◌, Option, Some, None, refl, sym, ap, ◌∙◌, arith, subst, ⊎_elim}
-use Rattle.std.specs.Prelude.{Contains, nat_le}
-use Rattle.std.specs.List.{AllByRecursion}
-use Rattle.std.proofs.lemmas.Bool.Decides.{nat_tests}
-use Rattle.std.proofs.lemmas.List.Elements.{All-from_recursion}
-use Rattle.c_mean.specs.ModelledCalls.{Exchange}
+use Rattle.log_laws.proofs.Common.{◌≡◌, ℕ, zero, suc, ◌+◌, ◌≤◌, ◌⊎◌, inl, inr, false, List, [], ◌∷◌, ◌++◌, Option, Some, None, refl, sym, ap, ◌∙◌, arith, subst, ⊎_elim, Contains, nat_le, AllByRecursion, nat_tests, All-from_recursion, Exchange, Event, event_times, IsLeastOf, is_ready, any_ready, waking_times, Setup, State, seen_of, goes_on, contains_head, contains_later, gives_above, later_block, All-weaker, or_parts}
 use Rattle.c_mean.specs.World.{Rest, Blocked as Blocks}
-use Rattle.event_trace.specs.declared.events.Event.{Event}
 use Rattle.choice_rules.specs.Readiness as rules
-use Rattle.choice_rules.specs.Clock.{event_times, IsLeastOf}
-use Rattle.choice_rules.specs.Readiness.{is_ready, any_ready, waking_times}
-use Rattle.choice_rules.proofs.Tests.{not_both}
-use Rattle.lawful_log.specs.Setup.{Setup}
-use Rattle.lawful_log.specs.State.{State, seen_of}
-use Rattle.lawful_log.specs.Clocks.{goes_on}
-use Rattle.lawful_log.proofs.Clocks.{contains_head, contains_later, gives_above, later_block}
-use Rattle.lawful_log.proofs.Wakes.{all_false, weakened}
+use Rattle.lawful_log.proofs.Wakes.{all_false}
 
 -- ---- the least of some times
 
@@ -53,7 +40,7 @@ later_rest caps x clock since _ t e w = absurd (let no : None ≡ Some t = w in 
 module _ (g : Setup) (state : State) (clock : ℕ) where
   sleepers_later : any_ready g.policy (seen_of state) clock ≡ false → AllByRecursion (λ t. clock ≤ t) (waking_times (seen_of state))
   sleepers_later none = gives_above (λ w. rules.wakes w.since (rules.rest_of (seen_of state) w.thread)) clock state.waiting
-      (weakened (λ w. is_ready g.policy (seen_of state) clock w ≡ false)
+      (All-weaker (λ w. is_ready g.policy (seen_of state) clock w ≡ false)
       (λ w. (t : ℕ) → rules.wakes w.since (rules.rest_of (seen_of state) w.thread) ≡ Some t → clock ≤ t)
       (λ w e t wakes. later_rest g.policy.caps state.source.exchange clock w.since (rules.rest_of (seen_of state) w.thread) t e wakes)
       state.waiting (all_false (is_ready g.policy (seen_of state) clock) state.waiting none))
@@ -64,7 +51,7 @@ module _ (g : Setup) (state : State) (clock : ℕ) where
   times_later : (next : Option Event) → goes_on g state next clock ≡ false → AllByRecursion (λ t. clock ≤ t) (event_times next ++ waking_times (seen_of state))
   times_later None e = sleepers_later e
   times_later (Some event) e =
-      let parts : (nat_le event.time clock ≡ false) × (any_ready g.policy (seen_of state) clock ≡ false) = not_both (nat_le event.time clock)
+      let parts : (nat_le event.time clock ≡ false) × (any_ready g.policy (seen_of state) clock ≡ false) = or_parts (nat_le event.time clock)
       (any_ready g.policy (seen_of state) clock) e in
       (not_due_later event parts.0, sleepers_later parts.1)
 

@@ -1,19 +1,12 @@
 -- What an event of a trace delivers: words, which the log names by signed numbers.
-use Rattle.std.proofs.Common.{◌≡◌, ℕ, ◌^◌, ◌<◌, sym, ap, ◌∙◌, rules}
 use Rattle.std.specs.Int.{w32, cast_unsigned}
 use Rattle.std.proofs.Math.Facts.{of_z-to_z}
-use Rattle.cap_word.specs.Word.{signed}
+use Rattle.log_laws.proofs.Common.{◌≡◌, ℕ, ◌^◌, ◌<◌, sym, ap, ◌∙◌, rules, signed, EventKind, FitsKind, delivery_of, item_of, delivered, Deliver, DeliversWords}
 use Rattle.cap_word.proofs.WordLemmas.{to_z-signed}
 use Rattle.c_mean.specs.ModelledCalls.{Arrival, Message}
-use Rattle.event_trace.specs.declared.events.EventKind.{EventKind}
 use Rattle.event_trace.specs.declared.events.EventKind.TheVariants as events
-use Rattle.event_trace.specs.Lines.{FitsKind}
-use Rattle.choice_rules.specs.Deliveries.{delivery_of, item_of}
-use Rattle.lawful_log.specs.Good.{delivered}
-use Rattle.machine_world.specs.Runs.{Deliver}
-use Rattle.machine_world.specs.WellFormed.{DeliversWords}
 
-back : (value : ℕ) → value < 2 ^ 32 → cast_unsigned w32 (signed value) ≡ value
+pub back : (value : ℕ) → value < 2 ^ 32 → cast_unsigned w32 (signed value) ≡ value
 back value fits = ap (cast_unsigned w32) (sym (to_z-signed value fits)) ∙ of_z-to_z {w = w32} {n = value} (search (rules, fits))
 
 pub delivered_is : (kind : EventKind) → FitsKind kind → delivered (item_of kind) ≡ delivery_of kind

@@ -1,23 +1,7 @@
 -- A machine thread with one frame at its function's start stands for a source thread that has just started.
-use Rattle.std.proofs.Common.{◌≡◌, ℕ, ◌+◌, ◌<◌, List, [], ◌∷◌, length, refl, sym, ap, ◌∙◌, subst, arith}
-use Rattle.std.proofs.lemmas.List.{length-map}
-use Rattle.c_lower.specs.ProgramCode.{lowered_function, lowered}
-use Rattle.c_mean.specs.Frames.{function_at, pushed}
-use Rattle.c_tree.specs.Trees.{ProgramTree}
-use Rattle.c_tree.specs.WellScoped.{IsWellScoped}
-use Rattle.certificate_rules.specs.Validity.{IsValid}
-use Rattle.chunk_pool.specs.Pool.{Pool}
+use Rattle.machine_meaning.proofs.Common.{◌≡◌, ℕ, ◌+◌, ◌<◌, List, [], ◌∷◌, length, refl, sym, ap, ◌∙◌, subst, arith, length-map, lowered_function, lowered, function_at, pushed, ProgramTree, IsWellScoped, IsValid, Pool, Frame, HasFrames, a0, Core, Checked, InPrologue, row_of, AtStart, Starts, StandsFor, read, Certificate, Image}
 use Rattle.machine_meaning.proofs.Lowered.{lowers}
 use Rattle.machine_meaning.proofs.Pushed.{pushed_holds}
-use Rattle.machine_world.specs.InPlace.{Frame, HasFrames}
-use Rattle.stack_certificate.specs.Registers.{a0}
-use Rattle.machine_world.specs.Local.{Core}
-use Rattle.machine_world.specs.Places.{Checked, InPrologue, row_of}
-use Rattle.machine_world.specs.Rests.{AtStart}
-use Rattle.machine_world.specs.StandsFor.{Starts, StandsFor}
-use Rattle.rv_machine.specs.Registers.{read}
-use Rattle.stack_certificate.specs.declared.certificates.Certificate.{Certificate}
-use Rattle.stack_image.specs.declared.images.Image.{Image}
 use Rattle.machine_meaning.proofs.Numbering.{numbered, numbered_length, numbered_at}
 use Rattle.machine_meaning.proofs.StandsForSome.{argument_word}
 use Rattle.machine_meaning.proofs.ExactlyBetween.{at_place}

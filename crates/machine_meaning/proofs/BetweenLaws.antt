@@ -1,17 +1,5 @@
 -- The laws for code that is that of the program.
-use Rattle.std.proofs.Common.{◌≡◌, sym, subst}
-use Rattle.c_lower.specs.ProgramCode.{lowered}
-use Rattle.c_tree.specs.Trees.{ProgramTree}
-use Rattle.c_tree.specs.WellScoped.{IsWellScoped}
-use Rattle.certificate_rules.specs.Validity.{IsValid}
-use Rattle.chunk_pool.specs.Pool.{Pool}
-use Rattle.flat_code.specs.Codes.{FlatCode}
-use Rattle.machine_world.specs.Local.{Core}
-use Rattle.machine_world.specs.Places.{Checked}
-use Rattle.machine_world.specs.Rests.{IsResting}
-use Rattle.machine_world.specs.StandsFor.{SourceThread, StandsFor}
-use Rattle.stack_image.specs.declared.images.Image.{Image}
-use Rattle.machine_meaning.specs.Between.{HasBetween}
+use Rattle.machine_meaning.proofs.Common.{◌≡◌, sym, subst, lowered, ProgramTree, IsWellScoped, IsValid, Pool, FlatCode, Core, Checked, IsResting, SourceThread, StandsFor, Image, HasBetween}
 use Rattle.machine_meaning.proofs.StandsForSome as some
 use Rattle.machine_meaning.proofs.ExactlyBetween as whole
 

@@ -1,40 +1,13 @@
 -- Between segments: the start, deliveries, the clock, and that each world whose threads rest stands for some source world.
-use Rattle.std.proofs.Common.{◌≡◌, ℕ, zero, suc, ◌+◌, ◌<◌, ◌≤◌, Bool, true, false, nat_eq, List, [], ◌∷◌, ◌++◌, length, map, replicate, Option, Some, None, refl, sym, ap, subst, ◌∙◌, arith, cond, ⊎_elim}
-use Rattle.std.specs.Prelude.{slice_get, is_none, option_map, nat_le, ◌&&◌}
-use Rattle.std.specs.List.{flat_map}
-use Rattle.std.proofs.lemmas.Bool.{cases_lt, cond_both, cond-true, cond-false, eq-eqb, ne_eqb}
-use Rattle.std.proofs.lemmas.List.{length-map, length-replicate}
-use Rattle.c_lower.specs.ProgramCode.{lowered_function, lowered_global, lowered}
-use Rattle.c_mean.specs.Frames.{Waiting, function_at}
-use Rattle.c_mean.specs.ModelledCalls.{Exchange, Delivery, is_dropped, with_delivery}
-use Rattle.c_mean.specs.Steps.{start_globals}
+use Rattle.machine_meaning.proofs.Common.{◌≡◌, ℕ, zero, suc, ◌+◌, ◌<◌, ◌≤◌, Bool, true, false, nat_eq, List, [], ◌∷◌, ◌++◌, length, map, replicate, Option, Some, None, refl, sym, ap, subst, ◌∙◌, arith, cond, ⊎_elim, slice_get, is_none, option_map, nat_le, ◌&&◌, flat_map, cases_lt, cond_both, cond-true, cond-false, eq-eqb, ne_eqb, length-map, length-replicate, lowered_function, lowered_global, lowered, Waiting, function_at, Exchange, Delivery, is_dropped, with_delivery, start_globals, Rest, ProgramTree, IsWellScoped, IsValid, Pool, Taken, taken_for, Areas, AreGlobals, Frame, Core, Checked, IsResting, AtStart, PastCall, SourceThread, Starts, Waits, StandsFor, StandsForRest, StandsForWorld, Blocked, Thread, World, Setting, first_with, thread_of, start_core, with_thread, AreWellFormed, IsWellFormed, fact_at, Certificate, Image, RestsSo, IsSettledIf, IsSettled, StandsSettled}
 use Rattle.c_mean.specs.World as source
-use Rattle.c_mean.specs.World.{Rest}
 use Rattle.c_tree.specs.declared.facts.GlobalFact.{GlobalFact}
-use Rattle.c_tree.specs.Trees.{ProgramTree}
-use Rattle.c_tree.specs.WellScoped.{IsWellScoped}
 use Rattle.certificate_rules.specs.Rules.{starting_words}
-use Rattle.certificate_rules.specs.Validity.{IsValid}
-use Rattle.chunk_pool.specs.Pool.{Pool, Taken, taken_for}
 use Rattle.machine_meaning.proofs.LoweredSteps.{params_at}
-use Rattle.machine_world.specs.Areas.{Areas}
-use Rattle.machine_world.specs.Globals.{AreGlobals}
-use Rattle.machine_world.specs.InPlace.{Frame}
-use Rattle.machine_world.specs.Local.{Core}
-use Rattle.machine_world.specs.Places.{Checked}
-use Rattle.machine_world.specs.Rests.{IsResting, AtStart, PastCall}
 use Rattle.machine_world.specs.Runs.{Advance, Deliver, after_action, delivered, advanced, empty_world, started_on, start_world, is_between}
-use Rattle.machine_world.specs.StandsFor.{SourceThread, Starts, Waits, StandsFor}
-use Rattle.machine_world.specs.StandsForWorld.{StandsForRest, StandsForWorld}
-use Rattle.machine_world.specs.Threads.{Blocked, Thread, World, Setting, first_with, thread_of, start_core, with_thread}
-use Rattle.machine_world.specs.WellFormed.{AreWellFormed, IsWellFormed}
-use Rattle.stack_certificate.specs.Certificates.{fact_at}
-use Rattle.stack_certificate.specs.declared.certificates.Certificate.{Certificate}
-use Rattle.stack_image.specs.declared.images.Image.{Image}
 use Rattle.machine_meaning.proofs.BetweenLaws as between
 use Rattle.machine_meaning.proofs.StandsForSome.{globals_somewhere}
 use Rattle.machine_meaning.proofs.Alone.{fresh_somewhere}
-use Rattle.machine_meaning.specs.UnderWay.{RestsSo, IsSettledIf, IsSettled, StandsSettled}
 use Rattle.machine_meaning.proofs.Fresh.{new_stands}
 use Rattle.machine_meaning.proofs.Threads.{none_from}
 

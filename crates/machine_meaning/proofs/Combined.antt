@@ -1,35 +1,12 @@
 -- What the machine is to flat code and what flat code is to the source make what the machine is to the source.
-use Rattle.std.proofs.Common.{◌≡◌, ℕ, ◌⊎◌, inl, inr, List, [], ◌∷◌, Option, Some, None, refl, sym, ap, ◌∙◌, subst, arith}
-use Rattle.cap_word.specs.Calls.{Question, Finish}
-use Rattle.cap_word.specs.Runs.{Goes, Asks, Stops, moves}
-use Rattle.c_lower.specs.ProgramCode.{lowered}
-use Rattle.c_mean.specs.Frames.{WaitingFrame, Running, Waiting}
-use Rattle.c_mean.specs.Steps.{SourceMove, source_machine}
-use Rattle.c_tree.specs.Trees.{ProgramTree}
-use Rattle.c_tree.specs.WellScoped.{IsWellScoped}
-use Rattle.certificate_rules.specs.Validity.{IsValid}
-use Rattle.flat_code.specs.Codes.{operation_at, result_place}
-use Rattle.flat_code.specs.Frames.{FlatFrame, FlatThread, FlatWaiting, Finished, standing, with_result}
-use Rattle.flat_code.specs.Step.{FlatMove, flat_machine, answered, place_in}
-use Rattle.flat_code.specs.declared.operations.Op.{Op}
-use Rattle.machine_meaning.specs.Meaning.{MeansTheSame}
+use Rattle.machine_meaning.proofs.Common.{◌≡◌, ℕ, ◌⊎◌, inl, inr, List, [], ◌∷◌, Option, Some, None, refl, sym, ap, ◌∙◌, subst, arith, Question, Finish, Goes, Asks, Stops, moves, lowered, WaitingFrame, Running, Waiting, SourceMove, source_machine, ProgramTree, IsWellScoped, IsValid, operation_at, result_place, FlatFrame, FlatThread, FlatWaiting, Finished, standing, with_result, FlatMove, flat_machine, answered, place_in, Op, MeansTheSame, a0, Local, LocalMove, Ended, Trapped, NoRoom, Wrong, local_step, Frame, IsResting, AtStart, AtCall, PastCall, IsPastCall, AreFlatPast, StandsForFlat, SourceThread, Starts, Waits, StandsForThread, StandsForFlatThread, going_on, read, AsksCall, HoldsWanted, HoldsResult, WaitsAsSource, IsStepAsSource, ReachesSource, RunsAsSource, Certificate, Image, AreBetween, FlatsStandFor, RestAlike, flat_going_on}
 use Rattle.machine_meaning.specs.StandsFor.{StandsFor, FramesStandFor}
 use Rattle.machine_world.specs.Local as local
-use Rattle.stack_certificate.specs.Registers.{a0}
-use Rattle.machine_world.specs.Local.{Local, LocalMove, Ended, Trapped, NoRoom, Wrong, local_step}
-use Rattle.machine_world.specs.InPlace.{Frame}
 use Rattle.machine_world.specs.Places.{Checked, Place, row_of, function_of}
-use Rattle.machine_world.specs.Rests.{IsResting, AtStart, AtCall, PastCall, IsPastCall, AreFlatPast, StandsForFlat}
-use Rattle.machine_world.specs.StandsFor.{SourceThread, Starts, Waits, StandsForThread, StandsForFlatThread, going_on}
-use Rattle.rv_machine.specs.Registers.{read}
-use Rattle.machine_meaning.specs.AsSource.{AsksCall, HoldsWanted, HoldsResult, WaitsAsSource, IsStepAsSource, ReachesSource, RunsAsSource}
 use Rattle.segment_laws.specs.Alike.{last_flat, first_of as flat_first, IsCutMove, AsksTheSame, FindsNone, IsNeverLost, IsStepAlike, MayRun, ReachesAlike, RunsAlike, StopsAlike, WaitsAlike, running_on}
-use Rattle.stack_certificate.specs.declared.certificates.Certificate.{Certificate}
-use Rattle.stack_image.specs.declared.images.Image.{Image}
 use Rattle.segment_laws.proofs.Firsts.{result-function}
 use Rattle.machine_meaning.specs.Firsts.{last_function as source_last, first_of}
 use Rattle.machine_meaning.proofs.FirstLemmas.{delivered-keeps}
-use Rattle.machine_meaning.specs.Between.{AreBetween, FlatsStandFor, RestAlike, flat_going_on}
 use Rattle.machine_meaning.proofs.Going.{goes_on}
 use Rattle.machine_meaning.proofs.BetweenLaws as between
 use Rattle.machine_meaning.proofs.Past.{past_function}

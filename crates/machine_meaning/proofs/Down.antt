@@ -1,30 +1,11 @@
 -- From a source thread for which a machine thread stands to a thread of flat code between the two.
-use Rattle.std.proofs.Common.{◌≡◌, ℕ, zero, suc, ◌+◌, ◌<◌, List, [], ◌∷◌, ◌++◌, length, Option, Some, refl, sym, ap, ◌∙◌, subst, arith}
-use Rattle.std.specs.Prelude.{slice_index}
-use Rattle.std.proofs.lemmas.List.{get_or_append_left}
-use Rattle.c_lower.specs.ProgramCode.{function_sizes, lowered}
-use Rattle.c_mean.specs.Frames.{Place, Nowhere, InLocal, InGlobal, InLocalElement, InGlobalElement, Returned, WaitingFrame, function_at}
-use Rattle.c_mean.specs.Sites.{Target, target_of, CallInText, WaitsAt}
+use Rattle.machine_meaning.proofs.Common.{◌≡◌, ℕ, zero, suc, ◌+◌, ◌<◌, List, [], ◌∷◌, ◌++◌, length, Option, Some, refl, sym, ap, ◌∙◌, subst, arith, slice_index, get_or_append_left, function_sizes, lowered, Place, Nowhere, InLocal, InGlobal, InLocalElement, InGlobalElement, Returned, WaitingFrame, function_at, Target, target_of, CallInText, WaitsAt, function_temporaries, FunctionTree, ProgramTree, IsWellScoped, Pool, FlatFunction, Op, operation_at, FlatFrame, site_in, FrameStandsFor, FramesStandFor, IndexStands, Frame, Checked, HoldsVariables, IsShaped, AreFlatFrames, variable_word, IsWaitingFrame, AreWaitingFrames, HoldsIndex, Certificate}
 use Rattle.c_tree.specs.Sizes as widths
-use Rattle.c_tree.specs.Temporaries.{function_temporaries}
-use Rattle.c_tree.specs.Trees.{FunctionTree, ProgramTree}
-use Rattle.c_tree.specs.WellScoped.{IsWellScoped}
-use Rattle.chunk_pool.specs.Pool.{Pool}
-use Rattle.flat_code.specs.declared.functions.FlatFunction.{FlatFunction}
-use Rattle.flat_code.specs.declared.operations.Op.{Op}
 use Rattle.flat_code.specs.Codes as codes
-use Rattle.flat_code.specs.Codes.{operation_at}
-use Rattle.flat_code.specs.Frames.{FlatFrame, site_in}
 use Rattle.machine_meaning.proofs.Frames.{HeldRoom}
 use Rattle.machine_meaning.proofs.Lowered.{function_is}
 use Rattle.machine_meaning.proofs.RelationKept.{sizes_length}
-use Rattle.machine_meaning.specs.StandsFor.{FrameStandsFor, FramesStandFor, IndexStands}
-use Rattle.machine_world.specs.InPlace.{Frame}
 use Rattle.machine_world.specs.Keys.{standing}
-use Rattle.machine_world.specs.Places.{Checked}
-use Rattle.machine_world.specs.Rests.{HoldsVariables, IsShaped, AreFlatFrames, variable_word}
-use Rattle.machine_world.specs.StandsFor.{IsWaitingFrame, AreWaitingFrames, HoldsIndex}
-use Rattle.stack_certificate.specs.declared.certificates.Certificate.{Certificate}
 use Rattle.machine_meaning.proofs.Numbering.{row_length}
 use Rattle.machine_meaning.proofs.Sites.{has_calls, call_is}
 use Rattle.machine_meaning.proofs.Variables.{index_of, IsName, IsIndex, name_row, index_row, row_is, variables_of, variables_length, variable_is, variable_set}

@@ -1,22 +1,10 @@
 -- A thread at the ECALL of an operation stands at an ECALL.
-use Rattle.std.proofs.Common.{◌≡◌, ℕ, suc, ◌+◌, List, [], ◌∷◌, ◌++◌, length, Option, Some, None, Ok, refl, sym, ap, ◌∙◌, arith}
-use Rattle.std.specs.Prelude.{slice_get}
+use Rattle.machine_meaning.proofs.Common.{◌≡◌, ℕ, suc, ◌+◌, List, [], ◌∷◌, ◌++◌, length, Option, Some, None, Ok, refl, sym, ap, ◌∙◌, arith, slice_get, Op, Instr, instruction_at, fact_at, a0, Frame, Local, Checked, ecall_word, IsAtCall, IsResting, AtCall, CodeFacts, MayRun}
 use Rattle.flat_code.specs.Codes.{function_at}
-use Rattle.flat_code.specs.declared.operations.Op.{Op}
-use Rattle.rv_code.specs.declared.instructions.Instr.{Instr}
-use Rattle.rv_machine.specs.Step.{instruction_at}
-use Rattle.stack_certificate.specs.Certificates.{fact_at}
 use Rattle.stack_certificate.specs.Parts.{arguments, system_call}
 use Rattle.stack_certificate.specs.Templates.{row, setting, begin}
 use Rattle.stack_certificate.specs.declared.settings.Setting.{Setting}
 use Rattle.stack_certificate.specs.declared.functions.FunctionFact.{FunctionFact}
-use Rattle.stack_certificate.specs.Registers.{a0}
-use Rattle.machine_world.specs.InPlace.{Frame}
-use Rattle.machine_world.specs.Local.{Local}
-use Rattle.machine_world.specs.Places.{Checked}
-use Rattle.machine_world.specs.Rests.{ecall_word, IsAtCall, IsResting, AtCall}
-use Rattle.segment_laws.specs.Facts.{CodeFacts}
-use Rattle.segment_laws.specs.Alike.{MayRun}
 
 behind_arguments : (fact : FunctionFact) (register : ℕ) (args : List ℕ) (n : ℕ) (rest : List Instr) → slice_get (arguments fact register args ++ system_call n ++ rest) (length args + 1) ≡ Some Instr.Ecall
 behind_arguments fact register [] n rest = refl

@@ -1,39 +1,19 @@
 -- A machine thread that rests stands for a source thread exactly where a thread of flat code is between the two.
-use Rattle.std.proofs.Common.{◌≡◌, ℕ, zero, suc, ◌-◌, ◌<◌, List, [], ◌∷◌, ◌++◌, length, map, replicate, Option, Some, None, refl, sym, ap, ◌∙◌, subst, arith, length-append}
-use Rattle.std.specs.Prelude.{slice_index}
-use Rattle.std.proofs.lemmas.List.{length-map, length-replicate}
-use Rattle.cap_word.specs.Rows.{row, word_at}
-use Rattle.c_lower.specs.ProgramCode.{function_sizes, lowered_function, lowered}
+use Rattle.machine_meaning.proofs.Common.{◌≡◌, ℕ, zero, suc, ◌-◌, ◌<◌, List, [], ◌∷◌, ◌++◌, length, map, replicate, Option, Some, None, refl, sym, ap, ◌∙◌, subst, arith, length-append, slice_index, length-map, length-replicate, row, word_at, function_sizes, lowered_function, lowered, WaitingFrame, Waiting, function_at, declared_words, ProgramTree, IsWellScoped, IsValid, Pool, FlatFunction, Op, operation_at, FrameStandsFor, FrameStartsAs, FramesStandFor, Frame, FramesAt, Core, IsResting, AtStart, AtCall, PastCall, ecall_word, HoldsVariables, IsShaped, AreFlatFrames, IsFlatStart, StandsForFlat, SourceThread, Starts, Waits, StandsFor, IsWaitingFrame, IsStartingFrame, AreWaitingFrames, Certificate, Image, FlatsStandFor, RestAlike, HasBetween}
 use Rattle.c_mean.specs.Frames as source
-use Rattle.c_mean.specs.Frames.{WaitingFrame, Waiting, function_at}
-use Rattle.c_tree.specs.Sizes.{declared_words}
 use Rattle.c_tree.specs.Sizes as widths
-use Rattle.c_tree.specs.Trees.{ProgramTree}
-use Rattle.c_tree.specs.WellScoped.{IsWellScoped}
-use Rattle.certificate_rules.specs.Validity.{IsValid}
-use Rattle.chunk_pool.specs.Pool.{Pool}
-use Rattle.flat_code.specs.declared.functions.FlatFunction.{FlatFunction}
-use Rattle.flat_code.specs.declared.operations.Op.{Op}
 use Rattle.flat_code.specs.Codes as codes
-use Rattle.flat_code.specs.Codes.{operation_at}
 use Rattle.flat_code.specs.Frames.{FlatFrame, site_in, pushed}
 use Rattle.machine_meaning.proofs.Lowered.{function_is, lowers}
 use Rattle.machine_meaning.proofs.Pushed.{seen_below}
 use Rattle.machine_meaning.proofs.RelationKept.{sizes_length}
-use Rattle.machine_meaning.specs.StandsFor.{FrameStandsFor, FrameStartsAs, FramesStandFor}
-use Rattle.machine_world.specs.InPlace.{Frame, FramesAt}
-use Rattle.machine_world.specs.Local.{Core}
 use Rattle.machine_world.specs.Places.{Checked, Place, InStub, InPrologue, InOperation, Row, NoFrame, Empty, Fresh, Linking, Whole, row_of, function_of, operation_of}
-use Rattle.machine_world.specs.Rests.{IsResting, AtStart, AtCall, PastCall, ecall_word, HoldsVariables, IsShaped, AreFlatFrames, IsFlatStart, StandsForFlat}
-use Rattle.machine_world.specs.StandsFor.{SourceThread, Starts, Waits, StandsFor, IsWaitingFrame, IsStartingFrame, AreWaitingFrames}
-use Rattle.stack_certificate.specs.declared.certificates.Certificate.{Certificate}
-use Rattle.stack_image.specs.declared.images.Image.{Image}
-use Rattle.machine_meaning.specs.Between.{FlatsStandFor, RestAlike, HasBetween}
 use Rattle.machine_meaning.proofs.Numbering.{numbered, numbered_length, numbered_at, row_length, argument_at}
 use Rattle.machine_meaning.proofs.Past.{InFunction, past_function, ecall_site}
 use Rattle.machine_meaning.proofs.Sites.{one_function}
 use Rattle.machine_meaning.proofs.Down.{flat_of, frame_down, shape_down, variables_down, frames_down}
 use Rattle.machine_meaning.proofs.Up.{frame_up, frames_up, start_up, params_named}
+use Rattle.machine_meaning.proofs.Expressions.{one_word}
 
 -- ---- the running frame's function and operation
 
@@ -61,10 +41,6 @@ scalar_size : (n : ℕ) (rest : List ℕ) (x : ℕ) → x < n → slice_index (w
 scalar_size zero rest x lt = absurd (omega arith)
 scalar_size (suc n) rest zero lt = refl
 scalar_size (suc n) rest (suc x) lt = scalar_size n rest x (omega arith)
-
-one_row : (ws : List ℕ) → length ws ≡ 1 → ws ≡ slice_index ws 0 ∷ []
-one_row (w ∷ []) e = refl
-one_row _ e = absurd (omega (arith, e))
 
 -- ---- places
 
@@ -127,7 +103,7 @@ module _ (program : ProgramTree) (certificate : Certificate) (scoped : IsWellSco
               let one : length (row starting.names x) ≡ 1 = row_length starting.names tree.sizes x h.named ∙ ap (λ (ns : List ℕ). slice_index ns x) scoped_here.sizes ∙ scalar_size tree.params (declared_words tree) x low in
               argument_at arguments rest x (omega (arith, low, count))
               ∙ ap (λ (w : ℕ). Some (w ∷ [])) (numbered_at (λ x. word_at starting.names x 0) 0 tree.params x 0 low ∙ ap (λ (n : ℕ). word_at starting.names n 0) (omega arith))
-              ∙ ap (λ (ws : List ℕ). Some ws) (sym (one_row (row starting.names x) one));
+              ∙ ap (λ (ws : List ℕ). Some ws) (sym (one_word (row starting.names x) one));
         };
       }
 

@@ -1,21 +1,8 @@
 -- The operations of an expression leave its value in their variable, or come to its first trap.
-use Rattle.std.proofs.Common.{◌≡◌, ℕ, zero, suc, ◌+◌, ◌<◌, ◌≤◌, Bool, true, false, List, [], ◌∷◌, map, length, Option, Some, None, refl, sym, ap, ◌∙◌, subst, arith, get_or}
-use Rattle.std.specs.Prelude.{IsTrue, nat_lt, slice_index, Ok, Err}
-use Rattle.cap_word.specs.Rows.{row, width, word_at}
-use Rattle.cap_word.specs.declared.traps.TrapKind.{TrapKind}
+use Rattle.machine_meaning.proofs.Common.{◌≡◌, ℕ, zero, suc, ◌+◌, ◌<◌, ◌≤◌, Bool, true, false, List, [], ◌∷◌, map, length, Option, Some, None, refl, sym, ap, ◌∙◌, subst, arith, get_or, IsTrue, nat_lt, slice_index, Ok, Err, row, width, word_at, TrapKind, UnaryOperator, expr_temporaries, Context, visible, IsExprScoped, Value, in_range, element, on_one, on_both, truth, choice, value, Op, FlatCode, operation_at, FlatFrame, FlatThread, Finished, result_of, where_in, puts, flat_step, operator_of, expr_takes_one}
 use Rattle.c_tree.specs.declared.operators.BinaryOperator.{BinaryOperator}
-use Rattle.c_tree.specs.declared.operators.UnaryOperator.{UnaryOperator}
-use Rattle.c_tree.specs.Temporaries.{expr_temporaries}
 use Rattle.c_tree.specs.Trees.{ExprTree, Number, Local, Global, LocalElement, GlobalElement, Unary, Parenthesized, Binary, LogicalAnd, LogicalOr, Conditional}
-use Rattle.c_tree.specs.WellScoped.{Context, visible, IsExprScoped}
 use Rattle.c_mean.specs.Operators.{unary_value, binary_value}
-use Rattle.c_mean.specs.Values.{Value, in_range, element, on_one, on_both, truth, choice, value}
-use Rattle.flat_code.specs.declared.operations.Op.{Op}
-use Rattle.flat_code.specs.Codes.{FlatCode, operation_at}
-use Rattle.flat_code.specs.Frames.{FlatFrame, FlatThread, Finished}
-use Rattle.flat_code.specs.Operators.{result_of}
-use Rattle.flat_code.specs.Step.{where_in, puts, flat_step}
-use Rattle.c_lower.specs.Operations.{operator_of}
 use Rattle.machine_meaning.proofs.InPlace.{ExprAt}
 use Rattle.machine_meaning.proofs.Silent.{Vars, put, Has, Kept, kept_all, kept_both, kept_fewer, kept_put, has_put, Leads, Ends, one_leads, one_ends, leads_both, ends_later, th, const_leads, copy_leads, neg_leads, not_leads, flip_leads, bin_leads, global_leads, jump_leads, zero_leads, passes, local_step, array_step}
 
@@ -45,18 +32,6 @@ one_word _ e = absurd (omega arith)
 same_operator : (op : BinaryOperator) (a b : ℕ) → result_of (operator_of op) a b ≡ binary_value op a b
 same_operator BinaryOperator.Add a b = refl
 same_operator _ a b = refl
-
--- an expression takes at least one temporary
-pub some_temporaries : (e : ExprTree) → 1 ≤ expr_temporaries e
-some_temporaries (LocalElement a i) = some_temporaries i
-some_temporaries (GlobalElement a i) = some_temporaries i
-some_temporaries (Unary op e) = some_temporaries e
-some_temporaries (Parenthesized e) = some_temporaries e
-some_temporaries (Binary op l r) = omega (arith, some_temporaries l)
-some_temporaries (LogicalAnd l r) = omega (arith, some_temporaries l)
-some_temporaries (LogicalOr l r) = omega (arith, some_temporaries l)
-some_temporaries (Conditional c a b) = omega (arith, some_temporaries c)
-some_temporaries _ = omega arith
 
 module _ (code : FlatCode) (f : ℕ) (below : List FlatFrame) (globals : List (List ℕ)) where
   abbrev at : ℕ → Vars → FlatThread
@@ -170,37 +145,37 @@ module _ (code : FlatCode) (f : ℕ) (below : List FlatFrame) (globals : List (L
         puts_it p q d (word_at names x 0) vars (copy_leads code f below globals p d x (word_at names x 0) vars h.0 (reads x s.0 s.2 ∙ ap (λ w. Some w) word)) h.1 (omega arith)
     expr_comes (Global g) p d q vars h s le room reads = puts_it p q d (word_at globals g 0) vars (global_leads code f below globals p d g vars h.0) h.1 (omega arith)
     expr_comes (LocalElement a i) p d q vars h s le room reads =
-        let some = some_temporaries i in
+        let some = expr_takes_one i in
         element_comes p h.0 q d a vars names (value names globals i) (expr_comes i p d h.0 vars h.1 s.2 le room reads)
         (λ k after has kept. in_range_comes h.0 q d (word_at names a k) after (nat_lt k (width names a)) (local_step code f below globals h.0 d a d k (row names a) after h.2 has (kept.same a (omega (arith, s.0)) ∙ reads a s.0 s.1)) h.3 (omega (arith, kept.long)))
     expr_comes (GlobalElement a i) p d q vars h s le room reads =
-        let some = some_temporaries i in
+        let some = expr_takes_one i in
         element_comes p h.0 q d a vars globals (value names globals i) (expr_comes i p d h.0 vars h.1 s.1 le room reads)
         (λ k after has kept. in_range_comes h.0 q d (word_at globals a k) after (nat_lt k (width globals a)) (array_step code f below globals h.0 d a d k after h.2 has) h.3 (omega (arith, kept.long)))
     expr_comes (Unary UnaryOperator.Plus e) p d q vars h s le room reads =
         subst (Comes p q d vars) (sym (same_one (unary_value UnaryOperator.Plus) (value names globals e) (λ w. refl))) (expr_comes e p d q vars h s le room reads)
     expr_comes (Unary UnaryOperator.Negate e) p d q vars h s le room reads =
-        let some = some_temporaries e in
+        let some = expr_takes_one e in
         one_comes p h.0 q d vars (unary_value UnaryOperator.Negate) (value names globals e) (expr_comes e p d h.0 vars h.1 s le room reads)
         (λ w after has kept. puts_it h.0 q d (unary_value UnaryOperator.Negate w) after (neg_leads code f below globals h.0 d d w after h.2 has) h.3 (omega (arith, kept.long)))
     expr_comes (Unary UnaryOperator.Complement e) p d q vars h s le room reads =
-        let some = some_temporaries e in
+        let some = expr_takes_one e in
         one_comes p h.0 q d vars (unary_value UnaryOperator.Complement) (value names globals e) (expr_comes e p d h.0 vars h.1 s le room reads)
         (λ w after has kept. puts_it h.0 q d (unary_value UnaryOperator.Complement w) after (not_leads code f below globals h.0 d d w after h.2 has) h.3 (omega (arith, kept.long)))
     expr_comes (Unary UnaryOperator.Not e) p d q vars h s le room reads =
-        let some = some_temporaries e in
+        let some = expr_takes_one e in
         one_comes p h.0 q d vars (unary_value UnaryOperator.Not) (value names globals e) (expr_comes e p d h.0 vars h.1 s le room reads)
         (λ w after has kept. puts_it h.0 q d (unary_value UnaryOperator.Not w) after (flip_leads code f below globals h.0 d d w after h.2 has) h.3 (omega (arith, kept.long)))
     expr_comes (Parenthesized e) p d q vars h s le room reads = expr_comes e p d q vars h s le room reads
     expr_comes (Binary op l r) p d q vars h s le room reads =
-        let some = some_temporaries r in
+        let some = expr_takes_one r in
         both_comes p h.0 h.1 q d vars (binary_value op) (value names globals l) (value names globals r)
         (expr_comes l p d h.0 vars h.2 s.0 le (omega arith) reads)
         (λ after kept. expr_comes r h.0 (d + 1) h.1 after h.3 s.1 (omega arith) (omega (arith, kept.long)) (reads_kept c scope names d vars after le kept reads))
         (λ a b after x y kept. subst (λ w. Comes h.1 q d after (Ok w)) (same_operator op a b)
         (puts_it h.1 q d (result_of (operator_of op) a b) after (bin_leads code f below globals h.1 d d (d + 1) a b (operator_of op) after h.4 x y) h.5 (omega (arith, kept.long))))
     expr_comes (LogicalAnd l r) p d q vars h s le room reads =
-        let some = some_temporaries r in
+        let some = expr_takes_one r in
         choice_comes p h.0 h.2 h.2 q d vars (value names globals l) (truth (value names globals r)) (Ok 0)
         (expr_comes l p d h.0 vars h.3 s.0 le (omega arith) reads)
         (λ after kept n has. later h.0 (h.0 + 1) q d after after (truth (value names globals r)) (passes code f below globals h.0 d h.2 n after h.4 has) (kept_all d after)
@@ -209,7 +184,7 @@ module _ (code : FlatCode) (f : ℕ) (below : List FlatFrame) (globals : List (L
         (λ after kept has. later h.0 h.2 q d after after (Ok 0) (zero_leads code f below globals h.0 d h.2 after h.4 has) (kept_all d after)
         (gives_zero h.2 q d after h.9 h.10 (omega (arith, kept.long))))
     expr_comes (LogicalOr l r) p d q vars h s le room reads =
-        let some = some_temporaries r in
+        let some = expr_takes_one r in
         choice_comes p h.0 h.2 h.3 q d vars (value names globals l) (Ok 1) (truth (value names globals r))
         (expr_comes l p d h.0 vars h.4 s.0 le (omega arith) reads)
         (λ after kept n has. later h.0 (h.1 + 1) q d after after (Ok 1)

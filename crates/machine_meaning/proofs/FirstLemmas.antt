@@ -1,18 +1,6 @@
 -- No step of a source thread changes the function with which it started.
-use Rattle.std.proofs.Common.{◌≡◌, inl, inr, ◌⊎◌, ℕ, zero, suc, ◌+◌, ◌-◌, ◌≤◌, Bool, true, false, List, [], ◌∷◌, ◌++◌, append_assoc, refl, sym, ap, subst, ◌∙◌, arith, ⊎_elim}
-use Rattle.std.specs.Prelude.{Option, Some, None, Result, Ok, Err, option_map, slice_get, slice_index, slice_index_or, slice_set, nat_lt, length}
-use Rattle.std.proofs.lemmas.Bool.{cases_lt}
+use Rattle.machine_meaning.proofs.Common.{◌≡◌, inl, inr, ◌⊎◌, ℕ, zero, suc, ◌+◌, ◌-◌, ◌≤◌, Bool, true, false, List, [], ◌∷◌, ◌++◌, append_assoc, refl, sym, ap, subst, ◌∙◌, arith, ⊎_elim, Option, Some, None, Result, Ok, Err, option_map, slice_get, slice_index, slice_index_or, slice_set, nat_lt, length, cases_lt, Call, Question, Blocking, Immediate, call_of, spawn_of, Goes, Asks, Stops, and_then, moves, goes_on, stops_stay, TrapKind, number_of, ProgramTree, CallTree, CallFunction, CallTable, CallSpawn, CallModelled, RightTree, Computed, Called, SimpleTree, DeclareWith, SetLocal, SetGlobal, SetLocalElement, SetGlobalElement, Calling, Place, Nowhere, InLocal, InGlobal, InLocalElement, InGlobalElement, Returned, WaitingFrame, Running, Waiting, blocking_row, immediate_row, SourceMove, to_do, on_value, stored, stored_where, assigned, delivered_or, delivered, entered, entered_where, asks, asks_if, called, assigns, does, branched, returned, gives_back, performs, performs_first, source_step, source_machine, valued, all_valued, Item, Simply, Choose, Test, Enter, Back, Leave, Skip, GiveBack, GiveBackWord, Fail, before, body_before}
 use Rattle.std.proofs.lemmas.Option.{none-some, same_Some}
-use Rattle.cap_word.specs.Calls.{Call, Question, Blocking, Immediate, call_of, spawn_of}
-use Rattle.cap_word.specs.Runs.{Goes, Asks, Stops, and_then, moves}
-use Rattle.cap_word.proofs.RunLemmas.{goes_on, stops_stay}
-use Rattle.cap_word.specs.declared.traps.TrapKind.{TrapKind}
-use Rattle.cap_word.specs.ModelledCalls.{number_of}
-use Rattle.c_tree.specs.Trees.{ProgramTree, CallTree, CallFunction, CallTable, CallSpawn, CallModelled, RightTree, Computed, Called, SimpleTree, DeclareWith, SetLocal, SetGlobal, SetLocalElement, SetGlobalElement, Calling}
-use Rattle.c_mean.specs.Frames.{Place, Nowhere, InLocal, InGlobal, InLocalElement, InGlobalElement, Returned, WaitingFrame, Running, Waiting}
-use Rattle.c_mean.specs.ModelledCalls.{blocking_row, immediate_row}
-use Rattle.c_mean.specs.Steps.{SourceMove, to_do, on_value, stored, stored_where, assigned, delivered_or, delivered, entered, entered_where, asks, asks_if, called, assigns, does, branched, returned, gives_back, performs, performs_first, source_step, source_machine, valued, all_valued}
-use Rattle.c_mean.specs.ToDo.{Item, Simply, Choose, Test, Enter, Back, Leave, Skip, GiveBack, GiveBackWord, Fail, before, body_before}
 use Rattle.c_mean.specs.World.{World, Segment, SegmentMove, Rested, Rest, Fresh, Blocked, Ended, unless_trap, rests, calls, segment_move, segment_step, segment_machine, begun_at, begun, thread_moves, with_started}
 use Rattle.machine_meaning.specs.Firsts.{last_function, first_of, first_waiting, IsFirst, Began, IsGrown, IsUnderWayFrom, RestsFrom}
 

@@ -1,14 +1,5 @@
 -- Flat code follows the source: threads under way, whatever the world answers.
-use Rattle.std.proofs.Common.{List, [], ◌∷◌, Some, refl, sym, ◌∙◌, subst}
-use Rattle.cap_word.specs.Runs.{Follows}
-use Rattle.c_tree.specs.Trees.{ProgramTree}
-use Rattle.c_mean.specs.Frames.{Running}
-use Rattle.c_mean.specs.Steps.{to_do, performs_first, source_machine}
-use Rattle.c_mean.specs.ToDo.{Item, GiveBackWord}
-use Rattle.flat_code.specs.declared.operations.Op.{Op}
-use Rattle.flat_code.specs.Codes.{FlatCode}
-use Rattle.flat_code.specs.Frames.{FlatThread}
-use Rattle.flat_code.specs.Step.{returns, flat_machine, finishing}
+use Rattle.machine_meaning.proofs.Common.{List, [], ◌∷◌, Some, refl, sym, ◌∙◌, subst, Follows, ProgramTree, Running, to_do, performs_first, source_machine, Item, GiveBackWord, Op, FlatCode, FlatThread, returns, flat_machine, finishing}
 use Rattle.machine_meaning.proofs.Silent.{step_is, on_has}
 use Rattle.machine_meaning.proofs.Frames.{base, Lowers, thread_of, Under, UnderWay, Giving, Failing, WaitUnder, delivers}
 use Rattle.machine_meaning.proofs.LoweredSteps.{Answers, answers_later}

@@ -1,26 +1,13 @@
 -- A valid pair's code is well formed: as its functions have as many words at most as the image, they have as many operations.
-use Rattle.std.proofs.Common.{◌≡◌, ℕ, suc, ◌+◌, ◌^◌, ◌<◌, ◌≤◌, List, [], ◌∷◌, length, map, take, Some, refl, ap, ◌∙◌, arith}
-use Rattle.std.specs.Prelude.{slice_get, slice_index_or, sum_by}
-use Rattle.std.specs.List.{AllByRecursion}
-use Rattle.std.proofs.lemmas.List.Sums.{sum_by-cons}
-use Rattle.c_lower.specs.ProgramCode.{lowered_function, lowered}
+use Rattle.machine_meaning.proofs.Common.{◌≡◌, ℕ, suc, ◌+◌, ◌^◌, ◌<◌, ◌≤◌, List, [], ◌∷◌, length, map, take, Some, refl, ap, ◌∙◌, arith, slice_get, slice_index_or, sum_by, AllByRecursion, sum_by-cons, lowered_function, lowered, ProgramTree, IsWellScoped, IsValid, FlatFunction, Op, ecall_word, fact_at, size, kind_of, Certificate, Image, same_function}
 use Rattle.c_lower.proofs.FormedPrograms.{program_formed}
-use Rattle.c_tree.specs.Trees.{ProgramTree}
-use Rattle.c_tree.specs.WellScoped.{IsWellScoped}
-use Rattle.certificate_rules.specs.Validity.{IsValid}
-use Rattle.flat_code.specs.declared.functions.FlatFunction.{FlatFunction}
-use Rattle.flat_code.specs.declared.operations.Op.{Op}
 use Rattle.flat_code.specs.Codes.{FlatCode, function_at, operation_at}
 use Rattle.flat_code.specs.WellFormed.{IsWellFormed}
-use Rattle.machine_world.specs.Rests.{ecall_word}
-use Rattle.stack_certificate.specs.Certificates.{fact_at}
-use Rattle.stack_certificate.specs.Templates.{size, kind_of}
-use Rattle.stack_certificate.specs.declared.certificates.Certificate.{Certificate}
-use Rattle.stack_image.specs.declared.images.Image.{Image}
 use Rattle.machine_meaning.proofs.Ends.{function_ends, before_last}
-use Rattle.machine_meaning.proofs.Past.{ecall_site, same_function, prologue_word, whole}
+use Rattle.machine_meaning.proofs.Past.{ecall_site}
 use Rattle.machine_meaning.proofs.Sites.{has_operation}
 use Rattle.machine_meaning.proofs.Zeroes.{program_zeroes}
+use Rattle.segment_laws.proofs.OnePlace.{in_prologue, whole_function}
 use Rattle.segment_laws.proofs.Past.{size_some}
 
 -- ---- there are no more operations than words
@@ -36,7 +23,7 @@ few_operations program image certificate f scoped valid there =
     let sizes = (function_at code f).sizes in
     let many = words_many (λ op. size sizes (kind_of certificate op) op) (function_at code f).ops
     (λ i op e. size_some sizes (kind_of certificate op) op (λ a is. program_zeroes program scoped f i a there (e ∙ ap Some is))) in
-    let all = whole code image certificate valid f there in
+    let all = whole_function code image certificate f valid there in
     let inside = ((valid.holds 2 f 1).v2 refl).inside refl there in
     let few = ((valid.holds 1 0 2).v1 refl).words refl in
     (let short : length (function_at code f).ops ≤ 200000 = omega (arith, many, all, inside.2, few.1) in omega (arith, short))
@@ -64,5 +51,5 @@ follows program scoped f i word op there e ecall =
 pub entries : (code : FlatCode) (image : Image) (certificate : Certificate) (f g : ℕ) → IsValid code image certificate → f < length code.functions → g < length code.functions → (fact_at certificate f).entry ≡ (fact_at certificate g).entry → f ≡ g
 entries code image certificate f g valid there too same =
     same_function code image certificate (fact_at certificate f).entry f g 0 0 valid
-    (prologue_word code image certificate valid (fact_at certificate f).entry f 0 (there, omega arith, omega arith))
-    (prologue_word code image certificate valid (fact_at certificate f).entry g 0 (too, omega arith, omega (arith, same)))
+    (in_prologue code image certificate (fact_at certificate f).entry f 0 valid (there, omega arith, omega arith))
+    (in_prologue code image certificate (fact_at certificate f).entry g 0 valid (too, omega arith, omega (arith, same)))

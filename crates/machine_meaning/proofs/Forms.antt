@@ -1,26 +1,10 @@
 -- A live thread of a well-formed world has its form, and the chunks of the others are apart from its own.
-use Rattle.std.proofs.Common.{◌≡◌, ◌≢◌, ℕ, ◌<◌, ◌≤◌, Bool, true, false, nat_eq, ltb, List, [], ◌∷◌, Option, Some, None, refl, sym, subst, ◌∙◌, arith, cond, ⊎_elim}
-use Rattle.std.specs.List.{AllByRecursion}
-use Rattle.std.proofs.lemmas.Bool.{cases_eq, cond-true, cond-false, eq-eqb, ne_eqb}
-use Rattle.cap_word.specs.Runs.{Goes, Stops}
-use Rattle.c_tree.specs.Trees.{ProgramTree}
+use Rattle.machine_meaning.proofs.Common.{◌≡◌, ◌≢◌, ℕ, ◌<◌, nat_eq, ltb, List, [], ◌∷◌, Option, Some, None, refl, sym, subst, ◌∙◌, arith, ⊎_elim, AllByRecursion, cases_eq, cond-true, cond-false, eq-eqb, ne_eqb, Goes, Stops, ProgramTree, Pool, chunk_of, Areas, copies_in, KeepsShape, copies, Local, Ended, local_step, Checked, StandsForRest, Thread, World, Setting, local_in, first_with, thread_of, IsCore, IsWellFormed, HasForm, IsGoodState, KeepsChunks, rests_law, held_one, held_two, each_chunk, at_most_one}
 use Rattle.c_mean.specs.World as source
-use Rattle.chunk_pool.specs.Pool.{Pool, chunk_of}
 use Rattle.flat_code.specs.WellFormed as flat
 use Rattle.machine_world.specs.Alone.{KeepsChunk}
-use Rattle.machine_world.specs.Areas.{Areas}
-use Rattle.machine_world.specs.Held.{copies_in, KeepsShape, copies}
-use Rattle.machine_world.specs.Local.{Local, Ended, local_step}
-use Rattle.machine_world.specs.Places.{Checked}
-use Rattle.machine_world.specs.StandsForWorld.{StandsForRest}
-use Rattle.machine_world.specs.Threads.{Thread, World, Setting, local_in, first_with, thread_of}
-use Rattle.machine_world.specs.WellFormed.{IsCore, IsWellFormed}
 use Rattle.machine_world.proofs.HeldLaws.{KeepsShape-step}
 use Rattle.segment_laws.proofs.Untouched.{keeps_step}
-use Rattle.segment_laws.specs.Ways.{HasForm, IsGoodState}
-use Rattle.segment_laws.specs.Kept.{KeepsChunks}
-use Rattle.segment_laws.proofs.SameRest.{rests_law}
-use Rattle.segment_laws.proofs.OtherThreads.{held_one, held_two, each_chunk}
 
 core_of : (number : ℕ) (threads : List Thread) (t : Thread) → AllByRecursion (λ thread. IsCore thread.core) threads → first_with number threads ≡ Some t → IsCore t.core
 core_of number [] t all found = absurd cc
@@ -31,10 +15,6 @@ core_of number (u ∷ us) t all found = ⊎_elim
     subst (λ (v : Thread). IsCore v.core) equal all.0)
     (λ apart. core_of number us t all.1 (sym (cond-false (nat_eq u.number number) (Some u) (first_with number us) (ne_eqb u.number number apart)) ∙ found))
     (cases_eq u.number number)
-
-pub at_most_one : (b : Bool) → ◌≤◌ (cond b 1 0) 1
-at_most_one true = omega arith
-at_most_one false = omega arith
 
 pub has_form : (c : Checked) (s : Setting) (w : World) (number : ℕ) (t : Thread) → IsWellFormed c s w → thread_of w number ≡ Some t → HasForm c (local_in w t)
 has_form c s w number t formed found = record {

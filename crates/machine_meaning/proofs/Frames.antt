@@ -1,21 +1,7 @@
 -- Frames of flat code that stand for frames of the source: one that runs, and one that waits for a result.
-use Rattle.std.proofs.Common.{◌≡◌, ℕ, ◌+◌, ◌<◌, ◌≤◌, Bool, true, false, List, [], ◌∷◌, length, Option, Some, None, refl, sym, ap, ◌∙◌, subst, arith, get_or, set}
-use Rattle.std.specs.Prelude.{IsTrue, nat_lt, slice_index, slice_index_or, Result, Ok, Err}
-use Rattle.std.proofs.lemmas.Bool.{ltb-true}
-use Rattle.cap_word.specs.Rows.{row, width, with_word}
-use Rattle.cap_word.specs.Runs.{Goes, Stops}
-use Rattle.cap_word.specs.declared.traps.TrapKind.{TrapKind}
-use Rattle.c_tree.specs.Temporaries.{function_temporaries}
-use Rattle.c_tree.specs.Trees.{FunctionTree, ProgramTree}
-use Rattle.c_tree.specs.WellScoped.{Context, context_of, visible, IsFunctionScoped}
+use Rattle.machine_meaning.proofs.Common.{◌≡◌, ℕ, ◌+◌, ◌<◌, ◌≤◌, Bool, true, false, List, [], ◌∷◌, length, Option, Some, None, refl, sym, ap, ◌∙◌, subst, arith, get_or, set, IsTrue, nat_lt, slice_index, slice_index_or, Result, Ok, Err, ltb-true, row, width, with_word, Goes, Stops, TrapKind, function_temporaries, FunctionTree, ProgramTree, Context, context_of, visible, IsFunctionScoped, Target, ToNowhere, ToLocal, ToGlobal, ToLocalElement, ToGlobalElement, ToCaller, target_of, CallInText, function_calls, WaitsAt, Item, GiveBackWord, Fail, Op, FlatCode, operation_at, FlatFrame, FlatThread, FlatWaiting, Finished, site_in, with_result, on, first, where_in, within, puts, goes_with, place_in, answered, flat_step}
 use Rattle.c_mean.specs.Frames.{Place, Nowhere, InLocal, InGlobal, InLocalElement, InGlobalElement, Returned, Frame, WaitingFrame, Running, Waiting, function_at}
-use Rattle.c_mean.specs.Sites.{Target, ToNowhere, ToLocal, ToGlobal, ToLocalElement, ToGlobalElement, ToCaller, target_of, CallInText, function_calls, WaitsAt}
 use Rattle.c_mean.specs.Steps.{to_do, with_names, with_globals, stored_where, stored, delivered_or, delivered}
-use Rattle.c_mean.specs.ToDo.{Item, GiveBackWord, Fail}
-use Rattle.flat_code.specs.declared.operations.Op.{Op}
-use Rattle.flat_code.specs.Codes.{FlatCode, operation_at}
-use Rattle.flat_code.specs.Frames.{FlatFrame, FlatThread, FlatWaiting, Finished, site_in, with_result}
-use Rattle.flat_code.specs.Step.{on, first, where_in, within, puts, goes_with, place_in, answered, flat_step}
 use Rattle.machine_meaning.proofs.InPlace.{StmtsAt, EndAt, StoreAt, ResultAt, held}
 use Rattle.machine_meaning.proofs.Silent.{Vars, frame_at, put, Has, Kept, kept_put, has_put, Leads, Ends, stays, one_leads, one_ends, leads_both, ends_later, th, step_is, on_has}
 use Rattle.machine_meaning.proofs.Expressions.{Reads, Wide, reads_kept}

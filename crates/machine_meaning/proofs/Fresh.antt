@@ -1,44 +1,17 @@
 -- A new thread on a chunk that was free: it rests at its start for the source thread, and the others keep their chunks.
-use Rattle.std.proofs.Common.{◌≡◌, ℕ, ◌+◌, ◌^◌, ◌<◌, ◌≤◌, ltb, List, [], ◌∷◌, length, Some, refl, sym, ap, subst, ◌∙◌, arith}
-use Rattle.std.specs.Prelude.{slice_index}
-use Rattle.c_lower.specs.ProgramCode.{lowered_function, lowered}
-use Rattle.c_mean.specs.Frames.{function_at, pushed}
-use Rattle.c_tree.specs.Trees.{ProgramTree}
-use Rattle.c_tree.specs.WellScoped.{IsWellScoped}
-use Rattle.certificate_rules.specs.Validity.{IsValid}
-use Rattle.chunk_pool.specs.Pool.{Pool, Taken, taken_for, chunk_of, all_free}
+use Rattle.machine_meaning.proofs.Common.{◌≡◌, ℕ, ◌+◌, ◌^◌, ◌<◌, ◌≤◌, ltb, List, [], ◌∷◌, length, Some, refl, sym, ap, subst, ◌∙◌, arith, slice_index, lowered_function, lowered, function_at, pushed, ProgramTree, IsWellScoped, IsValid, Pool, Taken, taken_for, chunk_of, all_free, FlatFunction, Areas, copies, AreGlobals, a0, Core, with_header, IsResting, AtStart, AtCall, PastCall, StandsForFlat, Frame, Starts, StandAtStart, StandsFor, Thread, World, Setting, thread_of, AreWellFormed, IsWellFormed, read, one_place, NeedsFit-valid, fact_at, Certificate, Image, KeepsChunks, held_one, each_chunk, taken_free, at_most_one}
 use Rattle.chunk_pool.proofs.NeedLaws.{taken_for-keeps, taken_for-shape}
 use Rattle.flat_code.specs.Codes as codes
 use Rattle.flat_code.specs.Frames as flats
-use Rattle.flat_code.specs.declared.functions.FlatFunction.{FlatFunction}
 use Rattle.machine_meaning.proofs.Lowered.{function_is}
 use Rattle.machine_meaning.proofs.Formed.{formed}
-use Rattle.machine_world.specs.Areas.{Areas}
-use Rattle.machine_world.specs.Held.{copies}
-use Rattle.machine_world.specs.Globals.{AreGlobals}
-use Rattle.stack_certificate.specs.Registers.{a0}
-use Rattle.machine_world.specs.Local.{Core, with_header}
 use Rattle.machine_world.specs.Places.{Checked, Place, InPrologue, InOperation, IsAt, function_of}
-use Rattle.machine_world.specs.Rests.{IsResting, AtStart, AtCall, PastCall, StandsForFlat}
-use Rattle.machine_world.specs.InPlace.{Frame}
-use Rattle.machine_world.specs.StandsFor.{Starts, StandAtStart, StandsFor}
-use Rattle.machine_world.specs.Threads.{Thread, World, Setting, thread_of}
-use Rattle.machine_world.specs.WellFormed.{AreWellFormed, IsWellFormed}
-use Rattle.rv_machine.specs.Registers.{read}
 use Rattle.segment_laws.specs.Around.{new_thread}
 use Rattle.segment_laws.proofs.Starting as starting
 use Rattle.segment_laws.proofs.ValidCalls.{CallFacts-valid}
-use Rattle.segment_laws.proofs.OnePlace.{one_place}
-use Rattle.segment_laws.proofs.Needs.{NeedsFit-valid}
-use Rattle.stack_certificate.specs.Certificates.{fact_at}
-use Rattle.stack_certificate.specs.declared.certificates.Certificate.{Certificate}
-use Rattle.stack_image.specs.declared.images.Image.{Image}
 use Rattle.machine_meaning.proofs.Going as going
 use Rattle.machine_meaning.proofs.BetweenLaws as between
 use Rattle.machine_meaning.proofs.Past.{InFunction, past_function}
-use Rattle.segment_laws.specs.Kept.{KeepsChunks}
-use Rattle.segment_laws.proofs.OtherThreads.{held_one, each_chunk, taken_free}
-use Rattle.machine_meaning.proofs.Forms.{at_most_one}
 use Rattle.machine_world.proofs.AloneLaws.{chunk_of-with_header}
 
 -- ---- chunks

@@ -1,16 +1,5 @@
 -- The lists of operations that lowering gives stand where they are put.
-use Rattle.std.proofs.Common.{◌≡◌, ℕ, ◌+◌, Bool, true, false, List, [], ◌∷◌, ◌++◌, length, Option, Some, None, refl, sym, ap, ◌∙◌, subst, arith, length-append}
-use Rattle.c_tree.specs.declared.operators.UnaryOperator.{UnaryOperator}
-use Rattle.cap_word.specs.ModelledCalls.{number_of}
-use Rattle.c_tree.specs.Trees.{ExprTree, LocalElement, GlobalElement, Unary, Parenthesized, Binary, LogicalAnd, LogicalOr, Conditional, CallTree, CallFunction, CallTable, CallSpawn, CallModelled, RightTree, Computed, Called, SimpleTree, DeclareWith, SetLocal, SetGlobal, SetLocalElement, SetGlobalElement, Calling, StmtTree, StmtTrees, Do, Empty, Block, If, IfElse, While, For, Return, NoStmts, Then}
-use Rattle.c_mean.specs.Sites.{Target, ToLocal, ToGlobal, ToLocalElement, ToGlobalElement, ToCaller}
-use Rattle.flat_code.specs.declared.operations.Op.{Op}
-use Rattle.c_lower.specs.ExprCode.{expr_size, expr_code}
-use Rattle.c_lower.specs.CallCode.{arguments_size, arguments_code, arguments_in, call_size, call_code, set_size, set_code, held_size, held_code}
-use Rattle.c_lower.specs.Operations.{operator_of}
-use Rattle.c_lower.specs.ProgramCode.{closing_code}
-use Rattle.c_lower.specs.StmtCode.{simple_size, simple_code, simples_size, simples_code, step_size, step_code, test_size, test_code, return_code, stmt_size, stmt_code, stmts_size, stmts_code}
-use Rattle.c_lower.proofs.CodeSizes.{expr_length, arguments_length, held_length, simple_length, simples_length, step_length, test_length, stmt_length}
+use Rattle.machine_meaning.proofs.Common.{◌≡◌, ℕ, ◌+◌, Bool, true, false, List, [], ◌∷◌, ◌++◌, length, Option, Some, None, refl, sym, ap, ◌∙◌, subst, arith, length-append, UnaryOperator, number_of, ExprTree, LocalElement, GlobalElement, Unary, Parenthesized, Binary, LogicalAnd, LogicalOr, Conditional, CallTree, CallFunction, CallTable, CallSpawn, CallModelled, RightTree, Computed, Called, SimpleTree, DeclareWith, SetLocal, SetGlobal, SetLocalElement, SetGlobalElement, Calling, StmtTree, StmtTrees, Do, Empty, Block, If, IfElse, While, For, Return, NoStmts, Then, Target, ToLocal, ToGlobal, ToLocalElement, ToGlobalElement, ToCaller, Op, expr_size, expr_code, arguments_size, arguments_code, arguments_in, call_size, call_code, set_size, set_code, held_size, held_code, operator_of, closing_code, simple_size, simple_code, simples_size, simples_code, step_size, step_code, test_size, test_code, return_code, stmt_size, stmt_code, stmts_size, stmts_code, expr_length, arguments_length, held_length, simple_length, simples_length, step_length, test_length, stmt_length}
 use Rattle.machine_meaning.proofs.InPlace.{ExprAt, ArgsAt, CallAt, held, StoreAt, ResultAt, RightAt, SimpleAt, SimplesAt, StepAt, TestAt, ReturnAt, StmtAt, StmtsAt, EndAt}
 
 module _ (fetch : ℕ → Option Op) where

@@ -1,15 +1,7 @@
 -- How a thread of flat code goes on that stands for a source thread.
-use Rattle.std.proofs.Common.{◌≡◌, ℕ, ◌<◌, List, [], ◌∷◌, length, refl}
-use Rattle.c_lower.specs.ProgramCode.{lowered}
-use Rattle.c_mean.specs.Frames.{function_at, pushed}
-use Rattle.c_tree.specs.Trees.{ProgramTree}
-use Rattle.c_tree.specs.WellScoped.{IsWellScoped}
+use Rattle.machine_meaning.proofs.Common.{◌≡◌, ℕ, ◌<◌, List, [], ◌∷◌, length, refl, lowered, function_at, pushed, ProgramTree, IsWellScoped, FlatFrame, MeansTheSame, SourceThread, Starts, Waits, going_on, FlatsStandFor, flat_going_on}
 use Rattle.flat_code.specs.Frames as flat
-use Rattle.flat_code.specs.Frames.{FlatFrame}
 use Rattle.machine_meaning.proofs.Meaning.{resumed_means, begun_means, started_starts}
-use Rattle.machine_meaning.specs.Meaning.{MeansTheSame}
-use Rattle.machine_world.specs.StandsFor.{SourceThread, Starts, Waits, going_on}
-use Rattle.machine_meaning.specs.Between.{FlatsStandFor, flat_going_on}
 
 pub goes_on : (program : ProgramTree) (thread : SourceThread) (frame : FlatFrame) (below : List FlatFrame) (result : ℕ) (globals : List (List ℕ)) → IsWellScoped program → FlatsStandFor program (frame ∷ below) thread
     → MeansTheSame program (going_on thread result globals) (flat_going_on (lowered program) thread frame below result globals)

@@ -1,13 +1,6 @@
 -- The operations of a tree stand in a function of flat code, from one place to another: one look-up for each operation.
-use Rattle.std.specs.Prelude.{◌≡◌, ℕ, ◌+◌, Bool, true, false, List, [], ◌∷◌, Option, Some, None}
-use Rattle.c_tree.specs.declared.operators.UnaryOperator.{UnaryOperator}
-use Rattle.cap_word.specs.ModelledCalls.{number_of}
+use Rattle.machine_meaning.proofs.Common.{◌≡◌, ℕ, ◌+◌, Bool, true, false, List, [], ◌∷◌, Option, Some, None, UnaryOperator, number_of, Target, ToNowhere, ToLocal, ToGlobal, ToLocalElement, ToGlobalElement, ToCaller, Loop, WhileLoop, ForLoop, Op, operator_of, arguments_in}
 use Rattle.c_tree.specs.Trees.{ExprTree, Number, Local, Global, LocalElement, GlobalElement, Unary, Parenthesized, Binary, LogicalAnd, LogicalOr, Conditional, CallTree, CallFunction, CallTable, CallSpawn, CallModelled, RightTree, Computed, Called, SimpleTree, DeclareScalar, DeclareArray, DeclareWith, SetLocal, SetGlobal, SetLocalElement, SetGlobalElement, Calling, StmtTree, StmtTrees, Do, Empty, Block, If, IfElse, While, For, Break, Continue, Return, NoStmts, Then}
-use Rattle.c_mean.specs.Sites.{Target, ToNowhere, ToLocal, ToGlobal, ToLocalElement, ToGlobalElement, ToCaller}
-use Rattle.c_mean.specs.ToDo.{Loop, WhileLoop, ForLoop}
-use Rattle.flat_code.specs.declared.operations.Op.{Op}
-use Rattle.c_lower.specs.Operations.{operator_of}
-use Rattle.c_lower.specs.CallCode.{arguments_in}
 
 module _ (fetch : ℕ → Option Op) where
   -- an expression's, from p to q, which leave it in variable d

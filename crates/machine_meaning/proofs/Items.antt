@@ -1,26 +1,9 @@
 -- Each item that a frame has still to do is answered by the operations that stand for it.
-use Rattle.std.proofs.Common.{◌≡◌, ℕ, zero, suc, ◌+◌, ◌<◌, ◌≤◌, Bool, true, false, List, [], ◌∷◌, length, replicate, Option, Some, None, refl, sym, ap, ◌∙◌, subst, arith, set}
-use Rattle.std.specs.Prelude.{max, slice_index, Result, Ok, Err}
-use Rattle.std.proofs.lemmas.List.{length-set}
-use Rattle.cap_word.specs.Rows.{width, with_zeros}
-use Rattle.cap_word.specs.Runs.{Goes, Stops}
-use Rattle.cap_word.specs.declared.traps.TrapKind.{TrapKind}
-use Rattle.c_tree.specs.Temporaries.{expr_temporaries, right_temporaries, held_temporaries, simple_temporaries, returned_temporaries}
-use Rattle.c_tree.specs.TextOrder.{scalar, simple_names}
-use Rattle.c_tree.specs.Trees.{ExprTree, RightTree, Computed, Called, SimpleTree, DeclareScalar, DeclareArray, DeclareWith, SetLocal, SetGlobal, SetLocalElement, SetGlobalElement, Calling, ProgramTree}
-use Rattle.c_tree.specs.WellScoped.{IsExprScoped, IsRightScoped, IsSimpleScoped, IsReturnScoped}
-use Rattle.c_mean.specs.Frames.{Place, Nowhere, InLocal, InGlobal, InLocalElement, InGlobalElement, Returned, WaitingFrame, Running}
-use Rattle.c_mean.specs.Sites.{target_of, right_calls, simple_calls, returned_calls, function_calls}
+use Rattle.machine_meaning.proofs.Common.{◌≡◌, ℕ, zero, suc, ◌+◌, ◌<◌, ◌≤◌, Bool, true, false, List, [], ◌∷◌, length, replicate, Option, Some, None, refl, sym, ap, ◌∙◌, subst, arith, set, max, slice_index, Result, Ok, Err, length-set, width, with_zeros, Goes, Stops, TrapKind, expr_temporaries, right_temporaries, held_temporaries, simple_temporaries, returned_temporaries, scalar, simple_names, ExprTree, RightTree, Computed, Called, SimpleTree, DeclareScalar, DeclareArray, DeclareWith, SetLocal, SetGlobal, SetLocalElement, SetGlobalElement, Calling, ProgramTree, IsExprScoped, IsRightScoped, IsSimpleScoped, IsReturnScoped, Place, Nowhere, InLocal, InGlobal, InLocalElement, InGlobalElement, Returned, WaitingFrame, Running, target_of, right_calls, simple_calls, returned_calls, function_calls, Item, WhileLoop, ForLoop, before, body_before, turn_before, after_leave, after_skip, AllIn, Op, FlatCode, operation_at, FlatFrame, FlatThread, Finished, returns, answered, flat_step, expr_takes_one}
 use Rattle.c_mean.specs.Steps.{to_do, with_names, valued, on_value, stored, assigned, delivered, assigns, does, branched, returned, gives_back, performs_first}
-use Rattle.c_mean.specs.ToDo.{Item, WhileLoop, ForLoop, before, body_before, turn_before, after_leave, after_skip}
-use Rattle.c_mean.proofs.TextLemmas.{AllIn}
-use Rattle.flat_code.specs.declared.operations.Op.{Op}
-use Rattle.flat_code.specs.Codes.{FlatCode, operation_at}
-use Rattle.flat_code.specs.Frames.{FlatFrame, FlatThread, Finished}
-use Rattle.flat_code.specs.Step.{returns, answered, flat_step}
 use Rattle.machine_meaning.proofs.InPlace.{ExprAt, RightAt, SimpleAt, ReturnAt, EndAt, held}
 use Rattle.machine_meaning.proofs.Silent.{Vars, put, Has, has_put, stays, step_is, on_has, const_leads, jump_leads}
-use Rattle.machine_meaning.proofs.Expressions.{some_temporaries, wide_at}
+use Rattle.machine_meaning.proofs.Expressions.{wide_at}
 use Rattle.machine_meaning.proofs.Stands.{within_names, AtEnd, ByJump, InFewer, AtSimple, AtChoose, AtWhile, AtFor, AtEnter, AtBack, AtLeave, AtSkip, AtReturn, while_body_stands, for_body_stands, turn_stands}
 use Rattle.machine_meaning.proofs.Rows.{reads_zeros, reads_fewer, wide_zeros}
 use Rattle.machine_meaning.proofs.Frames.{after_base, fn, cx, base, temps, StandsIn, Lowers, Holds, holds_kept, Ready, AllWait, thread_of, Under, UnderWay, OneStep, store_step, ready_kept, delivers}
@@ -31,7 +14,7 @@ right_held (Computed e) = omega arith
 right_held (Called c) = omega arith
 
 pub held_some : (v : RightTree) → 1 ≤ held_temporaries v
-held_some (Computed e) = some_temporaries e
+held_some (Computed e) = expr_takes_one e
 held_some (Called c) = omega arith
 
 module _ (program : ProgramTree) (code : FlatCode) (given : Lowers program code) where

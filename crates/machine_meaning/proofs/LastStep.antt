@@ -1,13 +1,5 @@
 -- The step at which a thread of flat code asks: it stands at its operation, whose call it asks.
-use Rattle.std.proofs.Common.{◌≡◌, ℕ, zero, suc, Bool, true, false, List, [], ◌∷◌, length, Option, Some, None, refl, sym, ap, ◌∙◌, subst}
-use Rattle.std.specs.Prelude.{nat_lt}
-use Rattle.cap_word.specs.Calls.{Call, Question, call_of}
-use Rattle.cap_word.specs.Rows.{width, word_at, with_word}
-use Rattle.cap_word.specs.Runs.{Goes, Asks, Stops, and_then, moves}
-use Rattle.cap_word.specs.declared.traps.TrapKind.{TrapKind}
-use Rattle.flat_code.specs.declared.operations.Op.{Op}
-use Rattle.flat_code.specs.Codes.{FlatCode, members_of}
-use Rattle.flat_code.specs.Frames.{FlatFrame, FlatThread, FlatWaiting, standing, variable}
+use Rattle.machine_meaning.proofs.Common.{◌≡◌, ℕ, zero, suc, Bool, true, false, List, [], ◌∷◌, length, Option, Some, None, refl, sym, ap, ◌∙◌, subst, nat_lt, Call, Question, call_of, width, word_at, with_word, Goes, Asks, Stops, and_then, moves, TrapKind, Op, FlatCode, members_of, FlatFrame, FlatThread, FlatWaiting, standing, variable}
 use Rattle.flat_code.specs.Step.{FlatMove, on, scalar, scalars, where_in, jumps, puts, goes_with, asks, returns, does, flat_step, flat_machine}
 
 module _ (code : FlatCode) where

@@ -1,21 +1,7 @@
 -- The flat code of a program that is well scoped has each function's operations in their place.
-use Rattle.std.proofs.Common.{◌≡◌, ℕ, zero, suc, ◌+◌, ◌<◌, false, List, [], ◌∷◌, ◌++◌, map, length, Some, refl, sym, ap, ◌∙◌, subst, arith, length-append}
-use Rattle.std.specs.Prelude.{slice_get, slice_index, slice_index_or}
-use Rattle.std.specs.List.{AllByRecursion}
-use Rattle.std.proofs.lemmas.List.{length-map, get_or-map, get_or_append_left}
+use Rattle.machine_meaning.proofs.Common.{◌≡◌, ℕ, zero, suc, ◌+◌, ◌<◌, false, List, [], ◌∷◌, ◌++◌, map, length, Some, refl, sym, ap, ◌∙◌, subst, arith, length-append, slice_get, slice_index, slice_index_or, AllByRecursion, length-map, get_or-map, get_or_append_left, function_temporaries, FunctionTree, ProgramTree, NoStmts, signature_of, IsFunctionScoped, AreFunctionsScoped, IsWellScoped, Signature, IsMember, IsTable, function_at, Op, FlatFunction, operation_at, closing_code, function_ops, function_sizes, lowered_function, lowered, stmts_size, stmts_code, stmts_length}
 use Rattle.c_tree.specs.Sizes as words
-use Rattle.c_tree.specs.Temporaries.{function_temporaries}
-use Rattle.c_tree.specs.Trees.{FunctionTree, ProgramTree, NoStmts}
-use Rattle.c_tree.specs.WellScoped.{signature_of, IsFunctionScoped, AreFunctionsScoped, IsWellScoped}
-use Rattle.cap_word.specs.Signatures.{Signature, IsMember, IsTable}
-use Rattle.c_mean.specs.Frames.{function_at}
-use Rattle.flat_code.specs.declared.operations.Op.{Op}
-use Rattle.flat_code.specs.declared.functions.FlatFunction.{FlatFunction}
-use Rattle.flat_code.specs.Codes.{operation_at}
 use Rattle.flat_code.specs.Codes as codes
-use Rattle.c_lower.specs.ProgramCode.{closing_code, function_ops, function_sizes, lowered_function, lowered}
-use Rattle.c_lower.specs.StmtCode.{stmts_size, stmts_code}
-use Rattle.c_lower.proofs.CodeSizes.{stmts_length}
 use Rattle.machine_meaning.proofs.FromList.{PartAt, split, stmts_at, end_at}
 use Rattle.machine_meaning.proofs.Frames.{FunctionStands, Lowers}
 use Rattle.machine_meaning.proofs.LoweredSteps.{params_at}

@@ -1,31 +1,7 @@
 -- Each step of a source thread is answered by the flat code that stands for it.
-use Rattle.std.proofs.Common.{◌≡◌, ℕ, suc, ◌+◌, ◌<◌, ◌≤◌, Bool, true, false, List, [], ◌∷◌, map, length, Option, Some, None, refl, sym, ap, ◌∙◌, subst, arith, get_or}
-use Rattle.std.specs.Prelude.{IsSome, nat_lt, slice_index, slice_index_or, Result, Ok, Err}
-use Rattle.std.specs.List.{Contains}
-use Rattle.std.proofs.lemmas.Bool.{ltb-true}
-use Rattle.std.proofs.lemmas.List.{length-map, get_or-map}
-use Rattle.cap_word.specs.Calls.{Call, Question, Finish, call_of, spawn_of}
-use Rattle.cap_word.specs.Runs.{Goes, Asks, Stops, and_then, moves, IsAnswered}
-use Rattle.cap_word.specs.declared.traps.TrapKind.{TrapKind}
-use Rattle.cap_word.proofs.RunLemmas.{goes_on}
-use Rattle.cap_word.specs.ModelledCalls.{number_of}
-use Rattle.c_tree.specs.Temporaries.{expr_temporaries, arguments_temporaries, call_temporaries}
-use Rattle.c_tree.specs.TextOrder.{call_site}
-use Rattle.c_tree.specs.Trees.{ExprTree, CallTree, CallFunction, CallTable, CallSpawn, CallModelled, FunctionTree, ProgramTree, NoStmts}
-use Rattle.c_tree.specs.WellScoped.{signature_of, IsExprScoped, AreExprsScoped, IsCallScoped}
-use Rattle.cap_word.specs.Signatures.{signature_at}
-use Rattle.c_mean.specs.Frames.{Place, Running, Waiting, function_at, pushed}
-use Rattle.c_mean.specs.Sites.{target_of, function_calls}
-use Rattle.c_mean.specs.Steps.{SourceMove, to_do, valued, all_valued, on_value, waits_at, entered, entered_where, entered_by, asks_if, called}
-use Rattle.c_mean.specs.Values.{Value, with_first}
-use Rattle.c_mean.proofs.CallLemmas.{known, counted}
-use Rattle.flat_code.specs.declared.operations.Op.{Op}
-use Rattle.flat_code.specs.Codes.{FlatCode, operation_at, members_of}
-use Rattle.flat_code.specs.Frames.{FlatFrame, FlatThread, FlatWaiting, Finished, site_in}
-use Rattle.flat_code.specs.Step.{on, first, scalars, both, where_in, enters, enters_by, place_in, flat_step, flat_machine, finishing_move}
+use Rattle.machine_meaning.proofs.Common.{◌≡◌, ℕ, suc, ◌+◌, ◌<◌, ◌≤◌, Bool, true, false, List, [], ◌∷◌, map, length, Option, Some, None, refl, sym, ap, ◌∙◌, subst, arith, get_or, IsSome, nat_lt, slice_index, slice_index_or, Result, Ok, Err, Contains, ltb-true, length-map, get_or-map, Call, Question, Finish, call_of, spawn_of, Goes, Asks, Stops, and_then, moves, IsAnswered, TrapKind, goes_on, number_of, expr_temporaries, arguments_temporaries, call_temporaries, call_site, ExprTree, CallTree, CallFunction, CallTable, CallSpawn, CallModelled, FunctionTree, ProgramTree, NoStmts, signature_of, IsExprScoped, AreExprsScoped, IsCallScoped, signature_at, Place, Running, Waiting, function_at, pushed, target_of, function_calls, SourceMove, to_do, valued, all_valued, on_value, waits_at, entered, entered_where, entered_by, asks_if, called, Value, with_first, known, counted, Op, FlatCode, operation_at, members_of, FlatFrame, FlatThread, FlatWaiting, Finished, site_in, on, first, scalars, both, where_in, enters, enters_by, place_in, flat_step, flat_machine, finishing_move, arguments_in}
 use Rattle.flat_code.specs.Step as flat
 use Rattle.flat_code.specs.Frames as frames
-use Rattle.c_lower.specs.CallCode.{arguments_in}
 use Rattle.machine_meaning.proofs.InPlace.{ExprAt, ArgsAt, CallAt, ResultAt, held}
 use Rattle.machine_meaning.proofs.Silent.{Vars, frame_at, Has, Kept, kept_all, kept_both, kept_fewer, Leads, Ends, stays, leads_both, ends_later, step_is, on_has}
 use Rattle.machine_meaning.proofs.Expressions.{Comes, expr_comes}

@@ -1,18 +1,9 @@
 -- Threads of flat code that stand for threads of the source mean the same.
-use Rattle.std.proofs.Common.{◌≡◌, ℕ, zero, suc, ◌<◌, List, [], ◌∷◌, map, length, replicate, refl, sym, ap, ◌∙◌, subst}
-use Rattle.cap_word.specs.Calls.{Question, Answer, Finish}
+use Rattle.machine_meaning.proofs.Common.{◌≡◌, ℕ, zero, suc, ◌<◌, List, [], ◌∷◌, map, length, replicate, refl, sym, ap, ◌∙◌, subst, Question, Answer, Finish, ProgramTree, IsWellScoped, Running, Waiting, function_at, source_machine, source_resume, started, start_globals, FlatThread, FlatWaiting, End, Finished, Lost, flat_machine, flat_resume, finishing, finishing_move, lowered, lowered_global, MeansTheSame}
 use Rattle.cap_word.specs.Runs.{Move, Goes, Asks, Stops, Machine, and_then, moves, Progress, Unfinished, Over, run, seen}
 use Rattle.cap_word.proofs.Following.{Comes, comes, Came, came, RunComes, run_comes, run_came}
-use Rattle.c_tree.specs.Trees.{ProgramTree}
-use Rattle.c_tree.specs.WellScoped.{IsWellScoped}
-use Rattle.c_mean.specs.Frames.{Running, Waiting, function_at}
-use Rattle.c_mean.specs.Steps.{source_machine, source_resume, started, start_globals}
-use Rattle.flat_code.specs.Frames.{FlatThread, FlatWaiting, End, Finished, Lost}
-use Rattle.flat_code.specs.Step.{flat_machine, flat_resume, finishing, finishing_move}
 use Rattle.flat_code.specs.Step as flat_steps
-use Rattle.c_lower.specs.ProgramCode.{lowered, lowered_global}
 use Rattle.machine_meaning.specs.StandsFor.{StandsFor, StartsAs}
-use Rattle.machine_meaning.specs.Meaning.{MeansTheSame}
 use Rattle.machine_meaning.proofs.Frames.{Under, WaitUnder}
 use Rattle.machine_meaning.proofs.Pushed.{pushed_holds}
 use Rattle.machine_meaning.proofs.Lowered.{lowers}

@@ -1,13 +1,6 @@
 -- Modelled calls by their numbers: none of them starts a thread, and the number tells whether a result is wanted.
-use Rattle.std.proofs.Common.{◌≡◌, ℕ, Bool, true, false, List, Some, refl, sym, subst}
-use Rattle.std.specs.Prelude.{slice_index_or}
-use Rattle.cap_word.specs.Calls.{Call, Blocking, Immediate, call_of, call_with}
-use Rattle.cap_word.specs.ModelledCalls.{number_of}
-use Rattle.cap_word.specs.declared.calls.Ask.{Ask}
+use Rattle.machine_meaning.proofs.Common.{◌≡◌, ℕ, Bool, true, false, List, Some, refl, sym, subst, slice_index_or, Call, Blocking, Immediate, call_of, call_with, number_of, Ask, ModelledCall, made_of, modelled_gives}
 use Rattle.cap_word.specs.declared.calls.Block.{Block}
-use Rattle.cap_word.specs.declared.modelled_calls.ModelledCall.{ModelledCall}
-use Rattle.c_mean.proofs.CallLemmas.{made_of}
-use Rattle.flat_code.specs.Modelled.{modelled_gives}
 
 abbrev pub block_gives : Block → Bool
 block_gives Block.Accept = true

@@ -1,16 +1,5 @@
 -- The outputs of a source's run grow, so that a run that has put so many values has a first moment at which it had.
-use Rattle.std.proofs.Common.{◌≡◌, ℕ, zero, suc, ◌+◌, ◌<◌, ◌≤◌, List, [], ◌∷◌, ◌++◌, length, Option, Some, None, refl, sym, ap, subst, ◌∙◌, arith, append_assoc, length-append, ⊎_elim}
-use Rattle.std.specs.Prelude.{option_map}
-use Rattle.std.proofs.lemmas.Bool.{cases_lt}
-use Rattle.std.proofs.lemmas.List.{append-nil}
-use Rattle.cap_word.specs.Calls.{Call, Blocking, Immediate}
-use Rattle.cap_word.specs.Runs.{Goes, Asks, Stops, and_then, moves}
-use Rattle.cap_word.proofs.RunLemmas.{moves_add}
-use Rattle.cap_word.specs.declared.traps.TrapKind.{TrapKind}
-use Rattle.c_tree.specs.Trees.{ProgramTree}
-use Rattle.c_mean.specs.Frames.{Waiting}
-use Rattle.c_mean.specs.ModelledCalls.{blocking_row, immediate_row}
-use Rattle.c_mean.specs.Steps.{SourceMove, source_step}
+use Rattle.machine_meaning.proofs.Common.{◌≡◌, ℕ, zero, suc, ◌+◌, ◌<◌, ◌≤◌, List, [], ◌∷◌, ◌++◌, length, Option, Some, None, refl, sym, ap, subst, ◌∙◌, arith, append_assoc, length-append, ⊎_elim, option_map, cases_lt, append-nil, Call, Blocking, Immediate, Goes, Asks, Stops, and_then, moves, moves_add, TrapKind, ProgramTree, Waiting, blocking_row, immediate_row, SourceMove, source_step}
 use Rattle.c_mean.specs.World.{Blocked, Ended, World, Segment, SegmentMove, rests, unless_trap, with_printed, calls, segment_move, segment_step, segment_machine, begun, thread_moves, IsCutAt}
 
 -- outputs that follow others

@@ -1,19 +1,9 @@
 -- A thread past the ECALL of its call goes on to stand for the source thread that waits there.
 use Rattle.std.proofs.Common.{ℕ, List, [], ◌∷◌, Option, Some}
-use Rattle.c_mean.specs.Frames.{WaitingFrame, Waiting}
-use Rattle.c_tree.specs.Trees.{ProgramTree}
-use Rattle.chunk_pool.specs.Pool.{Pool}
-use Rattle.flat_code.specs.Codes.{result_place}
-use Rattle.flat_code.specs.declared.operations.Op.{Op}
-use Rattle.machine_world.specs.InPlace.{Frame}
-use Rattle.machine_world.specs.Local.{Core, passed}
+use Rattle.machine_meaning.proofs.Common.{WaitingFrame, Waiting, ProgramTree, Pool, result_place, Op, Frame, Core, passed, IsAtCall, IsPastCall, IsWaitingFrame, StandAtCall, CodeFacts, FollowsAsks}
 use Rattle.machine_world.specs.Places.{Checked, Place}
-use Rattle.machine_world.specs.Rests.{IsAtCall, IsPastCall}
-use Rattle.machine_world.specs.StandsFor.{IsWaitingFrame, StandAtCall}
 use Rattle.segment_laws.proofs.Passing.{behind_by}
 use Rattle.segment_laws.proofs.Finish.{frame_at}
-use Rattle.segment_laws.specs.Facts.{CodeFacts}
-use Rattle.segment_laws.specs.Alike.{FollowsAsks}
 use Rattle.std.proofs.Common.{refl}
 
 pub record PastWaits (c : Checked) (program : ProgramTree) (pool : Pool) (core : Core) (f i : ℕ) (op : Op) (word : ℕ) (waiting : Waiting) : Type 0 where

@@ -1,57 +1,19 @@
 -- A pick begins a segment, and the source's run of its thread.
-use Rattle.std.proofs.Common.{◌≡◌, ◌≢◌, ℕ, zero, suc, ◌+◌, ◌*◌, ◌<◌, Bool, true, false, List, [], ◌∷◌, length, Option, Some, None, refl, sym, ap, subst, ◌∙◌, arith, cond}
-use Rattle.std.specs.Prelude.{slice_get, is_none, option_map}
-use Rattle.std.specs.List.{AllByRecursion}
-use Rattle.std.proofs.lemmas.Bool.{cond_both}
-use Rattle.std.proofs.lemmas.List.{length-map, append-nil}
-use Rattle.cap_word.specs.Calls.{Blocking}
-use Rattle.cap_word.specs.Runs.{Goes, moves}
+use Rattle.machine_meaning.proofs.Common.{◌≡◌, ◌≢◌, ℕ, ◌+◌, ◌*◌, ◌<◌, Bool, true, false, List, [], ◌∷◌, length, Option, Some, None, refl, sym, ap, subst, ◌∙◌, arith, cond, slice_get, is_none, option_map, AllByRecursion, cond_both, length-map, append-nil, Blocking, Goes, moves, lowered_function, lowered, Waiting, pushed, Exchange, blocking_row, source_resume, started, Rest, Segment, segment_machine, begun, begun_at, thread_moves, ProgramTree, IsWellScoped, IsValid, Pool, chunk_of, modelled_gives, Op, Frame, ra, sp, tp, a0, ecall_word, IsPastCall, IsResting, AtStart, AtCall, PastCall, Pick, after_action, picked, picked_at, picked_row, may_run, is_between, Starts, Waits, StandsFor, StandsForThread, IsFresh, IsBlockedAt, IsPast, StandsForRest, Blocked, Thread, World, Setting, first_with, thread_of, replaced, result_on, local_in, IsWellFormed, IsWellFormedIf-action, read, one_place, HoldsWanted, HoldsResult, MayRun, begin, Certificate, Image, KeepsChunks, KeepsStack, frames_law, with_puts, IsReached, IsBlockingCall, RestsSo, IsSettledThread, IsSettledIf, StandsSettled, IsUnderWay, slice_get_within, first_with-number, kept, first_with-replaced}
 use Rattle.cap_word.specs.declared.calls.Block.{Block}
-use Rattle.c_lower.specs.ProgramCode.{lowered_function, lowered}
-use Rattle.c_mean.specs.Frames.{Waiting, pushed}
-use Rattle.c_mean.specs.ModelledCalls.{Exchange, blocking_row}
-use Rattle.c_mean.specs.Steps.{source_resume, started}
 use Rattle.c_mean.specs.World as source
-use Rattle.c_mean.specs.World.{Rest, Segment, segment_machine, begun, begun_at, thread_moves}
-use Rattle.c_tree.specs.Trees.{ProgramTree}
-use Rattle.c_tree.specs.WellScoped.{IsWellScoped}
-use Rattle.certificate_rules.specs.Validity.{IsValid}
-use Rattle.chunk_pool.specs.Pool.{Pool, chunk_of}
 use Rattle.flat_code.specs.Codes.{function_at, operation_at, result_place}
-use Rattle.flat_code.specs.Modelled.{modelled_gives}
 use Rattle.flat_code.specs.WellFormed as flat
-use Rattle.flat_code.specs.declared.operations.Op.{Op}
-use Rattle.machine_world.specs.InPlace.{Frame}
-use Rattle.stack_certificate.specs.Registers.{ra, sp, tp, a0}
 use Rattle.machine_world.specs.Local.{Core, Local, passed, with_result}
 use Rattle.machine_world.specs.Places.{Checked, Place, InOperation, IsAt, size_in, function_of}
-use Rattle.machine_world.specs.Rests.{ecall_word, IsPastCall, IsResting, AtStart, AtCall, PastCall}
-use Rattle.machine_world.specs.Runs.{Pick, after_action, picked, picked_at, picked_row, may_run, is_between}
-use Rattle.machine_world.specs.StandsFor.{Starts, Waits, StandsFor, StandsForThread}
-use Rattle.machine_world.specs.StandsForWorld.{IsFresh, IsBlockedAt, IsPast, StandsForRest}
-use Rattle.machine_world.specs.Threads.{Blocked, Thread, World, Setting, first_with, thread_of, replaced, result_on, local_in}
-use Rattle.machine_world.specs.WellFormed.{IsWellFormed}
-use Rattle.machine_world.proofs.FormWorlds.{IsWellFormedIf-action}
-use Rattle.rv_machine.specs.Registers.{read}
-use Rattle.segment_laws.proofs.Registers.{read-write_other}
-use Rattle.segment_laws.proofs.OnePlace.{one_place}
-use Rattle.machine_meaning.specs.AsSource.{HoldsWanted, HoldsResult}
-use Rattle.segment_laws.specs.Alike.{MayRun}
-use Rattle.stack_certificate.specs.Templates.{begin}
-use Rattle.stack_certificate.specs.declared.certificates.Certificate.{Certificate}
-use Rattle.stack_image.specs.declared.images.Image.{Image}
 use Rattle.machine_meaning.proofs.Past.{ecall_inside}
 use Rattle.machine_meaning.proofs.Sites.{has_operation}
-use Rattle.segment_laws.specs.Kept.{KeepsChunks, KeepsStack}
-use Rattle.segment_laws.proofs.Frames.{frames_law}
-use Rattle.machine_meaning.specs.Reached.{with_puts, IsReached}
-use Rattle.machine_meaning.specs.UnderWay.{IsBlockingCall, RestsSo, IsSettledThread, IsSettledIf, StandsSettled, IsUnderWay}
 use Rattle.machine_meaning.proofs.Forms.{has_form}
 use Rattle.machine_meaning.proofs.Modelled.{call_is, block_gives}
 use Rattle.machine_meaning.proofs.Outputs.{cut_at}
 use Rattle.machine_meaning.proofs.Staying.{holds_by}
 use Rattle.machine_meaning.proofs.SegmentSteps.{facts, runs_from, wanted}
-use Rattle.machine_meaning.proofs.Threads.{number_of, replaced_same, replaced_other}
+use Rattle.machine_meaning.proofs.Threads.{replaced_same}
 
 -- ---- one ECALL by its pc
 
@@ -77,20 +39,16 @@ module _ (program : ProgramTree) (image : Image) (certificate : Certificate) (sc
 
 -- ---- registers
 
-kept_register : (x : List ℕ) (result : Option ℕ) (r : ℕ) → (r ≡ 10 → ⊥) → read (with_result x result) r ≡ read x r
-kept_register x None r apart = refl
-kept_register x (Some v) r apart = read-write_other x a0 v r apart
-
 kept_stack : (core : Core) (result : Option ℕ) → KeepsStack core (record core { x = with_result core.x result })
 kept_stack core result = record {
   pc = refl;
   chain = refl;
-  returns = kept_register core.x result ra (λ e. omega (arith, e));
-  stack = kept_register core.x result sp (λ e. omega (arith, e));
-  front = kept_register core.x result tp (λ e. omega (arith, e));
+  returns = kept core.x result ra (λ e. omega (arith, e));
+  stack = kept core.x result sp (λ e. omega (arith, e));
+  front = kept core.x result tp (λ e. omega (arith, e));
 }
 
-kept_pool : (pool : Pool) (chain : List ℕ) → KeepsChunks pool pool chain
+pub kept_pool : (pool : Pool) (chain : List ℕ) → KeepsChunks pool pool chain
 kept_pool pool chain = record { shape = refl; words = all chain }
   where
     all : (chain : List ℕ) → AllByRecursion (λ chunk. chunk_of pool chunk ≡ chunk_of pool chunk) chain
@@ -109,12 +67,6 @@ block_result n result (Block.WaitFor channel ticks) gives does = refl
 start_may : (c : Checked) (program : ProgramTree) (pool : Pool) (core : Core) (rests : IsResting c pool core) (frame : Rattle.c_mean.specs.Frames.Frame) (below : List Rattle.c_mean.specs.Frames.WaitingFrame) → StandsFor c program pool core rests (Starts frame below) → MayRun c pool core rests
 start_may c program pool core (AtCall f i op word frames in_place) frame below h = absurd h
 start_may c program pool core _ frame below h = tt
-
--- where a rest is, its number is below their count
-get_there : {A : Type 0} (xs : List A) (i : ℕ) (a : A) → slice_get xs i ≡ Some a → i < length xs
-get_there [] i a e = absurd cc
-get_there (x ∷ xs) zero a e = omega arith
-get_there (x ∷ xs) (suc i) a e = let rest = get_there xs i a e in omega (arith, rest)
 
 -- no world
 abbrev no_world : Option World
@@ -147,7 +99,7 @@ module _ (program : ProgramTree) (image : Image) (certificate : Certificate) (sc
   fresh_begins : (t : Thread) (f : ℕ) (arguments : List ℕ) → thread_of w number ≡ Some t → slice_get start.threads number ≡ Some (source.Fresh f arguments) → IsFresh here program w.areas.pool t f arguments
       → IsReached here program s start number [] (picked_at s w t None)
   fresh_begins t f arguments found at h =
-      let own = number_of number w.threads t found in
+      let own = first_with-number number w.threads t found in
       let first : Segment = record { number = number; running = started program f arguments start.globals; world = start } in
       let l = local_in w t in
       let stands_now : StandsForThread here program l (Starts (pushed program f arguments) []) start.globals = record { rests = h.rests; stands = h.stands; globals_are = stands.stands.globals_are } in
@@ -155,7 +107,7 @@ module _ (program : ProgramTree) (image : Image) (certificate : Certificate) (sc
         running = ap (λ (n : ℕ). Some n) own;
         thread = t;
         live = found;
-        there = get_there start.threads number (source.Fresh f arguments) at;
+        there = slice_get_within start.threads number (source.Fresh f arguments) at;
         from = l;
         steps = 0;
         comes = refl;
@@ -215,7 +167,7 @@ module _ (program : ProgramTree) (image : Image) (certificate : Certificate) (sc
   blocked_begins : (t : Thread) (blocked : Blocked) (waiting : Waiting) → thread_of w number ≡ Some t → slice_get start.threads number ≡ Some (source.Blocked blocked.block waiting) → IsBlockedAt here program w.areas.pool t blocked.block waiting → (settled : IsResting here w.areas.pool t.core) → RestsSo here w.areas.pool t settled (Some blocked)
       → IsWellFormed here s (picked_row w t blocked.block (blocking_row s.caps start.exchange blocked.block)) → IsReached here program s start number [] (picked_row w t blocked.block (blocking_row s.caps start.exchange blocked.block))
   blocked_begins t blocked waiting found at h settled so formed_now =
-      let own = number_of number w.threads t found in
+      let own = first_with-number number w.threads t found in
       let row = blocking_row s.caps start.exchange blocked.block in
       let core_now : Core = record t.core { x = with_result t.core.x (result_on blocked.block row.result) } in
       let new : Thread = record t { core = core_now; blocked = None } in
@@ -225,12 +177,12 @@ module _ (program : ProgramTree) (image : Image) (certificate : Certificate) (sc
       let stands_now : StandsForThread here program l (Waits waiting) start.globals = record { rests = on.rests; stands = on.stands_for; globals_are = stands.stands.globals_are } in
       let live : first_with number (replaced new w.threads) ≡ Some new =
       ap (λ (n : ℕ). first_with n (replaced new w.threads)) (sym own) ∙ replaced_same new t w.threads (ap (λ (n : ℕ). first_with n w.threads) own ∙ found) in
-      let same = λ (n : ℕ) (apart : n ≢ number). replaced_other n new w.threads (λ (e : n ≡ t.number). apart (e ∙ own)) in
+      let same = λ (n : ℕ) (apart : n ≢ number). first_with-replaced n new w.threads (λ (e : n ≡ t.number). apart (e ∙ own)) in
       begins (picked_row w t blocked.block row) first (ap (begun_at program s.caps start number) at) refl refl (record {
         running = ap (λ (n : ℕ). Some n) own;
         thread = new;
         live = live;
-        there = get_there start.threads number (source.Blocked blocked.block waiting) at;
+        there = slice_get_within start.threads number (source.Blocked blocked.block waiting) at;
         from = l;
         steps = 0;
         comes = refl;

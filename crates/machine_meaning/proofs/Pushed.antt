@@ -1,28 +1,13 @@
 -- A frame that is pushed stands at its function's start.
-use Rattle.std.proofs.Common.{◌≡◌, ℕ, zero, suc, ◌+◌, ◌-◌, ◌<◌, false, List, [], ◌∷◌, ◌++◌, map, length, drop, replicate, Option, Some, None, refl, sym, ap, ◌∙◌, subst, arith, get_or, append_assoc, length-append, ⊎_elim, eqb}
-use Rattle.std.specs.Prelude.{IsTrue}
-use Rattle.std.specs.List.{Contains}
-use Rattle.std.proofs.Math.Seq.{get_or-append_seam}
+use Rattle.machine_meaning.proofs.Common.{◌≡◌, ℕ, zero, suc, ◌+◌, ◌-◌, ◌<◌, false, List, [], ◌∷◌, ◌++◌, map, length, drop, replicate, Option, Some, None, refl, sym, ap, ◌∙◌, subst, arith, get_or, append_assoc, length-append, ⊎_elim, eqb, IsTrue, length-map, length-replicate, below, declared_words, ProgramTree, visible, pushed, CallInText, function_calls, AllIn, FlatCode, operation_at, contains_seam}
 use Rattle.std.proofs.lemmas.Bool.Decides.{eqb_tells}
-use Rattle.std.proofs.lemmas.List.{length-map, length-replicate}
 use Rattle.cap_word.specs.Rows.{row, zeros, scalars}
-use Rattle.c_tree.specs.Sizes.{below, declared_words}
 use Rattle.c_tree.specs.Sizes as words
-use Rattle.c_tree.specs.Trees.{ProgramTree}
-use Rattle.c_tree.specs.WellScoped.{visible}
-use Rattle.c_mean.specs.Frames.{pushed}
-use Rattle.c_mean.specs.Sites.{CallInText, function_calls}
-use Rattle.c_mean.proofs.TextLemmas.{AllIn}
-use Rattle.flat_code.specs.Codes.{FlatCode, operation_at}
 use Rattle.flat_code.specs.Frames as flat
 use Rattle.machine_meaning.proofs.Silent.{Vars}
 use Rattle.machine_meaning.proofs.Stands.{Stands, AtEnd, all_before_stands}
 use Rattle.machine_meaning.proofs.Frames.{Lowers, Holds, Runs, fn, cx, base, temps}
 use Rattle.machine_meaning.proofs.Rows.{or_cases}
-
--- an element in the midst of a list is in it
-contains_seam : {A : Type 0} (a : List A) (x : A) (b : List A) → Contains (a ++ x ∷ b) x
-contains_seam a x b = (length a, omega (arith, length-append a (x ∷ b)), get_or-append_seam a x b x)
 
 all_in_end : (a b : List CallInText) → AllIn (a ++ b) b
 all_in_end a [] = tt

@@ -1,22 +1,7 @@
 -- The public relation between threads and the one that the steps keep.
-use Rattle.std.proofs.Common.{◌≡◌, ℕ, zero, suc, ◌+◌, ◌<◌, ◌≤◌, false, List, [], ◌∷◌, length, Some, refl, sym, ap, ◌∙◌, subst, arith, length-append, ⊎_elim}
-use Rattle.std.specs.Prelude.{slice_get, slice_index_or}
-use Rattle.std.specs.List.{Contains}
-use Rattle.std.proofs.lemmas.Bool.{cases_lt}
-use Rattle.c_tree.specs.Sizes.{below}
-use Rattle.c_tree.specs.Temporaries.{function_temporaries}
-use Rattle.c_tree.specs.Trees.{FunctionTree, ProgramTree, NoStmts}
-use Rattle.c_tree.specs.WellScoped.{IsWellScoped}
+use Rattle.machine_meaning.proofs.Common.{◌≡◌, ℕ, ◌+◌, ◌<◌, false, List, [], ◌∷◌, length, Some, refl, sym, ap, ◌∙◌, subst, arith, length-append, ⊎_elim, slice_get, Contains, cases_lt, below, function_temporaries, FunctionTree, ProgramTree, NoStmts, IsWellScoped, Target, ToLocal, ToCaller, target_of, CallInText, function_calls, Item, FlatFunction, Op, operation_at, FlatFrame, FlatThread, FlatWaiting, site_in, function_ops, function_sizes, lowered, sites_distinct}
 use Rattle.c_mean.specs.Frames.{Place, Nowhere, InLocal, InGlobal, InLocalElement, InGlobalElement, Returned, Frame, WaitingFrame, Running, Waiting, function_at}
-use Rattle.c_mean.specs.Sites.{Target, ToLocal, ToCaller, target_of, CallInText, function_calls}
-use Rattle.c_mean.specs.ToDo.{Item}
-use Rattle.flat_code.specs.declared.functions.FlatFunction.{FlatFunction}
-use Rattle.flat_code.specs.declared.operations.Op.{Op}
-use Rattle.flat_code.specs.Codes.{operation_at}
 use Rattle.flat_code.specs.Codes as codes
-use Rattle.flat_code.specs.Frames.{FlatFrame, FlatThread, FlatWaiting, site_in}
-use Rattle.c_lower.specs.ProgramCode.{function_ops, function_sizes, lowered}
-use Rattle.c_lower.proofs.Sites.{sites_distinct}
 use Rattle.machine_meaning.specs.StandsFor.{IndexStands, FrameStandsFor, FramesStandFor, StandsFor, StartsAs}
 use Rattle.machine_meaning.proofs.InPlace.{ResultAt}
 use Rattle.machine_meaning.proofs.Silent.{frame_at, Leads, stays}
@@ -26,14 +11,8 @@ use Rattle.machine_meaning.proofs.Pushed.{all_in_self, start_stands}
 use Rattle.machine_meaning.proofs.Lowered.{function_is, lowers, scalars_length}
 use Rattle.machine_meaning.proofs.TextCalls.{RestIs, CallStands, stmts_calls_stand, contained_stands}
 use Rattle.machine_meaning.proofs.SiteNumbers.{one_function, one_place}
-
-past : {A : Type 0} (xs : List A) (i : ℕ) (d : A) → length xs ≤ i → slice_index_or xs i d ≡ d
-past [] i d le = refl
-past (x ∷ xs) zero d le = absurd (omega arith)
-past (x ∷ xs) (suc i) d le = past xs i d (omega arith)
-
-nothing_in : {A : Type 0} (x : A) → Contains [] x → ⊥
-nothing_in x h = omega (arith, h.1)
+use Rattle.machine_meaning.proofs.Numbering.{past_end}
+use Rattle.machine_meaning.proofs.Sites.{nothing_in}
 
 index_held : (tree : FunctionTree) (place : Place) (flat : FlatFrame) → IndexStands tree place flat → IndexHeld (length tree.sizes) place flat.variables
 index_held tree Nowhere flat h = tt
@@ -62,7 +41,7 @@ module _ (program : ProgramTree) (scoped : IsWellScoped program) where
   -- a function with a call is there
   has_calls : (f : ℕ) (call : CallInText) → Contains (function_calls (function_at program f)) call → f < length program.functions
   has_calls f call h = ⊎_elim (λ lt. lt)
-      (λ ge. absurd (nothing_in call (subst (λ (tree : FunctionTree). Contains (function_calls tree) call) (past program.functions f (record { name = []; params = 0; gives = false; sizes = []; body = NoStmts }) ge) h)))
+      (λ ge. absurd (nothing_in call (subst (λ (tree : FunctionTree). Contains (function_calls tree) call) (past_end program.functions f (record { name = []; params = 0; gives = false; sizes = []; body = NoStmts }) ge) h)))
       (cases_lt f (length program.functions))
 
   call_is : (f : ℕ) (call : CallInText) (lt : f < length program.functions) → Contains (function_calls (function_at program f)) call
@@ -121,7 +100,6 @@ module _ (program : ProgramTree) (scoped : IsWellScoped program) where
 
   stands_from : (waiting : WaitingFrame) (flat : FlatFrame) → Waits program (lowered program) waiting flat → FrameStandsFor program waiting flat
   stands_from waiting flat h =
-      let code = lowered program in
       let f = waiting.frame.function in
       subst (FrameStandsFor program waiting) (sym h.is)
       (record {

@@ -1,11 +1,5 @@
 -- Words of names and their variables, after one of them is set.
-use Rattle.std.proofs.Common.{◌≡◌, ◌≢◌, ℕ, zero, suc, ◌<◌, ◌≤◌, Bool, true, false, List, [], ◌∷◌, length, replicate, Some, None, refl, sym, ap, ◌∙◌, subst, arith, get_or, set, ⊎_elim, eqb}
-use Rattle.std.specs.Prelude.{IsTrue, ◌||◌, slice_index}
-use Rattle.std.proofs.Math.Seq.{map-set_same}
-use Rattle.std.proofs.lemmas.Bool.{cases_eq, cases_lt, ne_eqb}
-use Rattle.std.proofs.lemmas.List.{length-set, get_or-set_same, get_or-set_other, length-replicate}
-use Rattle.cap_word.specs.Rows.{row, width, with_word, with_zeros}
-use Rattle.c_tree.specs.WellScoped.{Context, visible}
+use Rattle.machine_meaning.proofs.Common.{◌≡◌, ◌≢◌, ℕ, zero, suc, ◌<◌, ◌≤◌, Bool, true, false, List, [], ◌∷◌, length, replicate, Some, None, refl, sym, ap, ◌∙◌, subst, arith, get_or, set, ⊎_elim, eqb, IsTrue, ◌||◌, slice_index, map-set_same, cases_eq, cases_lt, ne_eqb, length-set, get_or-set_same, get_or-set_other, length-replicate, row, width, with_word, with_zeros, Context, visible}
 use Rattle.machine_meaning.proofs.Silent.{Vars, put}
 use Rattle.machine_meaning.proofs.Expressions.{Reads, Wide, wide_at}
 use Rattle.machine_meaning.proofs.Stands.{Within}

@@ -1,10 +1,6 @@
 -- The premises of the law hold of a small program and of a thread of it.
-use Rattle.std.proofs.Common.{zero, suc, [], ◌∷◌, Some, refl, arith, lit≤, lit<, eqb}
-use Rattle.std.specs.List.{IsDistinct}
-use Rattle.cap_word.specs.declared.modelled_calls.ModelledCall.{ModelledCall}
+use Rattle.machine_meaning.proofs.Common.{zero, suc, [], ◌∷◌, Some, refl, arith, lit≤, lit<, eqb, IsDistinct, ModelledCall, IsFunctionScoped, IsWellScoped, ToNowhere, ToLocal}
 use Rattle.c_tree.specs.Trees.{Number, Local, CallFunction, CallModelled}
-use Rattle.c_tree.specs.WellScoped.{IsFunctionScoped, IsWellScoped}
-use Rattle.c_mean.specs.Sites.{ToNowhere, ToLocal}
 use Rattle.machine_meaning.specs.Sample.{printing, calling, nested, returning, nested_waiting, nested_flat}
 use Rattle.machine_meaning.specs.StandsFor.{ScopeStands, StandsFor}
 

@@ -1,60 +1,21 @@
 -- One step of a segment, beside the source's run of its thread.
-use Rattle.std.proofs.Common.{◌≡◌, ◌≢◌, ℕ, ◌+◌, Bool, true, false, List, [], ◌∷◌, ◌++◌, length, map, Option, Some, None, refl, sym, ap, subst, ◌∙◌, arith, append_assoc, length-append, ⊎_elim}
-use Rattle.std.specs.Prelude.{slice_get, slice_set}
-use Rattle.std.proofs.lemmas.Bool.{cases_eq}
-use Rattle.std.proofs.lemmas.List.{length-map, length-set, map-append}
-use Rattle.cap_word.specs.Calls.{Blocking, Immediate, Finish, call_of}
-use Rattle.cap_word.specs.Runs.{Goes, Stops, and_then, moves}
-use Rattle.cap_word.proofs.RunLemmas.{goes_on}
-use Rattle.cap_word.specs.declared.calls.Ask.{Ask}
+use Rattle.machine_meaning.proofs.Common.{◌≡◌, ◌≢◌, ℕ, ◌+◌, Bool, true, false, List, [], ◌∷◌, ◌++◌, length, map, Option, Some, None, refl, sym, ap, subst, ◌∙◌, arith, append_assoc, length-append, ⊎_elim, slice_get, slice_set, cases_eq, length-map, length-set, map-append, Blocking, Immediate, Finish, call_of, Goes, Stops, and_then, moves, goes_on, Ask, Stop, TrapKind, lowered, Waiting, Exchange, blocking_row, immediate_row, source_resume, Rest, Segment, segment_machine, ProgramTree, IsWellScoped, IsValid, Op, Areas, AreGlobals, Frame, a0, Core, Local, LocalMove, Ended, local_step, local_machine, passed, Checked, IsAtCall, PastCall, SourceThread, Waits, StandAtCall, StandsForThread, going_on, StandsForRest, IsWellFormed, KeepsWellFormed, read, CodeFacts-valid, CodeFacts, HasForm, HoldsWanted, HoldsResult, IsAlongSource, RunsAsSource, MayRun, Certificate, Image, with_puts, IsReached, IsFinished, StepReaches, IsSettledIf, IsUnderWay, slice_get-set_other, first_with-number, first_with-replaced, first_with-without, read-write_same}
 use Rattle.cap_word.specs.declared.calls.Block.{Block}
-use Rattle.cap_word.specs.declared.stops.Stop.{Stop}
-use Rattle.cap_word.specs.declared.traps.TrapKind.{TrapKind}
-use Rattle.c_lower.specs.ProgramCode.{lowered}
-use Rattle.c_mean.specs.Frames.{Waiting}
-use Rattle.c_mean.specs.ModelledCalls.{Exchange, blocking_row, immediate_row}
-use Rattle.c_mean.specs.Steps.{source_resume}
 use Rattle.c_mean.specs.World as source
-use Rattle.c_mean.specs.World.{Rest, Segment, segment_machine}
-use Rattle.c_tree.specs.Trees.{ProgramTree}
-use Rattle.c_tree.specs.WellScoped.{IsWellScoped}
-use Rattle.certificate_rules.specs.Validity.{IsValid}
 use Rattle.flat_code.specs.Codes.{function_at}
 use Rattle.flat_code.specs.WellFormed as flat
-use Rattle.flat_code.specs.declared.operations.Op.{Op}
 use Rattle.machine_meaning.proofs.Formed.{formed, follows}
 use Rattle.machine_meaning.proofs.Zeroes.{program_zeroes}
-use Rattle.machine_world.specs.Areas.{Areas}
-use Rattle.machine_world.specs.Globals.{AreGlobals}
-use Rattle.machine_world.specs.InPlace.{Frame}
 use Rattle.machine_world.specs.Local as local
-use Rattle.stack_certificate.specs.Registers.{a0}
-use Rattle.machine_world.specs.Local.{Core, Local, LocalMove, Ended, local_step, local_machine, passed}
-use Rattle.machine_world.specs.Places.{Checked}
-use Rattle.machine_world.specs.Rests.{IsAtCall, PastCall}
-use Rattle.machine_world.specs.StandsFor.{SourceThread, Waits, StandAtCall, StandsForThread, going_on}
-use Rattle.machine_world.specs.StandsForWorld.{StandsForRest}
 use Rattle.machine_world.specs.Threads as machine
 use Rattle.machine_world.specs.Threads.{Blocked, Thread, World, Setting, first_with, thread_of, replaced, retired, resumed, unless_trap, printed, answered, blocks, package_call, stopped, local_in}
-use Rattle.machine_world.specs.WellFormed.{IsWellFormed, KeepsWellFormed}
-use Rattle.rv_machine.specs.Registers.{read}
-use Rattle.segment_laws.proofs.ValidFacts.{CodeFacts-valid}
-use Rattle.segment_laws.proofs.Registers.{read-write_same}
-use Rattle.segment_laws.specs.Facts.{CodeFacts}
-use Rattle.segment_laws.specs.Ways.{HasForm}
 use Rattle.machine_meaning.proofs.SourceLaws as law
-use Rattle.machine_meaning.specs.AsSource.{HoldsWanted, HoldsResult, IsAlongSource, RunsAsSource}
-use Rattle.segment_laws.specs.Alike.{MayRun}
-use Rattle.stack_certificate.specs.declared.certificates.Certificate.{Certificate}
-use Rattle.stack_image.specs.declared.images.Image.{Image}
-use Rattle.machine_meaning.specs.Reached.{with_puts, IsReached, IsFinished, StepReaches}
-use Rattle.machine_meaning.specs.UnderWay.{IsSettledIf, IsUnderWay}
 use Rattle.machine_meaning.proofs.Forms.{has_form, kept_going, kept_ending, rest_stays}
 use Rattle.machine_meaning.proofs.Modelled.{call_is}
 use Rattle.machine_meaning.proofs.Outputs.{then_moves, cut_at}
 use Rattle.machine_meaning.proofs.Passing.{PastWaits, past_waits}
-use Rattle.machine_meaning.proofs.Staying.{settled_stays, get_set_same, get_set_other}
-use Rattle.machine_meaning.proofs.Threads.{number_of, replaced_same, replaced_other, without_same, without_other}
+use Rattle.machine_meaning.proofs.Staying.{settled_stays, get_set_same}
+use Rattle.machine_meaning.proofs.Threads.{replaced_same, without_same}
 
 -- outputs with one value more
 with_one : (start : source.World) (number own value : ℕ) (puts : List ℕ) (outputs : List (ℕ × ℕ)) → own ≡ number → outputs ≡ with_puts start number puts → outputs ++ (own, value) ∷ [] ≡ with_puts start number (puts ++ value ∷ [])
@@ -97,7 +58,7 @@ module _ (program : ProgramTree) (image : Image) (certificate : Certificate) (sc
     l = local_in w thread
 
     pub own : thread.number ≡ segment.number
-    own = number_of segment.number w.threads thread r.under_way.live
+    own = first_with-number segment.number w.threads thread r.under_way.live
 
     pub form : HasForm checked l
     form = has_form checked s w segment.number thread formed_w r.under_way.live
@@ -156,9 +117,9 @@ module _ (program : ProgramTree) (image : Image) (certificate : Certificate) (sc
           steps = u.steps + 1;
           comes = goes_on (local_machine s.code) u.steps 1 u.from l u.comes ∙ ap (λ (move : LocalMove). and_then move (moves (local_machine s.code) 0)) e;
           runs = u.runs;
-          others = λ n apart. subst (λ (o : Option Thread). StandsForRest checked program next.areas.pool o (slice_get segment.world.threads n)) (sym (replaced_other n new w.threads (apart_own new n refl apart)))
+          others = λ n apart. subst (λ (o : Option Thread). StandsForRest checked program next.areas.pool o (slice_get segment.world.threads n)) (sym (first_with-replaced n new w.threads (apart_own new n refl apart)))
               (rest_stays checked program w.areas.pool next.areas.pool (thread_of w n) (slice_get segment.world.threads n) (λ v found. kept_going checked s w segment.number n thread v next well formed_w good u.live found apart e) (u.others n apart));
-          settled = λ n apart. subst (IsSettledIf checked next.areas.pool) (sym (replaced_other n new w.threads (apart_own new n refl apart)))
+          settled = λ n apart. subst (IsSettledIf checked next.areas.pool) (sym (first_with-replaced n new w.threads (apart_own new n refl apart)))
               (settled_stays checked w.areas.pool next.areas.pool (thread_of w n) (λ v found. kept_going checked s w segment.number n thread v next well formed_w good u.live found apart e) (u.settled n apart));
           exchange = u.exchange;
           next = u.next;
@@ -171,7 +132,7 @@ module _ (program : ProgramTree) (image : Image) (certificate : Certificate) (sc
         → StandsForRest checked program w.areas.pool (first_with n now) (slice_get (slice_set segment.world.threads segment.number rest) n)
     others_stand now rest same n apart =
         subst (λ (o : Option Thread). StandsForRest checked program w.areas.pool o (slice_get (slice_set segment.world.threads segment.number rest) n)) (sym (same n apart))
-        (subst (StandsForRest checked program w.areas.pool (thread_of w n)) (sym (get_set_other segment.world.threads segment.number n rest apart)) (r.under_way.others n apart))
+        (subst (StandsForRest checked program w.areas.pool (thread_of w n)) (sym (slice_get-set_other segment.world.threads segment.number n rest apart)) (r.under_way.others n apart))
 
     by_number : (P : ℕ → Type 0) → P segment.number → ((n : ℕ) → n ≢ segment.number → P n) → (n : ℕ) → P n
     by_number P here others n = ⊎_elim (λ (same : n ≡ segment.number). subst P (sym same) here) (λ (apart : n ≡ segment.number → ⊥). others n apart) (cases_eq n segment.number)
@@ -184,7 +145,7 @@ module _ (program : ProgramTree) (image : Image) (certificate : Certificate) (sc
         let ends : moves (segment_machine program s.caps) m segment ≡ Stops (record { trap = None; world = after }) =
         comes ∙ ap (λ (t : Option TrapKind). source.unless_trap segment finished.globals t (source.rests segment finished.globals source.Ended)) trap in
         let gone : first_with segment.number (machine.without thread.number w.threads) ≡ None = ap (λ (n : ℕ). first_with n (machine.without thread.number w.threads)) (sym own) ∙ without_same thread.number w.threads in
-        let stays = λ (n : ℕ) (apart : n ≢ segment.number). without_other n thread.number w.threads (λ (same : n ≡ thread.number). apart (same ∙ own)) in (
+        let stays = λ (n : ℕ) (apart : n ≢ segment.number). first_with-without n thread.number w.threads (λ (same : n ≡ thread.number). apart (same ∙ own)) in (
           after,
           finish m None after ends refl,
           record {
@@ -194,7 +155,7 @@ module _ (program : ProgramTree) (image : Image) (certificate : Certificate) (sc
                   (subst (λ (o : Option Thread). StandsForRest checked program areas.pool o (slice_get after.threads segment.number)) (sym gone)
                   (subst (StandsForRest checked program areas.pool None) (sym (get_set_same segment.world.threads segment.number source.Ended u.there)) tt))
                   (λ n apart. subst (λ (o : Option Thread). StandsForRest checked program areas.pool o (slice_get after.threads n)) (sym (stays n apart))
-                  (subst (StandsForRest checked program areas.pool (thread_of w n)) (sym (get_set_other segment.world.threads segment.number n source.Ended apart))
+                  (subst (StandsForRest checked program areas.pool (thread_of w n)) (sym (slice_get-set_other segment.world.threads segment.number n source.Ended apart))
                   (rest_stays checked program w.areas.pool areas.pool (thread_of w n) (slice_get segment.world.threads n) (λ v found. kept_ending checked s w segment.number n thread v areas well formed_w along.good u.live found apart e) (u.others n apart))));
               globals_are = globals;
               exchange = u.exchange;
@@ -235,7 +196,7 @@ module _ (program : ProgramTree) (image : Image) (certificate : Certificate) (sc
           let p = past None in
           let new : Thread = record thread { core = passed thread.core None; blocked = Some (record { block = block; since = w.clock + 1 }) } in
           let after : source.World = record segment.world { threads = slice_set segment.world.threads segment.number (source.Blocked block waiting); globals = globals } in
-          let same = λ (k : ℕ) (apart : k ≢ segment.number). replaced_other k new w.threads (apart_own new k refl apart) in (
+          let same = λ (k : ℕ) (apart : k ≢ segment.number). first_with-replaced k new w.threads (apart_own new k refl apart) in (
             after,
             finish m None after comes refl,
             record {
@@ -280,7 +241,7 @@ module _ (program : ProgramTree) (image : Image) (certificate : Certificate) (sc
           let u = r.under_way in
           let p = past res in
           let new = resumed thread res in
-          let same = λ (k : ℕ) (apart : k ≢ segment.number). replaced_other k new w.threads (apart_own new k refl apart) in
+          let same = λ (k : ℕ) (apart : k ≢ segment.number). first_with-replaced k new w.threads (apart_own new k refl apart) in
           let l_now : Local = record { areas = w.areas; core = passed thread.core res } in
           let stands_now : StandsForThread checked program l_now (Waits waiting) globals = record { rests = PastCall f i (Op.Model site d n args) word p.place p.frames p.past; stands = p.stands; globals_are = globals_are } in
           record {

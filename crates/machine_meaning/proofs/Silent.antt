@@ -1,18 +1,9 @@
 -- Silent steps of flat code: what one operation does, where its variables are known, and how steps go on from one
 -- another.
-use Rattle.std.proofs.Common.{◌≡◌, ℕ, suc, ◌+◌, ◌-◌, ◌^◌, ◌<◌, ◌≤◌, List, [], ◌∷◌, length, Option, Some, None, refl, ap, ◌∙◌, arith, get_or, set}
-use Rattle.std.specs.Prelude.{nat_eq, bit_xor, slice_index}
-use Rattle.std.proofs.lemmas.List.{length-set, get_or-set_same, get_or-set_other}
+use Rattle.machine_meaning.proofs.Common.{◌≡◌, ℕ, suc, ◌+◌, ◌-◌, ◌^◌, ◌<◌, ◌≤◌, List, [], ◌∷◌, length, Option, Some, None, refl, ap, ◌∙◌, arith, get_or, set, nat_eq, bit_xor, slice_index, length-set, get_or-set_same, get_or-set_other, width, word_at, Goes, Stops, and_then, moves, goes_on, Op, FlatCode, operation_at, FlatFrame, FlatThread, End, variable, result_of}
 use Rattle.cap_word.specs.Word as word
-use Rattle.cap_word.specs.Rows.{width, word_at}
-use Rattle.cap_word.specs.Runs.{Goes, Stops, and_then, moves}
-use Rattle.cap_word.proofs.RunLemmas.{goes_on}
-use Rattle.flat_code.specs.declared.operations.Op.{Op}
 use Rattle.flat_code.specs.declared.operators.BinOp.{BinOp}
-use Rattle.flat_code.specs.Codes.{FlatCode, operation_at}
-use Rattle.flat_code.specs.Frames.{FlatFrame, FlatThread, End, variable}
-use Rattle.flat_code.specs.Operators.{result_of}
-use Rattle.flat_code.specs.Step.{FlatMove, on, first, scalar, scalars, both, where_in, within, puts, does, flat_step, flat_machine}
+use Rattle.flat_code.specs.Step.{FlatMove, on, first, scalar, within, puts, does, flat_step, flat_machine}
 
 -- the variables of a frame
 abbrev pub Vars : Type 0

@@ -1,19 +1,7 @@
 -- The sites of frames in place are the key of each source thread for which the machine thread stands.
-use Rattle.std.proofs.Common.{◌≡◌, ℕ, List, [], ◌∷◌, map, take, Option, Some, refl, ap, ◌∙◌}
-use Rattle.c_mean.specs.Frames.{WaitingFrame, Waiting}
+use Rattle.machine_meaning.proofs.Common.{◌≡◌, ℕ, List, [], ◌∷◌, map, take, Option, Some, refl, ap, ◌∙◌, WaitingFrame, Waiting, ProgramTree, Pool, operation_at, Op, Frame, site_in, Core, Checked, IsResting, AtStart, AtCall, PastCall, StandsFor, Waits, AreWaitingFrames, StandAtCall, resting_key}
 use Rattle.c_mean.specs.Frames as source
-use Rattle.c_tree.specs.Trees.{ProgramTree}
-use Rattle.chunk_pool.specs.Pool.{Pool}
-use Rattle.flat_code.specs.Codes.{operation_at}
-use Rattle.flat_code.specs.declared.operations.Op.{Op}
-use Rattle.machine_world.specs.InPlace.{Frame}
 use Rattle.machine_world.specs.Keys.{with_site, sites_of, key_of}
-use Rattle.flat_code.specs.Frames.{site_in}
-use Rattle.machine_world.specs.Local.{Core}
-use Rattle.machine_world.specs.Places.{Checked}
-use Rattle.machine_world.specs.Rests.{IsResting, AtStart, AtCall, PastCall}
-use Rattle.machine_world.specs.StandsFor.{StandsFor, Waits, AreWaitingFrames, StandAtCall}
-use Rattle.machine_meaning.specs.Between.{resting_key}
 
 sites_are : (c : Checked) (program : ProgramTree) (pool : Pool) (frames : List Frame) (waitings : List WaitingFrame) → AreWaitingFrames c program pool frames waitings → sites_of c frames ≡ map (λ w. w.site) waitings
 sites_are c program pool [] [] h = refl

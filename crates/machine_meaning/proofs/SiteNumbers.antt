@@ -1,15 +1,6 @@
 -- An operation of a function is known by its site.
-use Rattle.std.proofs.Common.{◌≡◌, ℕ, zero, suc, ◌<◌, false, List, [], ◌∷◌, ◌++◌, map, length, Option, Some, None, refl, ap, subst, arith, eqb}
 use Rattle.std.specs.Prelude.{filter_map, flat_map, slice_get, slice_index_or}
-use Rattle.std.specs.List.{AllByRecursion, IsDistinct, cons_option}
-use Rattle.std.proofs.lemmas.Bool.{eqb-false}
-use Rattle.std.proofs.lemmas.Map.Keys.{IsDistinct-head, IsDistinct-tail}
-use Rattle.c_tree.specs.Trees.{FunctionTree}
-use Rattle.flat_code.specs.declared.operations.Op.{Op}
-use Rattle.flat_code.specs.declared.functions.FlatFunction.{FlatFunction}
-use Rattle.flat_code.specs.Codes.{site_of}
-use Rattle.flat_code.specs.Frames.{site_in}
-use Rattle.c_lower.specs.ProgramCode.{function_ops, lowered_function}
+use Rattle.machine_meaning.proofs.Common.{◌≡◌, ℕ, zero, suc, ◌<◌, false, List, [], ◌∷◌, ◌++◌, map, length, Option, Some, None, refl, ap, subst, arith, eqb, AllByRecursion, IsDistinct, cons_option, eqb-false, IsDistinct-head, IsDistinct-tail, FunctionTree, Op, FlatFunction, site_of, site_in, function_ops, lowered_function}
 
 -- the sites of operations
 abbrev pub sites : List Op → List ℕ

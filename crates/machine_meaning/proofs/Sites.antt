@@ -1,22 +1,8 @@
 -- Sites of lowered programs: each stands in one function, and where a source frame waits at one, its function is there and
 -- has the room that its place needs.
-use Rattle.std.proofs.Common.{◌≡◌, ℕ, zero, suc, ◌<◌, ◌≤◌, false, List, [], ◌∷◌, ◌++◌, map, length, Option, Some, None, refl, sym, ap, ◌∙◌, subst, arith, eqb, ⊎_elim}
 use Rattle.std.specs.Prelude.{filter_map, flat_map, slice_get, slice_index_or}
-use Rattle.std.specs.List.{AllByRecursion, Contains, IsDistinct, cons_option}
-use Rattle.std.proofs.lemmas.Bool.{cases_lt, eqb-false}
-use Rattle.std.proofs.lemmas.Map.Keys.{IsDistinct-head, IsDistinct-tail}
-use Rattle.c_tree.specs.Sizes.{below}
-use Rattle.c_tree.specs.Trees.{FunctionTree, ProgramTree, NoStmts}
-use Rattle.c_tree.specs.WellScoped.{IsWellScoped}
-use Rattle.c_mean.specs.Frames.{function_at}
-use Rattle.c_mean.specs.Sites.{CallInText, function_calls}
-use Rattle.c_lower.specs.ProgramCode.{function_ops, lowered_function, lowered}
-use Rattle.c_lower.proofs.Sites.{sites_distinct}
-use Rattle.flat_code.specs.declared.functions.FlatFunction.{FlatFunction}
-use Rattle.flat_code.specs.declared.operations.Op.{Op}
+use Rattle.machine_meaning.proofs.Common.{◌≡◌, ℕ, zero, suc, ◌<◌, ◌≤◌, false, List, [], ◌∷◌, ◌++◌, map, length, Option, Some, None, refl, sym, ap, ◌∙◌, subst, arith, eqb, ⊎_elim, AllByRecursion, Contains, IsDistinct, cons_option, cases_lt, eqb-false, IsDistinct-head, IsDistinct-tail, below, FunctionTree, ProgramTree, NoStmts, IsWellScoped, function_at, CallInText, function_calls, function_ops, lowered_function, lowered, sites_distinct, FlatFunction, Op, operation_at, site_of, site_in}
 use Rattle.flat_code.specs.Codes as codes
-use Rattle.flat_code.specs.Codes.{operation_at, site_of}
-use Rattle.flat_code.specs.Frames.{site_in}
 use Rattle.machine_meaning.proofs.Frames.{base, cx, temps}
 use Rattle.machine_meaning.proofs.Lowered.{function_is, lowers}
 use Rattle.machine_meaning.proofs.Pushed.{all_in_self}

@@ -1,19 +1,5 @@
 -- Every live thread is in place, at each moment.
-use Rattle.std.proofs.Common.{◌≡◌, ℕ, ◌+◌, ◌≤◌, nat_eq, List, [], ◌∷◌, Option, Some, None, refl, sym, ap, subst, ◌∙◌, arith, ⊎_elim}
-use Rattle.std.specs.List.{AllByRecursion}
-use Rattle.std.proofs.lemmas.Bool.{cases_eq, cond-true, cond-false, eq-eqb, ne_eqb}
-use Rattle.c_mean.specs.World.{Segment}
-use Rattle.c_tree.specs.Trees.{ProgramTree}
-use Rattle.chunk_pool.specs.Pool.{Pool}
-use Rattle.machine_world.specs.InPlace.{IsInPlace}
-use Rattle.machine_world.specs.Local.{Core}
-use Rattle.machine_world.specs.Numbered.{RiseBetween}
-use Rattle.machine_world.specs.Places.{Checked, InPrologue, InOperation}
-use Rattle.machine_world.specs.Rests.{IsResting, AtStart, AtCall, PastCall}
-use Rattle.machine_world.specs.Stretches.{IsFramedStep, IsFramedNext, IsSound}
-use Rattle.machine_world.specs.Threads.{Thread, World, Setting, first_with, thread_of, local_in}
-use Rattle.machine_world.specs.WellFormed.{IsWellFormed}
-use Rattle.machine_meaning.specs.UnderWay.{IsSettledIf, IsSettled, IsUnderWay}
+use Rattle.machine_meaning.proofs.Common.{◌≡◌, ℕ, ◌+◌, ◌≤◌, nat_eq, List, [], ◌∷◌, Option, Some, None, refl, sym, ap, subst, ◌∙◌, arith, ⊎_elim, AllByRecursion, cases_eq, cond-true, cond-false, eq-eqb, ne_eqb, Segment, ProgramTree, Pool, IsInPlace, Core, RiseBetween, Checked, InPrologue, InOperation, IsResting, AtStart, AtCall, PastCall, IsFramedStep, IsFramedNext, IsSound, Thread, World, Setting, first_with, thread_of, local_in, IsWellFormed, IsSettledIf, IsSettled, IsUnderWay}
 
 rests_in_place : (c : Checked) (pool : Pool) (core : Core) → IsResting c pool core → IsInPlace c pool core
 rests_in_place c pool core (AtStart f frames in_place) = (InPrologue f 0, frames, in_place)

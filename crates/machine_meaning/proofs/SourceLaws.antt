@@ -1,31 +1,10 @@
 -- The laws, over that of flat code.
-use Rattle.std.proofs.Common.{◌≡◌, ℕ, List, Option, Some, None, Ok, refl}
-use Rattle.c_lower.specs.ProgramCode.{lowered}
-use Rattle.c_mean.specs.Frames.{Running}
-use Rattle.c_tree.specs.Trees.{ProgramTree}
-use Rattle.c_tree.specs.WellScoped.{IsWellScoped}
-use Rattle.certificate_rules.specs.Validity.{IsValid}
-use Rattle.chunk_pool.specs.Pool.{Pool}
-use Rattle.flat_code.specs.Codes.{result_place}
+use Rattle.machine_meaning.proofs.Common.{◌≡◌, ℕ, List, Option, Some, None, Ok, refl, lowered, Running, ProgramTree, IsWellScoped, IsValid, Pool, result_place, a0, Core, Local, Checked, IsResting, PastCall, SourceThread, StandsForThread, going_on, Instr, read, instruction_at, CodeFacts-valid, HasForm, HoldsWanted, HoldsResult, RunsAsSource, MayRun, Certificate, Image}
 use Rattle.machine_meaning.proofs.Formed.{formed, follows}
 use Rattle.machine_meaning.proofs.Zeroes.{program_zeroes}
-use Rattle.stack_certificate.specs.Registers.{a0}
-use Rattle.machine_world.specs.Local.{Core, Local}
-use Rattle.machine_world.specs.Places.{Checked}
-use Rattle.machine_world.specs.Rests.{IsResting, PastCall}
-use Rattle.machine_world.specs.StandsFor.{SourceThread, StandsForThread, going_on}
-use Rattle.rv_code.specs.declared.instructions.Instr.{Instr}
-use Rattle.rv_machine.specs.Registers.{read}
-use Rattle.rv_machine.specs.Step.{instruction_at}
-use Rattle.segment_laws.proofs.ValidFacts.{CodeFacts-valid}
-use Rattle.segment_laws.specs.Ways.{HasForm}
-use Rattle.machine_meaning.specs.AsSource.{HoldsWanted, HoldsResult, RunsAsSource}
 use Rattle.machine_meaning.proofs.Combined.{FlatLaw, rests_source}
 use Rattle.machine_meaning.proofs.Ecalls as ecalls
 use Rattle.segment_laws.proofs.Law.{segment_runs}
-use Rattle.segment_laws.specs.Alike.{MayRun}
-use Rattle.stack_certificate.specs.declared.certificates.Certificate.{Certificate}
-use Rattle.stack_image.specs.declared.images.Image.{Image}
 use Rattle.machine_meaning.proofs.BetweenLaws as between
 use Rattle.machine_meaning.proofs.StandsForSome.{globals_somewhere}
 

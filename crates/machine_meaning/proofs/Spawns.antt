@@ -1,50 +1,17 @@
 -- A step of a segment that starts a thread, beside the source's run.
-use Rattle.std.proofs.Common.{◌≡◌, ◌≢◌, ℕ, zero, suc, ◌+◌, ◌^◌, ◌<◌, ◌≤◌, List, [], ◌∷◌, ◌++◌, length, map, Option, Some, None, refl, sym, ap, subst, ◌∙◌, arith, length-append, ⊎_elim}
-use Rattle.std.specs.Prelude.{slice_get, slice_index, nat_le}
-use Rattle.std.proofs.lemmas.Bool.{cases_eq, cond_both}
-use Rattle.cap_word.specs.Calls.{spawn_of, most_threads}
-use Rattle.cap_word.specs.Signatures.{Signature, signature_at}
-use Rattle.cap_word.specs.Runs.{moves}
-use Rattle.cap_word.specs.declared.stops.Stop.{Stop}
-use Rattle.c_lower.specs.ProgramCode.{lowered}
-use Rattle.c_mean.specs.Frames.{Waiting, function_at}
-use Rattle.c_mean.specs.Steps.{source_resume}
+use Rattle.machine_meaning.proofs.Common.{◌≡◌, ◌≢◌, ℕ, zero, suc, ◌+◌, ◌^◌, ◌<◌, ◌≤◌, List, [], ◌∷◌, ◌++◌, length, map, Option, Some, None, refl, sym, ap, subst, ◌∙◌, arith, length-append, ⊎_elim, slice_get, slice_index, nat_le, cases_eq, cond_both, spawn_of, most_threads, Signature, signature_at, moves, Stop, lowered, Waiting, function_at, source_resume, Segment, segment_machine, ProgramTree, IsWellScoped, IsValid, Taken, taken_for, FlatFunction, Op, AreGlobals, Frame, a0, Local, with_header, passed, IsAtCall, AtStart, PastCall, Waits, StandAtCall, StandsForThread, StandsForRest, Thread, World, Setting, first_with, thread_of, replaced, retired, resumed, with_thread, start_core, spawned, starts, Move, IsWellFormed, KeepsWellFormed, read, fact_at, Certificate, Image, rests_law, IsReached, StepReaches, IsSettledIf, IsUnderWay, first_with-replaced, first_with-append, read-write_same}
 use Rattle.c_mean.specs.World as source
-use Rattle.c_mean.specs.World.{Segment, segment_machine}
-use Rattle.c_tree.specs.Trees.{ProgramTree}
-use Rattle.c_tree.specs.WellScoped.{IsWellScoped}
-use Rattle.certificate_rules.specs.Validity.{IsValid}
-use Rattle.chunk_pool.specs.Pool.{Taken, taken_for}
 use Rattle.flat_code.specs.Codes as codes
 use Rattle.flat_code.specs.WellFormed as flat
-use Rattle.flat_code.specs.declared.functions.FlatFunction.{FlatFunction}
-use Rattle.flat_code.specs.declared.operations.Op.{Op}
 use Rattle.machine_meaning.proofs.Lowered.{function_is}
 use Rattle.machine_meaning.proofs.Formed.{follows}
-use Rattle.machine_world.specs.Globals.{AreGlobals}
-use Rattle.machine_world.specs.InPlace.{Frame}
-use Rattle.stack_certificate.specs.Registers.{a0}
-use Rattle.machine_world.specs.Local.{Local, with_header, passed}
-use Rattle.machine_world.specs.Rests.{IsAtCall, AtStart, PastCall}
-use Rattle.machine_world.specs.StandsFor.{Waits, StandAtCall, StandsForThread}
-use Rattle.machine_world.specs.StandsForWorld.{StandsForRest}
 use Rattle.machine_world.specs.Threads as machine
-use Rattle.machine_world.specs.Threads.{Thread, World, Setting, first_with, thread_of, replaced, retired, resumed, with_thread, start_core, spawned, starts, Move}
-use Rattle.machine_world.specs.WellFormed.{IsWellFormed, KeepsWellFormed}
-use Rattle.rv_machine.specs.Registers.{read}
-use Rattle.segment_laws.proofs.Registers.{read-write_same}
-use Rattle.stack_certificate.specs.Certificates.{fact_at}
-use Rattle.stack_certificate.specs.declared.certificates.Certificate.{Certificate}
-use Rattle.stack_image.specs.declared.images.Image.{Image}
-use Rattle.segment_laws.proofs.SameRest.{rests_law}
-use Rattle.machine_meaning.specs.Reached.{IsReached, StepReaches}
-use Rattle.machine_meaning.specs.UnderWay.{IsSettledIf, IsUnderWay}
 use Rattle.machine_meaning.proofs.Forms.{has_form, rest_stays}
 use Rattle.machine_meaning.proofs.Fresh.{kept_starting, new_stands}
 use Rattle.machine_meaning.proofs.Passing.{past_waits}
 use Rattle.machine_meaning.proofs.Staying.{settled_stays, past_may, holds_by, get_append_other, get_append_last}
 use Rattle.machine_meaning.proofs.SegmentSteps.{facts, runs_from, own, form, reach}
-use Rattle.machine_meaning.proofs.Threads.{replaced_same, replaced_other, append_other, append_same, none_from}
+use Rattle.machine_meaning.proofs.Threads.{replaced_same, append_same, none_from}
 
 module _ (program : ProgramTree) (image : Image) (certificate : Certificate) (scoped : IsWellScoped program) (valid : IsValid (lowered program) image certificate) (s : Setting) (code_is : s.code ≡ image.code)
     (start : source.World) (number : ℕ) (puts : List ℕ) (w : World) (formed_w : IsWellFormed (record { flat = lowered program; certificate = certificate }) s w) (r : IsReached (record { flat = lowered program; certificate = certificate }) program s start number puts w) where
@@ -82,17 +49,17 @@ module _ (program : ProgramTree) (image : Image) (certificate : Certificate) (sc
 
   found_running : (taken : Taken) (g argument : ℕ) → first_with segment.number (world_now taken g argument).threads ≡ Some running_now
   found_running taken g argument =
-      append_other segment.number (fresh taken g argument) (replaced running_now w.threads) apart_next
+      first_with-append segment.number (fresh taken g argument) (replaced running_now w.threads) apart_next
       ∙ ap (λ (n : ℕ). first_with n (replaced running_now w.threads)) (sym own_number)
       ∙ replaced_same running_now thread w.threads (ap (λ (n : ℕ). first_with n w.threads) own_number ∙ r.under_way.live)
 
   found_other : (taken : Taken) (g argument n : ℕ) → n ≢ segment.number → n ≢ w.next → first_with n (world_now taken g argument).threads ≡ thread_of w n
-  found_other taken g argument n apart old = append_other n (fresh taken g argument) (replaced running_now w.threads) old ∙ replaced_other n running_now w.threads (λ e. apart (e ∙ own_number))
+  found_other taken g argument n apart old = first_with-append n (fresh taken g argument) (replaced running_now w.threads) old ∙ first_with-replaced n running_now w.threads (λ e. apart (e ∙ own_number))
 
   found_fresh : (taken : Taken) (g argument : ℕ) → first_with w.next (world_now taken g argument).threads ≡ Some (fresh taken g argument)
   found_fresh taken g argument =
       append_same (fresh taken g argument) (replaced running_now w.threads)
-      (replaced_other w.next running_now w.threads (λ e. apart_next (sym (e ∙ own_number))) ∙ none_from 0 w.next w.next w.threads formed_w.counted.numbered (omega arith))
+      (first_with-replaced w.next running_now w.threads (λ e. apart_next (sym (e ∙ own_number))) ∙ none_from 0 w.next w.next w.threads formed_w.counted.numbered (omega arith))
 
   module _ (m : ℕ) (waiting : Waiting) (globals : List (List ℕ)) (f i word : ℕ) (site g x : ℕ) (d : Option ℕ) (frames : List Frame)
       (rests : IsAtCall checked w.areas.pool thread.core f i (Op.Spawn site d g x) word frames) (stands : StandAtCall checked program w.areas.pool (Op.Spawn site d g x) frames waiting) (globals_are : AreGlobals (lowered program) globals w.areas.globals) where

@@ -1,15 +1,6 @@
 -- What a frame has still to do stands in the code: item by item, with jumps between them.
-use Rattle.std.proofs.Common.{◌≡◌, ℕ, ◌+◌, ◌≤◌, Bool, true, false, List, [], ◌∷◌, ◌++◌, map, Option, Some, None, refl, sym, subst, arith}
-use Rattle.std.specs.Prelude.{IsTrue, max, eqb, ◌||◌}
-use Rattle.c_tree.specs.Temporaries.{expr_temporaries, simple_temporaries, simples_temporaries, condition_temporaries, step_temporaries, returned_temporaries, stmt_temporaries, stmts_temporaries}
-use Rattle.c_tree.specs.TextOrder.{Declared, simple_names}
-use Rattle.c_tree.specs.Trees.{ExprTree, RightTree, SimpleTree, StmtTree, StmtTrees, Do, Empty, Block, If, IfElse, While, For, Break, Continue, Return, NoStmts, Then}
-use Rattle.c_tree.specs.WellScoped.{Context, visible, with_names, scope_after, scope_after_all, IsExprScoped, IsSimpleScoped, AreSimplesScoped, IsConditionScoped, IsStepScoped, IsReturnScoped, IsStmtScoped, AreStmtsScoped}
-use Rattle.c_mean.specs.ToDo.{Item, Simply, Choose, Test, Enter, Back, Leave, Skip, GiveBack, Loop, WhileLoop, ForLoop, step_item, before, all_before, body_before, turn_before, after_leave, after_skip, skipped}
-use Rattle.c_mean.specs.Sites.{CallInText, simple_calls, simples_calls, step_calls, returned_calls, stmt_calls, stmts_calls}
-use Rattle.c_mean.proofs.TextLemmas.{AllIn, loop_calls, all_in_parts}
+use Rattle.machine_meaning.proofs.Common.{◌≡◌, ℕ, ◌+◌, ◌≤◌, Bool, true, false, List, [], ◌∷◌, ◌++◌, map, Option, Some, None, refl, sym, subst, arith, IsTrue, max, eqb, ◌||◌, expr_temporaries, simple_temporaries, simples_temporaries, condition_temporaries, step_temporaries, returned_temporaries, stmt_temporaries, stmts_temporaries, Declared, simple_names, ExprTree, RightTree, SimpleTree, StmtTree, StmtTrees, Do, Empty, Block, If, IfElse, While, For, Break, Continue, Return, NoStmts, Then, Context, visible, with_names, scope_after, scope_after_all, IsExprScoped, IsSimpleScoped, AreSimplesScoped, IsConditionScoped, IsStepScoped, IsReturnScoped, IsStmtScoped, AreStmtsScoped, Item, Simply, Choose, Test, Enter, Back, Leave, Skip, GiveBack, Loop, WhileLoop, ForLoop, step_item, before, all_before, body_before, turn_before, after_leave, after_skip, skipped, CallInText, simple_calls, simples_calls, step_calls, returned_calls, stmt_calls, stmts_calls, AllIn, loop_calls, all_in_parts, Op}
 use Rattle.c_mean.proofs.JumpLemmas.{leave_passes, skip_passes}
-use Rattle.flat_code.specs.declared.operations.Op.{Op}
 use Rattle.machine_meaning.proofs.InPlace.{ExprAt, SimpleAt, SimplesAt, StepAt, ReturnAt, StmtAt, StmtsAt, LoopAt, EndAt}
 
 -- each name in the one scope is in the other

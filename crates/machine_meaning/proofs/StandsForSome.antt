@@ -1,38 +1,15 @@
 -- Each machine thread that rests stands for some source thread: its names are read from the frames' words, and what it has
 -- still to do from the text.
-use Rattle.std.proofs.Common.{◌≡◌, ℕ, zero, suc, ◌+◌, ◌*◌, ◌<◌, Bool, true, false, List, [], ◌∷◌, ◌++◌, length, map, drop, take, cond, Option, Some, None, refl, sym, ap, ◌∙◌, subst, arith, slice_get}
-use Rattle.std.specs.Prelude.{slice_index, sum}
-use Rattle.std.specs.List.{flat_map}
-use Rattle.std.proofs.lemmas.List.{length-map, length-take-le, length-drop, take-append-drop}
-use Rattle.std.proofs.lemmas.List.Sums.{sum_by-cons}
+use Rattle.machine_meaning.proofs.Common.{◌≡◌, ℕ, zero, suc, ◌+◌, ◌*◌, ◌<◌, Bool, true, false, List, [], ◌∷◌, ◌++◌, length, map, drop, take, cond, Option, Some, None, refl, sym, ap, ◌∙◌, subst, arith, slice_get, slice_index, sum, flat_map, length-map, length-take-le, length-drop, take-append-drop, sum_by-cons, function_ops, lowered_function, lowered, Place, Nowhere, InLocal, InGlobal, InLocalElement, InGlobalElement, Returned, WaitingFrame, Waiting, function_at, pushed, Target, ToNowhere, ToLocal, ToGlobal, ToLocalElement, ToGlobalElement, ToCaller, target_of, ProgramTree, IsWellScoped, IsValid, Pool, FlatFunction, Op, FlatCode, operation_at, site_of, AreGlobals, global_widths, Frame, Calls, ReturnsInto, IsStack, FramesAt, chain_below, a0, Core, variable_word, ecall_word, IsResting, AtStart, AtCall, PastCall, read, kind_of, Certificate, Image}
 use Rattle.cap_word.specs.Rows.{width, word_at, scalars}
-use Rattle.c_lower.specs.ProgramCode.{function_ops, lowered_function, lowered}
 use Rattle.c_mean.specs.Frames as source
-use Rattle.c_mean.specs.Frames.{Place, Nowhere, InLocal, InGlobal, InLocalElement, InGlobalElement, Returned, WaitingFrame, Waiting, function_at, pushed}
-use Rattle.c_mean.specs.Sites.{Target, ToNowhere, ToLocal, ToGlobal, ToLocalElement, ToGlobalElement, ToCaller, target_of}
-use Rattle.c_tree.specs.Trees.{ProgramTree}
-use Rattle.c_tree.specs.WellScoped.{IsWellScoped}
-use Rattle.certificate_rules.specs.Validity.{IsValid}
-use Rattle.chunk_pool.specs.Pool.{Pool}
-use Rattle.flat_code.specs.declared.functions.FlatFunction.{FlatFunction}
-use Rattle.flat_code.specs.declared.operations.Op.{Op}
 use Rattle.flat_code.specs.Codes as codes
-use Rattle.flat_code.specs.Codes.{FlatCode, operation_at, site_of}
 use Rattle.machine_meaning.proofs.Lowered.{function_is, lowers}
 use Rattle.machine_meaning.proofs.Pushed.{pushed_holds}
-use Rattle.machine_world.specs.Globals.{AreGlobals, global_widths}
-use Rattle.machine_world.specs.InPlace.{Frame, Calls, ReturnsInto, IsStack, FramesAt, chain_below}
-use Rattle.stack_certificate.specs.Registers.{a0}
-use Rattle.machine_world.specs.Local.{Core}
 use Rattle.machine_world.specs.Places as places
 use Rattle.machine_world.specs.Places.{Checked, InStub, InPrologue, InOperation, IsAt, Row, NoFrame, Empty, Fresh, Linking, Whole, row_of, row_at, row_in, prologue_row, transfer_row, is_linking, function_of}
-use Rattle.machine_world.specs.Rests.{variable_word, ecall_word, IsResting, AtStart, AtCall, PastCall}
 use Rattle.machine_world.specs.StandsFor.{SourceThread, Starts, Waits, HoldsIndex, IsWaitingFrame, AreWaitingFrames, IsStartingFrame, StandsFor, first_temporary}
-use Rattle.rv_machine.specs.Registers.{read}
-use Rattle.stack_certificate.specs.Templates.{kind_of}
-use Rattle.stack_certificate.specs.declared.certificates.Certificate.{Certificate}
 use Rattle.stack_certificate.specs.declared.sites.LinkKind.{LinkKind}
-use Rattle.stack_image.specs.declared.images.Image.{Image}
 use Rattle.machine_meaning.proofs.Numbering.{numbered, numbered_length, numbered_at}
 use Rattle.machine_meaning.proofs.Past.{ecall_site, past_word, stub_word, past_function}
 use Rattle.machine_meaning.proofs.Sites.{has_operation}

@@ -1,30 +1,12 @@
 -- What stays of the threads that don't run, and lists of rests.
-use Rattle.std.proofs.Common.{◌≡◌, ◌≢◌, ℕ, zero, suc, ◌<◌, List, [], ◌∷◌, ◌++◌, length, Option, Some, None, refl, ap, arith}
-use Rattle.std.specs.Prelude.{slice_get, slice_set}
-use Rattle.chunk_pool.specs.Pool.{Pool}
-use Rattle.stack_certificate.specs.Registers.{a0}
-use Rattle.machine_world.specs.Local.{Core}
-use Rattle.machine_world.specs.Places.{Checked}
-use Rattle.machine_world.specs.Rests.{IsResting, AtStart, PastCall}
-use Rattle.machine_world.specs.StandsForWorld.{IsPast}
-use Rattle.machine_world.specs.Threads.{Blocked, Thread}
-use Rattle.flat_code.specs.Codes.{result_place}
-use Rattle.rv_machine.specs.Registers.{read}
-use Rattle.machine_meaning.specs.AsSource.{HoldsWanted, HoldsResult}
-use Rattle.segment_laws.specs.Alike.{MayRun}
-use Rattle.segment_laws.specs.Kept.{KeepsChunks, KeepsStack}
-use Rattle.segment_laws.proofs.Frames.{frames_law}
-use Rattle.machine_meaning.specs.UnderWay.{IsSettledIf, RestsSo}
+use Rattle.machine_meaning.proofs.Common.{◌≡◌, ◌≢◌, ℕ, zero, suc, ◌<◌, List, [], ◌∷◌, ◌++◌, length, Option, Some, None, refl, ap, arith, slice_get, slice_set, Pool, a0, Core, Checked, IsResting, AtStart, PastCall, IsPast, Blocked, Thread, result_place, read, HoldsWanted, HoldsResult, MayRun, KeepsChunks, frames_law, IsSettledIf, RestsSo, keeps_self}
 
 -- ---- rest
 
-same_stack : (core : Core) → KeepsStack core core
-same_stack core = record { pc = refl; chain = refl; returns = refl; stack = refl; front = refl }
-
 settled_thread : (c : Checked) (pool after : Pool) (thread : Thread) (blocked : Option Blocked) (rests : IsResting c pool thread.core) → KeepsChunks pool after thread.core.chain → RestsSo c pool thread rests blocked → (now : IsResting c after thread.core) × RestsSo c after thread now blocked
-settled_thread c pool after thread None (AtStart f frames in_place) kept h = (AtStart f frames (frames_law c pool after thread.core thread.core _ frames kept (same_stack thread.core) in_place), h)
+settled_thread c pool after thread None (AtStart f frames in_place) kept h = (AtStart f frames (frames_law c pool after thread.core thread.core _ frames kept (keeps_self thread.core) in_place), h)
 settled_thread c pool after thread (Some blocked) (PastCall f i op word place frames in_place) kept h =
-    (PastCall f i op word place frames (record { operation = in_place.operation; ecall = in_place.ecall; pc = in_place.pc; frames_are = frames_law c pool after thread.core thread.core place frames kept (same_stack thread.core) in_place.frames_are }), h)
+    (PastCall f i op word place frames (record { operation = in_place.operation; ecall = in_place.ecall; pc = in_place.pc; frames_are = frames_law c pool after thread.core thread.core place frames kept (keeps_self thread.core) in_place.frames_are }), h)
 settled_thread c pool after thread _ _ kept h = absurd h
 
 pub settled_stays : (c : Checked) (pool after : Pool) (thread : Option Thread) → ((t : Thread) → thread ≡ Some t → KeepsChunks pool after t.core.chain) → IsSettledIf c pool thread → IsSettledIf c after thread
@@ -51,11 +33,6 @@ pub get_set_same : {A : Type 0} (xs : List A) (i : ℕ) (a : A) → i < length x
 get_set_same [] i a lt = absurd (omega arith)
 get_set_same (x ∷ xs) zero a lt = refl
 get_set_same (x ∷ xs) (suc i) a lt = get_set_same xs i a (omega arith)
-
-pub get_set_other : {A : Type 0} (xs : List A) (i u : ℕ) (a : A) → u ≢ i → slice_get (slice_set xs i a) u ≡ slice_get xs u
-get_set_other (x ∷ xs) zero zero a ne = absurd (ne refl)
-get_set_other (x ∷ xs) (suc i) (suc u) a ne = get_set_other xs i u a (λ e. ne (ap suc e))
-get_set_other _ _ _ a ne = refl
 
 pub get_append_other : {A : Type 0} (xs : List A) (a : A) (u : ℕ) → u ≢ length xs → slice_get (xs ++ a ∷ []) u ≡ slice_get xs u
 get_append_other [] a zero ne = absurd (ne refl)

@@ -1,22 +1,9 @@
 -- Many steps of a segment.
-use Rattle.std.proofs.Common.{◌≡◌, ℕ, zero, suc, ◌+◌, List, [], Some, sym, ap, subst, ◌∙◌, arith}
-use Rattle.c_lower.specs.ProgramCode.{lowered}
+use Rattle.machine_meaning.proofs.Common.{◌≡◌, ℕ, zero, suc, ◌+◌, List, [], Some, sym, ap, subst, ◌∙◌, arith, lowered, ProgramTree, IsWellScoped, IsValid, Checked, Pick, after_action, world_of, IsFramedNext, IsGoodStretch, IsSound, OnWorld, IsWellFormed, KeepsWellFormed, KeepsWellFormed-step, Certificate, Image, IsReached, StepReaches, IsSettled}
 use Rattle.c_mean.specs.World as source
-use Rattle.c_tree.specs.Trees.{ProgramTree}
-use Rattle.c_tree.specs.WellScoped.{IsWellScoped}
-use Rattle.certificate_rules.specs.Validity.{IsValid}
-use Rattle.machine_world.specs.Places.{Checked}
-use Rattle.machine_world.specs.Runs.{Pick, after_action, world_of}
-use Rattle.machine_world.specs.Stretches.{IsFramedNext, IsGoodStretch, IsSound, OnWorld}
 use Rattle.machine_world.specs.Threads.{Setting, World, Move, Goes, Puts, Spawns, Blocks, Ends, Stops, Wrong, step}
-use Rattle.machine_world.specs.WellFormed.{IsWellFormed, KeepsWellFormed}
-use Rattle.machine_world.proofs.FormWorlds.{KeepsWellFormed-step}
-use Rattle.stack_certificate.specs.declared.certificates.Certificate.{Certificate}
-use Rattle.stack_image.specs.declared.images.Image.{Image}
 use Rattle.segment_laws.specs.Silent.{GoesOn}
 use Rattle.machine_meaning.specs.Running.{IsRunning, KeepsRunning}
-use Rattle.machine_meaning.specs.Reached.{IsReached, StepReaches}
-use Rattle.machine_meaning.specs.UnderWay.{IsSettled}
 use Rattle.machine_meaning.proofs.WorldLaws as law
 use Rattle.machine_meaning.proofs.Sound.{settled_sound, under_way_sound}
 

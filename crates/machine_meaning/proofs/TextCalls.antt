@@ -1,17 +1,6 @@
 -- Each call of a function's text stands in its code, and after it what follows it there.
-use Rattle.std.proofs.Common.{◌≡◌, ℕ, zero, suc, ◌+◌, ◌<◌, ◌≤◌, Bool, true, List, [], ◌∷◌, ◌++◌, map, length, Option, Some, None, sym, ap, subst, arith}
-use Rattle.std.specs.Prelude.{slice_index_or}
-use Rattle.std.specs.List.{Contains}
-use Rattle.c_tree.specs.Temporaries.{simple_temporaries, simples_temporaries, step_temporaries, returned_temporaries, stmt_temporaries, stmts_temporaries}
-use Rattle.c_tree.specs.TextOrder.{scalar, simple_names}
-use Rattle.c_tree.specs.Trees.{CallTree, CallTable, RightTree, Computed, Called, SimpleTree, DeclareWith, SetLocal, SetGlobal, SetLocalElement, SetGlobalElement, Calling, StmtTree, StmtTrees, Do, Block, If, IfElse, While, For, Return, NoStmts, Then}
-use Rattle.c_tree.specs.WellScoped.{Context, with_names, scope_after, scope_after_all, IsSimpleScoped, AreSimplesScoped, IsStmtScoped, AreStmtsScoped}
+use Rattle.machine_meaning.proofs.Common.{◌≡◌, ℕ, zero, suc, ◌+◌, ◌<◌, ◌≤◌, Bool, true, List, [], ◌∷◌, ◌++◌, map, length, Option, Some, None, sym, ap, subst, arith, slice_index_or, Contains, simple_temporaries, simples_temporaries, step_temporaries, returned_temporaries, stmt_temporaries, stmts_temporaries, scalar, simple_names, CallTree, CallTable, RightTree, Computed, Called, SimpleTree, DeclareWith, SetLocal, SetGlobal, SetLocalElement, SetGlobalElement, Calling, StmtTree, StmtTrees, Do, Block, If, IfElse, While, For, Return, NoStmts, Then, Context, with_names, scope_after, scope_after_all, IsSimpleScoped, AreSimplesScoped, IsStmtScoped, AreStmtsScoped, Item, Simply, Back, WhileLoop, ForLoop, step_item, all_before, turn_before, AllIn, loop_calls, all_in_parts, Op, site_in, place_in}
 use Rattle.c_mean.specs.Sites.{Target, ToNowhere, ToLocal, ToGlobal, ToLocalElement, ToGlobalElement, ToCaller, CallInText, right_calls, simple_calls, simples_calls, step_calls, returned_calls, stmt_calls, stmts_calls, site_of}
-use Rattle.c_mean.specs.ToDo.{Item, Simply, Back, WhileLoop, ForLoop, step_item, all_before, turn_before}
-use Rattle.c_mean.proofs.TextLemmas.{AllIn, loop_calls, all_in_parts}
-use Rattle.flat_code.specs.declared.operations.Op.{Op}
-use Rattle.flat_code.specs.Frames.{site_in}
-use Rattle.flat_code.specs.Step.{place_in}
 use Rattle.machine_meaning.proofs.InPlace.{CallAt, ResultAt, RightAt, SimpleAt, SimplesAt, StepAt, ReturnAt, StmtAt, StmtsAt, held}
 use Rattle.machine_meaning.proofs.Stands.{within_names, within_after, within_all, Stands, ByJump, InFewer, AtWhile, AtBack, LoopStands, Exits, exits_fewer, exits_before, all_before_stands, simples_stand, after_body, leave_step, skip_step, turn_stands}
 use Rattle.machine_meaning.proofs.Frames.{TargetScoped, HeldRoom}

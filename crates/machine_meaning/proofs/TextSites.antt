@@ -1,23 +1,6 @@
 -- Each site of a function's code is that of a call in its text.
-use Rattle.std.proofs.Common.{◌≡◌, ◌+◌, ℕ, zero, suc, Bool, true, false, List, [], ◌∷◌, ◌++◌, map, refl, sym, subst, ◌∙◌}
-use Rattle.std.specs.Prelude.{Option, Some, None, slice_get}
-use Rattle.std.specs.List.{AllByRecursion, Contains}
-use Rattle.c_tree.specs.Sizes.{below}
-use Rattle.c_tree.specs.TextOrder.{simple_names}
-use Rattle.c_tree.specs.Trees.{ExprTree, CallTree, CallFunction, CallTable, CallSpawn, CallModelled, RightTree, Computed, Called, SimpleTree, DeclareScalar, DeclareArray, DeclareWith, SetLocal, SetGlobal, SetLocalElement, SetGlobalElement, Calling, StmtTree, StmtTrees, Do, Empty, Block, If, IfElse, While, For, Break, Continue, Return, NoStmts, Then, FunctionTree}
-use Rattle.c_tree.specs.WellScoped.{with_names, scope_after, scope_after_all}
+use Rattle.machine_meaning.proofs.Common.{◌≡◌, ◌+◌, ℕ, zero, suc, Bool, true, false, List, [], ◌∷◌, ◌++◌, map, refl, sym, subst, ◌∙◌, Option, Some, None, slice_get, AllByRecursion, Contains, below, simple_names, ExprTree, CallTree, CallFunction, CallTable, CallSpawn, CallModelled, RightTree, Computed, Called, SimpleTree, DeclareScalar, DeclareArray, DeclareWith, SetLocal, SetGlobal, SetLocalElement, SetGlobalElement, Calling, StmtTree, StmtTrees, Do, Empty, Block, If, IfElse, While, For, Break, Continue, Return, NoStmts, Then, FunctionTree, with_names, scope_after, scope_after_all, Target, ToNowhere, ToLocal, ToGlobal, ToLocalElement, ToGlobalElement, ToCaller, CallInText, right_calls, simple_calls, simples_calls, step_calls, returned_calls, stmt_calls, stmts_calls, function_calls, Item, Simply, Back, WhileLoop, ForLoop, step_item, all_before, turn_before, AllIn, all_in_parts, Op, site_of, expr_size, expr_code, arguments_in, arguments_code, call_code, set_code, held_code, simple_size, simple_code, simples_size, simples_code, step_size, step_code, test_size, test_code, return_code, stmt_size, stmt_code, stmts_code, closing_code, first_temporary, function_ops, IsPlain, ArePlain, expr_plain, arguments_plain, All-weaker, All-append}
 use Rattle.c_mean.specs.Sites as text
-use Rattle.c_mean.specs.Sites.{Target, ToNowhere, ToLocal, ToGlobal, ToLocalElement, ToGlobalElement, ToCaller, CallInText, right_calls, simple_calls, simples_calls, step_calls, returned_calls, stmt_calls, stmts_calls, function_calls}
-use Rattle.c_mean.specs.ToDo.{Item, Simply, Back, WhileLoop, ForLoop, step_item, all_before, turn_before}
-use Rattle.c_mean.proofs.TextLemmas.{AllIn, all_in_parts}
-use Rattle.flat_code.specs.declared.operations.Op.{Op}
-use Rattle.flat_code.specs.Codes.{site_of}
-use Rattle.c_lower.specs.ExprCode.{expr_size, expr_code}
-use Rattle.c_lower.specs.CallCode.{arguments_in, arguments_code, call_code, set_code, held_code}
-use Rattle.c_lower.specs.StmtCode.{simple_size, simple_code, simples_size, simples_code, step_size, step_code, test_size, test_code, return_code, stmt_size, stmt_code, stmts_code}
-use Rattle.c_lower.specs.ProgramCode.{closing_code, first_temporary, function_ops}
-use Rattle.c_lower.proofs.Lists.{all-append, all-weaker}
-use Rattle.c_lower.proofs.PlainCode.{IsPlain, ArePlain, expr_plain, arguments_plain}
 use Rattle.machine_meaning.proofs.Pushed.{all_in_self}
 
 -- no site
@@ -35,13 +18,13 @@ module _ (calls : List CallInText) where
   All ops = AllByRecursion (HasCall calls) ops
 
   both : (xs ys : List Op) → All xs → All ys → All (xs ++ ys)
-  both xs ys a b = all-append (HasCall calls) xs ys a b
+  both xs ys a b = All-append (HasCall calls) xs ys a b
 
   plain : (op : Op) → site_of op ≡ None → HasCall calls op
   plain op h = record { found = λ s e. absurd (let n : no_site ≡ Some s = sym h ∙ e in cc) }
 
   all_plain : (ops : List Op) → ArePlain ops → All ops
-  all_plain ops h = all-weaker IsPlain (HasCall calls) (λ op is. plain op is.0) ops h
+  all_plain ops h = All-weaker IsPlain (HasCall calls) (λ op is. plain op is.0) ops h
 
   -- an operation at the site of a call that is there
   sited : (op : Op) (call : CallInText) → site_of op ≡ Some (text.site_of call) → Contains calls call → HasCall calls op
@@ -162,7 +145,7 @@ module _ (calls : List CallInText) where
 pub function_site : (f : FunctionTree) (i : ℕ) (op : Op) → slice_get (function_ops f) i ≡ Some op → HasCall (function_calls f) op
 function_site f i op here =
     one_of (function_calls f) (function_ops f) i op
-    (all-append (HasCall (function_calls f)) (stmts_code f.body 0 (first_temporary f) 0 0) (closing_code f.gives (first_temporary f))
+    (All-append (HasCall (function_calls f)) (stmts_code f.body 0 (first_temporary f) 0 0) (closing_code f.gives (first_temporary f))
     (stmts_all (function_calls f) f.body (below f.params) [] 0 (first_temporary f) 0 0 (all_in_self (function_calls f)))
     (closing_all (function_calls f) f.gives (first_temporary f)))
     here

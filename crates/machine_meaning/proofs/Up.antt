@@ -1,29 +1,9 @@
 -- From a thread of flat code between a machine thread and a source thread to what the one says of the other.
-use Rattle.std.proofs.Common.{◌≡◌, ℕ, zero, suc, ◌-◌, ◌<◌, ◌≤◌, Bool, true, false, List, [], ◌∷◌, ◌++◌, length, map, replicate, Option, Some, None, refl, sym, ap, ◌∙◌, subst, arith, eqb, ⊎_elim}
-use Rattle.std.specs.Prelude.{IsTrue, slice_index, ◌||◌}
-use Rattle.std.proofs.lemmas.Bool.{cases_lt, cases_eq, eq-eqb}
-use Rattle.cap_word.specs.Rows.{row, width}
-use Rattle.c_lower.specs.ProgramCode.{lowered}
+use Rattle.machine_meaning.proofs.Common.{◌≡◌, ℕ, zero, suc, ◌-◌, ◌<◌, ◌≤◌, Bool, true, false, List, [], ◌∷◌, ◌++◌, length, map, replicate, Option, Some, None, refl, sym, ap, ◌∙◌, subst, arith, eqb, ⊎_elim, IsTrue, slice_index, ◌||◌, cases_lt, cases_eq, eq-eqb, row, width, lowered, Place, InLocalElement, InGlobalElement, WaitingFrame, function_at, below, declared_words, FunctionTree, ProgramTree, visible, IsWellScoped, Pool, FlatFunction, Op, operation_at, FlatFrame, variable, site_in, FrameStandsFor, FrameStartsAs, FramesStandFor, IndexStands, Frame, Core, Checked, HoldsVariables, AreFlatFrames, IsFlatStart, IsWaitingFrame, IsStartingFrame, AreWaitingFrames, HoldsIndex, Certificate}
 use Rattle.c_mean.specs.Frames as source
-use Rattle.c_mean.specs.Frames.{Place, InLocalElement, InGlobalElement, WaitingFrame, function_at}
-use Rattle.c_tree.specs.Sizes.{below, declared_words}
 use Rattle.c_tree.specs.Sizes as widths
-use Rattle.c_tree.specs.Trees.{FunctionTree, ProgramTree}
-use Rattle.c_tree.specs.WellScoped.{visible, IsWellScoped}
-use Rattle.chunk_pool.specs.Pool.{Pool}
-use Rattle.flat_code.specs.declared.functions.FlatFunction.{FlatFunction}
-use Rattle.flat_code.specs.declared.operations.Op.{Op}
 use Rattle.flat_code.specs.Codes as codes
-use Rattle.flat_code.specs.Codes.{operation_at}
-use Rattle.flat_code.specs.Frames.{FlatFrame, variable, site_in}
 use Rattle.machine_meaning.proofs.Lowered.{function_is, lowers, scalars_length}
-use Rattle.machine_meaning.specs.StandsFor.{FrameStandsFor, FrameStartsAs, FramesStandFor, IndexStands}
-use Rattle.machine_world.specs.InPlace.{Frame}
-use Rattle.machine_world.specs.Local.{Core}
-use Rattle.machine_world.specs.Places.{Checked}
-use Rattle.machine_world.specs.Rests.{HoldsVariables, AreFlatFrames, IsFlatStart}
-use Rattle.machine_world.specs.StandsFor.{IsWaitingFrame, IsStartingFrame, AreWaitingFrames, HoldsIndex}
-use Rattle.stack_certificate.specs.declared.certificates.Certificate.{Certificate}
 use Rattle.machine_meaning.proofs.Numbering.{past_end, rows_length, argument_at}
 
 -- there is no index past the last name

@@ -1,10 +1,5 @@
 -- The variables of a flat frame that waits where a source frame does: the names in scope, and the index of its place.
-use Rattle.std.proofs.Common.{◌≡◌, ℕ, ◌+◌, ◌<◌, ◌≤◌, Bool, true, false, List, [], ◌∷◌, length, Option, Some, None, refl, sym, ap, ◌∙◌, arith, cond, ⊎_elim}
-use Rattle.std.specs.Prelude.{IsTrue, eqb, nat_lt, slice_index_or}
-use Rattle.std.proofs.lemmas.Bool.{cases_lt, cases_eq, cond-true, cond-false, lt-ltb, le-ltb, eq-eqb, ne_eqb}
-use Rattle.cap_word.specs.Rows.{row}
-use Rattle.c_tree.specs.WellScoped.{visible}
-use Rattle.c_mean.specs.Frames.{Place, InLocalElement, InGlobalElement}
+use Rattle.machine_meaning.proofs.Common.{◌≡◌, ℕ, ◌+◌, ◌<◌, ◌≤◌, Bool, true, false, List, [], ◌∷◌, length, Option, Some, None, refl, sym, ap, ◌∙◌, arith, cond, ⊎_elim, IsTrue, eqb, nat_lt, slice_index_or, cases_lt, cases_eq, cond-true, cond-false, lt-ltb, le-ltb, eq-eqb, ne_eqb, row, visible, Place, InLocalElement, InGlobalElement}
 use Rattle.machine_meaning.proofs.Numbering.{numbered, numbered_length, numbered_at, past_end}
 
 -- the words that hold the index of a place

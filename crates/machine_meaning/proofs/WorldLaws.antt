@@ -1,18 +1,6 @@
 -- The laws of segments, in the order of their contracts.
-use Rattle.std.proofs.Common.{◌≡◌, ℕ, List, [], Some}
-use Rattle.c_lower.specs.ProgramCode.{lowered}
+use Rattle.machine_meaning.proofs.Common.{◌≡◌, ℕ, List, [], Some, lowered, ProgramTree, IsWellScoped, IsValid, Pick, after_action, World, Setting, step, IsWellFormed, Certificate, Image, IsReached, StepReaches, IsSettled, StandsSettled, StandsForWorld}
 use Rattle.c_mean.specs.World as source
-use Rattle.c_tree.specs.Trees.{ProgramTree}
-use Rattle.c_tree.specs.WellScoped.{IsWellScoped}
-use Rattle.certificate_rules.specs.Validity.{IsValid}
-use Rattle.machine_world.specs.Runs.{Pick, after_action}
-use Rattle.machine_world.specs.Threads.{World, Setting, step}
-use Rattle.machine_world.specs.WellFormed.{IsWellFormed}
-use Rattle.stack_certificate.specs.declared.certificates.Certificate.{Certificate}
-use Rattle.stack_image.specs.declared.images.Image.{Image}
-use Rattle.machine_meaning.specs.Reached.{IsReached, StepReaches}
-use Rattle.machine_meaning.specs.UnderWay.{IsSettled, StandsSettled}
-use Rattle.machine_world.specs.StandsForWorld.{StandsForWorld}
 use Rattle.machine_meaning.proofs.BetweenSegments.{somewhere_law}
 use Rattle.machine_meaning.proofs.Picks.{pick_reach}
 use Rattle.machine_meaning.proofs.WorldSteps.{step_reach}

@@ -1,37 +1,10 @@
 -- The step of a world with a segment under way, and the pick with which one begins.
-use Rattle.std.proofs.Common.{◌≡◌, ℕ, nat_eq, List, Option, Some, refl, sym, ap, subst, ◌∙◌, cond, arith}
-use Rattle.std.proofs.lemmas.Bool.{cond_both}
-use Rattle.cap_word.specs.Calls.{Call, Blocking, Immediate, call_of}
-use Rattle.cap_word.specs.Runs.{Goes, Asks, Stops, moves}
-use Rattle.cap_word.specs.declared.stops.Stop.{Stop}
-use Rattle.c_lower.specs.ProgramCode.{lowered}
-use Rattle.c_mean.specs.Frames.{Waiting}
+use Rattle.machine_meaning.proofs.Common.{◌≡◌, ℕ, nat_eq, List, Option, Some, refl, sym, ap, subst, ◌∙◌, cond, arith, cond_both, Call, Blocking, Immediate, call_of, Goes, Asks, Stops, moves, Stop, lowered, Waiting, Segment, segment_machine, ProgramTree, IsWellScoped, IsValid, Op, AreGlobals, Frame, LocalMove, Ended, Trapped, NoRoom, Wrong, local_step, Checked, IsAtCall, StandAtCall, Thread, World, Setting, thread_of, Move, asked, moved, step_of, step_on, step, local_in, IsWellFormed, KeepsWellFormed, KeepsWellFormed-step, AsksCall, IsStepAsSource, NeedsFit-valid, need_of, kind_of, Certificate, Image, IsReached, StepReaches}
 use Rattle.c_mean.specs.World as source
-use Rattle.c_mean.specs.World.{Segment, segment_machine}
 use Rattle.c_mean.proofs.SegmentLemmas.{asks_in_world, stops_in_world}
-use Rattle.c_tree.specs.Trees.{ProgramTree}
-use Rattle.c_tree.specs.WellScoped.{IsWellScoped}
-use Rattle.certificate_rules.specs.Validity.{IsValid}
-use Rattle.flat_code.specs.declared.operations.Op.{Op}
-use Rattle.machine_world.specs.Globals.{AreGlobals}
-use Rattle.machine_world.specs.InPlace.{Frame}
 use Rattle.machine_world.specs.Local as local
-use Rattle.machine_world.specs.Local.{LocalMove, Ended, Trapped, NoRoom, Wrong, local_step}
-use Rattle.machine_world.specs.Places.{Checked}
-use Rattle.machine_world.specs.Rests.{IsAtCall}
-use Rattle.machine_world.specs.StandsFor.{StandAtCall}
 use Rattle.machine_world.specs.Threads as machine
-use Rattle.machine_world.specs.Threads.{Thread, World, Setting, thread_of, Move, asked, moved, step_of, step_on, step, local_in}
-use Rattle.machine_world.specs.WellFormed.{IsWellFormed, KeepsWellFormed}
-use Rattle.machine_world.proofs.FormWorlds.{KeepsWellFormed-step}
 use Rattle.machine_meaning.proofs.Formed.{formed}
-use Rattle.machine_meaning.specs.AsSource.{AsksCall, IsStepAsSource}
-use Rattle.segment_laws.proofs.Needs.{NeedsFit-valid}
-use Rattle.stack_certificate.specs.Certificates.{need_of}
-use Rattle.stack_certificate.specs.Templates.{kind_of}
-use Rattle.stack_certificate.specs.declared.certificates.Certificate.{Certificate}
-use Rattle.stack_image.specs.declared.images.Image.{Image}
-use Rattle.machine_meaning.specs.Reached.{IsReached, StepReaches}
 use Rattle.machine_meaning.proofs.SegmentSteps.{along, goes_reach, ended_reach, trapped_reach, block_reach, ask_reach}
 use Rattle.machine_meaning.proofs.Spawns.{spawn_reach}
 

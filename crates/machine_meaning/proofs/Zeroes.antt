@@ -1,21 +1,8 @@
 -- The only operation that resets a variable is that of a declared array, which has a word at least.
-use Rattle.std.proofs.Common.{◌≡◌, ◌<◌, ◌+◌, ℕ, zero, suc, Bool, true, false, List, [], ◌∷◌, ◌++◌, length, map, subst, ◌∙◌, arith}
-use Rattle.std.specs.Prelude.{Option, Some, None, slice_index, slice_index_or, slice_get}
-use Rattle.std.specs.List.{AllByRecursion}
+use Rattle.machine_meaning.proofs.Common.{◌≡◌, ◌<◌, ◌+◌, ℕ, zero, suc, Bool, true, false, List, [], ◌∷◌, ◌++◌, length, map, subst, ◌∙◌, arith, Option, Some, None, slice_index, slice_index_or, slice_get, AllByRecursion, function_temporaries, simple_names, ExprTree, CallTree, CallFunction, CallTable, CallSpawn, CallModelled, RightTree, Computed, Called, SimpleTree, DeclareScalar, DeclareArray, DeclareWith, SetLocal, SetGlobal, SetLocalElement, SetGlobalElement, Calling, StmtTree, StmtTrees, Do, Empty, Block, If, IfElse, While, For, Return, NoStmts, Then, FunctionTree, ProgramTree, Context, context_of, IsSimpleScoped, AreSimplesScoped, with_names, scope_after, scope_after_all, IsStepScoped, IsStmtScoped, AreStmtsScoped, IsFunctionScoped, AreFunctionsScoped, IsWellScoped, Op, expr_size, expr_code, arguments_code, call_code, set_code, held_code, simple_size, simple_code, simples_size, simples_code, step_size, step_code, test_size, test_code, return_code, stmt_size, stmt_code, stmts_code, closing_code, first_temporary, lowered_function, lowered, is_reset, IsPlain, ArePlain, expr_plain, arguments_plain, All-weaker, All-append}
 use Rattle.std.proofs.Math.ListN.{get_or-append}
 use Rattle.c_tree.specs.Sizes.{scalars, below}
-use Rattle.c_tree.specs.Temporaries.{function_temporaries}
-use Rattle.c_tree.specs.TextOrder.{simple_names}
-use Rattle.c_tree.specs.Trees.{ExprTree, CallTree, CallFunction, CallTable, CallSpawn, CallModelled, RightTree, Computed, Called, SimpleTree, DeclareScalar, DeclareArray, DeclareWith, SetLocal, SetGlobal, SetLocalElement, SetGlobalElement, Calling, StmtTree, StmtTrees, Do, Empty, Block, If, IfElse, While, For, Return, NoStmts, Then, FunctionTree, ProgramTree}
-use Rattle.c_tree.specs.WellScoped.{Context, context_of, IsSimpleScoped, AreSimplesScoped, with_names, scope_after, scope_after_all, IsStepScoped, IsStmtScoped, AreStmtsScoped, IsFunctionScoped, AreFunctionsScoped, IsWellScoped}
-use Rattle.flat_code.specs.declared.operations.Op.{Op}
 use Rattle.segment_laws.specs.Zeroes.{ZeroesSome}
-use Rattle.c_lower.specs.ExprCode.{expr_size, expr_code}
-use Rattle.c_lower.specs.CallCode.{arguments_code, call_code, set_code, held_code}
-use Rattle.c_lower.specs.StmtCode.{simple_size, simple_code, simples_size, simples_code, step_size, step_code, test_size, test_code, return_code, stmt_size, stmt_code, stmts_code}
-use Rattle.c_lower.specs.ProgramCode.{closing_code, first_temporary, lowered_function, lowered}
-use Rattle.c_lower.proofs.Lists.{all-append, all-weaker}
-use Rattle.c_lower.proofs.PlainCode.{is_reset, IsPlain, ArePlain, expr_plain, arguments_plain}
 
 -- what an operation resets has words
 abbrev ResetsSome : List ℕ → Op → Type 0
@@ -31,10 +18,10 @@ module _ (c : Context) (sizes : List ℕ) (words : (x w : ℕ) → x < length c.
   All ops = AllByRecursion (ResetsSome sizes) ops
 
   both : (xs ys : List Op) → All xs → All ys → All (xs ++ ys)
-  both xs ys a b = all-append (ResetsSome sizes) xs ys a b
+  both xs ys a b = All-append (ResetsSome sizes) xs ys a b
 
   all_plain : (ops : List Op) → ArePlain ops → All ops
-  all_plain ops h = all-weaker IsPlain (ResetsSome sizes) (λ op is. plain sizes op is.1) ops h
+  all_plain ops h = All-weaker IsPlain (ResetsSome sizes) (λ op is. plain sizes op is.1) ops h
 
   expr_all : (e : ExprTree) (p k : ℕ) → All (expr_code e p k)
   expr_all e p k = all_plain (expr_code e p k) (expr_plain e p k)
@@ -137,7 +124,7 @@ function_all p f h =
     let c = context_of p f in
     let sizes = (lowered_function f).sizes in
     let words : (x w : ℕ) → x < length c.sizes → slice_index c.sizes x ≡ w → slice_index sizes x ≡ w = λ x w there is. get_or-append f.sizes (scalars (function_temporaries f)) 0 x there ∙ is in
-    all-append (ResetsSome sizes) (stmts_code f.body 0 (first_temporary f) 0 0) (closing_code f.gives (first_temporary f))
+    All-append (ResetsSome sizes) (stmts_code f.body 0 (first_temporary f) 0 0) (closing_code f.gives (first_temporary f))
     (stmts_all c sizes words false (below f.params) f.body 0 (first_temporary f) 0 0 h.body)
     (closing_all c sizes words f.gives (first_temporary f))
 

@@ -1,5 +1,5 @@
 -- Pools whose chunks are known, through takes and gives.
-use Rattle.std.proofs.Common.{◌≡◌, ℕ, zero, suc, ◌<◌, List, [], ◌∷◌, Option, subst, ◌∙◌, ap, sym, arith}
+use Rattle.std.proofs.Common.{◌≡◌, ℕ, zero, suc, ◌<◌, [], ◌∷◌, Option, subst, ◌∙◌, ap, sym, arith}
 use Rattle.std.specs.List.{Contains}
 use Rattle.chunk_pool.specs.Pool.{Pool, IsHeld, IsTaken, after_give, start_pool, taken_for}
 

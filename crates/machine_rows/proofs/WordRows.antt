@@ -1,5 +1,5 @@
 -- Four words as sixteen bytes, of which the first eight are writable.
-use Rattle.std.proofs.Common.{◌≡◌, ◌≢◌, ℕ, suc, ◌+◌, ◌*◌, ◌/◌, ◌%◌, ◌^◌, ◌<◌, ◌≤◌, Bool, true, false, eqb, ltb, List, length, get_or, Option, Some, None, refl, sym, ap, ◌∙◌, arith, cond, ⊎_elim}
+use Rattle.std.proofs.Common.{◌≡◌, ◌≢◌, ℕ, ◌+◌, ◌*◌, ◌/◌, ◌%◌, ◌^◌, ◌<◌, ◌≤◌, Bool, true, false, eqb, ltb, List, length, get_or, Option, Some, None, refl, sym, ap, ◌∙◌, arith, cond, ⊎_elim}
 use Rattle.std.proofs.lemmas.Bool.{cases_eq, cond-true, cond-false, eq-eqb, ne_eqb, lt-ltb, ltb-true}
 use Rattle.std.proofs.lemmas.List.{length-set}
 use Rattle.std.specs.Prelude.{◌&&◌}
@@ -75,12 +75,3 @@ unfolding word_is_writable half_is_writable
 word_is_writable-past words a past =
     let b0 : ltb a 8 ≡ false = Rattle.std.proofs.lemmas.Bool.le-ltb a 8 past in
     sym (ap (λ (t : Bool). (t && ltb (a + 1) 8) && (ltb (a + 2) 8 && ltb (a + 2 + 1) 8)) b0)
-
--- what a shift by whole bytes multiplies by
-pub scale_is : (k : ℕ) → k < 4 → 1 * 2 ^ (8 * k) % 4294967296 ≡ 2 ^ (8 * k)
-scale_is (suc (suc (suc (suc k)))) within = absurd (omega arith)
-scale_is _ within = refl
-
-pub byte_below : (k byte : ℕ) → k < 4 → byte < 2 ^ 8 → byte * 2 ^ (8 * k) < 2 ^ 32
-byte_below (suc (suc (suc (suc k)))) byte within fits = absurd (omega arith)
-byte_below _ byte within fits = omega arith

@@ -1,9 +1,5 @@
 -- Runs go on where earlier ones ended.
-use Rattle.std.proofs.Common.{◌≡◌, ℕ, zero, suc, ◌+◌, List, [], ◌∷◌, ◌++◌, Option, Some, None, refl, ap, ◌∙◌, arith, get_or-set_other}
-use Rattle.c_mean.specs.Kept.{LeavesOtherQueues}
-use Rattle.c_mean.specs.ModelledCalls.{Exchange, Delivery, Arrival, Message, channel_of, with_delivery}
-use Rattle.machine_world.specs.Threads.{World, Setting, step}
-use Rattle.machine_world.specs.Runs.{Action, world_of, after_action, and_then, after_actions, after_steps}
+use Rattle.machine_world.proofs.Common.{◌≡◌, ℕ, zero, suc, ◌+◌, List, [], ◌∷◌, ◌++◌, Option, Some, None, refl, ap, ◌∙◌, arith, get_or-set_other, LeavesOtherQueues, Exchange, Delivery, Arrival, Message, channel_of, with_delivery, World, Setting, step, Action, world_of, after_action, and_then, after_actions, after_steps}
 
 through : (found : Option World) (f g h : World → Option World) → ((w : World) → f w ≡ and_then (g w) h) → and_then found f ≡ and_then (and_then found g) h
 through None f g h same = refl

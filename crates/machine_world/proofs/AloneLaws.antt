@@ -1,20 +1,9 @@
 -- A step of a thread leaves each chunk that is neither its own nor free nor accessed.
-use Rattle.std.proofs.Common.{◌≡◌, ◌≢◌, ℕ, ◌+◌, ◌%◌, ◌/◌, ◌^◌, ◌<◌, ◌≤◌, Bool, List, [], ◌∷◌, Option, Some, refl, sym, ap, subst, ◌∙◌, arith, cond, ⊎_elim}
-use Rattle.std.proofs.lemmas.Bool.{cases_eq, eq-eqb}
-use Rattle.chunk_pool.specs.Pool.{Pool, chunk_of, all_free}
+use Rattle.machine_world.proofs.Common.{◌≡◌, ◌≢◌, ℕ, ◌+◌, ◌%◌, ◌/◌, ◌^◌, ◌<◌, ◌≤◌, Bool, List, [], ◌∷◌, Option, Some, refl, sym, ap, subst, ◌∙◌, arith, cond, ⊎_elim, cases_eq, eq-eqb, Pool, chunk_of, all_free, taken_for-leaves, taken_for-keeps, KeepsOthers-with_word, KeepsOthers-after_give, with_stored, with_half, with_word, Stored, Nothing, Byte, Half, Word, read, Areas, Spot, InPayload, spot_of, is_writable, with_byte_on, with_byte, t1, Local, with_header, machine_of, local_step, copies, copies_in, IsApart, KeepsChunk}
 use Rattle.chunk_pool.specs.Pool.{with_word as with_pool_word}
-use Rattle.chunk_pool.proofs.NeedLaws.{taken_for-leaves, taken_for-keeps}
-use Rattle.chunk_pool.proofs.PoolLaws.{KeepsOthers-with_word, KeepsOthers-after_give}
 use Rattle.rv_machine.specs.Access.{Access, IsAccessed, Fills, next_access}
-use Rattle.rv_machine.specs.Bytes.{with_stored, with_half, with_word, Stored, Nothing, Byte, Half, Word}
-use Rattle.rv_machine.specs.Registers.{read}
 use Rattle.rv_machine.specs.Rows as rows
 use Rattle.rv_machine.proofs.AccessLaws.{Fills-outcome}
-use Rattle.machine_world.specs.Areas.{Areas, Spot, InPayload, spot_of, is_writable, with_byte_on, with_byte}
-use Rattle.stack_certificate.specs.Registers.{t1}
-use Rattle.machine_world.specs.Local.{Local, with_header, machine_of, local_step}
-use Rattle.machine_world.specs.Held.{copies, copies_in}
-use Rattle.machine_world.specs.Alone.{IsApart, KeepsChunk}
 use Rattle.machine_world.proofs.AreaLaws.{spot_of-with_byte}
 use Rattle.machine_world.proofs.LocalCases.{on_local}
 use Rattle.machine_world.proofs.HeldLaws.{copies-cons}

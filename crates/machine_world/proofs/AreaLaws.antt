@@ -1,18 +1,9 @@
 -- The areas are memory by bytes: a byte that is written is there, every other one stays, and so does the map.
-use Rattle.std.proofs.Common.{◌≡◌, ◌≢◌, ℕ, ◌+◌, ◌-◌, ◌*◌, ◌/◌, ◌%◌, ◌^◌, ◌<◌, ◌≤◌, true, eqb, List, [], length, set, Option, Some, None, refl, sym, ap, subst, ◌∙◌, arith, cond, inr, ⊎_elim, get_or-set_same, get_or-set_other}
-use Rattle.std.specs.Prelude.{◌&&◌, nat_le, nat_lt}
-use Rattle.std.proofs.lemmas.Bool.{cond_both, cond-true, cond-false, cases_eq, eq-eqb, ne_eqb, leb-true, ltb-true, and_parts}
-use Rattle.std.proofs.lemmas.List.{length-set}
-use Rattle.std.proofs.lemmas.List.Elements.{All-get_or}
+use Rattle.machine_world.proofs.Common.{◌≡◌, ◌≢◌, ℕ, ◌+◌, ◌-◌, ◌*◌, ◌/◌, ◌%◌, ◌^◌, ◌<◌, ◌≤◌, true, eqb, List, [], length, set, Option, Some, None, refl, sym, ap, subst, ◌∙◌, arith, cond, inr, ⊎_elim, get_or-set_same, get_or-set_other, ◌&&◌, nat_le, nat_lt, cond_both, cond-true, cond-false, cases_eq, eq-eqb, ne_eqb, leb-true, ltb-true, and_parts, length-set, All-get_or, HasAddress-from_chunk_at, IsPool-with_word, byte_in-same, byte_in-other, word_with-below, Areas, Spot, InGlobals, InTables, InPayload, globals_place, tables_place, is_within, payload_spot, spot_of, byte_on, is_writable_on, with_byte_on, byte_at, is_writable, with_byte, IsChunk-chunk_of}
 use Rattle.chunk_pool.specs.Pool.{Pool, chunk_of, word_of, with_word, place_of, payload_place_of, chunk_at, IsPool, words_of, bytes_of}
-use Rattle.chunk_pool.proofs.AddressLaws.{HasAddress-from_chunk_at}
-use Rattle.chunk_pool.proofs.PoolLaws.{IsPool-with_word}
 use Rattle.rv_machine.specs.Bytes.{put_byte, replaced}
 use Rattle.rv_machine.specs.WordBytes.{byte_in, words_with}
-use Rattle.rv_machine.proofs.WordBytes.{byte_in-same, byte_in-other, word_with-below}
 use Rattle.rv_machine.proofs.Memories.{IsMemory}
-use Rattle.machine_world.specs.Areas.{Areas, Spot, InGlobals, InTables, InPayload, globals_place, tables_place, is_within, payload_spot, spot_of, byte_on, is_writable_on, with_byte_on, byte_at, is_writable, with_byte}
-use Rattle.chunk_pool.proofs.ShapeLaws.{IsChunk-chunk_of}
 
 -- ---- where a spot lies
 

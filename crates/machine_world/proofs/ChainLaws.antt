@@ -1,13 +1,8 @@
 -- A chain is no longer than the thread's linked calls ask for.
-use Rattle.std.proofs.Common.{◌≡◌, ℕ, ◌+◌, ◌≤◌, Bool, true, false, List, [], ◌∷◌, length, Option, Some, None, refl, sym, ap, ◌∙◌, arith, cond, slice_get}
 use Rattle.flat_code.specs.declared.operations.Op.{Op}
 use Rattle.stack_certificate.specs.declared.sites.LinkKind.{LinkKind}
 use Rattle.stack_certificate.specs.Templates.{kind_of}
-use Rattle.chunk_pool.specs.Pool.{Pool}
-use Rattle.machine_world.specs.Local.{Core}
-use Rattle.machine_world.specs.Places.{Checked, Place, before_transfer, through_call, Row, NoFrame, Empty, Fresh, Linking, Whole, row_of}
-use Rattle.machine_world.specs.InPlace.{Frame, joined, words_through_call, ReturnsInto, chain_below, IsStack, FramesAt, HasFrames}
-use Rattle.machine_world.specs.Keys.{standing, is_linked, stands_at_link, called_at_links, chunk_ahead}
+use Rattle.machine_world.proofs.Common.{◌≡◌, ℕ, ◌+◌, ◌≤◌, Bool, true, false, List, [], ◌∷◌, length, Option, Some, None, refl, sym, ap, ◌∙◌, arith, cond, slice_get, Pool, Core, Checked, Place, before_transfer, through_call, Row, NoFrame, Empty, Fresh, Linking, Whole, row_of, Frame, joined, words_through_call, ReturnsInto, chain_below, IsStack, FramesAt, HasFrames, standing, is_linked, stands_at_link, called_at_links, chunk_ahead}
 
 -- the second call instruction stands at linked sites alone
 second_is_linked : (before : Option ℕ) (kind : LinkKind) (words : ℕ) → joined before (through_call kind true) ≡ Some words → is_linked kind ≡ true

@@ -1,22 +1,7 @@
 -- Each step of the world keeps it counted: numbers rise, and held and free chunks are exactly the pool.
-use Rattle.std.proofs.Common.{◌≡◌, ℕ, zero, suc, ◌+◌, ◌<◌, ◌≤◌, Bool, ltb, nat_eq, not, List, [], ◌∷◌, ◌++◌, Option, Some, None, refl, sym, ap, subst, ◌∙◌, arith, cond, ⊎_elim}
-use Rattle.std.specs.List.{range_with_len}
-use Rattle.std.proofs.lemmas.Bool.{cond_both, cases_eq, cases_lt, lt-ltb, le-ltb, cond-true, cond-false, eq-eqb, ne_eqb, eqb-true}
-use Rattle.std.specs.Prelude.{nat_le, ◌&&◌}
+use Rattle.machine_world.proofs.Common.{◌≡◌, ℕ, zero, suc, ◌+◌, ◌<◌, ◌≤◌, Bool, ltb, nat_eq, not, List, [], ◌∷◌, ◌++◌, Option, Some, None, refl, sym, ap, subst, ◌∙◌, arith, cond, ⊎_elim, range_with_len, cond_both, cases_eq, cases_lt, lt-ltb, le-ltb, cond-true, cond-false, eq-eqb, ne_eqb, eqb-true, nat_le, ◌&&◌, blocking_row, is_dropped, with_delivery, Taken, taken_for, start_pool, shape_of, all_free, taken_for-leaves, taken_for-shape, Areas, local_step, with_result, copies, KeepsCopies, KeepsShape, Blocked, Thread, World, Setting, first_with, thread_of, replaced, without, with_thread, start_core, retired, resumed, result_of, step, local_in, result_on, empty_world, started_on, start_world, Action, Deliver, Advance, Pick, Step, delivered, advanced, may_run, picked_at, picked, is_between, after_action, and_then, after_actions, held_copies, AreAllFree, RiseBetween, IsCounted, KeepsCounted, IsCountedIf}
 use Rattle.cap_word.specs.Runs as runs
-use Rattle.c_mean.specs.ModelledCalls.{blocking_row, is_dropped, with_delivery}
 use Rattle.chunk_pool.specs.declared.shape.Shape.{Shape}
-use Rattle.chunk_pool.specs.Pool.{Taken, taken_for, start_pool, shape_of, all_free}
-use Rattle.chunk_pool.proofs.NeedLaws.{taken_for-leaves, taken_for-shape}
-use Rattle.machine_world.specs.Areas.{Areas}
-use Rattle.machine_world.specs.Local.{local_step, with_result}
-use Rattle.machine_world.specs.Held.{copies, KeepsCopies, KeepsShape}
-use Rattle.machine_world.specs.Threads.{Blocked, Thread, World, Setting, first_with, thread_of, replaced, without, with_thread, start_core, retired, resumed, result_of, step, local_in}
-use Rattle.machine_world.specs.Threads.{result_on}
-use Rattle.machine_world.specs.Runs.{empty_world, started_on, start_world, Action, Deliver, Advance, Pick, Step, delivered, advanced, may_run, picked_at, picked, is_between, after_action, and_then, after_actions}
-use Rattle.machine_world.specs.Chains.{held_copies, AreAllFree}
-use Rattle.machine_world.specs.Numbered.{RiseBetween}
-use Rattle.machine_world.specs.Counted.{IsCounted, KeepsCounted, IsCountedIf}
 use Rattle.machine_world.proofs.StepCases.{Ways, blocked_at, row_for, answered_by, on_step, on_printed}
 use Rattle.machine_world.proofs.HeldLaws.{copies-cons, KeepsCopies-step, KeepsShape-step}
 use Rattle.machine_world.proofs.WorldLaws.{held_copies-replaced, held_copies-without, held_copies-append}

@@ -1,6 +1,5 @@
 -- What a step of the world does to the clock, the cost, the number of the next thread and the running thread.
-use Rattle.std.proofs.Common.{◌≡◌, ℕ, ◌+◌, None, refl}
-use Rattle.machine_world.specs.Threads.{World, Setting, Move, Goes, Puts, Spawns, Blocks, Ends, step}
+use Rattle.machine_world.proofs.Common.{◌≡◌, ℕ, ◌+◌, None, refl, World, Setting, Move, Goes, Puts, Spawns, Blocks, Ends, step}
 use Rattle.machine_world.proofs.StepCases.{row_for, on_step, on_printed}
 
 -- an instruction has retired, and the segment goes on

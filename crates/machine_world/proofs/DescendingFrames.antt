@@ -1,9 +1,5 @@
 -- The frames of the program that links one chunk, at the callee's first word.
-use Rattle.std.proofs.Common.{refl, lit<, lit≤, [], ◌∷◌}
-use Rattle.machine_world.specs.Descending.{checked, at_link, at_entry, main_frame, caller_frame, entry_frame}
-use Rattle.machine_world.specs.InPlace.{IsFrame, HasFrames}
-use Rattle.machine_world.specs.Places.{InPrologue}
-use Rattle.chunk_pool.specs.Pool.{words_in, start_in}
+use Rattle.machine_world.proofs.Common.{refl, lit<, lit≤, [], ◌∷◌, checked, at_link, at_entry, main_frame, caller_frame, entry_frame, IsFrame, HasFrames, InPrologue, words_in, start_in}
 
 -- main below f(1), in one chunk
 pub main_in_place : IsFrame checked at_link.pool main_frame

@@ -1,34 +1,16 @@
 -- A step of one thread keeps the form of areas and thread: what is stored are words, chunks are taken free and given back
 -- held, and registers get words.
-use Rattle.std.proofs.Common.{◌≡◌, ℕ, ◌+◌, ◌/◌, ◌%◌, ◌^◌, ◌<◌, ◌≤◌, Bool, true, false, nat_eq, List, [], ◌∷◌, length, get_or, set, Option, Some, None, refl, ap, subst, ◌∙◌, arith, cond, inl, ⊎_elim}
-use Rattle.std.specs.Prelude.{IfSome, nat_lt}
-use Rattle.std.proofs.lemmas.Bool.{cond_both, cases_lt, lt-ltb, le-ltb, eq-eqb}
-use Rattle.std.proofs.lemmas.List.{length-set, get_or_past}
-use Rattle.std.proofs.lemmas.List.Elements.{All-set, All-get_or}
+use Rattle.machine_world.proofs.Common.{◌≡◌, ℕ, ◌+◌, ◌/◌, ◌%◌, ◌^◌, ◌<◌, ◌≤◌, Bool, true, false, nat_eq, List, [], ◌∷◌, length, get_or, set, Option, Some, None, refl, ap, subst, ◌∙◌, arith, cond, inl, ⊎_elim, IfSome, nat_lt, cond_both, cases_lt, lt-ltb, le-ltb, eq-eqb, length-set, get_or_past, All-set, All-get_or, place_of-bounded, taken_for-sound, taken_for-shape, IsPool-with_word, IsPool-after_give, with_stored, with_half, with_word, Stored, Nothing, Byte, Half, Word, read, write, machine_after, word_with-below, Areas, Spot, InGlobals, InTables, InPayload, spot_of, byte_on, with_byte_on, with_byte, copies, copies_in, sp, tp, t1, a0, a1, Core, Local, LocalMove, Starts, Ended, after_call, with_header, machine_of, local_step, with_result, passed, Checked, AreWords, AreWellFormed, IsCore, IsChunk-chunk_of, words_of-payload, first_bytes-same, length-write}
 use Rattle.cap_word.specs.Runs as runs
 use Rattle.cap_word.proofs.WordRange.{add-below}
 use Rattle.chunk_pool.specs.Pool.{Pool, Taken, taken_for, after_give, chunk_of, word_of, IsPool, IsHeld, all_free, payload_place_of, end_of}
-use Rattle.chunk_pool.proofs.AddressLaws.{place_of-bounded}
 use Rattle.chunk_pool.proofs.FreeLaws.{absent_from_copies}
-use Rattle.chunk_pool.proofs.NeedLaws.{taken_for-sound, taken_for-shape}
-use Rattle.chunk_pool.proofs.PoolLaws.{IsPool-with_word, IsPool-after_give}
-use Rattle.rv_machine.specs.Bytes.{with_stored, with_half, with_word, Stored, Nothing, Byte, Half, Word}
-use Rattle.rv_machine.specs.Registers.{read, write}
 use Rattle.rv_machine.specs.Rows as rows
-use Rattle.rv_machine.specs.Step.{machine_after}
 use Rattle.rv_machine.specs.Words.{IsWords, TellsWords}
-use Rattle.rv_machine.proofs.WordBytes.{word_with-below}
 use Rattle.rv_machine.proofs.WordLaws.{read-below, IsWords-outcome, TellsWords-outcome}
-use Rattle.machine_world.specs.Areas.{Areas, Spot, InGlobals, InTables, InPayload, spot_of, byte_on, with_byte_on, with_byte}
-use Rattle.machine_world.specs.Held.{copies, copies_in}
-use Rattle.stack_certificate.specs.Registers.{sp, tp, t1, a0, a1}
-use Rattle.machine_world.specs.Local.{Core, Local, LocalMove, Starts, Ended, after_call, with_header, machine_of, local_step, with_result, passed}
-use Rattle.machine_world.specs.Places.{Checked}
-use Rattle.machine_world.specs.WellFormed.{AreWords, AreWellFormed, IsCore}
 use Rattle.machine_world.proofs.AreaLaws.{IsPool-with_byte}
 use Rattle.machine_world.proofs.LocalCases.{on_local}
 use Rattle.machine_world.proofs.HeldLaws.{copies-cons}
-use Rattle.chunk_pool.proofs.ShapeLaws.{IsChunk-chunk_of, words_of-payload, first_bytes-same}
 
 -- ---- words
 
@@ -37,10 +19,6 @@ word-below words i are = ⊎_elim
     (λ (within : i < length words). All-get_or (λ word. word < 2 ^ 32) words i 0 within are)
     (λ (past : length words ≤ i). let none : get_or words i 0 ≡ 0 = get_or_past words i 0 past in omega arith)
     (cases_lt i (length words))
-
-length-write : (x : List ℕ) (register value : ℕ) → length x ≡ 32 → length (write x register value) ≡ 32
-length-write x register value count =
-    cond_both (nat_eq register 0) x (set x register value) (λ (x : List ℕ). length x ≡ 32) (λ _. count) (λ _. length-set x register value ∙ count)
 
 AreWords-write : (x : List ℕ) (register value : ℕ) → value < 2 ^ 32 → AreWords x → AreWords (write x register value)
 AreWords-write x register value below words =
@@ -92,7 +70,7 @@ AreWellFormed-stored c areas pc x (Word a v) form told = AreWellFormed-word c ar
 below_256 : (n : ℕ) → n % 2 ^ 8 < 2 ^ 8
 below_256 n = omega arith
 
-bytes_on : (areas : Areas) (spot : Option Spot) → IfSome (byte_on areas spot) (λ byte. byte < 2 ^ 8)
+pub bytes_on : (areas : Areas) (spot : Option Spot) → IfSome (byte_on areas spot) (λ byte. byte < 2 ^ 8)
 bytes_on areas None = tt
 bytes_on areas (Some (InGlobals offset)) = below_256 _
 bytes_on areas (Some (InTables offset)) = below_256 _

@@ -1,26 +1,7 @@
 -- Every world of a run is well formed: at the start, after each step, and after each action.
-use Rattle.std.proofs.Common.{◌≡◌, ℕ, ◌+◌, ◌^◌, ◌<◌, ◌≤◌, nat_eq, Bool, true, false, not, List, [], ◌∷◌, ◌++◌, length, set, Option, Some, None, refl, sym, subst, ◌∙◌, arith, lit<, ⊎_elim}
-use Rattle.std.specs.Prelude.{IfSome, nat_le, ◌&&◌, if◌then◌else◌}
-use Rattle.std.specs.List.{AllByRecursion}
-use Rattle.std.proofs.lemmas.Bool.{cond_both, cases_eq, cases_lt, cond-true, cond-false, eq-eqb, ne_eqb, eqb-false}
-use Rattle.std.proofs.lemmas.List.{length-set, get_or_past}
-use Rattle.std.proofs.lemmas.List.Elements.{All-set, All-get_or, All-append, All-drop, All-replicate, All-from_recursion}
+use Rattle.machine_world.proofs.Common.{◌≡◌, ℕ, ◌+◌, ◌^◌, ◌<◌, ◌≤◌, nat_eq, Bool, true, false, not, List, [], ◌∷◌, ◌++◌, length, set, Option, Some, None, refl, sym, subst, ◌∙◌, arith, lit<, ⊎_elim, IfSome, nat_le, ◌&&◌, if◌then◌else◌, AllByRecursion, cond_both, cases_eq, cases_lt, cond-true, cond-false, eq-eqb, ne_eqb, eqb-false, length-set, get_or_past, All-set, All-get_or, All-append, All-drop, All-replicate, All-from_recursion, Ask, Block, Exchange, channel_of, holds_some, blocking_row, immediate_row, Delivery, Arrival, Message, is_dropped, with_delivery, Pool, Taken, taken_for, end_of, payload_place_of, IsPool, Areas, held_copies, AreAllFree, IsCounted, KeepsCounted, IsCountedIf, copies, local_step, RiseBetween, Checked, empty_world, started_on, start_world, Action, Deliver, Advance, Pick, Step, delivered, advanced, may_run, picked_at, picked, is_between, world_of, after_action, Blocked, Thread, World, Setting, first_with, thread_of, replaced, without, with_thread, start_core, start_registers, Move, Goes, Puts, Spawns, Blocks, Ends, retired, resumed, result_of, result_on, step, local_in, AreWords, AreWellFormed, IsCore, IsExchange, most_fuel, IsWellFormed, KeepsWellFormed, IsWellFormedIf, DeliversWords}
 use Rattle.cap_word.specs.Runs as runs
-use Rattle.cap_word.specs.declared.calls.Ask.{Ask}
-use Rattle.cap_word.specs.declared.calls.Block.{Block}
-use Rattle.c_mean.specs.ModelledCalls.{Exchange, channel_of, holds_some, blocking_row, immediate_row, Delivery, Arrival, Message, is_dropped, with_delivery}
 use Rattle.c_mean.specs.World.{empty_exchange}
-use Rattle.chunk_pool.specs.Pool.{Pool, Taken, taken_for, end_of, payload_place_of, IsPool}
-use Rattle.machine_world.specs.Areas.{Areas}
-use Rattle.machine_world.specs.Chains.{held_copies, AreAllFree}
-use Rattle.machine_world.specs.Counted.{IsCounted, KeepsCounted, IsCountedIf}
-use Rattle.machine_world.specs.Held.{copies}
-use Rattle.machine_world.specs.Local.{local_step}
-use Rattle.machine_world.specs.Numbered.{RiseBetween}
-use Rattle.machine_world.specs.Places.{Checked}
-use Rattle.machine_world.specs.Runs.{empty_world, started_on, start_world, Action, Deliver, Advance, Pick, Step, delivered, advanced, may_run, picked_at, picked, is_between, world_of, after_action}
-use Rattle.machine_world.specs.Threads.{Blocked, Thread, World, Setting, first_with, thread_of, replaced, without, with_thread, start_core, start_registers, Move, Goes, Puts, Spawns, Blocks, Ends, retired, resumed, result_of, result_on, step, local_in}
-use Rattle.machine_world.specs.WellFormed.{AreWords, AreWellFormed, IsCore, IsExchange, most_fuel, IsWellFormed, KeepsWellFormed, IsWellFormedIf, DeliversWords}
 use Rattle.machine_world.proofs.StepCases.{Ways, blocked_at, row_for, on_step, on_printed}
 use Rattle.machine_world.proofs.CountedLaws.{counted_start, counted_step, counted_action}
 use Rattle.machine_world.proofs.FormLaws.{word-below, HasForm, KeepsForm, KeepsForm-step, AreWellFormed-taken, AreAddresses-taken, IsCore-passed, IsCore-with_result}
@@ -51,7 +32,7 @@ record IsFound (threads : List Thread) (next : ℕ) (t : Thread) : Type 0 where
   below : t.number < next
   held : (chunk : ℕ) → copies chunk t.core.chain ≤ held_copies chunk threads
 
-RiseBetween-bound : (from next : ℕ) (threads : List Thread) → RiseBetween from next threads → from ≤ next
+pub RiseBetween-bound : (from next : ℕ) (threads : List Thread) → RiseBetween from next threads → from ≤ next
 RiseBetween-bound from next [] rise = rise
 RiseBetween-bound from next (t ∷ ts) rise = let rest = RiseBetween-bound (t.number + 1) next ts rise.1 in omega (arith, rise.0, rest)
 

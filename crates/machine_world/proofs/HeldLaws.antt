@@ -1,16 +1,7 @@
 -- No step of a thread loses a chunk or holds one twice: an instruction leaves chain and free list, LINK, UNLINK and END
 -- move one chunk between them.
-use Rattle.std.proofs.Common.{◌≡◌, ℕ, ◌+◌, nat_eq, List, [], ◌∷◌, Option, Some, None, refl, ap, ◌∙◌, arith, cond}
 use Rattle.std.proofs.lemmas.List.Sums.{sum_by-cons}
-use Rattle.chunk_pool.specs.Pool.{all_free, shape_of}
-use Rattle.chunk_pool.proofs.NeedLaws.{taken_for-leaves, taken_for-shape}
-use Rattle.rv_machine.specs.Bytes.{with_stored, with_half, with_word, Stored, Nothing, Byte, Half, Word}
-use Rattle.rv_machine.specs.Registers.{read}
-use Rattle.machine_world.specs.Areas.{Areas, Spot, InGlobals, InTables, InPayload, spot_of, with_byte_on, with_byte}
-use Rattle.stack_certificate.specs.Registers.{t1}
-use Rattle.machine_world.specs.Local.{Local, local_step}
-use Rattle.machine_world.specs.Held.{copies, KeepsCopies, KeepsShape}
-use Rattle.chunk_pool.proofs.ShapeLaws.{copies-after_give}
+use Rattle.machine_world.proofs.Common.{◌≡◌, ℕ, ◌+◌, nat_eq, List, [], ◌∷◌, Option, Some, None, refl, ap, ◌∙◌, arith, cond, all_free, shape_of, taken_for-leaves, taken_for-shape, with_stored, with_half, with_word, Stored, Nothing, Byte, Half, Word, read, Areas, Spot, InGlobals, InTables, InPayload, spot_of, with_byte_on, with_byte, t1, Local, local_step, copies, KeepsCopies, KeepsShape, copies-after_give}
 use Rattle.machine_world.proofs.LocalCases.{on_local}
 
 -- ---- the free list under writes

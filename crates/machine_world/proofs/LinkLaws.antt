@@ -1,17 +1,8 @@
 -- An UNLINK just after a LINK undoes it, but for the words of the chunk's header.
-use Rattle.std.proofs.Common.{◌≡◌, ◌≢◌, ℕ, ◌^◌, ◌<◌, ◌≤◌, Bool, false, eqb, inl, ⊎_elim, List, [], ◌∷◌, length, set, get_or, drop, Option, Some, None, refl, sym, ap, subst, ◌∙◌, arith, cond, get_or-set_same, get_or-set_other}
-use Rattle.std.proofs.lemmas.Bool.{cond_both, cases_eq, cases_lt, eq-eqb, ne_eqb}
-use Rattle.std.proofs.lemmas.List.{length-set, drop-set-lt, set_past}
+use Rattle.machine_world.proofs.Common.{◌≡◌, ◌≢◌, ℕ, ◌^◌, ◌<◌, ◌≤◌, Bool, false, eqb, inl, ⊎_elim, List, [], ◌∷◌, length, set, get_or, drop, Option, Some, None, refl, sym, ap, subst, ◌∙◌, arith, cond, get_or-set_same, get_or-set_other, cond_both, cases_eq, cases_lt, eq-eqb, ne_eqb, length-set, drop-set-lt, set_past, chunk_at-some, taken_for-sound, taken_for-keeps, taken_for-leaves, word_of-with_word_same, word_of-with_word_other, KeepsOthers-with_word, payload_of-after_give, IsPool-with_word, read, write, sp, tp, t1, Local, Wrong, with_header, saved_tp, saved_sp, after_call, linked_on, linked, unlinked_on, unlinked, begins_at, chunk_with_payload, words_of-payload, copies-after_give}
 use Rattle.cap_word.specs.Runs.{Goes, Stops}
 use Rattle.chunk_pool.specs.Pool.{Pool, Taken, taken_for, with_word, chunk_of, payload_of, end_of, payload_place_of, all_free, after_give, HasAddress, IsPool, IsHeld, words_of}
-use Rattle.chunk_pool.proofs.AddressLaws.{chunk_at-some}
-use Rattle.chunk_pool.proofs.NeedLaws.{taken_for-sound, taken_for-keeps, taken_for-leaves}
-use Rattle.chunk_pool.proofs.PoolLaws.{word_of-with_word_same, word_of-with_word_other, KeepsOthers-with_word, payload_of-after_give, IsPool-with_word}
-use Rattle.rv_machine.specs.Registers.{read, write}
-use Rattle.stack_certificate.specs.Registers.{sp, tp, t1}
-use Rattle.machine_world.specs.Local.{Local, Wrong, with_header, saved_tp, saved_sp, after_call, linked_on, linked, unlinked_on, unlinked, begins_at, chunk_with_payload}
 use Rattle.machine_world.specs.Links.{IsUndone}
-use Rattle.chunk_pool.proofs.ShapeLaws.{words_of-payload, copies-after_give}
 use Rattle.machine_world.proofs.HeldLaws.{copies-cons}
 
 -- ---- headers
@@ -39,7 +30,7 @@ saved_sp-with_header p c a b sound fits within held =
 
 -- ---- registers
 
-read-write_same : (x : List ℕ) (r v : ℕ) → 0 < r → r < length x → read (write x r v) r ≡ v
+pub read-write_same : (x : List ℕ) (r v : ℕ) → 0 < r → r < length x → read (write x r v) r ≡ v
 read-write_same x r v some within =
     let no : eqb r 0 ≡ false = ne_eqb r 0 (λ same. omega arith) in
     ap (λ (b : Bool). cond b 0 (get_or (cond b x (set x r v)) r 0)) no ∙ get_or-set_same x r v 0 within

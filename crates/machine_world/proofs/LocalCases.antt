@@ -1,19 +1,9 @@
 -- What holds of each way in which a step of a thread can go holds of the step.
-use Rattle.std.proofs.Common.{◌≡◌, ℕ, nat_eq, List, [], ◌∷◌, Option, Some, None, refl, ap, ◌∙◌}
-use Rattle.std.proofs.lemmas.Bool.{cond_both, eqb-true}
-use Rattle.cap_word.specs.Calls.{Call}
+use Rattle.machine_world.proofs.Common.{◌≡◌, ℕ, nat_eq, List, [], ◌∷◌, Option, Some, None, refl, ap, ◌∙◌, cond_both, eqb-true, Call, TrapKind, Taken, taken_for, after_give, payload_place_of, end_of, with_stored, Stored, read, outcome, with_byte, sp, tp, t1, a0, a1, a2, Local, LocalMove, Calls, Starts, Ended, Trapped, NoRoom, Wrong, saved_tp, saved_sp, with_header, after_call, linked_on, unlinked_front, unlinked_on, chunk_with_payload, ended, trapped, asks_or_wrong, package_call, system_call, machine_of, local_move, local_step}
 use Rattle.cap_word.specs.Runs.{Goes, Asks, Stops}
-use Rattle.cap_word.specs.declared.traps.TrapKind.{TrapKind}
-use Rattle.chunk_pool.specs.Pool.{Taken, taken_for, after_give, payload_place_of, end_of}
-use Rattle.rv_machine.specs.Bytes.{with_stored, Stored}
-use Rattle.rv_machine.specs.Registers.{read}
 use Rattle.rv_machine.specs.Rows as rows
-use Rattle.rv_machine.specs.Step.{outcome}
-use Rattle.machine_world.specs.Areas.{with_byte}
-use Rattle.stack_certificate.specs.Registers.{sp, tp, t1, a0, a1, a2}
 use Rattle.stack_certificate.specs.RunTimeCalls.{link_number, unlink_number, end_number, trap_number}
 use Rattle.cap_word.specs.ModelledCalls.{spawn_number}
-use Rattle.machine_world.specs.Local.{Local, LocalMove, Calls, Starts, Ended, Trapped, NoRoom, Wrong, saved_tp, saved_sp, with_header, after_call, linked_on, unlinked_front, unlinked_on, chunk_with_payload, ended, trapped, asks_or_wrong, package_call, system_call, machine_of, local_move, local_step}
 
 -- the thread after an instruction of its own
 abbrev pub executed : Local → ℕ → List ℕ → Stored → Local

@@ -1,9 +1,6 @@
 -- A step of the world leaves every thread but the running one.
-use Rattle.std.proofs.Common.{◌≡◌, ◌≢◌, ℕ, Bool, nat_eq, not, List, [], ◌∷◌, ◌++◌, Some, None, refl, sym, ap, ◌∙◌, cond, ⊎_elim}
-use Rattle.std.proofs.lemmas.Bool.{cond_both, cases_eq, cond-false, eq-eqb, ne_eqb, eqb-true}
+use Rattle.machine_world.proofs.Common.{◌≡◌, ◌≢◌, ℕ, Bool, nat_eq, not, List, [], ◌∷◌, ◌++◌, Some, None, refl, sym, ap, ◌∙◌, cond, ⊎_elim, cond_both, cases_eq, cond-false, eq-eqb, ne_eqb, eqb-true, KeepsThread, Thread, World, Setting, first_with, replaced, without, resumed, step}
 use Rattle.cap_word.specs.Runs as runs
-use Rattle.machine_world.specs.Alone.{KeepsThread}
-use Rattle.machine_world.specs.Threads.{Thread, World, Setting, first_with, replaced, without, resumed, step}
 use Rattle.machine_world.proofs.StepCases.{Ways, row_for, on_step, on_printed}
 use Rattle.machine_world.proofs.CountedLaws.{first_with-number}
 
@@ -21,7 +18,7 @@ first_with-replaced number new (t ∷ ts) apart =
     ∙ sym (cond-false (nat_eq t.number number) (Some t) (first_with number ts) (ne_eqb t.number number (λ e. apart (sym e ∙ equal)))))
     (λ _. ap (cond (nat_eq t.number number) (Some t)) rest)
 
-first_with-without : (number gone : ℕ) (threads : List Thread) → number ≢ gone → first_with number (without gone threads) ≡ first_with number threads
+pub first_with-without : (number gone : ℕ) (threads : List Thread) → number ≢ gone → first_with number (without gone threads) ≡ first_with number threads
 first_with-without number gone [] apart = refl
 first_with-without number gone (t ∷ ts) apart =
     let rest = first_with-without number gone ts apart in
@@ -35,7 +32,7 @@ first_with-without number gone (t ∷ ts) apart =
     ∙ ap (cond (nat_eq t.number number) (Some t)) rest)
     (cases_eq t.number gone)
 
-first_with-append : (number : ℕ) (new : Thread) (threads : List Thread) → number ≢ new.number → first_with number (threads ++ new ∷ []) ≡ first_with number threads
+pub first_with-append : (number : ℕ) (new : Thread) (threads : List Thread) → number ≢ new.number → first_with number (threads ++ new ∷ []) ≡ first_with number threads
 first_with-append number new [] apart = cond-false (nat_eq new.number number) (Some new) None (ne_eqb new.number number (λ e. apart (sym e)))
 first_with-append number new (t ∷ ts) apart = ap (cond (nat_eq t.number number) (Some t)) (first_with-append number new ts apart)
 

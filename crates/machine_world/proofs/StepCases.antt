@@ -1,18 +1,8 @@
 -- What holds of each way in which a step of the world can go holds of the step.
-use Rattle.std.proofs.Common.{◌≡◌, ℕ, ◌+◌, nat_eq, false, length, Option, Some, None, refl}
-use Rattle.std.specs.Prelude.{nat_le}
-use Rattle.std.proofs.lemmas.Bool.{cond_both}
-use Rattle.cap_word.specs.Calls.{Blocking, Immediate, most_threads}
+use Rattle.machine_world.proofs.Common.{◌≡◌, ℕ, ◌+◌, nat_eq, false, length, Option, Some, None, refl, nat_le, cond_both, Blocking, Immediate, most_threads, Ask, Block, TrapKind, ImmediateRow, blocking_row, immediate_row, Taken, taken_for, Areas, Local, LocalMove, local_step, passed}
 use Rattle.cap_word.specs.Runs as runs
-use Rattle.cap_word.specs.declared.calls.Ask.{Ask}
-use Rattle.cap_word.specs.declared.calls.Block.{Block}
 use Rattle.cap_word.specs.declared.stops.Stop.{Stop}
-use Rattle.cap_word.specs.declared.traps.TrapKind.{TrapKind}
-use Rattle.c_mean.specs.ModelledCalls.{ImmediateRow, blocking_row, immediate_row}
-use Rattle.chunk_pool.specs.Pool.{Taken, taken_for}
-use Rattle.machine_world.specs.Areas.{Areas}
 use Rattle.machine_world.specs.Local as local
-use Rattle.machine_world.specs.Local.{Local, LocalMove, local_step, passed}
 use Rattle.machine_world.specs.Threads.{Thread, World, Setting, local_in, thread_of, without, with_thread, retired, resumed, result_of, Move, Goes, Puts, Spawns, Blocks, Ends, Stops, Wrong, unless_trap, printed, spawned, moved, step_of, step_on, step}
 
 -- the thread, just after the ECALL of a call that blocks

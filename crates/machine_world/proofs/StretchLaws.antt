@@ -1,10 +1,7 @@
 -- Good stretches follow one another, and a good run can be done.
-use Rattle.std.proofs.Common.{◌≡◌, ℕ, zero, suc, ◌+◌, List, [], ◌∷◌, ◌++◌, replicate, Option, Some, None, refl, ap, subst, ◌∙◌, arith}
 use Rattle.machine_world.specs.GoodRuns.{Entry, Comes, Waits, Turn, all_actions, InWorld, IsGoodRun}
-use Rattle.machine_world.specs.Places.{Checked}
-use Rattle.machine_world.specs.Runs.{Deliver, Advance, Pick, Step, after_action, after_actions, and_then, after_steps, world_of}
+use Rattle.machine_world.proofs.Common.{◌≡◌, ℕ, zero, suc, ◌+◌, List, [], ◌∷◌, ◌++◌, replicate, Option, Some, None, refl, ap, subst, ◌∙◌, arith, Checked, Deliver, Advance, Pick, Step, after_action, after_actions, and_then, after_steps, world_of, World, Setting, Move, Goes, Puts, Spawns, Blocks, Ends, step}
 use Rattle.machine_world.specs.Stretches.{OnWorld, IsGoodStretch}
-use Rattle.machine_world.specs.Threads.{World, Setting, Move, Goes, Puts, Spawns, Blocks, Ends, step}
 use Rattle.machine_world.proofs.ActionLaws.{after_actions-append}
 
 -- ---- stretches

@@ -1,10 +1,5 @@
 -- Held and free chunks stay exactly the pool, under each step of the world.
-use Rattle.std.proofs.Common.{◌≡◌, ℕ, ◌+◌, ◌<◌, Bool, true, false, nat_eq, not, List, [], ◌∷◌, ◌++◌, Some, refl, sym, ap, ◌∙◌, arith, cond, ⊎_elim}
-use Rattle.std.proofs.lemmas.Bool.{cases_eq, cond-true, cond-false, eq-eqb, ne_eqb}
-use Rattle.machine_world.specs.Held.{copies}
-use Rattle.machine_world.specs.Threads.{Thread, first_with, replaced, without}
-use Rattle.machine_world.specs.Chains.{held_copies}
-use Rattle.machine_world.specs.Numbered.{RiseBetween}
+use Rattle.machine_world.proofs.Common.{◌≡◌, ℕ, ◌+◌, ◌<◌, Bool, true, false, nat_eq, not, List, [], ◌∷◌, ◌++◌, Some, refl, sym, ap, ◌∙◌, arith, cond, ⊎_elim, cases_eq, cond-true, cond-false, eq-eqb, ne_eqb, copies, Thread, first_with, replaced, without, held_copies, RiseBetween}
 
 -- ---- threads by number
 

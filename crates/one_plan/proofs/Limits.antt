@@ -1,28 +1,10 @@
 -- The pair that is laid out for a program is within the limits of its files.
-use Rattle.std.proofs.Common.{◌≡◌, ℕ, false, zero, suc, ◌+◌, ◌*◌, ◌/◌, ◌<◌, ◌≤◌, List, [], ◌∷◌, ◌++◌, length, length-append, map, get_or, refl, ap, subst, ◌∙◌, arith}
-use Rattle.std.specs.Prelude.{sum, flat_map, replicate, Option, Some, None}
-use Rattle.std.specs.List.{AllByRecursion, filter_map, cons_option}
-use Rattle.std.specs.List.Sorted.{IsStrictlyIncreasing}
-use Rattle.std.proofs.lemmas.List.{length-map, length-replicate}
-use Rattle.std.proofs.lemmas.List.Sums.{sum_by-cons, sum_by-append}
-use Rattle.std.proofs.lemmas.List.Sorted.{length_permutation}
-use Rattle.c_tree.specs.Sizes.{scalars, below, declared_words}
-use Rattle.c_tree.specs.Temporaries.{function_temporaries}
+use Rattle.one_plan.proofs.Common.{◌≡◌, ℕ, false, suc, ◌+◌, ◌*◌, ◌/◌, ◌<◌, ◌≤◌, List, [], ◌∷◌, ◌++◌, length, length-append, map, get_or, refl, ap, subst, ◌∙◌, arith, sum, flat_map, replicate, Option, Some, None, AllByRecursion, filter_map, cons_option, IsStrictlyIncreasing, length-map, length-replicate, length_permutation, scalars, below, declared_words, function_temporaries, FunctionTree, ProgramTree, IsFunctionScoped, AreFunctionsScoped, IsWellScoped, context_of, Op, FlatFunction, FlatCode, function_at, site_of, weight_of, site_numbers, lowered, lowered_function, lowered_global, function_sizes, map-map, all-at, Plan, scalars_words, sum_both}
+use Rattle.std.proofs.lemmas.List.Sums.{sum_by-cons}
 use Rattle.c_tree.specs.TextOrder.{program_sites, stmts_names}
-use Rattle.c_tree.specs.Trees.{FunctionTree, ProgramTree}
-use Rattle.c_tree.specs.WellScoped.{IsFunctionScoped, AreFunctionsScoped, IsWellScoped, context_of}
-use Rattle.flat_code.specs.declared.operations.Op.{Op}
-use Rattle.flat_code.specs.declared.functions.FlatFunction.{FlatFunction}
 use Rattle.flat_code.specs.declared.programs.FlatGlobal.{FlatGlobal}
-use Rattle.flat_code.specs.Codes.{FlatCode, function_at, site_of}
-use Rattle.flat_code.specs.Weight.{weight_of}
-use Rattle.flat_code.specs.WellFormed.{site_numbers}
-use Rattle.c_lower.specs.ProgramCode.{lowered, lowered_function, lowered_global, function_sizes}
-use Rattle.c_lower.proofs.Lists.{map-map}
 use Rattle.c_lower.proofs.Sites.{program_permutes}
 use Rattle.c_lower.proofs.Words.{stmts_have, few_names}
-use Rattle.call_graph.proofs.ListLemmas.{all-at}
-use Rattle.checkpoint_place.specs.declared.plans.Plan.{Plan}
 use Rattle.stack_image.specs.declared.images.Image.{Image}
 use Rattle.stack_image.specs.Spelling as image
 use Rattle.stack_certificate.specs.declared.certificates.Certificate.{Certificate}
@@ -70,20 +52,13 @@ image-fits p i c scoped valid =
 
 -- Variables of a function that fits its frame.
 
-scalars-words : (n : ℕ) → sum (scalars n) ≡ n
-scalars-words zero = refl
-scalars-words (suc n) = omega (arith, scalars-words n, sum_by-cons (λ (x : ℕ). x) 1 (scalars n))
-
-both : (xs ys : List ℕ) → sum (xs ++ ys) ≡ sum xs + sum ys
-both xs ys = sum_by-append (λ (x : ℕ). x) xs ys
-
 each-has-words : (p : ProgramTree) (f : FunctionTree) → IsFunctionScoped p f → length (function_sizes f) ≤ sum (function_sizes f)
 each-has-words p f h =
     let n = function_temporaries f in
     let names : length (declared_words f) ≤ sum (declared_words f) = few_names (stmts_names f.body) (stmts_have (context_of p f) false (below f.params) f.body h.body) in
     let count : length f.sizes ≡ f.params + length (declared_words f) = ap length h.sizes ∙ (length-append (scalars f.params) (declared_words f) ∙ ap (λ x. x + length (declared_words f)) (scalars-length f.params)) in
-    let words : sum f.sizes ≡ f.params + sum (declared_words f) = ap sum h.sizes ∙ (both (scalars f.params) (declared_words f) ∙ ap (λ x. x + sum (declared_words f)) (scalars-words f.params)) in
-    omega (arith, names, count, words, length-append f.sizes (scalars n), both f.sizes (scalars n), scalars-length n, scalars-words n)
+    let words : sum f.sizes ≡ f.params + sum (declared_words f) = ap sum h.sizes ∙ (sum_both (scalars f.params) (declared_words f) ∙ ap (λ x. x + sum (declared_words f)) (scalars_words f.params)) in
+    omega (arith, names, count, words, length-append f.sizes (scalars n), sum_both f.sizes (scalars n), scalars-length n, scalars_words n)
 
 all-have-words : (p : ProgramTree) (fs : List FunctionTree) → AreFunctionsScoped p fs → AllByRecursion (λ (f : FlatFunction). length f.sizes ≤ sum f.sizes) (map lowered_function fs)
 all-have-words p [] h = tt
@@ -92,7 +67,7 @@ all-have-words p (f ∷ fs) h = (each-has-words p f h.0, all-have-words p fs h.1
 small-frame : (words : ℕ) → (4 * words + 4 + 15) / 16 * 16 ≤ 2032 → words ≤ 507
 small-frame words h = omega arith
 
-all-from-index : {X : Type 0} (P : X → Type 0) (d : X) (xs : List X) → ((k : ℕ) → k < length xs → P (get_or xs k d)) → AllByRecursion P xs
+pub all-from-index : {X : Type 0} (P : X → Type 0) (d : X) (xs : List X) → ((k : ℕ) → k < length xs → P (get_or xs k d)) → AllByRecursion P xs
 all-from-index P d [] h = tt
 all-from-index P d (x ∷ xs) h = (h 0 (omega arith), all-from-index P d xs (λ k lt. h (suc k) (omega arith)))
 

@@ -1,33 +1,14 @@
 -- The call graph of a well scoped program's code keeps what a graph keeps, however many operations there are.
-use Rattle.std.proofs.Common.{◌≡◌, ℕ, zero, suc, ◌+◌, ◌<◌, ◌≤◌, Bool, true, false, List, [], ◌∷◌, ◌++◌, length, length-append, map, get_or, refl, sym, ap, subst, ◌∙◌, arith}
-use Rattle.std.specs.List.{AllByRecursion, filter_map, cons_option}
+use Rattle.one_plan.proofs.Common.{◌≡◌, ℕ, zero, suc, ◌+◌, ◌<◌, ◌≤◌, Bool, true, false, List, [], ◌∷◌, ◌++◌, length, length-append, map, get_or, refl, sym, ap, subst, ◌∙◌, arith, AllByRecursion, filter_map, cons_option, length-map, All-from_recursion, recursion_from_All, All-permutation, scalars, below, function_temporaries, FunctionTree, ProgramTree, IsFunctionScoped, AreFunctionsScoped, IsWellScoped, Op, FlatFunction, weight_of, IsOperation, closing_code, first_temporary, lowered_function, lowered, GraphSite, call_site, call_sites_from, CallGraphState, function_count, IsTargetOf, IsSiteOf, IsCallGraph, all-at, IsGraphOf, All-weaker, All-append, temporary_word}
 use Rattle.std.proofs.Math.ListN.{get_or-append}
 use Rattle.std.proofs.lemmas.Bool.{false≢true}
-use Rattle.std.proofs.lemmas.List.{length-map}
-use Rattle.std.proofs.lemmas.List.Elements.{All-from_recursion, recursion_from_All}
-use Rattle.std.proofs.lemmas.List.Sorted.{All-permutation}
 use Rattle.cap_word.specs.Signatures.{IsMember, IsTable}
-use Rattle.c_tree.specs.Sizes.{scalars, below}
-use Rattle.c_tree.specs.Temporaries.{function_temporaries}
-use Rattle.c_tree.specs.Trees.{FunctionTree, ProgramTree}
 use Rattle.c_tree.specs.WellScoped as tree
-use Rattle.c_tree.specs.WellScoped.{IsFunctionScoped, AreFunctionsScoped, IsWellScoped}
-use Rattle.flat_code.specs.declared.operations.Op.{Op}
-use Rattle.flat_code.specs.declared.functions.FlatFunction.{FlatFunction}
-use Rattle.flat_code.specs.Weight.{weight_of}
 use Rattle.flat_code.specs.WellFormed as flat
-use Rattle.flat_code.specs.WellFormed.{IsOperation}
 use Rattle.c_lower.specs.StmtCode.{stmts_size, stmts_code}
-use Rattle.c_lower.specs.ProgramCode.{closing_code, first_temporary, lowered_function, lowered}
 use Rattle.c_lower.proofs.Formed.{stmts_formed}
-use Rattle.c_lower.proofs.Lists.{all-append, all-weaker}
 use Rattle.c_lower.proofs.Suits.{Suits}
-use Rattle.call_graph.specs.declared.sites.GraphSite.{GraphSite}
 use Rattle.call_graph.specs.declared.sites.Target.TheVariants.{Table}
-use Rattle.call_graph.specs.FlatCalls.{call_site, call_sites_from}
-use Rattle.call_graph.specs.Graph.{CallGraphState, function_count, IsTargetOf, IsSiteOf, IsCallGraph}
-use Rattle.call_graph.proofs.ListLemmas.{all-at}
-use Rattle.stack_plan.specs.Plans.{IsGraphOf}
 
 -- ---- what a body's operations may name
 
@@ -45,12 +26,6 @@ pub scalars-length : (n : ℕ) → length (scalars n) ≡ n
 scalars-length zero = refl
 scalars-length (suc n) = omega (arith, scalars-length n)
 
-one-word : (xs : List ℕ) (n k : ℕ) → length xs ≤ k → k < length xs + n → get_or (xs ++ scalars n) k 0 ≡ 1
-one-word [] (suc n) zero low high = refl
-one-word [] (suc n) (suc k) low high = one-word [] n k (omega arith) (omega arith)
-one-word (x ∷ xs) n (suc k) low high = one-word xs n k (omega arith) (omega arith)
-one-word _ _ _ low high = absurd (omega arith)
-
 body-suits : (p : ProgramTree) (f : FunctionTree) → Suits (tree.context_of p f) (body_context p f) (first_temporary f) (function_temporaries f)
 body-suits p f =
     let n = function_temporaries f in
@@ -58,7 +33,7 @@ body-suits p f =
     record {
       local = λ x h. omega (arith, count);
       words = λ x w h e. get_or-append f.sizes (scalars n) 0 x h ∙ e;
-      temporary = λ k low high. (omega (arith, count, scalars-length n), one-word f.sizes n k low high);
+      temporary = λ k low high. (omega (arith, count, scalars-length n), temporary_word f.sizes n k low high);
       globals = refl;
       signatures = refl;
       tables = refl;
@@ -78,7 +53,7 @@ module _ (p : ProgramTree) (scoped : IsWellScoped p) where
 
   members-there : (row : List ℕ) → AllByRecursion (IsMember (map tree.signature_of p.functions)) row → AllByRecursion (λ f. f < length p.functions) row
   members-there row all =
-      all-weaker (IsMember (map tree.signature_of p.functions)) (λ f. f < length p.functions)
+      All-weaker (IsMember (map tree.signature_of p.functions)) (λ f. f < length p.functions)
       (λ f member. let lt = member.0 in omega (arith, lt, length-map p.functions tree.signature_of)) row all
 
   table-target : (t : ℕ) → t < length p.tables → IsTargetOf (length p.functions) p.tables (Table t)
@@ -105,7 +80,7 @@ module _ (p : ProgramTree) (scoped : IsWellScoped p) where
   functions-sites : (caller : ℕ) (fs : List FunctionTree) → caller + length fs ≡ length p.functions → AreFunctionsScoped p fs → AllByRecursion IsSite (call_sites_from caller (map lowered_function fs))
   functions-sites caller [] e all = tt
   functions-sites caller (f ∷ fs) e all =
-      all-append IsSite (filter_map (call_site caller) (lowered_function f).ops) (call_sites_from (caller + 1) (map lowered_function fs))
+      All-append IsSite (filter_map (call_site caller) (lowered_function f).ops) (call_sites_from (caller + 1) (map lowered_function fs))
       (ops-sites f caller (stmts_code f.body 0 (first_temporary f) 0 0) (closing_code f.gives (first_temporary f)) (omega arith) (body-formed p f all.0) (closing-sites caller f.gives (first_temporary f)))
       (functions-sites (caller + 1) fs (omega arith) all.1)
 
@@ -115,7 +90,7 @@ module _ (p : ProgramTree) (scoped : IsWellScoped p) where
       let count : function_count graph ≡ length p.functions =
       ap length is.weights ∙ (length-map (map lowered_function p.functions) (λ (g : FlatFunction). weight_of g.sizes) ∙ length-map p.functions lowered_function) in
       let rows : AllByRecursion (λ row. AllByRecursion (λ f. f < length p.functions) row) p.tables =
-      all-weaker (IsTable (map tree.signature_of p.functions)) (λ row. AllByRecursion (λ f. f < length p.functions) row) (λ row table. members-there row table.1) p.tables scoped.tables in
+      All-weaker (IsTable (map tree.signature_of p.functions)) (λ row. AllByRecursion (λ f. f < length p.functions) row) (λ row table. members-there row table.1) p.tables scoped.tables in
       let sites : AllByRecursion IsSite graph.sites =
       recursion_from_All IsSite graph.sites
       (All-permutation IsSite (call_sites_from 0 (lowered p).functions) graph.sites is.sites

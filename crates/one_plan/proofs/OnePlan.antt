@@ -1,23 +1,15 @@
 -- A program has one call graph and one placement.
-use Rattle.std.proofs.Common.{◌≡◌, ℕ, zero, suc, ◌+◌, ◌<◌, max, nat_le, true, false, List, [], ◌∷◌, length, map, filter, slice_index, refl, sym, ap, ◌∙◌, arith}
-use Rattle.std.specs.List.{AllByRecursion}
-use Rattle.flat_code.specs.Codes.{FlatCode}
-use Rattle.call_graph.specs.declared.sites.GraphSite.{GraphSite}
+use Rattle.one_plan.proofs.Common.{◌≡◌, ℕ, zero, suc, ◌+◌, ◌<◌, max, nat_le, true, false, List, [], ◌∷◌, length, map, filter, slice_index, refl, sym, ap, ◌∙◌, arith, AllByRecursion, FlatCode, GraphSite, call_sites_from, CallGraphState, function_count, IsSiteOf, IsCallGraph, IsRising, by_test, Plan, IsGraphOf, All-weaker}
 use Rattle.call_graph.specs.Callees.{callees, greatest}
-use Rattle.call_graph.specs.FlatCalls.{call_sites_from}
-use Rattle.call_graph.specs.Graph.{CallGraphState, function_count, IsSiteOf, IsCallGraph, IsRising}
 use Rattle.call_graph.specs.Index.{sites_of}
 use Rattle.call_graph.specs.Lists.{has}
 use Rattle.call_graph.specs.Paths.{IsAmong}
-use Rattle.call_graph.proofs.ListLemmas.{by_test}
 use Rattle.cycle_break.specs.BackEdges.{back_edges}
 use Rattle.cycle_break.specs.Walk.{whole_walk}
-use Rattle.cycle_break.proofs.NumberLemmas.{true_false, all-map, all-has, has-head, has-tail}
+use Rattle.cycle_break.proofs.NumberLemmas.{true_false, all-has, has-head, has-tail}
 use Rattle.cycle_break.proofs.RankLemmas.{age, call-falls}
 use Rattle.cycle_break.proofs.SiteLemmas.{among-all, among-filter, IsOwn, all-own}
-use Rattle.checkpoint_place.specs.declared.plans.Plan.{Plan}
 use Rattle.checkpoint_place.specs.Placement.{callee_bound, is_within, is_checkpointed, IsPlacement}
-use Rattle.stack_plan.specs.Plans.{IsGraphOf}
 use Rattle.stack_plan.proofs.SiteLemmas.{has-number}
 use Rattle.one_plan.proofs.RisingLists.{Rises, orders-are-one}
 use Rattle.checkpoint_place.proofs.BoundLemmas.{greatest-agree}
@@ -89,7 +81,7 @@ module _ (graph : CallGraphState) (kept : IsCallGraph graph) (path : ℕ) (p q :
   bounds-below zero f h within = absurd (omega arith)
   bounds-below (suc n) f h within =
       let own = all-own graph.sites (back_edges graph) f in
-      let same = all-map (IsOwn graph.sites (back_edges graph) f) (λ s. callee_bound graph.tables (slice_index p.bounds) s ≡ callee_bound graph.tables (slice_index q.bounds) s)
+      let same = All-weaker (IsOwn graph.sites (back_edges graph) f) (λ s. callee_bound graph.tables (slice_index p.bounds) s ≡ callee_bound graph.tables (slice_index q.bounds) s)
       (λ s is. greatest-agree (slice_index p.bounds) (slice_index q.bounds) (callees graph.tables s.target)
       (all-from-has (λ c. slice_index p.bounds c ≡ slice_index q.bounds c) (callees graph.tables s.target)
       (λ c e. bounds-below n c (omega (arith, falls f s c is e)) (there f s c is e))))

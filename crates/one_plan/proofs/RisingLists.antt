@@ -1,11 +1,5 @@
 -- Lists whose keys rise: such a list is determined by what is among it.
-use Rattle.std.proofs.Common.{◌≡◌, inl, inr, ℕ, ◌<◌, List, [], ◌∷◌, refl, sym, ap, subst, ◌∙◌, arith}
-use Rattle.std.specs.Prelude.{◌⊎◌}
-use Rattle.std.specs.List.{AllByRecursion}
-use Rattle.std.specs.List.Sorted.{IsPermutation}
-use Rattle.std.proofs.lemmas.List.Elements.{All-from_recursion, recursion_from_All}
-use Rattle.std.proofs.lemmas.List.Sorted.{All-permutation, IsPermutation-sym}
-use Rattle.c_lower.proofs.Lists.{all-weaker}
+use Rattle.one_plan.proofs.Common.{◌≡◌, inl, inr, ℕ, ◌<◌, List, [], ◌∷◌, refl, sym, ap, subst, ◌∙◌, arith, ◌⊎◌, AllByRecursion, IsPermutation, All-from_recursion, recursion_from_All, All-permutation, IsPermutation-sym, All-weaker}
 
 abbrev pub Among : {X : Type 0} → List X → X → Type 0
 Among [] x = ⊥
@@ -21,7 +15,7 @@ all-both P Q R step (x ∷ xs) h k = (step x h.0 k.0, all-both P Q R step xs h.1
 
 all-among : {X : Type 0} (xs : List X) → AllByRecursion (Among xs) xs
 all-among [] = tt
-all-among (x ∷ xs) = (inl refl, all-weaker (Among xs) (Among (x ∷ xs)) (λ y h. inr h) xs (all-among xs))
+all-among (x ∷ xs) = (inl refl, All-weaker (Among xs) (Among (x ∷ xs)) (λ y h. inr h) xs (all-among xs))
 
 among-all : {X : Type 0} (P : X → Type 0) (xs : List X) (x : X) → AllByRecursion P xs → Among xs x → P x
 among-all P [] x h a = absurd a

@@ -1,35 +1,20 @@
 -- What an analysis says of its program.
-use Rattle.std.proofs.Common.{◌≡◌, ℕ, zero, suc, ◌+◌, ◌<◌, List, [], ◌∷◌, ◌++◌, length, map, filter, refl, sym, ap, ◌∙◌, arith}
-use Rattle.std.specs.Prelude.{Option, Some, None, option_map, slice_index_or}
-use Rattle.std.specs.List.{AllByRecursion, filter_map, cons_option}
-use Rattle.std.specs.List.Sorted.{IsStrictlyIncreasing}
-use Rattle.std.proofs.lemmas.List.{length-map}
+use Rattle.pair_commands.proofs.Common.{◌≡◌, ℕ, zero, suc, ◌+◌, ◌<◌, List, [], ◌∷◌, ◌++◌, length, map, filter, refl, sym, ap, ◌∙◌, arith, Option, Some, None, option_map, slice_index_or, AllByRecursion, filter_map, cons_option, IsStrictlyIncreasing, length-map, ProgramTree, FunctionTree, lowered, lowered_function, FlatCode, GraphSite, CallGraphState, back_edges, frame_refusal, FrameTooLarge, CodeTooLarge, name_at, names_of, weights-count}
 use Rattle.std.proofs.lemmas.List.Elements.{All-from_recursion, recursion_from_All}
 use Rattle.std.proofs.lemmas.List.Sorted.{All-permutation}
 use Rattle.c_tree.specs.declared.facts.Function.{Function}
-use Rattle.c_tree.specs.Trees.{ProgramTree, FunctionTree}
 use Rattle.c_tree.specs.Views.{function_tree}
-use Rattle.c_lower.specs.ProgramCode.{lowered, lowered_function}
 use Rattle.flat_code.specs.declared.operations.Op.{Op}
 use Rattle.flat_code.specs.declared.functions.FlatFunction.{FlatFunction}
-use Rattle.flat_code.specs.Codes.{FlatCode}
-use Rattle.call_graph.specs.declared.sites.GraphSite.{GraphSite}
 use Rattle.call_graph.specs.FlatCalls.{call_site, call_sites_from}
-use Rattle.call_graph.specs.Graph.{CallGraphState}
 use Rattle.call_graph.specs.Lists.{has}
 use Rattle.call_graph.proofs.ListLemmas.{by_test}
-use Rattle.cycle_break.specs.BackEdges.{back_edges}
 use Rattle.cycle_break.specs.Walk.{whole_walk}
 use Rattle.cycle_break.proofs.SiteLemmas.{rising-filter}
 use Rattle.checkpoint_place.specs.Refusal.{is_too_large, refusal_from}
 use Rattle.stack_plan.specs.Plans.{IsGraphOf, weights_of}
-use Rattle.stack_build.specs.Builds.{frame_refusal}
 use Rattle.stack_build.specs.Refusals.{of_place}
-use Rattle.stack_build.specs.declared.refusals.BuildError.TheVariants.{FrameTooLarge, CodeTooLarge}
-use Rattle.analysis_lines.specs.Lines.{name_at}
-use Rattle.pair_commands.specs.Graphs.{names_of}
 use Rattle.stack_plan.proofs.SiteLemmas.{numbers-rise, site-caller}
-use Rattle.stack_build.proofs.Frames.{weights-count}
 
 -- Callers.
 

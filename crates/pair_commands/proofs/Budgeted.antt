@@ -1,22 +1,6 @@
 -- What the command `budget` does with a pair that is accepted, and with one that isn't.
-use Rattle.std.proofs.Common.{◌≡◌, ℕ, inl, refl, subst}
-use Rattle.std.specs.Prelude.{MatchResult, Result}
-use Rattle.std.specs.Global.{Vec}
-use Rattle.c_tree.specs.ProgramView.{program_tree}
-use Rattle.c_tree.specs.Trees.{ProgramTree}
-use Rattle.c_tree.specs.declared.programs.Program.{Program}
-use Rattle.accepted_pairs.specs.Accepting.{accepted_tree}
-use Rattle.certificate_check.specs.Refusals.{IsRefusalOf}
-use Rattle.accepted_pairs.specs.Acceptance.{Acceptance}
-use Rattle.certificate_check.specs.declared.checking.CheckError.{CheckError}
+use Rattle.pair_commands.proofs.Common.{◌≡◌, ℕ, inl, refl, subst, MatchResult, Result, Vec, program_tree, ProgramTree, Program, accepted_tree, IsRefusalOf, Acceptance, CheckError, printed, IsStop, Stop, Certificate, Image, BudgetsPair, IsUnaccepted}
 use Rattle.certificate_check.specs.declared.checking.CheckError.TheVariants as checking
-use Rattle.command_outcomes.specs.Outcome.{printed}
-use Rattle.command_outcomes.specs.Steps.{IsStop}
-use Rattle.command_outcomes.specs.declared.stops.Stop.{Stop}
-use Rattle.stack_certificate.specs.declared.certificates.Certificate.{Certificate}
-use Rattle.stack_image.specs.declared.images.Image.{Image}
-use Rattle.pair_commands.specs.Budgets.{BudgetsPair}
-use Rattle.pair_commands.specs.RunSteps.{IsUnaccepted}
 
 -- what is made of a pair
 abbrev pub IsMade : ProgramTree → Image → Certificate → Result (Vec ℕ) Stop → Type 0

@@ -1,20 +1,7 @@
 -- What a build answers, from what it was laid out to.
-use Rattle.std.proofs.Common.{◌≡◌, ◌⊎◌, ℕ, false, List, [], ◌∷◌, Some, None, refl, ap, ◌∙◌, inr, ⊎_elim}
-use Rattle.c_tree.specs.Trees.{ProgramTree}
-use Rattle.c_tree.specs.WellScoped.{IsWellScoped}
-use Rattle.c_lower.specs.ProgramCode.{lowered}
-use Rattle.flat_code.specs.Codes.{FlatCode}
-use Rattle.flat_code.specs.WellFormed.{IsWellFormed}
+use Rattle.pair_commands.proofs.Common.{◌≡◌, ◌⊎◌, ℕ, false, List, [], ◌∷◌, Some, None, refl, ap, ◌∙◌, inr, ⊎_elim, ProgramTree, IsWellScoped, lowered, FlatCode, IsWellFormed, Options, Image, Certificate, frame_refusal, IsTooLarge, IsLaidOut, FrameTooLarge, CodeTooLarge, Memory, Products, Outcome, BuildsProgram, IsProductsOf, stored_products, built}
 use Rattle.certificate_rules.specs.Validity.{IsValid}
-use Rattle.codegen_link.specs.declared.options.Options.{Options}
-use Rattle.stack_image.specs.declared.images.Image.{Image}
 use Rattle.stack_image.specs.Spelling as image
-use Rattle.stack_certificate.specs.declared.certificates.Certificate.{Certificate}
-use Rattle.stack_build.specs.Builds.{frame_refusal, IsTooLarge, IsLaidOut}
-use Rattle.stack_build.specs.declared.refusals.BuildError.TheVariants.{FrameTooLarge, CodeTooLarge, Memory}
-use Rattle.pair_commands.specs.declared.build_command.Products.{Products}
-use Rattle.command_outcomes.specs.Outcome.{Outcome}
-use Rattle.pair_commands.specs.BuildsFiles.{BuildsProgram, IsProductsOf, stored_products, built}
 use Rattle.pair_commands.proofs.Analyses.{frame-not-code}
 use Rattle.pair_commands.proofs.OneBuild.{code-fits}
 

@@ -1,34 +1,12 @@
 -- What is due of a run with what comes before it: the loads, the readers, the checks.
-use Rattle.std.proofs.Common.{◌≡◌, ℕ, ◌≤◌, List, Option, Result, Ok, Err, refl, sym, subst, inl, inr}
-use Rattle.std.specs.Prelude.{MatchResult}
+use Rattle.pair_commands.proofs.Common.{◌≡◌, ℕ, ◌≤◌, List, Option, Result, Ok, Err, refl, sym, subst, inl, inr, MatchResult, ProgramTree, lowered, program_tree, Program, accepted_tree, IsRefusalOf, CheckError, Acceptance, Options, IsLaidOut, Image, Certificate, Stop, Outcome, HasFittingCode, HasFittingFrames, AfterLoad, AfterThree, RunsOn, RunsPair, ServesProgram, pool_bytes, setup_of, LeadsOn, IsUnaccepted, IsStop, IsShelfStop, loaded, of-three, stop-on-shelf}
 use Rattle.cap_io.specs.Files.{Files}
-use Rattle.c_tree.specs.Trees.{ProgramTree}
-use Rattle.c_lower.specs.ProgramCode.{lowered}
-use Rattle.c_tree.specs.ProgramView.{program_tree}
-use Rattle.c_tree.specs.declared.programs.Program.{Program}
-use Rattle.accepted_pairs.specs.Accepting.{accepted_tree}
-use Rattle.certificate_check.specs.Refusals.{IsRefusalOf}
-use Rattle.certificate_check.specs.declared.checking.CheckError.{CheckError}
 use Rattle.certificate_check.specs.declared.checking.CheckError.TheVariants as checking
-use Rattle.accepted_pairs.specs.Acceptance.{Acceptance}
-use Rattle.codegen_link.specs.declared.options.Options.{Options}
 use Rattle.command_words.specs.declared.options.Policy.{Policy as RunOptions}
-use Rattle.stack_build.specs.Builds.{IsLaidOut}
-use Rattle.stack_image.specs.declared.images.Image.{Image}
-use Rattle.stack_certificate.specs.declared.certificates.Certificate.{Certificate}
 use Rattle.command_outcomes.specs.declared.documents.Document.{Document}
 use Rattle.command_files.specs.declared.loading.LoadedFiles.{LoadedFiles}
-use Rattle.command_outcomes.specs.declared.stops.Stop.{Stop}
-use Rattle.command_outcomes.specs.Outcome.{Outcome}
-use Rattle.pair_commands.specs.BuildsFiles.{HasFittingCode}
-use Rattle.pair_commands.specs.Graphs.{HasFittingFrames}
-use Rattle.command_files.specs.Loads.{AfterLoad, AfterThree}
-use Rattle.pair_commands.specs.Runs.{RunsOn, RunsPair, ServesProgram, pool_bytes, setup_of}
-use Rattle.pair_commands.specs.RunSteps.{LeadsOn, IsUnaccepted}
-use Rattle.command_outcomes.specs.Steps.{IsStop, IsShelfStop}
 use Rattle.command_files.specs.Loaded.{IsLoaded}
 use Rattle.command_files.specs.Loaded.{AreLoaded}
-use Rattle.command_files.proofs.Follows.{loaded, of-three, stop-on-shelf}
 
 -- Loads.
 

@@ -1,3 +1,4 @@
+mod Common
 pub mod Leading
 pub mod Analyses
 pub mod Built

@@ -1,25 +1,10 @@
 -- A program has one placement for paths of a length, and so one analysis, and its code is too large or not, by one count of words.
-use Rattle.std.proofs.Common.{◌≡◌, ℕ, ◌-◌, ◌^◌, ◌<◌, ◌≤◌, min, List, length, sym, ap, subst, ◌∙◌, arith}
-use Rattle.std.proofs.lemmas.List.{length-map}
-use Rattle.c_tree.specs.Trees.{ProgramTree}
-use Rattle.c_tree.specs.WellScoped.{IsWellScoped}
-use Rattle.c_lower.specs.ProgramCode.{lowered}
-use Rattle.flat_code.specs.WellFormed.{IsWellFormed}
-use Rattle.call_graph.specs.Graph.{CallGraphState}
-use Rattle.cycle_break.specs.BackEdges.{back_edges}
+use Rattle.pair_commands.proofs.Common.{◌≡◌, ℕ, ◌-◌, ◌^◌, ◌<◌, ◌≤◌, min, List, length, sym, ap, subst, ◌∙◌, arith, length-map, ProgramTree, IsWellScoped, lowered, IsWellFormed, CallGraphState, back_edges, Options, Image, Certificate, IsPlanned, IsLaidOut, IsTooLarge, CodeTooLarge, analysis_lines, HasFittingCode, IsAnalysed, names_of}
 use Rattle.checkpoint_place.specs.declared.plans.Plan.{Plan}
 use Rattle.checkpoint_place.specs.Placement.{IsPlacement}
 use Rattle.rv_code.specs.Table.{encoding}
-use Rattle.codegen_link.specs.declared.options.Options.{Options}
 use Rattle.codegen_link.specs.Layout.{code_words, functions_before}
 use Rattle.codegen_link.proofs.CodeLemmas.{length-functions}
-use Rattle.stack_image.specs.declared.images.Image.{Image}
-use Rattle.stack_certificate.specs.declared.certificates.Certificate.{Certificate}
-use Rattle.stack_build.specs.Builds.{IsPlanned, IsLaidOut, IsTooLarge}
-use Rattle.stack_build.specs.declared.refusals.BuildError.TheVariants.{CodeTooLarge}
-use Rattle.analysis_lines.specs.Lines.{analysis_lines}
-use Rattle.pair_commands.specs.BuildsFiles.{HasFittingCode}
-use Rattle.pair_commands.specs.Graphs.{IsAnalysed, names_of}
 use Rattle.one_plan.proofs.LoweredGraph.{lowered-graph}
 use Rattle.one_plan.proofs.OnePlan.{graphs-are-one, placements-are-one}
 

@@ -1,16 +1,5 @@
 -- What is due of the bytes of a pair, from what is due of the pair that they are read as.
-use Rattle.std.proofs.Common.{ℕ, List, Result, Ok, Err, inl}
-use Rattle.std.specs.Prelude.{MatchResult}
-use Rattle.c_tree.specs.ProgramView.{program_tree}
-use Rattle.c_tree.specs.Trees.{ProgramTree}
-use Rattle.stack_image.specs.declared.images.Image.{Image}
-use Rattle.stack_certificate.specs.declared.certificates.Certificate.{Certificate}
-use Rattle.command_files.specs.Loads.{AfterImage, AfterCertificate}
-use Rattle.command_outcomes.specs.Outcome.{Outcome}
-use Rattle.command_outcomes.specs.Steps.{IsStop}
-use Rattle.command_outcomes.specs.declared.stops.Stop.{Stop}
-use Rattle.command_files.proofs.Follows.{stop-follows, source-follows, image-follows, certificate-follows}
-use Rattle.pair_commands.specs.Pairs.{AfterPair, IsPairText, Unread}
+use Rattle.pair_commands.proofs.Common.{ℕ, List, Result, Ok, Err, inl, MatchResult, program_tree, ProgramTree, Image, Certificate, AfterImage, AfterCertificate, Outcome, IsStop, Stop, stop-follows, source-follows, image-follows, certificate-follows, AfterPair, IsPairText, Unread}
 use Rattle.pair_commands.specs.declared.pairs.ReadPair.{ReadPair}
 
 module _ (s i c : List ℕ) (next : ProgramTree → Image → Certificate → Outcome → Type 0) where

@@ -1,12 +1,9 @@
 -- Sites that are added one by one, with rising numbers.
 use Rattle.std.proofs.Common.{ℕ, ◌+◌, ◌<◌, List, [], ◌∷◌, ◌++◌, arith}
 use Rattle.std.specs.List.{AllByRecursion}
+use Rattle.std.proofs.ByRecursion.{All-push}
 use Rattle.call_graph.specs.declared.sites.GraphSite.{GraphSite}
 use Rattle.call_graph.specs.Graph.{IsRising}
-
-pub all-added : {X : Type 0} (P : X → Type 0) (xs : List X) (x : X) → AllByRecursion P xs → P x → AllByRecursion P (xs ++ x ∷ [])
-all-added P [] x all one = (one, tt)
-all-added P (y ∷ ys) x all one = (all.0, all-added P ys x all.1 one)
 
 abbrev pub NumbersBelow : ℕ → List GraphSite → Type 0
 NumbersBelow n sites = AllByRecursion (λ (s : GraphSite). s.number < n) sites
@@ -18,4 +15,4 @@ below-more n (s ∷ ss) all = (omega (arith, all.0), below-more n ss all.1)
 pub rising-added : (sites : List GraphSite) (site : GraphSite) → NumbersBelow site.number sites → IsRising sites → IsRising (sites ++ site ∷ [])
 rising-added [] site below rising = (tt, tt)
 rising-added (s ∷ ss) site below rising =
-    (all-added (λ (other : GraphSite). s.number < other.number) ss site rising.0 below.0, rising-added ss site below.1 rising.1)
+    (All-push (λ (other : GraphSite). s.number < other.number) ss site rising.0 below.0, rising-added ss site below.1 rising.1)

@@ -1,3 +1,4 @@
+mod Common
 pub mod NeedLaws
 pub mod NextLaws
 pub mod NodeLaws

@@ -1,16 +1,12 @@
 -- A join's needs are met where those of one of the two are.
-use Rattle.std.proofs.Common.{◌≡◌, ◌≢◌, ℕ, zero, suc, ◌<◌, Bool, true, false, ◌||◌, ◌&&◌, ◌==◌, not, nat_le, nat_lt, min, max, List, refl, ◌∙◌, sym, ap, subst, ◌⊎◌, inl, inr, arith, ◌+◌, slice_index, bit_and, bit_or}
-use Rattle.std.proofs.lemmas.Bool.Decides.{nat_tests}
+use Rattle.ready_tree.proofs.Common.{◌≡◌, ◌≢◌, ℕ, zero, suc, ◌<◌, Bool, true, false, ◌||◌, ◌&&◌, ◌==◌, not, nat_le, nat_lt, min, max, List, refl, ◌∙◌, sym, ap, subst, ◌⊎◌, inl, inr, arith, ◌+◌, slice_index, bit_and, bit_or, nat_tests, Bounds, Needs, is_shared, is_same_need, fits_first, is_some_met, IsJoin, or_left, and_parts, or_right}
 use Rattle.std.proofs.lemmas.Nat.Bits.{bit_at_and, bit_at_or, same_from_bits, bit_at-zero}
 use Rattle.std.specs.Int.{bit_at}
-use Rattle.ready_tree.specs.declared.bounds.Bounds.{Bounds}
 use Rattle.ready_tree.specs.declared.needs.Need.{Need}
-use Rattle.ready_tree.specs.declared.needs.Needs.{Needs}
-use Rattle.ready_tree.specs.Needs.{is_shared, is_same_need, fits_first, is_some_met, IsJoin}
 
 -- ---- tests
 
-or_swap : (a b c d : Bool) → ((a || b) || (c || d)) ≡ ((a || c) || (b || d))
+pub or_swap : (a b c d : Bool) → ((a || b) || (c || d)) ≡ ((a || c) || (b || d))
 or_swap true b c d = refl
 or_swap false true true d = refl
 or_swap false true false d = refl
@@ -47,15 +43,11 @@ none_left a b e = same_from_bits a 0 (λ i.
 not_zero : (a : ℕ) → a ≢ 0 → not (a == 0) ≡ true
 not_zero a some = grind (arith, nat_tests)
 
-left_true : (a b : Bool) → a ≡ true → (a || b) ≡ true
-left_true true b e = refl
-left_true false b e = absurd (cc)
-
 some_of_or : (a b : ℕ) → not (bit_or a b == 0) ≡ (not (a == 0) || not (b == 0))
 some_of_or zero b = refl
 some_of_or (suc a) b =
     not_zero (bit_or (suc a) b) (λ e. let f : suc a ≡ 0 = none_left (suc a) b e in absurd (omega arith))
-    ∙ sym (left_true (not (suc a == 0)) (not (b == 0)) (not_zero (suc a) (λ e. absurd (omega arith))))
+    ∙ sym (or_left (not (suc a == 0)) (not (b == 0)) (not_zero (suc a) (λ e. absurd (omega arith))))
 
 pub shared_part : (a b c : ℕ) → is_shared a (bit_or b c) ≡ (is_shared a b || is_shared a c)
 shared_part a b c = ap (λ n. not (n == 0)) (or_over a b c) ∙ some_of_or (bit_and a b) (bit_and a c)
@@ -71,14 +63,6 @@ fits_part least amounts others unused (suc r) lesser =
     ap (λ b. b || nat_le (slice_index least r) (slice_index unused r)) (fits_part least amounts others unused r (λ k h. lesser k (omega arith)))
     ∙ or_part (fits_first amounts unused r) (fits_first others unused r) (nat_le (slice_index amounts r) (slice_index unused r)) (nat_le (slice_index others r) (slice_index unused r))
     (nat_le (slice_index least r) (slice_index unused r)) (ap (λ n. nat_le n (slice_index unused r)) (lesser r (omega arith)) ∙ le_part (slice_index amounts r) (slice_index others r) (slice_index unused r))
-
-or_right : (a b : Bool) → b ≡ true → (a || b) ≡ true
-or_right true b e = refl
-or_right false b e = e
-
-or_left : (a b : Bool) → a ≡ true → (a || b) ≡ true
-or_left true b e = refl
-or_left false b e = absurd (cc)
 
 last_or_before : (r count : ℕ) → r < suc count → (r ≡ count) ⊎ (r < count)
 last_or_before r count below = grind arith
@@ -99,11 +83,7 @@ one_fits amounts unused (suc count) r below fits =
 
 -- ---- the same need
 
-both_true : (a b : Bool) → (a && b) ≡ true → (a ≡ true) × (b ≡ true)
-both_true true b e = (refl, e)
-both_true false b e = absurd (cc)
-
-eq_true : (a b : ℕ) → (a == b) ≡ true → a ≡ b
+pub eq_true : (a b : ℕ) → (a == b) ≡ true → a ≡ b
 eq_true a b e = grind (arith, nat_tests)
 
 pub same_need : (one other : Need) → is_same_need one other ≡ true → one ≡ other
@@ -116,14 +96,14 @@ same_need Need.Arrival (Need.Amount r a) e = absurd (let f : false ≡ true = e 
 same_need (Need.Event c f) Need.Nothing e = absurd (let f : false ≡ true = e in cc)
 same_need (Need.Event c f) Need.Arrival e = absurd (let f : false ≡ true = e in cc)
 same_need (Need.Event c f) (Need.Event d g) e =
-    let both = both_true (c == d) (f == g) e in
+    let both = and_parts (c == d) (f == g) e in
     ap (λ (n : ℕ). Need.Event n f) (eq_true c d both.0) ∙ ap (λ (n : ℕ). Need.Event d n) (eq_true f g both.1)
 same_need (Need.Event c f) (Need.Amount r a) e = absurd (let f : false ≡ true = e in cc)
 same_need (Need.Amount r a) Need.Nothing e = absurd (let f : false ≡ true = e in cc)
 same_need (Need.Amount r a) Need.Arrival e = absurd (let f : false ≡ true = e in cc)
 same_need (Need.Amount r a) (Need.Event c f) e = absurd (let f : false ≡ true = e in cc)
 same_need (Need.Amount r a) (Need.Amount s b) e =
-    let both = both_true (r == s) (a == b) e in
+    let both = and_parts (r == s) (a == b) e in
     ap (λ (n : ℕ). Need.Amount n a) (eq_true r s both.0) ∙ ap (λ (n : ℕ). Need.Amount s n) (eq_true a b both.1)
 same_need _ _ e = refl
 
@@ -196,7 +176,7 @@ below_by r e = grind (arith, nat_tests)
 pub of_amount : (bounds : Bounds) (needs : Needs) (r amount : ℕ) → (r < 8 → slice_index needs.amounts r ≡ amount) → (nat_lt r 8 && nat_le amount (slice_index bounds.unused r)) ≡ true → is_some_met bounds needs ≡ true
 unfolding is_some_met
 of_amount bounds needs r amount only met =
-    let both = both_true (nat_lt r 8) (nat_le amount (slice_index bounds.unused r)) met in
+    let both = and_parts (nat_lt r 8) (nat_le amount (slice_index bounds.unused r)) met in
     let below : r < 8 = below_by r both.0 in
     or_right needs.nothing _ (or_right (bounds.arrival && needs.arrival) _ (or_right (is_shared bounds.channels needs.channels) _ (or_right (nat_le needs.from bounds.clock) _
     (one_fits needs.amounts bounds.unused 8 r below (rw (only below) both.1)))))

@@ -1,12 +1,7 @@
 -- The search for the next leaf climbs past subtrees in which no need is met, and goes down from the first in which one is.
-use Rattle.std.proofs.Common.{◌≡◌, ℕ, zero, suc, ◌+◌, ◌*◌, ◌/◌, ◌%◌, ◌<◌, ◌≤◌, inl, inr, ⊎_elim, false, Some, None, List, length, refl, ◌∙◌, ap, subst, arith}
 use Rattle.std.proofs.lemmas.Bool.{cases_lt}
-use Rattle.ready_tree.specs.declared.bounds.Bounds.{Bounds}
-use Rattle.ready_tree.specs.declared.needs.Needs.{Needs}
+use Rattle.ready_tree.proofs.Common.{◌≡◌, ℕ, zero, suc, ◌+◌, ◌*◌, ◌/◌, ◌%◌, ◌<◌, ◌≤◌, inl, inr, ⊎_elim, false, Some, None, List, length, refl, ◌∙◌, ap, subst, arith, Bounds, Needs, is_some_met, NoneBetween, IsReached, IsNextLeaf, IsNextSubtree, doubled, AreJoined, IsLevel, node_at}
 use Rattle.ready_tree.specs.declared.subtrees.Subtree.{Subtree}
-use Rattle.ready_tree.specs.Needs.{is_some_met}
-use Rattle.ready_tree.specs.Next.{NoneBetween, IsReached, IsNextLeaf, IsNextSubtree}
-use Rattle.ready_tree.specs.Nodes.{doubled, AreJoined, IsLevel, node_at}
 use Rattle.ready_tree.proofs.NodeLaws.{doubled_least, doubled_more, more_leaves, none_below, one_leaf}
 
 doubled_mono : (times m n : ℕ) → m ≤ n → doubled times m ≤ doubled times n

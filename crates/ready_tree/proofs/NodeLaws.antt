@@ -1,10 +1,5 @@
 -- The tree: a changed node concerns the one above it alone.
-use Rattle.std.proofs.Common.{◌≡◌, ◌≢◌, ℕ, zero, suc, ◌+◌, ◌*◌, ◌/◌, ◌<◌, ◌≤◌, ◌⊎◌, inl, inr, Bool, true, false, ◌||◌, List, length, refl, arith, slice_set}
-use Rattle.std.proofs.lemmas.List.{get_or-set_same, get_or-set_other, length-set}
-use Rattle.ready_tree.specs.declared.bounds.Bounds.{Bounds}
-use Rattle.ready_tree.specs.declared.needs.Needs.{Needs}
-use Rattle.ready_tree.specs.Needs.{is_some_met, IsJoin}
-use Rattle.ready_tree.specs.Nodes.{doubled, IsLevel, IsWhole, IsNode, AreJoinedBut, node_at, no_needs}
+use Rattle.ready_tree.proofs.Common.{◌≡◌, ◌≢◌, ℕ, zero, suc, ◌+◌, ◌*◌, ◌/◌, ◌<◌, ◌≤◌, ◌⊎◌, inl, inr, Bool, true, false, ◌||◌, List, length, refl, arith, slice_set, get_or-set_same, get_or-set_other, length-set, Bounds, Needs, is_some_met, IsJoin, doubled, IsLevel, IsWhole, IsNode, AreJoinedBut, node_at, no_needs}
 
 -- ---- levels
 
@@ -65,7 +60,7 @@ set_node nodes n value a v some below i some_i below_i other (inr d) =
     rw (get_or-set_other nodes n i value no_needs d, get_or-set_other nodes n (2 * i) value no_needs (λ e. other (omega arith)), get_or-set_other nodes n (2 * i + 1) value no_needs (λ e. other (omega arith)))
     (a.node i some_i below_i d)
 
-same_or_not : (i n : ℕ) → (i ≡ n) ⊎ (i ≢ n)
+pub same_or_not : (i n : ℕ) → (i ≡ n) ⊎ (i ≢ n)
 same_or_not i n = grind arith
 
 -- where the excepted node is set to the join of its children, the one above it is excepted

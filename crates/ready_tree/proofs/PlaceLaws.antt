@@ -1,15 +1,7 @@
 -- Places, and the tree above their blocks.
-use Rattle.std.proofs.Common.{◌≡◌, ℕ, zero, suc, ◌+◌, ◌-◌, ◌*◌, ◌/◌, ◌<◌, ◌≤◌, Bool, true, false, Option, Some, None, List, [], ◌∷◌, ◌++◌, length, take, nat_lt, cond, filter, position, refl, ◌∙◌, sym, ap, arith, slice_set}
-use Rattle.std.proofs.lemmas.List.{length_push, take_more, length-append}
-use Rattle.std.proofs.lemmas.Bool.Decides.{nat_tests}
+use Rattle.ready_tree.proofs.Common.{◌≡◌, ℕ, zero, suc, ◌+◌, ◌-◌, ◌*◌, ◌/◌, ◌<◌, ◌≤◌, Bool, true, false, Option, Some, None, List, [], ◌∷◌, ◌++◌, length, take, nat_lt, cond, filter, position, refl, ◌∙◌, sym, ap, arith, slice_set, length_push, take_more, length-append, nat_tests, Entry, Needs, is_some_met, doubled, node_at, entries_of, place_at, is_taken, Covers, CoversAll, IsAbove}
 use Rattle.std.proofs.lemmas.List.Sums.{position_or_len_is}
 use Rattle.std.specs.List.{position_or_len}
-use Rattle.ready_tree.specs.declared.entries.Entry.{Entry}
-use Rattle.ready_tree.specs.declared.needs.Needs.{Needs}
-use Rattle.ready_tree.specs.Needs.{is_some_met}
-use Rattle.ready_tree.specs.Nodes.{doubled, node_at}
-use Rattle.ready_tree.specs.Entries.{entries_of, place_at, is_taken}
-use Rattle.ready_tree.specs.Trees.{Covers, CoversAll, IsAbove}
 use Rattle.ready_tree.proofs.NextLaws.{unmet_below}
 use Rattle.ready_tree.proofs.NodeLaws.{doubled_more}
 
@@ -64,7 +56,7 @@ full_gathered (Some entry ∷ places) = ap suc (full_gathered places)
 
 -- ---- the first place at which a need is met
 
-some_is : (place len : ℕ) → place < len → cond (nat_lt place len) (Some place) None ≡ Some place
+pub some_is : (place len : ℕ) → place < len → cond (nat_lt place len) (Some place) None ≡ Some place
 some_is place len below = grind (arith, nat_tests)
 
 none_is : (place len : ℕ) → len ≤ place → cond (nat_lt place len) (Some place) None ≡ None

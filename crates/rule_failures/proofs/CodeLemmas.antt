@@ -1,22 +1,8 @@
 -- The words of templates in the code.
-use Rattle.std.proofs.Common.{◌≡◌, ℕ, ◌+◌, ◌*◌, ◌<◌, ◌≤◌, Bool, true, false, List, length, take, arith, refl, sym, ap, ◌∙◌, subst, Option, Some, None, inl, inr}
-use Rattle.std.specs.Prelude.{◌↔◌, IsTrue, replicate, slice_get}
-use Rattle.std.proofs.lemmas.Bool.{cases_lt}
-use Rattle.std.proofs.lemmas.List.{length-replicate, length-take}
-use Rattle.std.proofs.lemmas.Option.{slice_get_within, slice_get_past}
-use Rattle.rv_code.specs.declared.instructions.Instr.{Instr}
-use Rattle.flat_code.specs.declared.operations.Op.{Op}
-use Rattle.flat_code.specs.Codes.{FlatCode, function_at, operation_at}
-use Rattle.stack_image.specs.declared.images.Image.{Image}
-use Rattle.stack_certificate.specs.declared.certificates.Certificate.{Certificate}
-use Rattle.stack_certificate.specs.declared.functions.FunctionFact.{FunctionFact}
+use Rattle.rule_failures.proofs.Common.{◌≡◌, ℕ, ◌+◌, ◌*◌, ◌<◌, ◌≤◌, Bool, true, false, List, length, take, arith, refl, sym, ap, ◌∙◌, subst, Option, Some, None, inl, inr, ◌↔◌, IsTrue, replicate, slice_get, cases_lt, length-replicate, length-take, slice_get_within, slice_get_past, Instr, Op, FlatCode, function_at, operation_at, Image, Certificate, FunctionFact, fact_at, prologue, template, begin, words_before, row_at, setting, setting_at, size, size_at, kind_of, Stands, V5, V6}
 use Rattle.stack_certificate.specs.declared.settings.Setting.{Setting}
-use Rattle.stack_certificate.specs.Certificates.{fact_at}
 use Rattle.stack_certificate.specs.InstructionWords.{IsWordOf}
-use Rattle.stack_certificate.specs.Templates.{prologue, template, begin, words_before, row_at, setting, setting_at, size, size_at, kind_of}
 use Rattle.stack_certificate.proofs.SizeLemmas.{length-prologue, length-row}
-use Rattle.certificate_rules.specs.Ranges.{Stands}
-use Rattle.certificate_rules.specs.Rules.{V5, V6}
 use Rattle.accepted_pairs.proofs.SomeAt.{some_at}
 
 -- what a comparison with a word of a list of instructions says

@@ -1,7 +1,6 @@
 -- The first failure of one fact is that of another that holds at the same indices.
-use Rattle.std.proofs.Common.{ℕ, ◌<◌, Option, Some, None}
 use Rattle.rule_failures.specs.declared.spots.Spot.{Spot}
-use Rattle.rule_failures.specs.First.{IsFirst, IsFirstSpot}
+use Rattle.rule_failures.proofs.Common.{ℕ, ◌<◌, Option, Some, None, IsFirst, IsFirstSpot}
 
 pub first_same : (P Q : ℕ → Type 0) → ((i : ℕ) → P i → Q i) → ((i : ℕ) → Q i → P i) → (r : Option ℕ) → IsFirst P r → IsFirst Q r
 first_same P Q to from None h = λ i. to i (h i)

@@ -1,14 +1,5 @@
 -- The first failure of V1.
-use Rattle.std.proofs.Common.{◌≡◌, ℕ, ◌<◌, ◌≤◌, Bool, true, false, length, arith, refl, Option, Some, None, inl, inr}
-use Rattle.std.specs.Prelude.{◌↔◌, IsTrue, nat_eq, if◌then◌else◌}
-use Rattle.std.proofs.lemmas.Bool.{cases_lt, eqb-true, eqb-false, false≢true}
-use Rattle.flat_code.specs.Codes.{FlatCode, function_at}
-use Rattle.stack_image.specs.declared.images.Image.{Image}
-use Rattle.stack_certificate.specs.declared.certificates.Certificate.{Certificate}
-use Rattle.stack_certificate.specs.Certificates.{fact_at}
-use Rattle.certificate_rules.specs.Rules.{V1}
-use Rattle.certificate_rules.specs.Sites.{NamesSites}
-use Rattle.rule_failures.specs.First.{IsFirst, IsFirstSpot, unfit_spot}
+use Rattle.rule_failures.proofs.Common.{◌≡◌, ℕ, ◌<◌, ◌≤◌, Bool, true, false, length, arith, refl, Option, Some, None, inl, inr, ◌↔◌, IsTrue, nat_eq, if◌then◌else◌, cases_lt, eqb-true, eqb-false, false≢true, FlatCode, function_at, Image, Certificate, fact_at, V1, NamesSites, IsFirst, IsFirstSpot, unfit_spot}
 
 -- the function has as many places as variables, if it is there
 abbrev HasPlacesAt : FlatCode → Certificate → ℕ → Type 0

@@ -1,15 +1,5 @@
 -- Places in a frame.
-use Rattle.std.proofs.Common.{◌≡◌, ℕ, ◌+◌, ◌*◌, ◌%◌, ◌<◌, ◌≤◌, List, [], ◌∷◌, length, arith, refl, sym, ap, subst, Option, inl, inr}
-use Rattle.std.specs.Prelude.{slice_index}
-use Rattle.std.proofs.lemmas.List.{get_or_append_left, get_or_at}
-use Rattle.flat_code.specs.Codes.{FlatCode, function_at}
-use Rattle.stack_certificate.specs.declared.certificates.Certificate.{Certificate}
-use Rattle.stack_certificate.specs.declared.functions.FunctionFact.{FunctionFact}
-use Rattle.stack_certificate.specs.Certificates.{fact_at}
-use Rattle.certificate_rules.specs.Ranges.{AreApart}
-use Rattle.certificate_rules.specs.Rules.{V4, IsPlaced, frame_places, frame_words}
-use Rattle.std.proofs.lemmas.Bool.{cases_lt}
-use Rattle.rule_failures.specs.First.{IsFirst}
+use Rattle.rule_failures.proofs.Common.{◌≡◌, ℕ, ◌+◌, ◌*◌, ◌%◌, ◌<◌, ◌≤◌, List, [], ◌∷◌, length, arith, refl, sym, ap, subst, Option, inl, inr, slice_index, get_or_append_left, get_or_at, FlatCode, function_at, Certificate, FunctionFact, fact_at, AreApart, V4, IsPlaced, frame_places, frame_words, cases_lt, IsFirst}
 use Rattle.rule_failures.proofs.FirstLemmas.{first_same}
 
 pub place_of : (fact : FunctionFact) (x : ℕ) → x < length fact.places → slice_index (frame_places fact) x ≡ slice_index fact.places x

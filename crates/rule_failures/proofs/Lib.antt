@@ -1,3 +1,4 @@
+mod Common
 pub mod FirstLemmas
 pub mod MarkLemmas
 pub mod PieceLemmas

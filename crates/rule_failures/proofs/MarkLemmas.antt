@@ -1,7 +1,5 @@
 -- Marks on words that are taken by runs of words.
-use Rattle.std.proofs.Common.{◌≡◌, ℕ, ◌+◌, ◌-◌, ◌*◌, ◌/◌, ◌%◌, ◌<◌, ◌≤◌, Bool, false, List, length, arith, refl}
-use Rattle.certificate_rules.specs.Ranges.{IsIn, AreApart}
-use Rattle.rule_failures.specs.Marks.{is_marked, AreMarked}
+use Rattle.rule_failures.proofs.Common.{◌≡◌, ℕ, ◌+◌, ◌-◌, ◌*◌, ◌/◌, ◌%◌, ◌<◌, ◌≤◌, Bool, false, List, length, arith, refl, IsIn, AreApart, is_marked, AreMarked}
 
 -- ---- a run of which no word was marked meets no other run
 

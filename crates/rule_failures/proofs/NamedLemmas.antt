@@ -1,22 +1,8 @@
 -- The sites that a certificate names, against those that a program has.
-use Rattle.std.proofs.Common.{◌≡◌, ◌≢◌, ℕ, ◌+◌, ◌<◌, ◌≤◌, Bool, true, false, List, [], length, take, arith, refl, sym, ap, ◌∙◌, subst, Some, None, inl, inr}
-use Rattle.std.specs.Prelude.{◌||◌, IsTrue, slice_get, slice_index, slice_index_or, slice_set}
-use Rattle.std.specs.List.{list_any}
-use Rattle.std.specs.List.Sorted.{IsStrictlyIncreasing}
-use Rattle.std.proofs.lemmas.Bool.{cases_lt, cases_eq, eq-eqb, ne_eqb, or_right}
-use Rattle.std.proofs.lemmas.List.{get_or-set_same, get_or-set_other, get_or_default, take_all, get_or_past}
+use Rattle.rule_failures.proofs.Common.{◌≡◌, ◌≢◌, ℕ, ◌+◌, ◌<◌, ◌≤◌, Bool, true, false, List, [], length, take, arith, refl, sym, ap, ◌∙◌, subst, Some, None, inl, inr, ◌||◌, IsTrue, slice_get, slice_index, slice_index_or, slice_set, list_any, IsStrictlyIncreasing, cases_lt, cases_eq, eq-eqb, ne_eqb, or_right, get_or-set_same, get_or-set_other, get_or_default, take_all, get_or_past, same_Some, slice_get_read, Op, FlatCode, function_at, operation_at, site_of, Certificate, kind_in, kind_of, kind_at, certified_site, starts_thread, is_spawned, fact_numbers, is_named, is_site, has_site, NamesSites, IsNamedRight, is_marked}
 use Rattle.std.proofs.lemmas.List.Folds.{list_any_more}
-use Rattle.std.proofs.lemmas.Option.{same_Some, slice_get_read}
 use Rattle.flat_code.specs.declared.functions.FlatFunction.{FlatFunction}
-use Rattle.flat_code.specs.declared.operations.Op.{Op}
-use Rattle.flat_code.specs.Codes.{FlatCode, function_at, operation_at, site_of}
-use Rattle.stack_certificate.specs.declared.certificates.Certificate.{Certificate}
 use Rattle.stack_certificate.specs.declared.sites.SiteFact.{SiteFact}
-use Rattle.stack_certificate.specs.Certificates.{kind_in}
-use Rattle.stack_certificate.specs.Templates.{kind_of, kind_at}
-use Rattle.certificate_rules.specs.Sites.{certified_site, starts_thread, is_spawned, fact_numbers, is_named, is_site, has_site, NamesSites}
-use Rattle.rule_failures.specs.Named.{IsNamedRight}
-use Rattle.rule_failures.specs.Marks.{is_marked}
 use Rattle.accepted_pairs.proofs.RisingLemmas as rising
 
 -- ---- one operation

@@ -1,11 +1,7 @@
 -- The words of lists joined end to end, and of lists that are compared piece by piece.
-use Rattle.std.proofs.Common.{◌≡◌, ℕ, zero, suc, ◌+◌, ◌-◌, ◌<◌, ◌≤◌, Bool, true, false, List, [], ◌∷◌, ◌++◌, length, take, arith, refl, sym, ap, ◌∙◌, subst, zero-add, Some, None, inl, inr, below_more}
-use Rattle.std.specs.Prelude.{slice_get, slice_index_or, sum_by, flat_map, nat_lt, if◌then◌else◌}
-use Rattle.std.proofs.lemmas.Bool.{cases_lt, ltb-true, ltb-false}
+use Rattle.rule_failures.proofs.Common.{◌≡◌, ℕ, zero, suc, ◌+◌, ◌-◌, ◌<◌, ◌≤◌, Bool, true, false, List, [], ◌∷◌, ◌++◌, length, take, arith, refl, sym, ap, ◌∙◌, subst, zero-add, Some, None, inl, inr, below_more, slice_get, slice_index_or, sum_by, flat_map, nat_lt, if◌then◌else◌, cases_lt, ltb-true, ltb-false, slice_get_past, slice_get-get_or, IsFirst, IsFirstOther}
 use Rattle.std.proofs.lemmas.List.Concat.{flat_map-cons, length-flat_map}
 use Rattle.std.proofs.lemmas.List.Sums.{sum_by-cons}
-use Rattle.std.proofs.lemmas.Option.{slice_get_past, slice_get-get_or}
-use Rattle.rule_failures.specs.First.{IsFirst, IsFirstOther}
 
 piece_left : (xs ys : List ℕ) (k : ℕ) → k < length xs → slice_get (xs ++ ys) k ≡ slice_get xs k
 piece_left [] ys k lt = absurd (omega arith)

@@ -1,11 +1,5 @@
 -- What is known of a pair's ranges once V1 holds, and where V2 says nothing.
-use Rattle.std.proofs.Common.{◌≡◌, ℕ, zero, ◌+◌, ◌<◌, ◌≤◌, length, arith, refl, subst, inl, inr}
-use Rattle.std.proofs.lemmas.Bool.{cases_lt}
-use Rattle.flat_code.specs.Codes.{FlatCode}
-use Rattle.stack_image.specs.declared.images.Image.{Image}
-use Rattle.stack_certificate.specs.declared.certificates.Certificate.{Certificate}
-use Rattle.certificate_rules.specs.Rules.{V1, V2}
-use Rattle.rule_failures.specs.First.{HoldBelow}
+use Rattle.rule_failures.proofs.Common.{◌≡◌, ℕ, zero, ◌+◌, ◌<◌, ◌≤◌, length, arith, refl, subst, inl, inr, cases_lt, FlatCode, Image, Certificate, V1, V2, HoldBelow}
 
 -- V1, where the lower rules than another hold
 pub first_rule : (code : FlatCode) (image : Image) (certificate : Certificate) (rule f i : ℕ) → 2 ≤ rule → HoldBelow code image certificate rule → V1 code image certificate f i

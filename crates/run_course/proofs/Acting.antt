@@ -1,13 +1,6 @@
 -- What a call of `begin` or `proceed` does, as actions.
-use Rattle.std.proofs.Common.{◌≡◌, ℕ, zero, suc, [], ◌∷◌, ◌++◌, Option, Some, refl, sym, ap, ◌∙◌}
-use Rattle.machine_world.specs.Runs.{Step, world_of, and_then, after_actions}
-use Rattle.machine_world.specs.Threads.{World, Setting, Move, Puts, Spawns, Blocks, Ends, Stops, step}
+use Rattle.run_course.proofs.Common.{◌≡◌, ℕ, zero, suc, [], ◌∷◌, ◌++◌, Option, Some, refl, sym, ap, ◌∙◌, Step, world_of, and_then, after_actions, World, Setting, Move, Puts, Spawns, Blocks, Ends, Stops, step, Tells, IsTurn, GoesOn, Held, ActsTo, Turn}
 use Rattle.machine_world.proofs.ActionLaws.{after_actions-append}
-use Rattle.thread_core.specs.Turns.{Tells, IsTurn}
-use Rattle.segment_laws.specs.Silent.{GoesOn}
-use Rattle.thread_core.specs.Worlds.{Held}
-use Rattle.run_course.specs.Steps.{ActsTo}
-use Rattle.thread_core.specs.declared.turns.Turn.{Turn}
 
 pub acts_on : (s : Setting) (w v u : World) → ActsTo s w v → ActsTo s v u → ActsTo s w u
 acts_on s w v u p q = record {

@@ -1,18 +1,6 @@
 -- A segment does what the source's run of its thread does.
-use Rattle.std.proofs.Common.{◌≡◌, ℕ, [], Some, refl, sym, subst}
-use Rattle.lawful_log.specs.Good.{checked_of}
-use Rattle.lawful_log.specs.Setup.{Setup, setting_of}
-use Rattle.lawful_log.specs.State.{State}
-use Rattle.machine_world.specs.Runs.{Pick, advanced, after_action}
-use Rattle.machine_world.specs.StandsForWorld.{StandsForWorld}
-use Rattle.machine_world.specs.Threads.{World}
-use Rattle.machine_world.specs.WellFormed.{IsWellFormed}
-use Rattle.thread_core.specs.Worlds.{Held}
-use Rattle.machine_meaning.specs.Reached.{IsReached}
+use Rattle.run_course.proofs.Common.{◌≡◌, ℕ, [], Some, refl, sym, subst, checked_of, Setup, setting_of, State, Pick, advanced, after_action, StandsForWorld, World, IsWellFormed, Held, IsReached, Kept, IsOf, StandsBetween, StepsAsSource, Rest}
 use Rattle.machine_meaning.proofs.WorldLaws.{picks, steps}
-use Rattle.run_course.specs.Kept.{Kept}
-use Rattle.run_course.specs.Stands.{IsOf, StandsBetween, StepsAsSource}
-use Rattle.run_course.specs.Rest.{Rest}
 
 pub source_steps : (g : Setup) (state : State) (held : Held) → IsOf g held → (number : ℕ) → StepsAsSource g state number
 source_steps g state held of number = λ puts w formed reached. steps g.program g.image g.certificate (setting_of g) w state.source number puts of.scoped of.valid refl formed reached

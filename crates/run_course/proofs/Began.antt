@@ -1,46 +1,8 @@
 -- The choice of a thread, and the beginning of its segment.
-use Rattle.std.proofs.Common.{◌≡◌, ◌≢◌, ℕ, suc, ◌+◌, Bool, true, false, List, [], length, Option, Some, refl, sym, ap, ◌∙◌, subst, arith, le_refl}
-use Rattle.blocking_graph.specs.Edges.{edges_of}
-use Rattle.blocking_graph.specs.declared.edges.EdgeLine.{EdgeLine}
-use Rattle.event_trace.specs.declared.events.Event.{Event}
-use Rattle.choice_rules.specs.Choice.{monitor_of, observed}
-use Rattle.choice_rules.specs.Policy.{all_caps}
-use Rattle.choice_rules.specs.Readiness.{any_ready, any_elsewhere}
-use Rattle.choice_rules.specs.Seen.{uses_of}
-use Rattle.choice_rules.specs.Trace.{IsNext}
-use Rattle.choice_rules.specs.Clock.{is_due}
+use Rattle.run_course.proofs.Common.{◌≡◌, ◌≢◌, ℕ, suc, ◌+◌, Bool, true, false, List, [], length, Option, Some, refl, sym, ap, ◌∙◌, subst, arith, le_refl, edges_of, EdgeLine, Event, monitor_of, observed, all_caps, any_ready, any_elsewhere, uses_of, IsNext, is_due, checked_of, Setup, setting_of, Segment, State, seen_of, IsChosenAs, IsChosen, IsBetween, IsWithin, run_state, run_segment, run_allowed, within_run, still_waiting, Pick, after_action, World, Setting, step, gate_after, MonitorState, NoneAbove, pressures, HasTaken, IsLawfulOf, IsUnderWay, noted_of, RuleState, is_eligible, score, Choice, is_ready_in, is_at_accept_in, any_ready_in, any_elsewhere_in, Tells, Begins, KeepsSetting, GoesOn, Held, KeepsPlaces, Turn, IsReached, Kept, known, is_picked, ThreadId, AreKeptBeside, HasAccounts, StandsBetween, StandsWithin, StepsAsSource, Rest}
 use Rattle.lawful_log.specs.Choice.{IsRun}
-use Rattle.lawful_log.specs.Good.{checked_of}
-use Rattle.lawful_log.specs.Setup.{Setup, setting_of}
-use Rattle.lawful_log.specs.State.{Segment, State, seen_of}
-use Rattle.lawful_log.specs.Beside.{IsChosenAs, IsChosen}
-use Rattle.lawful_log.specs.Within.{IsBetween, IsWithin}
-use Rattle.lawful_log.proofs.Between.{run_state, run_segment, run_allowed, within_run}
-use Rattle.lawful_log.proofs.Within.{still_waiting}
-use Rattle.machine_world.specs.Runs.{Pick, after_action}
-use Rattle.machine_world.specs.Threads.{World, Setting, step}
-use Rattle.resource_monitor.specs.Gate.{gate_after}
-use Rattle.resource_monitor.specs.Monitor.{MonitorState, NoneAbove}
-use Rattle.resource_monitor.specs.Pressure.{pressures}
 use Rattle.resource_monitor.specs.declared.curves.Curve.{Curve}
-use Rattle.rule_state.specs.Rules.{HasTaken, IsLawfulOf, IsUnderWay, noted_of}
-use Rattle.rule_state.specs.declared.rules.RuleState.{RuleState}
-use Rattle.scheduler.specs.LawfulChoice.{is_eligible}
-use Rattle.scheduler.specs.Scores.{score}
-use Rattle.scheduler.specs.declared.choices.Choice.{Choice}
-use Rattle.thread_core.specs.Ready.{is_ready_in, is_at_accept_in, any_ready_in, any_elsewhere_in}
-use Rattle.thread_core.specs.Turns.{Tells, Begins, KeepsSetting}
-use Rattle.segment_laws.specs.Silent.{GoesOn}
-use Rattle.thread_core.specs.Worlds.{Held, KeepsPlaces}
-use Rattle.thread_core.specs.declared.turns.Turn.{Turn}
-use Rattle.machine_meaning.specs.Reached.{IsReached}
-use Rattle.run_course.specs.Kept.{Kept, known}
-use Rattle.lawful_log.proofs.Picked.{is_picked}
-use Rattle.cap_word.specs.declared.threads.ThreadId.{ThreadId}
-use Rattle.run_course.specs.Rules.{AreKeptBeside, HasAccounts}
 use Rattle.run_course.proofs.Rules.{accounts_taken, kept_beside, kept_taken, noted_taken, rule_choice_told, told_along, told_picked, told_taken}
-use Rattle.run_course.specs.Stands.{StandsBetween, StandsWithin, StepsAsSource}
-use Rattle.run_course.specs.Rest.{Rest}
 use Rattle.run_course.proofs.Going.{Along, along}
 use Rattle.run_course.proofs.Ready.{ready_told, accept_told, any_ready_told, any_elsewhere_told}
 use Rattle.run_course.proofs.Times.{timely_picked, timely_turn}

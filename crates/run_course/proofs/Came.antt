@@ -1,38 +1,8 @@
 -- What comes at a choice point, and how the clock goes on.
-use Rattle.std.proofs.Common.{◌≡◌, ◌≢◌, ℕ, ◌-◌, ◌≤◌, Bool, true, false, List, [], ◌∷◌, Some, None, refl, sym, ap, ◌∙◌, subst, arith}
-use Rattle.std.specs.Prelude.{drop, if◌then◌else◌}
-use Rattle.std.proofs.lemmas.Bool.Decides.{nat_tests}
-use Rattle.c_mean.specs.ModelledCalls.{Delivery, Arrival, Message, Exchange, is_dropped, with_delivery}
+use Rattle.run_course.proofs.Common.{◌≡◌, ◌≢◌, ℕ, ◌-◌, ◌≤◌, Bool, true, false, List, [], ◌∷◌, Some, None, refl, sym, ap, ◌∙◌, subst, arith, drop, if◌then◌else◌, nat_tests, Delivery, Arrival, Message, Exchange, is_dropped, with_delivery, Event, EventKind, FitsKind, FitsEvent, all_caps, uses_of, IsNext, behind, delivery_of, item_of, received, IsComing, checked_of, Checked, IsSettled, Setup, State, seen_of, come_state, drops, came, coming, between_came, IsBetween, Deliver, delivered, World, Setting, thread_of, DeliversWords, gate_after, pressures, after_event, Held, Next, Kept, known, IsTraceOf, FitsNext, HasPast, StandsBetween, Rest, HasBytes, Unasked, free_count}
 use Rattle.c_mean.specs.World as source
-use Rattle.event_trace.specs.declared.events.Event.{Event}
-use Rattle.event_trace.specs.declared.events.EventKind.{EventKind}
-use Rattle.event_trace.specs.Lines.{FitsKind, FitsEvent}
-use Rattle.choice_rules.specs.Policy.{all_caps}
-use Rattle.choice_rules.specs.Seen.{uses_of}
-use Rattle.choice_rules.specs.Trace.{IsNext, behind}
-use Rattle.choice_rules.specs.Deliveries.{delivery_of, item_of, received}
-use Rattle.lawful_log.specs.Deliveries.{IsComing}
-use Rattle.lawful_log.specs.Good.{checked_of}
-use Rattle.machine_world.specs.Places.{Checked}
-use Rattle.machine_meaning.specs.UnderWay.{IsSettled}
-use Rattle.lawful_log.specs.Setup.{Setup}
-use Rattle.lawful_log.specs.State.{State, seen_of}
-use Rattle.lawful_log.proofs.Between.{come_state, drops, came, coming, between_came}
-use Rattle.lawful_log.specs.Within.{IsBetween}
-use Rattle.machine_world.specs.Runs.{Deliver, delivered}
-use Rattle.machine_world.specs.Threads.{World, Setting, thread_of}
-use Rattle.machine_world.specs.WellFormed.{DeliversWords}
-use Rattle.resource_monitor.specs.Gate.{gate_after}
-use Rattle.resource_monitor.specs.Pressure.{pressures}
-use Rattle.thread_core.specs.Making.{after_event}
-use Rattle.thread_core.specs.Worlds.{Held}
-use Rattle.run_course.specs.declared.looking.Next.{Next}
-use Rattle.run_course.specs.Kept.{Kept, known}
-use Rattle.run_course.specs.Stands.{IsTraceOf, FitsNext, HasPast, StandsBetween}
-use Rattle.run_course.specs.Rest.{Rest, HasBytes, Unasked}
 use Rattle.run_course.proofs.Rules.{told_same}
 use Rattle.run_course.proofs.Times.{timely_delivered}
-use Rattle.chunk_pool.specs.Pool.{free_count}
 
 words_of : (kind : EventKind) → FitsKind kind → DeliversWords (Deliver (delivery_of kind))
 words_of (EventKind.Arrive value) fits = fits

@@ -1,19 +1,5 @@
 -- The caps and uses of a world.
-use Rattle.std.proofs.Common.{◌≡◌, ℕ, zero, suc, ◌-◌, ◌<◌, ◌≤◌, List, [], ◌∷◌, length, drop, nat_eq, refl, sym, ap, ◌∙◌, subst, arith}
-use Rattle.std.specs.Prelude.{slice_index}
-use Rattle.std.proofs.lemmas.Bool.{cond-false, ne_eqb}
-use Rattle.c_mean.specs.ModelledCalls.{cap_of, use_of}
-use Rattle.choice_rules.specs.Policy.{all_caps}
-use Rattle.choice_rules.specs.Seen.{uses_in}
-use Rattle.choice_rules.proofs.Changes.{at_drop, same_eight}
-use Rattle.lawful_log.specs.State.{held_chunks}
-use Rattle.lawful_log.specs.Setup.{Setup}
-use Rattle.machine_world.specs.Threads.{World, Setting}
-use Rattle.resource_monitor.specs.Monitor.{NoneAbove}
-use Rattle.run_course.specs.Recorded.{HasSmallCaps}
-use Rattle.run_course.specs.Stands.{IsOf}
-use Rattle.thread_core.specs.Worlds.{Held, used_in, cap_in}
-use Rattle.chunk_pool.specs.Pool.{free_count}
+use Rattle.run_course.proofs.Common.{◌≡◌, ℕ, zero, suc, ◌-◌, ◌<◌, ◌≤◌, List, [], ◌∷◌, length, drop, nat_eq, refl, sym, ap, ◌∙◌, subst, arith, slice_index, cond-false, ne_eqb, cap_of, use_of, all_caps, uses_in, at_drop, same_eight, held_chunks, Setup, World, Setting, NoneAbove, HasSmallCaps, IsOf, Held, used_in, cap_in, free_count}
 
 -- ---- caps
 

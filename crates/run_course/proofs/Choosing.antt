@@ -1,42 +1,5 @@
 -- The choice of a thread: what it takes and what is written.
-use Rattle.std.proofs.Common.{◌≡◌, ℕ, ◌+◌, ◌-◌, ◌*◌, ◌<◌, ◌≤◌, ◌&&◌, Bool, true, false, List, [], ◌∷◌, ◌++◌, length, drop, Option, Some, None, Result, refl, sym, ap, ◌∙◌, subst, arith}
-use Rattle.std.specs.Prelude.{IsTrue, slice_index}
-use Rattle.c_mean.specs.ModelledCalls.{Exchange}
-use Rattle.event_trace.specs.Reader.{ReaderState}
-use Rattle.event_trace.specs.declared.events.Event.{Event}
-use Rattle.choice_rules.specs.Choice.{observed}
-use Rattle.choice_rules.specs.Policy.{all_caps}
-use Rattle.choice_rules.specs.Trace.{Trace, IsNext}
-use Rattle.choice_rules.specs.Seen.{uses_in, uses_of}
-use Rattle.lawful_log.specs.Good.{checked_of}
-use Rattle.lawful_log.specs.Setup.{Setup, setting_of}
-use Rattle.lawful_log.specs.State.{State, held_chunks, seen_of}
-use Rattle.lawful_log.proofs.Picked.{is_picked}
-use Rattle.machine_world.specs.Runs.{Pick, after_action}
-use Rattle.machine_world.specs.Threads.{World, Setting}
-use Rattle.machine_world.specs.WellFormed.{IsWellFormed}
-use Rattle.resource_monitor.specs.Monitor.{MonitorState, NoneAbove}
-use Rattle.run_course.specs.declared.course.Under.{Under}
-use Rattle.run_course.specs.declared.ends.Failure.{Failure}
-use Rattle.run_course.specs.declared.looking.Next.{Next}
-use Rattle.run_course.specs.Kept.{Kept, known}
-use Rattle.run_course.specs.Output.{Output, PutsText}
-use Rattle.run_course.specs.Ranks.{turn_rank, under_rank, long_rank}
-use Rattle.run_course.specs.Stands.{IsTraceIn, IsTraceOf, StandsBetween, StandsWithin, Stands, StepsAsSource, IsAtChoice}
-use Rattle.run_course.specs.Steps.{ActsTo, PartEnds}
-use Rattle.run_course.specs.Rest.{Rest, HasBytes, Unasked, Told, Made}
-use Rattle.schedule_log.specs.EntryText.{entry_text}
-use Rattle.schedule_log.specs.declared.entries.Entry.{Entry}
-use Rattle.rule_state.specs.Rules.{HasTaken, IsLawfulOf, IsUnderWay}
-use Rattle.rule_state.specs.declared.rules.RuleState.{RuleState}
-use Rattle.scheduler.specs.LawfulChoice.{is_eligible}
-use Rattle.scheduler.specs.Scores.{score}
-use Rattle.scheduler.specs.declared.choices.Choice.{Choice}
-use Rattle.thread_core.specs.Ready.{is_ready_in, is_at_accept_in, any_elsewhere_in}
-use Rattle.thread_core.specs.Turns.{Begins, KeepsSetting, MayBegin}
-use Rattle.thread_core.specs.Worlds.{Held, KeepsPlaces, used_in, cap_in}
-use Rattle.thread_core.specs.declared.turns.Turn.{Turn}
-use Rattle.machine_meaning.specs.Reached.{IsReached}
+use Rattle.run_course.proofs.Common.{◌≡◌, ℕ, ◌+◌, ◌-◌, ◌*◌, ◌<◌, ◌≤◌, ◌&&◌, Bool, true, false, List, [], ◌∷◌, ◌++◌, length, drop, Option, Some, None, Result, refl, sym, ap, ◌∙◌, subst, arith, IsTrue, slice_index, Exchange, ReaderState, Event, observed, all_caps, Trace, IsNext, uses_in, uses_of, checked_of, Setup, setting_of, State, held_chunks, seen_of, is_picked, Pick, after_action, World, Setting, IsWellFormed, MonitorState, NoneAbove, Under, Failure, Next, Kept, known, Output, PutsText, turn_rank, under_rank, long_rank, IsTraceIn, IsTraceOf, StandsBetween, StandsWithin, Stands, StepsAsSource, IsAtChoice, ActsTo, PartEnds, Rest, HasBytes, Unasked, Told, Made, entry_text, Entry, HasTaken, IsLawfulOf, IsUnderWay, RuleState, is_eligible, score, Choice, is_ready_in, is_at_accept_in, any_elsewhere_in, Begins, KeepsSetting, MayBegin, Held, KeepsPlaces, used_in, cap_in, Turn, IsReached, free_count}
 use Rattle.run_course.proofs.Acting.{acts_on}
 use Rattle.run_course.proofs.AsSource.{source_picks, source_steps, formed_now}
 use Rattle.run_course.proofs.Began.{Lawful, chosen_as, chosen, began_state, began, run_is, there, tells_now}
@@ -44,7 +7,6 @@ use Rattle.run_course.proofs.Caps.{uses_are, within_policy}
 use Rattle.run_course.proofs.Costs.{goes_cost, told_cost, told_formed, falls}
 use Rattle.run_course.proofs.Rules.{chosen_passes}
 use Rattle.run_course.proofs.Parts.{acts_between, pick_acts, by_some, part_of, ticks_within}
-use Rattle.chunk_pool.specs.Pool.{free_count}
 
 -- ---- small things
 

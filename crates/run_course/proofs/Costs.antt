@@ -1,16 +1,6 @@
 -- How the cost of a run grows with its turns, and that its worlds stay well formed.
-use Rattle.std.proofs.Common.{◌≡◌, ℕ, zero, suc, ◌+◌, ◌-◌, ◌*◌, ◌<◌, ◌≤◌, sym, ap, ◌∙◌, subst, arith}
-use Rattle.machine_world.specs.Places.{Checked}
-use Rattle.machine_world.specs.Runs.{Step, world_of}
-use Rattle.machine_world.specs.Threads.{World, Setting, Move, Puts, Spawns, Blocks, Ends, Stops, step}
-use Rattle.machine_world.specs.WellFormed.{IsWellFormed, IsWellFormedIf}
+use Rattle.run_course.proofs.Common.{◌≡◌, ℕ, zero, suc, ◌+◌, ◌-◌, ◌*◌, ◌<◌, ◌≤◌, sym, ap, ◌∙◌, subst, arith, Checked, Step, world_of, World, Setting, Move, Puts, Spawns, Blocks, Ends, Stops, step, IsWellFormed, IsWellFormedIf, Counts, counts_step, Tells, Held, Turn, GoesOn, turn_rank}
 use Rattle.machine_world.proofs.FormWorlds.{IsWellFormedIf-action}
-use Rattle.machine_world.proofs.Counts.{Counts, counts_step}
-use Rattle.thread_core.specs.Turns.{Tells}
-use Rattle.thread_core.specs.Worlds.{Held}
-use Rattle.thread_core.specs.declared.turns.Turn.{Turn}
-use Rattle.segment_laws.specs.Silent.{GoesOn}
-use Rattle.run_course.specs.Ranks.{turn_rank}
 
 -- the instructions of a turn's own step
 abbrev pub tick : Turn → ℕ

@@ -1,30 +1,7 @@
 -- What a run writes of what comes.
-use Rattle.std.proofs.Common.{◌≡◌, ◌≢◌, ℕ, ◌≤◌, Bool, true, false, [], ◌∷◌, ◌++◌, Option, Some, None, Result, refl, sym, ap, ◌∙◌, subst}
-use Rattle.std.specs.Prelude.{if◌then◌else◌}
-use Rattle.c_mean.specs.ModelledCalls.{Exchange, is_dropped, with_delivery}
-use Rattle.event_trace.specs.declared.events.Event.{Event}
-use Rattle.event_trace.specs.declared.events.EventKind.{EventKind}
-use Rattle.choice_rules.specs.Deliveries.{delivery_of, item_of}
-use Rattle.lawful_log.specs.Deliveries.{IsComing}
-use Rattle.lawful_log.specs.Lawful.{IsAllowed}
-use Rattle.lawful_log.specs.Setup.{Setup, setting_of}
-use Rattle.lawful_log.specs.State.{State}
-use Rattle.lawful_log.proofs.Between.{drops}
-use Rattle.machine_world.specs.Threads.{World, Setting}
-use Rattle.run_course.specs.declared.course.Under.{Under}
-use Rattle.run_course.specs.declared.ends.Failure.{Failure}
-use Rattle.run_course.specs.declared.looking.Next.{Next}
-use Rattle.run_course.specs.Kept.{Kept}
-use Rattle.run_course.specs.Output.{Output, PutsText}
-use Rattle.run_course.specs.Lines.{coming_line}
-use Rattle.run_course.specs.Stands.{StandsBetween, StandsBy}
-use Rattle.run_course.specs.Steps.{ActsTo, PartEnds}
-use Rattle.run_course.specs.Rest.{Rest, HasBytes}
+use Rattle.run_course.proofs.Common.{◌≡◌, ◌≢◌, ℕ, ◌≤◌, Bool, true, false, [], ◌∷◌, ◌++◌, Option, Some, None, Result, refl, sym, ap, ◌∙◌, subst, if◌then◌else◌, Exchange, is_dropped, with_delivery, Event, EventKind, delivery_of, item_of, IsComing, IsAllowed, Setup, setting_of, State, drops, World, Setting, Under, Failure, Next, Kept, Output, PutsText, coming_line, StandsBetween, StandsBy, ActsTo, PartEnds, Rest, HasBytes, entry_text, after_event, delivery_answer, Held}
 use Rattle.run_course.proofs.Acting.{acts_on}
 use Rattle.run_course.proofs.Parts.{acts_between, same_ticks, deliver_acts, part_of}
-use Rattle.schedule_log.specs.EntryText.{entry_text}
-use Rattle.thread_core.specs.Making.{after_event, delivery_answer}
-use Rattle.thread_core.specs.Worlds.{Held}
 use Rattle.thread_core.specs.declared.outside.Delivered.{Delivered}
 use Rattle.run_course.proofs.Came.{between, words, came_state, came_world, machine_is, came_allowed, came_stands}
 

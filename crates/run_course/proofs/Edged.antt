@@ -1,20 +1,8 @@
 -- The end of a log: the lines of the edges, and which averages they show.
-use Rattle.std.proofs.Common.{◌≡◌, ◌≢◌, ℕ, zero, suc, ◌+◌, ◌<◌, ◌≤◌, ℤ, nat_eq, Bool, true, false, List, [], ◌∷◌, ◌++◌, get_or, length, set, take, drop, map, Result, refl, sym, ap, ◌∙◌, subst, arith, append-nil, append_assoc, length-set, add-one}
-use Rattle.std.specs.Prelude.{pos, if◌then◌else◌}
-use Rattle.std.specs.List.{flat_map}
-use Rattle.std.proofs.lemmas.Bool.{cond-false, eq-eqb, ne_eqb}
-use Rattle.std.proofs.lemmas.List.{take-append-drop, take_more_set, drop_all, map_more, map-append}
+use Rattle.run_course.proofs.Common.{◌≡◌, ◌≢◌, ℕ, zero, suc, ◌+◌, ◌<◌, ◌≤◌, ℤ, nat_eq, Bool, true, false, List, [], ◌∷◌, ◌++◌, get_or, length, set, take, drop, map, Result, refl, sym, ap, ◌∙◌, subst, arith, append-nil, append_assoc, length-set, add-one, pos, if◌then◌else◌, flat_map, cond-false, eq-eqb, ne_eqb, take-append-drop, take_more_set, drop_all, map_more, map-append, EdgeLine, entry_text, log_text, Entry, Held, cap_in, Failure, CountsPart, edge_lines, end_lines, Output, TakesPart, Grows}
 use Rattle.std.proofs.lemmas.List.Concat.{flat_map-append}
-use Rattle.blocking_graph.specs.declared.edges.EdgeLine.{EdgeLine}
 use Rattle.choice_rules.specs.EdgeLines.{given, shown, edge_entry}
-use Rattle.schedule_log.specs.EntryText.{entry_text, log_text}
-use Rattle.schedule_log.specs.declared.entries.Entry.{Entry}
 use Rattle.schedule_log.specs.declared.entries.StopLine.{StopLine}
-use Rattle.thread_core.specs.Worlds.{Held, cap_in}
-use Rattle.run_course.specs.declared.ends.Failure.{Failure}
-use Rattle.run_course.specs.Counts.{CountsPart}
-use Rattle.run_course.specs.Lines.{edge_lines, end_lines}
-use Rattle.run_course.specs.Output.{Output, TakesPart, Grows}
 use Rattle.run_course.proofs.Joined.{part_more, part_on, grows_on, grows_none}
 use Rattle.run_course.proofs.FitTexts.{no_line}
 

@@ -1,33 +1,6 @@
 -- What a run writes of a segment that has ended: at a blocking call, or with its thread.
-use Rattle.std.proofs.Common.{◌≡◌, ℕ, ◌+◌, ◌<◌, ◌≤◌, ◌^◌, List, [], ◌∷◌, ◌++◌, length, None, Result, refl, ap, ◌∙◌, subst, arith}
-use Rattle.blocking_graph.specs.Edges.{edges_with, count_of}
-use Rattle.blocking_graph.specs.Graph.{GraphState}
-use Rattle.blocking_graph.specs.Nodes.{keys_with, node_number}
-use Rattle.choice_rules.specs.Seen.{changes, end_node, uses_in}
-use Rattle.lawful_log.specs.Good.{checked_of}
-use Rattle.lawful_log.specs.Setup.{Setup, setting_of}
-use Rattle.lawful_log.specs.State.{State, held_chunks}
-use Rattle.machine_world.specs.Threads.{World, step}
-use Rattle.machine_world.specs.WellFormed.{IsWellFormed}
-use Rattle.rule_state.specs.Rules.{HasLeft, HasRejoined}
-use Rattle.rule_state.specs.declared.rules.RuleState.{RuleState}
-use Rattle.run_course.specs.declared.course.Under.{Under}
-use Rattle.run_course.specs.declared.ends.Failure.{Failure}
-use Rattle.run_course.specs.Kept.{Kept}
-use Rattle.run_course.specs.Output.{Output, PutsText}
-use Rattle.run_course.specs.Recorded.{HasSmallCaps}
-use Rattle.run_course.specs.Stands.{StandsWithin, StepsAsSource}
-use Rattle.lawful_log.proofs.Within.{over_block}
-use Rattle.ready_tree.specs.declared.needs.Need.{Need}
-use Rattle.thread_core.specs.Needs.{IsWaitingIn, Vouches}
+use Rattle.run_course.proofs.Common.{◌≡◌, ℕ, ◌+◌, ◌<◌, ◌≤◌, ◌^◌, List, [], ◌∷◌, ◌++◌, length, None, Result, refl, ap, ◌∙◌, subst, arith, edges_with, count_of, GraphState, keys_with, node_number, changes, end_node, uses_in, checked_of, Setup, setting_of, State, held_chunks, World, step, IsWellFormed, HasLeft, HasRejoined, RuleState, Under, Failure, Kept, Output, PutsText, HasSmallCaps, StandsWithin, StepsAsSource, over_block, Need, IsWaitingIn, Vouches, ActsTo, PartEnds, Rest, entry_text, Entry, Tells, Held, segment_cost, Turn, free_count}
 use Rattle.run_course.proofs.Needs.{needed_from, waiting_in}
-use Rattle.run_course.specs.Steps.{ActsTo, PartEnds}
-use Rattle.run_course.specs.Rest.{Rest}
-use Rattle.schedule_log.specs.EntryText.{entry_text}
-use Rattle.schedule_log.specs.declared.entries.Entry.{Entry}
-use Rattle.thread_core.specs.Turns.{Tells}
-use Rattle.thread_core.specs.Worlds.{Held, segment_cost}
-use Rattle.thread_core.specs.declared.turns.Turn.{Turn}
 use Rattle.run_course.proofs.AsSource.{source_steps}
 use Rattle.run_course.proofs.Caps.{small_caps}
 use Rattle.run_course.proofs.Costs.{told_formed}
@@ -36,7 +9,6 @@ use Rattle.run_course.proofs.Finished.{TellsEnd, tells_end}
 use Rattle.run_course.proofs.Over as over
 use Rattle.run_course.proofs.Over.{TellsBlock, tells_block}
 use Rattle.run_course.proofs.Parts.{acts_within, by_none, part_of, same_ticks}
-use Rattle.chunk_pool.specs.Pool.{free_count}
 
 module _ (g : Setup) (state : State) (k : Kept) (held : Held) (left : Rest) (under : Under) (stands : StandsWithin g state k held left under) where
   -- ---- the ranges

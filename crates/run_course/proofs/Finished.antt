@@ -1,45 +1,7 @@
 -- The end of a segment with its thread.
-use Rattle.std.proofs.Common.{◌≡◌, ℕ, zero, suc, ◌+◌, ◌-◌, ◌<◌, ◌≤◌, Bool, false, List, [], ◌∷◌, ◌++◌, length, Some, None, refl, sym, ap, ◌∙◌, subst, arith, append-nil}
-use Rattle.std.specs.Prelude.{IsSome, drop, slice_get}
-use Rattle.blocking_graph.specs.Edges.{edges_of, edges_with, count_of}
-use Rattle.blocking_graph.specs.Graph.{GraphState}
-use Rattle.blocking_graph.specs.declared.edges.EdgeLine.{EdgeLine}
-use Rattle.blocking_graph.specs.declared.segments.SegmentRecord.{SegmentRecord}
-use Rattle.c_mean.specs.ModelledCalls.{Exchange}
-use Rattle.choice_rules.specs.Policy.{all_caps}
-use Rattle.choice_rules.specs.Seen.{changes, newcomers, end_node, Waiter, uses_in}
-use Rattle.choice_rules.specs.Waiting.{waits}
-use Rattle.choice_rules.proofs.Past.{edges_more, gate_more}
-use Rattle.lawful_log.specs.Good.{checked_of}
-use Rattle.lawful_log.specs.Segments.{HasRun, IsEnd}
-use Rattle.lawful_log.specs.Setup.{Setup, setting_of}
-use Rattle.lawful_log.specs.State.{State, held_chunks}
-use Rattle.lawful_log.specs.Within.{IsBetween}
-use Rattle.lawful_log.proofs.Between.{between_after}
-use Rattle.lawful_log.proofs.Own.{found_below}
-use Rattle.lawful_log.proofs.Within.{cost_of, cost_is, over_end, ended_state, end_allowed, threads_ended, formed_after_end}
-use Rattle.machine_world.specs.Threads.{World, thread_of, Move, Ends, step}
-use Rattle.resource_monitor.specs.Gate.{gate_after}
-use Rattle.resource_monitor.specs.Pressure.{pressures}
-use Rattle.thread_core.specs.Turns.{Tells}
-use Rattle.thread_core.specs.Worlds.{Held, segment_cost}
-use Rattle.thread_core.specs.declared.turns.Turn.{Turn}
-use Rattle.machine_meaning.specs.Reached.{IsFinishedIn, StepReaches}
-use Rattle.machine_meaning.specs.UnderWay.{IsSettled}
-use Rattle.run_course.specs.declared.course.Under.{Under}
-use Rattle.run_course.specs.Kept.{Kept, known}
-use Rattle.run_course.specs.Stands.{StandsBetween, StandsWithin, StepsAsSource}
-use Rattle.machine_world.specs.Alone.{KeepsThread}
-use Rattle.machine_world.proofs.OtherThreads.{KeepsThread-step}
-use Rattle.run_course.specs.Rules.{AreKept, AreTold}
-use Rattle.run_course.specs.Rest.{Rest}
-use Rattle.rule_state.specs.Rules.{HasLeft}
-use Rattle.rule_state.specs.declared.rules.RuleState.{RuleState}
-use Rattle.lawful_log.specs.Clients.{waiter_of}
-use Rattle.lawful_log.proofs.Finding.{none_waiting}
+use Rattle.run_course.proofs.Common.{◌≡◌, ℕ, zero, suc, ◌+◌, ◌-◌, ◌<◌, ◌≤◌, Bool, false, List, [], ◌∷◌, ◌++◌, length, Some, None, refl, sym, ap, ◌∙◌, subst, arith, append-nil, IsSome, drop, slice_get, edges_of, edges_with, count_of, GraphState, EdgeLine, SegmentRecord, Exchange, all_caps, changes, newcomers, end_node, Waiter, uses_in, waits, edges_more, gate_more, checked_of, HasRun, IsEnd, Setup, setting_of, State, held_chunks, IsBetween, between_after, found_below, cost_of, cost_is, over_end, ended_state, end_allowed, threads_ended, formed_after_end, World, thread_of, Move, Ends, step, gate_after, pressures, Tells, Held, segment_cost, Turn, IsFinishedIn, StepReaches, IsSettled, Under, Kept, known, StandsBetween, StandsWithin, StepsAsSource, KeepsThread, KeepsThread-step, AreKept, AreTold, Rest, HasLeft, RuleState, waiter_of, none_waiting, free_count}
 use Rattle.run_course.proofs.Rules.{accounts_left, kept_left, noted_left, told_left, told_step}
 use Rattle.run_course.proofs.Over.{between_any}
-use Rattle.chunk_pool.specs.Pool.{free_count}
 
 some_get : {X : Type 0} (xs : List X) (k : ℕ) → k < length xs → IsSome (slice_get xs k)
 some_get [] k h = absurd (omega (arith, h))

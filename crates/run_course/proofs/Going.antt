@@ -1,23 +1,5 @@
 -- How a segment goes on from call to call.
-use Rattle.std.proofs.Common.{◌≡◌, ℕ, zero, suc, List, Option, Some, None, refl, sym, ap, ◌∙◌, subst}
-use Rattle.std.specs.Prelude.{IsSome}
-use Rattle.std.specs.List.{AllByRecursion}
-use Rattle.cap_word.specs.declared.threads.ThreadId.{ThreadId}
-use Rattle.choice_rules.specs.Seen.{Waiter}
-use Rattle.choice_rules.specs.Waiting.{IsPlaced, AreQueued, at_node}
-use Rattle.choice_rules.proofs.Queues.{queue_kept, all_at_node}
-use Rattle.lawful_log.specs.Good.{checked_of}
-use Rattle.lawful_log.specs.Setup.{Setup, setting_of}
-use Rattle.lawful_log.specs.State.{Segment, State}
-use Rattle.lawful_log.specs.Waiting.{IsWaiting}
-use Rattle.lawful_log.specs.Within.{IsWithin}
-use Rattle.lawful_log.proofs.Within.{within_goes}
-use Rattle.machine_world.specs.Threads.{Thread, World, thread_of}
-use Rattle.scheduler.specs.State.{SchedulerState, queue_of}
-use Rattle.segment_laws.specs.Silent.{GoesOn}
-use Rattle.thread_core.specs.Worlds.{Held, KeepsPlaces}
-use Rattle.machine_meaning.specs.Reached.{IsReached, StepReaches}
-use Rattle.run_course.specs.Stands.{StepsAsSource}
+use Rattle.run_course.proofs.Common.{◌≡◌, ℕ, zero, suc, List, Option, Some, None, refl, sym, ap, ◌∙◌, subst, IsSome, AllByRecursion, ThreadId, Waiter, IsPlaced, AreQueued, at_node, queue_kept, all_at_node, checked_of, Setup, setting_of, Segment, State, IsWaiting, IsWithin, within_goes, Thread, World, thread_of, SchedulerState, queue_of, GoesOn, Held, KeepsPlaces, IsReached, StepReaches, StepsAsSource}
 
 -- both hold along silent steps
 pub record Along (g : Setup) (state : State) (segment : Segment) (begun : ℕ) (at : World) (waiting : List Waiter) : Type 0 where

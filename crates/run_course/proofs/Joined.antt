@@ -1,14 +1,11 @@
 -- What goes through the writer of a log, text by text, and what its sink has taken in the end.
-use Rattle.std.proofs.Common.{ℕ, List, [], ◌++◌, Option, Some, None, Result, Ok, Err, sym, ap, ◌∙◌, subst, arith, append_assoc, append-nil, length-append}
 use Rattle.std.specs.Io.KnownBytes.{Appends, append_known}
 use Rattle.std.proofs.KnownBytes.{Appends-nil, Appends-trans}
-use Rattle.std.proofs.lemmas.List.{take-append-le}
+use Rattle.run_course.proofs.Common.{ℕ, List, [], ◌++◌, Option, Some, None, Result, Ok, Err, sym, ap, ◌∙◌, subst, arith, append_assoc, append-nil, length-append, take-append-le, Failure, Output, joined, TakesPart, Grows}
 use Rattle.cap_io.specs.Writes.{Puts}
 use Rattle.schedule_log.specs.Writing.{TakesPrefix}
 use Rattle.buffered_writer.specs.declared.writer.PutError.{PutError}
 use Rattle.schedule_log.proofs.Written.{prefix_none, put_finished}
-use Rattle.run_course.specs.declared.ends.Failure.{Failure}
-use Rattle.run_course.specs.Output.{Output, joined, TakesPart, Grows}
 use Rattle.run_course.proofs.FitTexts.{fit_none, fit_on}
 
 -- ---- beginnings

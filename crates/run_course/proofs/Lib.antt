@@ -1,3 +1,4 @@
+mod Common
 pub mod Going
 pub mod Turned
 pub mod Told

@@ -1,23 +1,8 @@
 -- The needs of the threads that wait, from step to step.
-use Rattle.std.proofs.Common.{◌≡◌, ℕ, Bool, true, false, List, [], ◌∷◌, ◌++◌, Option, Some, None, if◌then◌else◌, refl, sym, ◌∙◌, subst, ⊎_elim, slice_index_or}
-use Rattle.std.specs.List.{AllByRecursion}
-use Rattle.std.proofs.lemmas.Bool.{cases_eq, eq-eqb}
-use Rattle.cap_word.specs.declared.threads.ThreadId.{ThreadId}
-use Rattle.choice_rules.specs.Seen.{Waiter}
-use Rattle.choice_rules.specs.Waiting.{IsPlaced, IsQueue, AreQueued, at_node}
-use Rattle.choice_rules.proofs.Waiters.{all_append}
-use Rattle.machine_world.specs.Threads.{Thread, World, thread_of}
+use Rattle.run_course.proofs.Common.{◌≡◌, ℕ, Bool, true, false, List, [], ◌∷◌, Option, Some, None, if◌then◌else◌, refl, sym, ◌∙◌, subst, ⊎_elim, slice_index_or, AllByRecursion, cases_eq, eq-eqb, ThreadId, Waiter, IsPlaced, IsQueue, AreQueued, at_node, Thread, World, thread_of, Need, is_same, threads_of, without_entry, SchedulerState, entries_at, AreKnown, IsTold, IsTaken, Choice, need_of_blocked, waits_for_need, IsWaitingIn, Vouches, is_same_number, passes, Held, IsNeeded, AreNeeded, All-append}
 use Rattle.ready_tree.specs.declared.entries.Entry.{Entry}
-use Rattle.ready_tree.specs.declared.needs.Need.{Need}
 use Rattle.ready_tree.specs.Needs.{is_same_need}
 use Rattle.ready_tree.proofs.NeedLaws.{same_need, need_self}
-use Rattle.scheduler.specs.Queues.{is_same, threads_of, without_entry}
-use Rattle.scheduler.specs.State.{SchedulerState, entries_at, AreKnown, IsTold, IsTaken}
-use Rattle.scheduler.specs.declared.choices.Choice.{Choice}
-use Rattle.thread_core.specs.Needs.{need_of_blocked, waits_for_need, IsWaitingIn, Vouches}
-use Rattle.thread_core.specs.Ready.{is_same_number, passes}
-use Rattle.thread_core.specs.Worlds.{Held}
-use Rattle.run_course.specs.Needs.{IsNeeded, AreNeeded}
 
 -- ---- lists
 
@@ -41,7 +26,7 @@ needed_told w old new node entry told own needed = record {
   each = λ other. ⊎_elim
       (λ (same : other ≡ node).
       subst (λ (n : ℕ). AllByRecursion (IsNeeded w) (entries_at new n)) (sym same)
-      (subst (AllByRecursion (IsNeeded w)) (sym told.queue) (all_append (IsNeeded w) (entries_at old node) (entry ∷ []) (needed.each node) (own, tt))))
+      (subst (AllByRecursion (IsNeeded w)) (sym told.queue) (All-append (IsNeeded w) (entries_at old node) (entry ∷ []) (needed.each node) (own, tt))))
       (λ apart. subst (AllByRecursion (IsNeeded w)) (sym (told.others other apart)) (needed.each other))
       (cases_eq other node);
 }

@@ -1,23 +1,6 @@
 -- The needs of the threads that wait, while another goes on.
-use Rattle.std.proofs.Common.{◌≡◌, ◌≢◌, ℕ, zero, suc, ◌<◌, ◌||◌, List, [], ◌∷◌, Option, Some, sym, ◌∙◌, subst, arith}
-use Rattle.std.specs.List.{AllByRecursion}
-use Rattle.choice_rules.specs.Seen.{Waiter}
-use Rattle.choice_rules.specs.Waiting.{IsQueue, AreQueued, at_node}
-use Rattle.choice_rules.proofs.Queues.{all_at_node}
-use Rattle.choice_rules.proofs.Waiters.{differ_all}
-use Rattle.lawful_log.specs.Setup.{Setup, setting_of}
-use Rattle.lawful_log.specs.State.{Segment, State}
-use Rattle.lawful_log.specs.Within.{IsWithin}
-use Rattle.lawful_log.proofs.Own.{found_below}
-use Rattle.lawful_log.proofs.Within.{within_goes}
-use Rattle.machine_world.specs.Alone.{KeepsThread}
-use Rattle.machine_world.specs.Threads.{World, thread_of}
-use Rattle.machine_world.proofs.OtherThreads.{KeepsThread-step}
+use Rattle.run_course.proofs.Common.{◌≡◌, ◌≢◌, ℕ, zero, suc, ◌<◌, List, [], ◌∷◌, Option, Some, sym, ◌∙◌, subst, arith, AllByRecursion, Waiter, IsQueue, AreQueued, at_node, all_at_node, differ_all, Setup, setting_of, Segment, State, IsWithin, found_below, within_goes, KeepsThread, World, thread_of, KeepsThread-step, threads_of, SchedulerState, entries_at, GoesOn, IsNeeded, AreNeeded}
 use Rattle.ready_tree.specs.declared.entries.Entry.{Entry}
-use Rattle.scheduler.specs.Queues.{threads_of}
-use Rattle.scheduler.specs.State.{SchedulerState, entries_at}
-use Rattle.segment_laws.specs.Silent.{GoesOn}
-use Rattle.run_course.specs.Needs.{IsNeeded, AreNeeded}
 use Rattle.run_course.proofs.Needs.{needed_kept}
 
 -- ---- who waits isn't the one that runs

@@ -1,57 +1,11 @@
 -- The end of a segment: at a blocking call, or with its thread.
-use Rattle.std.proofs.Common.{◌≡◌, ℕ, ◌+◌, ◌-◌, ◌≤◌, Bool, false, List, [], ◌∷◌, ◌++◌, length, Option, Some, None, refl, sym, ap, ◌∙◌, subst, arith}
-use Rattle.std.specs.Prelude.{IsSome, drop}
-use Rattle.blocking_graph.specs.Edges.{edges_of, edges_with, count_of}
-use Rattle.blocking_graph.specs.Graph.{GraphState}
-use Rattle.blocking_graph.specs.Nodes.{keys_with, node_number}
-use Rattle.blocking_graph.specs.declared.edges.EdgeLine.{EdgeLine}
-use Rattle.blocking_graph.specs.declared.segments.SegmentRecord.{SegmentRecord}
-use Rattle.chunk_pool.specs.Pool.{Pool, free_count}
+use Rattle.run_course.proofs.Common.{◌≡◌, ℕ, ◌+◌, ◌-◌, ◌≤◌, Bool, false, List, [], ◌∷◌, ◌++◌, length, Option, Some, None, refl, sym, ap, ◌∙◌, subst, arith, IsSome, drop, edges_of, edges_with, count_of, GraphState, keys_with, node_number, EdgeLine, SegmentRecord, Pool, free_count, Exchange, ProgramTree, lowered, Event, all_caps, changes, Waiter, uses_in, newcomers, waits, edges_more, gate_more, checked_of, HasRun, IsBlock, Setup, setting_of, State, held_chunks, IsBetween, between_after, between_read, cost_of, cost_is, over_block, rests_blocked, RestsBlocked, blocked_state, block_allowed, threads_blocked, formed_after_block, Core, Checked, IsPast, Thread, World, thread_of, Move, Blocks, step, gate, gate_after, pressures, HasRejoined, RuleState, waiter_of, none_waiting, Tells, HasKey, HasKeyOf, Held, segment_cost, Turn, IsFinishedIn, StepReaches, IsSettled, Under, Kept, known, IsOf, StandsBetween, StandsWithin, StepsAsSource, KeepsThread, KeepsThread-step, IsNeeded, AreKept, AreTold, Rest, Need}
 use Rattle.c_mean.specs.Frames.{Waiting, key_of}
-use Rattle.c_mean.specs.ModelledCalls.{Exchange}
-use Rattle.c_tree.specs.Trees.{ProgramTree}
-use Rattle.c_lower.specs.ProgramCode.{lowered}
-use Rattle.event_trace.specs.declared.events.Event.{Event}
-use Rattle.choice_rules.specs.Policy.{all_caps}
-use Rattle.choice_rules.specs.Seen.{changes, Waiter, uses_in, newcomers}
-use Rattle.choice_rules.specs.Waiting.{waits}
-use Rattle.choice_rules.proofs.Past.{edges_more, gate_more}
-use Rattle.lawful_log.specs.Good.{checked_of}
-use Rattle.lawful_log.specs.Segments.{HasRun, IsBlock}
-use Rattle.lawful_log.specs.Setup.{Setup, setting_of}
-use Rattle.lawful_log.specs.State.{State, held_chunks}
-use Rattle.lawful_log.specs.Within.{IsBetween}
-use Rattle.lawful_log.proofs.Between.{between_after, between_read}
-use Rattle.lawful_log.proofs.Within.{cost_of, cost_is, over_block, rests_blocked, RestsBlocked, blocked_state, block_allowed, threads_blocked, formed_after_block}
-use Rattle.machine_world.specs.Local.{Core}
-use Rattle.machine_world.specs.Places.{Checked}
 use Rattle.machine_world.specs.Rests.{IsResting, PastCall}
-use Rattle.machine_world.specs.StandsForWorld.{IsPast}
-use Rattle.machine_world.specs.Threads.{Thread, World, thread_of, Move, Blocks, step}
-use Rattle.resource_monitor.specs.Gate.{gate, gate_after}
-use Rattle.resource_monitor.specs.Pressure.{pressures}
-use Rattle.rule_state.specs.Rules.{HasRejoined}
-use Rattle.rule_state.specs.declared.rules.RuleState.{RuleState}
-use Rattle.lawful_log.specs.Clients.{waiter_of}
-use Rattle.lawful_log.proofs.Finding.{none_waiting}
 use Rattle.machine_meaning.specs.Between.{resting_key}
 use Rattle.machine_meaning.proofs.SiteKeys.{key_is}
-use Rattle.thread_core.specs.Turns.{Tells, HasKey, HasKeyOf}
 use Rattle.segment_run.specs.Contexts as core
-use Rattle.thread_core.specs.Worlds.{Held, segment_cost}
-use Rattle.thread_core.specs.declared.turns.Turn.{Turn}
-use Rattle.machine_meaning.specs.Reached.{IsFinishedIn, StepReaches}
-use Rattle.machine_meaning.specs.UnderWay.{IsSettled}
-use Rattle.run_course.specs.declared.course.Under.{Under}
-use Rattle.run_course.specs.Kept.{Kept, known}
-use Rattle.run_course.specs.Stands.{IsOf, StandsBetween, StandsWithin, StepsAsSource}
-use Rattle.machine_world.specs.Alone.{KeepsThread}
-use Rattle.machine_world.proofs.OtherThreads.{KeepsThread-step}
-use Rattle.run_course.specs.Needs.{IsNeeded}
-use Rattle.run_course.specs.Rules.{AreKept, AreTold}
-use Rattle.run_course.specs.Rest.{Rest}
 use Rattle.run_course.proofs.Rules.{accounts_rejoined, kept_rejoined, noted_rejoined, told_rejoined, told_step}
-use Rattle.ready_tree.specs.declared.needs.Need.{Need}
 use Rattle.run_course.proofs.Turned.{some_live}
 
 -- ---- the key

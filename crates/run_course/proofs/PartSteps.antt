@@ -1,21 +1,6 @@
 -- What a part of a step comes to, the step comes to that ends with it.
-use Rattle.std.proofs.Common.{◌≡◌, ◌∙◌, ◌<◌, ◌≤◌, ◌||◌, ℕ, Bool, true, false, Option, Some, None, Result, Ok, Err, refl, sym, ap, subst, arith}
-use Rattle.std.specs.Prelude.{IfErr, IfOk, OnOk, if◌then◌else◌}
-use Rattle.lawful_log.specs.Setup.{Setup}
-use Rattle.lawful_log.specs.State.{State}
-use Rattle.run_course.specs.Counts.{CountsPart}
+use Rattle.run_course.proofs.Common.{◌≡◌, ◌∙◌, ◌<◌, ◌≤◌, ◌||◌, ℕ, Bool, true, false, Option, Some, None, Result, Ok, Err, refl, sym, ap, subst, arith, IfErr, IfOk, OnOk, if◌then◌else◌, Setup, State, CountsPart, Kept, Output, FallsTo, due_at, long_rank, next_rank, rank, stuck_rank, turn_rank, under_rank, Rest, PartEnds, StepEnds, Under, Failure, Halt, Next, any_ready_in, Held}
 use Rattle.run_course.specs.GoingOn.{going_on}
-use Rattle.run_course.specs.Kept.{Kept}
-use Rattle.run_course.specs.Output.{Output}
-use Rattle.run_course.specs.Ranks.{FallsTo, due_at, long_rank, next_rank, rank, stuck_rank, turn_rank, under_rank}
-use Rattle.run_course.specs.Rest.{Rest}
-use Rattle.run_course.specs.Steps.{PartEnds, StepEnds}
-use Rattle.run_course.specs.declared.course.Under.{Under}
-use Rattle.run_course.specs.declared.ends.Failure.{Failure}
-use Rattle.run_course.specs.declared.ends.Halt.{Halt}
-use Rattle.run_course.specs.declared.looking.Next.{Next}
-use Rattle.thread_core.specs.Ready.{any_ready_in}
-use Rattle.thread_core.specs.Worlds.{Held}
 
 ends_on : (g : Setup) (state : State) (before : Rest) (k : Kept) (held : Held) (left : Rest) (taken written : Output) (part : Result (Unit {0}) Failure)
     → PartEnds g state before k held left taken written part → StepEnds g state before k held left taken written (going_on part)

@@ -1,30 +1,6 @@
 -- What a part of a step comes to: a line was put, or a beginning of it was taken; or nothing was.
-use Rattle.std.proofs.Common.{◌≡◌, ℕ, zero, suc, ◌+◌, ◌≤◌, Bool, true, ◌&&◌, List, [], ◌∷◌, ◌++◌, Option, Some, None, Result, Ok, Err, refl, sym, ap, ◌∙◌, subst, arith}
-use Rattle.std.specs.Prelude.{nat_le, is_none, if◌then◌else◌}
-use Rattle.std.proofs.lemmas.Bool.Decides.{nat_tests}
-use Rattle.lawful_log.specs.Good.{checked_of}
-use Rattle.lawful_log.specs.Lawful.{IsAllowed, nowhere, by_entry}
-use Rattle.lawful_log.specs.Segments.{quiet_world, after_quiet}
-use Rattle.lawful_log.specs.Setup.{Setup, setting_of}
-use Rattle.lawful_log.specs.State.{State}
-use Rattle.machine_world.proofs.Counts.{Counts, counts_step}
-use Rattle.machine_world.specs.Runs.{Action, Advance, Deliver, Pick, advanced, delivered, world_of, and_then, after_action, after_actions}
-use Rattle.machine_world.specs.Stretches.{IsSound}
+use Rattle.run_course.proofs.Common.{◌≡◌, ℕ, zero, suc, ◌+◌, ◌≤◌, Bool, ◌&&◌, List, [], ◌∷◌, ◌++◌, Option, Some, None, Result, Ok, Err, refl, sym, ap, ◌∙◌, subst, arith, nat_le, is_none, if◌then◌else◌, checked_of, IsAllowed, nowhere, by_entry, quiet_world, after_quiet, Setup, setting_of, State, Counts, counts_step, Action, Advance, Deliver, Pick, advanced, delivered, world_of, and_then, after_action, after_actions, IsSound, Delivery, Under, Failure, Kept, Output, Grows, PutsText, TakesPart, IsOf, StandsBetween, StandsWithin, StandsBy, Stands, ActsTo, GoesTo, FailsIn, PartEnds, entry_text, log_text, Entry, Tells, Held, Turn, IsOnWay, has_waited, has_run, has_told, HasTicked, Rest, HasBytes, le_yes}
 use Rattle.machine_world.specs.Threads.{World, Setting, Move, Goes, Puts as Puts_word, Spawns, Blocks, Ends, Stops, step}
-use Rattle.c_mean.specs.ModelledCalls.{Delivery}
-use Rattle.run_course.specs.declared.course.Under.{Under}
-use Rattle.run_course.specs.declared.ends.Failure.{Failure}
-use Rattle.run_course.specs.Kept.{Kept}
-use Rattle.run_course.specs.Output.{Output, Grows, PutsText, TakesPart}
-use Rattle.run_course.specs.Stands.{IsOf, StandsBetween, StandsWithin, StandsBy, Stands}
-use Rattle.run_course.specs.Steps.{ActsTo, GoesTo, FailsIn, PartEnds}
-use Rattle.schedule_log.specs.EntryText.{entry_text, log_text}
-use Rattle.schedule_log.specs.declared.entries.Entry.{Entry}
-use Rattle.thread_core.specs.Turns.{Tells}
-use Rattle.thread_core.specs.Worlds.{Held}
-use Rattle.thread_core.specs.declared.turns.Turn.{Turn}
-use Rattle.run_course.specs.Ways.{IsOnWay, has_waited, has_run, has_told, HasTicked}
-use Rattle.run_course.specs.Rest.{Rest, HasBytes}
 use Rattle.run_course.proofs.Acting.{acts_on, one_step, told_acts}
 use Rattle.run_course.proofs.FitTexts.{no_line, one_line}
 use Rattle.run_course.proofs.Joined.{grows_none, part_none}
@@ -38,13 +14,10 @@ no_acts s w v e = record { actions = []; leads = ap Some (sym e) }
 one_action : (s : Setting) (w after : World) (action : Action) → after_action s w action ≡ Some after → ActsTo s w after
 one_action s w after action e = record { actions = action ∷ []; leads = ap (λ (o : Option World). and_then o (after_actions s [])) e }
 
-le_true : (a b : ℕ) → a ≤ b → nat_le a b ≡ true
-le_true a b h = grind (arith, nat_tests, h)
-
 pub advance_acts : (s : Setting) (w : World) (clock : ℕ) → w.running ≡ None → w.clock ≤ clock → ActsTo s w (advanced w clock)
 advance_acts s w clock between later = one_action s w (advanced w clock) (Advance clock)
     (ap (λ (o : Option ℕ). if is_none o && nat_le w.clock clock then Some (advanced w clock) else None) between
-    ∙ ap (λ (b : Bool). if b then Some (advanced w clock) else None) (le_true w.clock clock later))
+    ∙ ap (λ (b : Bool). if b then Some (advanced w clock) else None) (le_yes w.clock clock later))
 
 pub deliver_acts : (s : Setting) (w : World) (delivery : Delivery) → w.running ≡ None → ActsTo s w (delivered s w delivery)
 deliver_acts s w delivery between = one_action s w (delivered s w delivery) (Deliver delivery)

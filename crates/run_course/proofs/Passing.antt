@@ -1,18 +1,5 @@
 -- What was told of a segment is a step.
-use Rattle.std.proofs.Common.{◌≡◌, ℕ, refl, sym, ap, ◌∙◌}
-use Rattle.cap_word.specs.declared.stops.Stop.{Stop}
-use Rattle.lawful_log.specs.Setup.{Setup}
-use Rattle.lawful_log.specs.State.{State}
-use Rattle.run_course.specs.declared.course.Under.{Under}
-use Rattle.run_course.specs.declared.ends.Halt.{Halt}
-use Rattle.run_course.specs.Kept.{Kept}
-use Rattle.run_course.specs.Output.{Output}
-use Rattle.run_course.specs.Stands.{StandsWithin}
-use Rattle.machine_world.specs.Threads.{World, thread_of}
-use Rattle.run_course.specs.Steps.{HaltsAt}
-use Rattle.run_course.specs.Rest.{Rest}
-use Rattle.thread_core.specs.Worlds.{Held, IsThread}
-use Rattle.thread_core.specs.declared.turns.Turn.{Turn}
+use Rattle.run_course.proofs.Common.{◌≡◌, ℕ, refl, sym, ap, ◌∙◌, Stop, Setup, State, Under, Halt, Kept, Output, StandsWithin, World, thread_of, HaltsAt, Rest, Held, IsThread, Turn}
 use Rattle.run_course.proofs.AsSource.{source_steps}
 use Rattle.run_course.proofs.Parts.{acts_within, way_within, ticks_within}
 use Rattle.run_course.proofs.Soundness.{sound_within}

@@ -1,21 +1,6 @@
 -- A choice point that goes on: the event that is next, and its delivery.
-use Rattle.std.proofs.Common.{◌≡◌, ℕ, ◌+◌, ◌-◌, ◌*◌, ◌<◌, Bool, Option, Some, None, ap, ◌∙◌, arith}
-use Rattle.choice_rules.specs.Deliveries.{delivery_of}
-use Rattle.event_trace.specs.declared.events.Event.{Event}
-use Rattle.event_trace.specs.declared.events.EventKind.{EventKind}
-use Rattle.lawful_log.specs.Setup.{Setup}
-use Rattle.lawful_log.specs.State.{State}
-use Rattle.c_mean.specs.ModelledCalls.{is_dropped, with_delivery}
-use Rattle.machine_world.specs.Threads.{World}
-use Rattle.run_course.specs.Starts.{KeepsRun}
-use Rattle.run_course.specs.declared.looking.Next.{Next}
-use Rattle.run_course.specs.Kept.{Kept, known}
-use Rattle.run_course.specs.Ranks.{long_rank, lines_rank, next_rank, under_rank}
-use Rattle.run_course.specs.Stands.{IsAtPoint}
-use Rattle.run_course.specs.Rest.{Rest}
+use Rattle.run_course.proofs.Common.{◌≡◌, ℕ, ◌+◌, ◌-◌, ◌*◌, ◌<◌, Bool, Option, Some, None, ap, ◌∙◌, arith, delivery_of, Event, EventKind, Setup, State, is_dropped, with_delivery, World, KeepsRun, Next, Kept, known, long_rank, lines_rank, next_rank, under_rank, IsAtPoint, Rest, after_event, Held}
 use Rattle.run_course.proofs.Came.{same_cost, same_count}
-use Rattle.thread_core.specs.Making.{after_event}
-use Rattle.thread_core.specs.Worlds.{Held}
 
 known_event : (n : Next) (event : Event) → known n ≡ Some (Some event) → n ≡ Next.Event event
 known_event (Next.Event other) event e = let same : other ≡ event = cc in ap Next.Event same

@@ -1,18 +1,5 @@
 -- The segment goes on.
-use Rattle.std.proofs.Common.{◌≡◌, ◌+◌, ◌-◌, ◌*◌, ◌<◌, ◌≤◌, List, ℕ, Option, Some, sym, ap, ◌∙◌, subst}
-use Rattle.lawful_log.specs.Good.{checked_of}
-use Rattle.lawful_log.specs.Setup.{Setup, setting_of}
-use Rattle.lawful_log.specs.State.{State}
-use Rattle.scheduler.specs.declared.choices.Choice.{Choice}
-use Rattle.thread_core.specs.Turns.{Proceeds, KeepsSetting}
-use Rattle.thread_core.specs.Worlds.{Held, KeepsPlaces}
-use Rattle.thread_core.specs.declared.turns.Turn.{Turn}
-use Rattle.run_course.specs.declared.course.Under.{Under}
-use Rattle.machine_world.specs.Threads.{Setting}
-use Rattle.run_course.specs.Kept.{Kept}
-use Rattle.run_course.specs.Ranks.{turn_rank}
-use Rattle.run_course.specs.Stands.{StandsInside, StandsWithin}
-use Rattle.run_course.specs.Rest.{Rest}
+use Rattle.run_course.proofs.Common.{◌≡◌, ◌+◌, ◌-◌, ◌*◌, ◌<◌, ◌≤◌, List, ℕ, Option, Some, sym, ap, ◌∙◌, subst, checked_of, Setup, setting_of, State, Choice, Proceeds, KeepsSetting, Held, KeepsPlaces, Turn, Under, Setting, Kept, turn_rank, StandsInside, StandsWithin, Rest}
 use Rattle.run_course.proofs.AsSource.{source_steps}
 use Rattle.run_course.proofs.Costs.{goes_cost, told_cost, told_formed, falls}
 use Rattle.run_course.proofs.Turned.{turned, there, tells_now}

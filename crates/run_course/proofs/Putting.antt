@@ -1,27 +1,5 @@
 -- What a run writes of a value that is put, and a thread that starts.
-use Rattle.std.proofs.Common.{◌≡◌, ℕ, List, [], ◌∷◌, ◌++◌, Option, Some, None, Result, refl, subst}
-use Rattle.std.specs.Prelude.{IsSome}
-use Rattle.cap_word.specs.Word.{signed}
-use Rattle.cap_word.specs.declared.threads.ThreadId.{ThreadId}
-use Rattle.lawful_log.specs.Setup.{Setup, setting_of}
-use Rattle.lawful_log.specs.State.{State}
-use Rattle.machine_world.specs.Threads.{World}
-use Rattle.rule_state.specs.Rules.{HasStarted, MayStart}
-use Rattle.rule_state.specs.declared.rules.RuleState.{RuleState}
-use Rattle.scheduler.specs.declared.choices.Choice.{Choice}
-use Rattle.run_course.specs.declared.course.Under.{Under}
-use Rattle.run_course.specs.declared.ends.Failure.{Failure}
-use Rattle.run_course.specs.Kept.{Kept}
-use Rattle.run_course.specs.Output.{Output, PutsText}
-use Rattle.run_course.specs.Stands.{Stands, StandsInside, StandsWithin}
-use Rattle.run_course.specs.Steps.{ActsTo, PartEnds}
-use Rattle.run_course.specs.Ways.{HasTicked}
-use Rattle.run_course.specs.Rest.{Rest}
-use Rattle.schedule_log.specs.EntryText.{entry_text}
-use Rattle.schedule_log.specs.declared.entries.Entry.{Entry}
-use Rattle.thread_core.specs.Turns.{MayProceed}
-use Rattle.thread_core.specs.Worlds.{Held}
-use Rattle.thread_core.specs.declared.turns.Turn.{Turn}
+use Rattle.run_course.proofs.Common.{◌≡◌, ℕ, List, [], ◌∷◌, ◌++◌, Option, Some, None, Result, refl, subst, IsSome, signed, ThreadId, Setup, setting_of, State, World, HasStarted, MayStart, RuleState, Choice, Under, Failure, Kept, Output, PutsText, Stands, StandsInside, StandsWithin, ActsTo, PartEnds, HasTicked, Rest, entry_text, Entry, MayProceed, Held, Turn}
 use Rattle.run_course.proofs.AsSource.{source_steps}
 use Rattle.run_course.proofs.Parts.{acts_within, part_of}
 use Rattle.run_course.proofs.Told.{out_state, out_is, out_inside, put_told, spawn_inside, spawn_may_start}

@@ -1,22 +1,5 @@
 -- What the world tells of its threads, as the laws of the choice take it.
-use Rattle.std.proofs.Common.{◌≡◌, ℕ, ◌&&◌, ◌||◌, Bool, false, not, nat_eq, List, [], ◌∷◌, Option, Some, refl, ap, ◌∙◌}
-use Rattle.std.specs.Prelude.{if◌then◌else◌}
-use Rattle.std.specs.List.{list_any}
-use Rattle.std.proofs.lemmas.Bool.{cond-true, eq-eqb}
-use Rattle.cap_word.specs.declared.threads.ThreadId.{ThreadId}
-use Rattle.choice_rules.specs.Seen.{Waiter}
-use Rattle.choice_rules.specs.Readiness.{any_ready, any_elsewhere}
-use Rattle.choice_rules.specs.Waiting.{IsPlaced}
-use Rattle.lawful_log.specs.Setup.{Setup, setting_of}
-use Rattle.lawful_log.specs.State.{State, seen_of}
-use Rattle.event_trace.specs.declared.events.Event.{Event}
-use Rattle.lawful_log.specs.Waiting.{IsWaiting}
-use Rattle.lawful_log.specs.Within.{IsBetween}
-use Rattle.lawful_log.proofs.Told.{any_told, elsewhere_told}
-use Rattle.machine_world.specs.Runs.{advanced, may_run, is_blocked_at_accept}
-use Rattle.machine_world.specs.Threads.{Thread, World, Setting, thread_of}
-use Rattle.thread_core.specs.Ready.{is_same_number, is_ready_thread, is_at_accept_thread, passes, passes_at, is_ready_in, is_at_accept_in, any_ready_in, any_elsewhere_in}
-use Rattle.thread_core.specs.Worlds.{Held}
+use Rattle.run_course.proofs.Common.{◌≡◌, ℕ, ◌&&◌, ◌||◌, Bool, false, not, nat_eq, List, [], ◌∷◌, Option, Some, refl, ap, ◌∙◌, if◌then◌else◌, list_any, cond-true, eq-eqb, ThreadId, Waiter, any_ready, any_elsewhere, IsPlaced, Setup, setting_of, State, seen_of, Event, IsWaiting, IsBetween, any_told, elsewhere_told, advanced, may_run, is_blocked_at_accept, Thread, World, Setting, thread_of, is_same_number, is_ready_thread, is_at_accept_thread, passes, passes_at, is_ready_in, is_at_accept_in, any_ready_in, any_elsewhere_in, Held}
 
 any_alike : {X : Type 0} (f h : X → Bool) → ((x : X) → f x ≡ h x) → (xs : List X) → list_any f xs ≡ list_any h xs
 any_alike f h same [] = refl

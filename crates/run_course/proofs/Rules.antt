@@ -1,53 +1,16 @@
 -- The state of the rule beside the state of a log, from call to call, by the rule.
-use Rattle.std.proofs.Common.{◌≡◌, ◌≢◌, ℕ, suc, ◌+◌, ◌<◌, ◌≤◌, Bool, true, false, nat_eq, cond, List, [], ◌∷◌, ◌++◌, length, Option, Some, None, find, refl, sym, ap, ◌∙◌, subst, arith, ⊎_elim}
-use Rattle.std.specs.Prelude.{ℤ}
-use Rattle.std.specs.List.{AllByRecursion}
-use Rattle.std.proofs.lemmas.Bool.{cases_eq, cond-true, cond-false, eq-eqb, ne_eqb}
-use Rattle.blocking_graph.specs.Edges.{edges_of}
-use Rattle.cap_word.specs.declared.threads.ThreadId.{ThreadId}
+use Rattle.run_course.proofs.Common.{◌≡◌, ◌≢◌, ℕ, suc, ◌+◌, ◌<◌, ◌≤◌, Bool, true, false, nat_eq, cond, List, [], ◌∷◌, ◌++◌, length, Option, Some, None, find, refl, sym, ap, ◌∙◌, subst, arith, ⊎_elim, ℤ, AllByRecursion, cases_eq, cond-true, cond-false, eq-eqb, ne_eqb, edges_of, ThreadId, Rule, by_graph, by_stride, any_ready, any_elsewhere, Waiter, PastChoice, Past, last_choice, no_past, with_choice, others_waiting, IsPlaced, AreQueued, checked_of, Setup, setting_of, Segment, State, seen_of, IsChosenAs, IsChosen, IsWaiting, AreWaiting, IsWithin, found_below, choice_told, advanced, may_run, is_blocked_at_accept, StandsForWorld, World, thread_of, Need, MonitorState, AreKnownTo, HasNone, HasStarted, HasTaken, HasRejoined, HasLeft, IsLawfulOf, IsUnderWay, MayStart, noted_of, StridesState, stride_choice, RuleState, is_eligible, score, SchedulerState, last_of, queue_of, started, Choice, waiter_of, AreClients, none_at, chosen_client, clients_below, clients_first, clients_left, clients_placed, clients_rejoined, clients_started, clients_taken, may_start, others, runner_started, runner_taken, Vouches, Held, KeepsPlaces, GoesOn, IsNeeded, AreNeeded, AreNeededByStrides, AreKept, AreKeptBeside, AreTold, HasAccounts, HasNothing, rule_of}
 use Rattle.choice_rules.specs.Choice.{is_eligible as eligible_waiter, monitor_of, queue_at}
-use Rattle.choice_rules.specs.Policy.{Rule, by_graph, by_stride}
-use Rattle.choice_rules.specs.Readiness.{any_ready, any_elsewhere}
-use Rattle.choice_rules.specs.Seen.{Waiter, PastChoice, Past, last_choice, no_past, with_choice, others_waiting}
-use Rattle.choice_rules.specs.Waiting.{IsPlaced, AreQueued}
 use Rattle.choice_rules.proofs.Joining.{queued_more}
 use Rattle.choice_rules.proofs.Leaving.{queued_left}
 use Rattle.choice_rules.proofs.Rules.{graph_choice_of}
-use Rattle.lawful_log.specs.Good.{checked_of}
-use Rattle.lawful_log.specs.Setup.{Setup, setting_of}
-use Rattle.lawful_log.specs.State.{Segment, State, seen_of}
-use Rattle.lawful_log.specs.Beside.{IsChosenAs, IsChosen}
-use Rattle.lawful_log.specs.Waiting.{IsWaiting, AreWaiting}
-use Rattle.lawful_log.specs.Within.{IsWithin}
-use Rattle.lawful_log.proofs.Own.{found_below}
-use Rattle.lawful_log.proofs.Told.{choice_told}
 use Rattle.machine_world.specs.Numbered.{IsNumbered}
-use Rattle.machine_world.specs.Runs.{advanced, may_run, is_blocked_at_accept}
-use Rattle.machine_world.specs.StandsForWorld.{StandsForWorld}
-use Rattle.machine_world.specs.Threads.{World, thread_of}
-use Rattle.ready_tree.specs.declared.needs.Need.{Need}
-use Rattle.resource_monitor.specs.Monitor.{MonitorState}
-use Rattle.rule_state.specs.Rules.{AreKnownTo, HasNone, HasStarted, HasTaken, HasRejoined, HasLeft, IsLawfulOf, IsUnderWay, MayStart, noted_of}
-use Rattle.rule_state.specs.Strides.{StridesState, stride_choice}
-use Rattle.rule_state.specs.declared.rules.RuleState.{RuleState}
 use Rattle.rule_state.specs.declared.rules.RuleState.TheVariants.{Graph, Stride}
-use Rattle.scheduler.specs.LawfulChoice.{is_eligible}
-use Rattle.scheduler.specs.Scores.{score}
-use Rattle.scheduler.specs.State.{SchedulerState, last_of, queue_of, started}
-use Rattle.scheduler.specs.declared.choices.Choice.{Choice}
 use Rattle.stride_rule.specs.State.{StrideState, after_choice, new_rule}
-use Rattle.lawful_log.specs.Clients.{waiter_of, AreClients}
 use Rattle.lawful_log.specs.Passes.{HasPasses, StartedBy}
 use Rattle.lawful_log.proofs.StrideChoices.{stride_choice_told}
-use Rattle.lawful_log.proofs.Finding.{none_at}
-use Rattle.lawful_log.proofs.ClientsGoing.{chosen_client, clients_below, clients_first, clients_left, clients_placed, clients_rejoined, clients_started, clients_taken, may_start, others, runner_started, runner_taken}
 use Rattle.lawful_log.proofs.Passing.{passes_first, passes_left, passes_rejoined, passes_started, passes_taken}
-use Rattle.thread_core.specs.Needs.{Vouches}
-use Rattle.thread_core.specs.Worlds.{Held, KeepsPlaces}
-use Rattle.segment_laws.specs.Silent.{GoesOn}
-use Rattle.run_course.specs.Needs.{IsNeeded, AreNeeded, AreNeededByStrides}
 use Rattle.run_course.proofs.StrideNeeds.{strides_same, strides_step, strides_along, strides_picked, strides_taken, strides_started, strides_rejoined, strides_left, strides_known}
-use Rattle.run_course.specs.Rules.{AreKept, AreKeptBeside, AreTold, HasAccounts, HasNothing, rule_of}
 use Rattle.run_course.proofs.Going.{live_kept, queues_kept}
 use Rattle.run_course.proofs.Needs.{all_known, needed_same, needed_taken, needed_told}
 use Rattle.run_course.proofs.NeedsGoing.{needed_along, needed_picked, needed_step}

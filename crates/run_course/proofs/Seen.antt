@@ -1,20 +1,6 @@
 -- What the next line of the trace is to the run.
-use Rattle.std.proofs.Common.{◌≡◌, ℕ, ◌+◌, ◌≤◌, List, [], ◌++◌, Option, Some, None, Ok, Err, inl, inr, refl, sym, ap, ◌∙◌, subst, arith}
-use Rattle.event_trace.specs.declared.events.Event.{Event}
-use Rattle.event_trace.specs.declared.refusals.TraceError.{TraceError}
-use Rattle.event_trace.specs.Lines.{FitsEvent, rest_of}
-use Rattle.event_trace.specs.Reader.{ReaderState, GivesEvent, RefusesLine, RefusesOrder, NextAnswers, NextTold}
-use Rattle.choice_rules.specs.Trace.{Trace, IsRefused, behind}
-use Rattle.lawful_log.specs.Setup.{Setup}
-use Rattle.lawful_log.specs.State.{State}
-use Rattle.lawful_log.specs.Within.{IsBetween}
-use Rattle.lawful_log.proofs.Between.{between_read}
-use Rattle.thread_core.specs.Worlds.{Held}
-use Rattle.run_course.specs.declared.looking.Next.{Next}
-use Rattle.run_course.specs.Kept.{Kept, known}
+use Rattle.run_course.proofs.Common.{◌≡◌, ℕ, ◌+◌, ◌≤◌, List, [], ◌++◌, Option, Some, None, Ok, Err, inl, inr, refl, sym, ap, ◌∙◌, subst, arith, Event, TraceError, FitsEvent, rest_of, ReaderState, GivesEvent, RefusesLine, RefusesOrder, NextAnswers, NextTold, Trace, IsRefused, behind, Setup, State, IsBetween, between_read, Held, Next, Kept, known, IsTraceIn, IsTraceOf, IsRead, StandsBetween, Rest, HasBytes, Knows, Unasked, Told, Made}
 use Rattle.run_course.specs.Looks.{Sees, Refuses}
-use Rattle.run_course.specs.Stands.{IsTraceIn, IsTraceOf, IsRead, StandsBetween}
-use Rattle.run_course.specs.Rest.{Rest, HasBytes, Knows, Unasked, Told, Made}
 use Rattle.run_course.proofs.Spelled.{line_and, gives_line, behind_line, bad_line, refuses_bad_line}
 use Rattle.run_course.proofs.Clocks.{clock_same}
 

@@ -1,20 +1,5 @@
 -- Where a run stands, every live thread is in place and the chunks are partitioned.
-use Rattle.std.proofs.Common.{◌≡◌, ℕ, List, Option, Some, None, sym, subst}
-use Rattle.lawful_log.specs.Good.{checked_of}
-use Rattle.lawful_log.specs.Setup.{Setup, setting_of}
-use Rattle.lawful_log.specs.State.{State}
-use Rattle.machine_world.specs.Stretches.{IsSound}
-use Rattle.machine_world.specs.Threads.{World, Move, Puts, Spawns, Blocks, Ends, Stops, step}
-use Rattle.machine_world.specs.WellFormed.{IsWellFormed}
-use Rattle.run_course.specs.declared.course.Under.{Under}
-use Rattle.run_course.specs.Kept.{Kept}
-use Rattle.run_course.specs.Stands.{StandsBetween, StandsWithin, StandsBy, Stands}
-use Rattle.run_course.specs.Rest.{Rest}
-use Rattle.thread_core.specs.Turns.{Tells}
-use Rattle.thread_core.specs.Worlds.{Held}
-use Rattle.thread_core.specs.declared.turns.Turn.{Turn}
-use Rattle.machine_meaning.specs.Reached.{IsReached, StepReaches}
-use Rattle.machine_meaning.proofs.Sound.{settled_sound, under_way_sound}
+use Rattle.run_course.proofs.Common.{◌≡◌, ℕ, List, Option, Some, None, sym, subst, checked_of, Setup, setting_of, State, IsSound, World, Move, Puts, Spawns, Blocks, Ends, Stops, step, IsWellFormed, Under, Kept, StandsBetween, StandsWithin, StandsBy, Stands, Rest, Tells, Held, Turn, IsReached, StepReaches, settled_sound, under_way_sound}
 use Rattle.run_course.proofs.AsSource.{source_steps, formed_now}
 use Rattle.run_course.proofs.Costs.{told_formed}
 

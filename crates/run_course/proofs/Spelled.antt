@@ -1,17 +1,11 @@
 -- The line of an event, as bytes that a trace could have had.
-use Rattle.std.proofs.Common.{◌≡◌, ℕ, ℤ, pos, negsuc, suc, ◌+◌, ◌^◌, ◌<◌, ◌≤◌, FitsSigned, List, [], ◌∷◌, ◌++◌, length, length-append, refl, ap, sym, subst, arith, rules, codes, get_or, Some}
-use Rattle.std.specs.List.{AllByRecursion}
-use Rattle.std.specs.Int.{w32, cast_signed}
+use Rattle.run_course.proofs.Common.{◌≡◌, ℕ, ℤ, pos, negsuc, suc, ◌+◌, ◌^◌, ◌<◌, ◌≤◌, FitsSigned, List, [], ◌∷◌, ◌++◌, length, length-append, refl, ap, sym, subst, arith, rules, codes, get_or, Some, w32, cast_signed, Event, EventKind, FitsEvent, FitsKind, HasNoEvent, SpellsOnly, event_text, kind_fields, kind_word, line_of, rest_of, value_field, GivesEvent, RefusesLine, fields_visible}
 use Rattle.std.proofs.Math.Facts.{sfits_to_z}
 use Rattle.cap_text.specs.Decimals.{canonical_decimal, canonical_integer}
 use Rattle.cap_text.specs.Pieces.{Lacks, after_each}
 use Rattle.cap_text.proofs.DecimalLaws.{decimal_length}
-use Rattle.cap_text.proofs.PieceLaws.{Visible, all_lack, from_shown, lacks-append, lacks_after_each, visible_decimal, visible_integer, visible_lacks}
-use Rattle.event_trace.specs.declared.events.Event.{Event}
-use Rattle.event_trace.specs.declared.events.EventKind.{EventKind}
+use Rattle.cap_text.proofs.PieceLaws.{all_lack, from_shown, lacks-append, lacks_after_each, visible_decimal, visible_lacks}
 use Rattle.event_trace.specs.declared.events.EventKind.TheVariants.{Arrive, Message}
-use Rattle.event_trace.specs.Lines.{FitsEvent, FitsKind, HasNoEvent, SpellsOnly, event_text, kind_fields, kind_word, line_of, rest_of, value_field}
-use Rattle.event_trace.specs.Reader.{GivesEvent, RefusesLine}
 use Rattle.event_trace.proofs.LineTexts.{line_answer, text_pieces}
 
 -- ---- a line and what is behind it
@@ -30,14 +24,10 @@ lacks_word : (kind : EventKind) → Lacks 10 (kind_word kind)
 lacks_word (Arrive value) = visible_lacks 10 (codes "arrive") (omega arith) (from_shown (codes "arrive") refl)
 lacks_word (Message channel value) = visible_lacks 10 (codes "data") (omega arith) (from_shown (codes "data") refl)
 
-visible_fields : (kind : EventKind) → AllByRecursion Visible (kind_fields kind)
-visible_fields (Arrive value) = (visible_integer (cast_signed w32 value), tt)
-visible_fields (Message channel value) = (visible_decimal channel, (visible_integer (cast_signed w32 value), tt))
-
 lacks_text : (event : Event) → Lacks 10 (event_text event)
 lacks_text event = lacks-append 10 (kind_word event.kind) (after_each 32 (canonical_decimal event.time ∷ kind_fields event.kind)) (lacks_word event.kind)
     (lacks_after_each 32 10 (canonical_decimal event.time ∷ kind_fields event.kind) refl
-    (all_lack 10 (canonical_decimal event.time ∷ kind_fields event.kind) (omega arith) (visible_decimal event.time, visible_fields event.kind)))
+    (all_lack 10 (canonical_decimal event.time ∷ kind_fields event.kind) (omega arith) (visible_decimal event.time, fields_visible event.kind)))
 
 -- ---- it is short
 

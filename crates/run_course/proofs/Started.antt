@@ -1,54 +1,18 @@
 -- The start of a run.
-use Rattle.std.proofs.Common.{◌≡◌, ℕ, zero, suc, ◌+◌, ◌*◌, ◌/◌, ◌%◌, ◌<◌, ◌≤◌, Bool, true, false, [], ◌∷◌, Option, Some, None, if◌then◌else◌, refl, sym, ap, ◌∙◌, subst, arith}
-use Rattle.std.specs.Prelude.{IsTrue, slice_index}
-use Rattle.blocking_graph.specs.Graph.{empty_graph}
-use Rattle.c_lower.specs.ProgramCode.{lowered}
+use Rattle.run_course.proofs.Common.{◌≡◌, ℕ, zero, suc, ◌+◌, ◌*◌, ◌/◌, ◌%◌, ◌<◌, ◌≤◌, Bool, true, false, [], ◌∷◌, Option, Some, None, refl, sym, ap, ◌∙◌, subst, arith, IsTrue, slice_index, empty_graph, lowered, ProgramTree, accepted_tree, Taken, IsPool, start_pool, taken_for, Rule, all_caps, uses_of, at_drop, checked_of, Setup, setting_of, main_fact, start_machine, start_areas, State, start_of, seen_of, AreWaiting, between_after, Areas, new_areas, Checked, start_world, started_on, empty_world, StandsForWorld, World, Setting, with_thread, AreWellFormed, AreWords, IsWellFormed, most_fuel, gate_after, MonitorState, pressures, IsAtStartBy, Next, Kept, IsOf, IsTraceOf, StandsBetween, Need, IsNeeded, HasStarted, RuleState, HasAccounts, HasNothing, rule_of, Rest, bytes_of, Unasked, Held, IsSettled, settled_sound}
 use Rattle.c_mean.specs.World as source
-use Rattle.c_tree.specs.Trees.{ProgramTree}
 use Rattle.c_tree.specs.WellScoped.{IsWellScoped}
-use Rattle.accepted_pairs.specs.Accepting.{accepted_tree}
 use Rattle.certificate_rules.specs.Validity.{IsValid}
-use Rattle.chunk_pool.specs.Pool.{Taken, IsPool, start_pool, taken_for}
 use Rattle.chunk_pool.proofs.PoolStart.{IsPool-start_bytes}
-use Rattle.choice_rules.specs.Policy.{Rule, all_caps}
-use Rattle.choice_rules.specs.Seen.{uses_of}
-use Rattle.choice_rules.proofs.Changes.{at_drop}
-use Rattle.lawful_log.specs.Good.{checked_of}
-use Rattle.lawful_log.specs.Setup.{Setup, setting_of, main_fact, start_machine, start_areas}
-use Rattle.lawful_log.specs.State.{State, start_of, seen_of}
-use Rattle.lawful_log.specs.Waiting.{AreWaiting}
-use Rattle.lawful_log.proofs.Between.{between_after}
 use Rattle.lawful_log.proofs.Kept.{first_waits}
-use Rattle.machine_world.specs.Areas.{Areas, new_areas}
-use Rattle.machine_world.specs.Places.{Checked}
-use Rattle.machine_world.specs.Runs.{start_world, started_on, empty_world}
-use Rattle.machine_world.specs.StandsForWorld.{StandsForWorld}
 use Rattle.machine_world.specs.Stretches as stretches
-use Rattle.machine_world.specs.Threads.{World, Setting, with_thread}
-use Rattle.machine_world.specs.WellFormed.{AreWellFormed, AreWords, IsWellFormed, most_fuel}
-use Rattle.resource_monitor.specs.Gate.{gate_after}
-use Rattle.resource_monitor.specs.Monitor.{MonitorState}
-use Rattle.resource_monitor.specs.Pressure.{pressures}
-use Rattle.run_course.specs.Starts.{IsAtStartBy}
-use Rattle.run_course.specs.declared.looking.Next.{Next}
-use Rattle.run_course.specs.Kept.{Kept}
 use Rattle.run_course.specs.Sound.{IsSound}
-use Rattle.run_course.specs.Stands.{IsOf, IsTraceOf, StandsBetween}
-use Rattle.ready_tree.specs.declared.needs.Need.{Need}
-use Rattle.run_course.specs.Needs.{IsNeeded}
-use Rattle.rule_state.specs.Rules.{HasStarted}
-use Rattle.rule_state.specs.declared.rules.RuleState.{RuleState}
-use Rattle.run_course.specs.Rules.{HasAccounts, HasNothing, rule_of}
-use Rattle.run_course.specs.Rest.{Rest, bytes_of, Unasked}
 use Rattle.run_course.proofs.Rules.{accounts_first, kept_first, noted_first, told_first}
 use Rattle.segment_run.proofs.Forming.{areas_formed}
 use Rattle.stack_certificate.specs.Certificates.{fact_at}
 use Rattle.stack_certificate.specs.declared.certificates.Certificate.{Certificate}
 use Rattle.stack_image.specs.declared.images.Image.{Image}
-use Rattle.thread_core.specs.Worlds.{Held}
-use Rattle.machine_meaning.specs.UnderWay.{IsSettled}
 use Rattle.machine_meaning.proofs.BetweenSegments.{starts_law}
-use Rattle.machine_meaning.proofs.Sound.{settled_sound}
 use Rattle.run_course.proofs.Times.{timely_start}
 use Rattle.chunk_pool.proofs.NeedLaws.{taken_for-count}
 use Rattle.chunk_pool.proofs.ShapeLaws.{first_bytes-start}

@@ -1,37 +1,14 @@
 -- The needs that were told of the threads that wait by strides, from step to step.
-use Rattle.std.proofs.Common.{◌≡◌, ◌≢◌, ℕ, zero, suc, ◌<◌, true, false, List, [], ◌∷◌, ◌++◌, Option, Some, None, inl, inr, refl, sym, ap, ◌∙◌, subst, arith}
-use Rattle.std.specs.List.{AllByRecursion}
-use Rattle.std.specs.Prelude.{◌==◌}
-use Rattle.std.proofs.lemmas.Bool.Decides.{nat_tests}
-use Rattle.cap_word.specs.declared.threads.ThreadId.{ThreadId}
-use Rattle.choice_rules.specs.Seen.{Waiter}
-use Rattle.choice_rules.specs.Waiting.{IsPlaced, waits}
-use Rattle.lawful_log.specs.Setup.{Setup, setting_of}
-use Rattle.lawful_log.specs.State.{Segment, State}
-use Rattle.lawful_log.specs.Clients.{AreBoth, AreClients, waiter_of}
-use Rattle.lawful_log.specs.Within.{IsWithin}
-use Rattle.lawful_log.proofs.Finding.{all_both, apart_at, none_waiting}
-use Rattle.lawful_log.proofs.ClientsGoing.{none_by}
-use Rattle.lawful_log.proofs.Own.{found_below}
-use Rattle.lawful_log.proofs.Within.{within_goes}
-use Rattle.machine_world.specs.Alone.{KeepsThread}
-use Rattle.machine_world.specs.Threads.{World, thread_of}
-use Rattle.machine_world.proofs.OtherThreads.{KeepsThread-step}
-use Rattle.ready_tree.specs.declared.needs.Need.{Need}
-use Rattle.rule_state.specs.Strides.{StridesState}
+use Rattle.run_course.proofs.Common.{◌≡◌, ◌≢◌, ℕ, zero, suc, ◌<◌, true, false, List, [], ◌∷◌, ◌++◌, Option, Some, None, inl, inr, refl, sym, ap, ◌∙◌, subst, arith, AllByRecursion, ◌==◌, nat_tests, ThreadId, Waiter, IsPlaced, waits, Setup, setting_of, Segment, State, AreBoth, AreClients, waiter_of, IsWithin, all_both, apart_at, none_waiting, none_by, found_below, within_goes, KeepsThread, World, thread_of, KeepsThread-step, Need, StridesState, Vouches, Held, GoesOn, IsNeeded, IsNeededClient, AreNeededByStrides, by_test, eq_true}
 use Rattle.stride_rule.specs.declared.clients.Client.{Client}
 use Rattle.stride_rule.specs.declared.choices.StrideChoice.{StrideChoice}
 use Rattle.stride_rule.specs.Clients.{IsAbsent, client_of, is_running, grown, without}
 use Rattle.stride_rule.specs.State.{StrideState, AreKnown, AreOnce, after_choice, after_leaving, after_segment_for, waiting_in, waiting_of, with_client}
 use Rattle.stride_rule.specs.Told.{need_of}
-use Rattle.stride_rule.proofs.ClientLemmas.{all_to, all-grown, by_test, same_number, other_number}
+use Rattle.stride_rule.proofs.ClientLemmas.{all_to, all-grown, other_number}
 use Rattle.stride_rule.proofs.NotingLemmas.{all_wait, waiting-none}
 use Rattle.stride_rule.proofs.SearchLemmas.{Lies, client-of_lies, once-waiting}
 use Rattle.stride_rule.proofs.RowLemmas.{need_of-told, need_of-others, need_of-without}
-use Rattle.thread_core.specs.Needs.{Vouches}
-use Rattle.thread_core.specs.Worlds.{Held}
-use Rattle.segment_laws.specs.Silent.{GoesOn}
-use Rattle.run_course.specs.Needs.{IsNeeded, IsNeededClient, AreNeededByStrides}
 use Rattle.run_course.proofs.Needs.{vouched_by}
 
 -- ---- lists of clients
@@ -48,7 +25,7 @@ left_behind : (P : Client → Type 0) (number : ℕ) (cs : List Client) → AreO
 left_behind P number [] once all = tt
 left_behind P number (c ∷ cs) once all =
     by_test (c.thread.number == number) _
-    (λ same. rw same (alone cs (let e : c.thread.number ≡ number = same_number _ _ same in subst (λ (n : ℕ). IsAbsent n cs) e once.0) (rw same at all)))
+    (λ same. rw same (alone cs (let e : c.thread.number ≡ number = eq_true _ _ same in subst (λ (n : ℕ). IsAbsent n cs) e once.0) (rw same at all)))
     (λ other.
     let parts : AllByRecursion P (c ∷ waiting_in (Some number) cs) = rw other at all in
     rw other (((λ e. let same : (c.thread.number == number) ≡ true = grind (arith, nat_tests) in absurd cc), parts.0), left_behind P number cs once.1 parts.1)) where
@@ -98,7 +75,7 @@ strides_rejoined w rule thread need running own needed =
       each (c ∷ cs) all =
           by_test (c.thread.number == thread.number) _
           (λ same.
-          let e : c.thread.number ≡ thread.number = same_number _ _ same in
+          let e : c.thread.number ≡ thread.number = eq_true _ _ same in
           let rest : AllByRecursion (IsNeededClient w rule) (waiting_in (Some thread.number) cs) = rw same at all in (
             record {
               thread = own.thread;

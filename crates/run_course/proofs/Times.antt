@@ -1,28 +1,8 @@
 -- The clock of a run stays within its bound.
-use Rattle.std.proofs.Common.{◌≡◌, ℕ, zero, suc, ◌+◌, ◌^◌, ◌<◌, ◌≤◌, nat_eq, Bool, true, false, not, List, [], ◌∷◌, ◌++◌, length, Option, Some, None, refl, sym, subst, arith}
-use Rattle.std.specs.Prelude.{IfSome, nat_le, if◌then◌else◌}
-use Rattle.std.specs.List.{AllByRecursion}
-use Rattle.std.proofs.lemmas.Bool.{cond_both}
-use Rattle.std.proofs.lemmas.Bool.Decides.{nat_tests}
-use Rattle.cap_word.specs.Calls.{Call, Blocking, Immediate, most_threads}
-use Rattle.cap_word.specs.Runs as runs
+use Rattle.run_course.proofs.Common.{◌≡◌, ℕ, zero, suc, ◌+◌, ◌^◌, ◌≤◌, nat_eq, Bool, true, false, not, List, [], ◌∷◌, Option, Some, None, sym, subst, arith, IfSome, if◌then◌else◌, AllByRecursion, cond_both, Exchange, wakes_at, Delivery, is_dropped, with_delivery, latest, Taken, taken_for, Areas, empty_world, started_on, start_world, Pick, delivered, advanced, may_run, picked_at, picked, is_between, after_action, Blocked, Thread, World, Setting, thread_of, first_with, replaced, without, with_thread, Move, Goes, Puts, Spawns, Blocks, Ends, Stops, retired, resumed, result_of, step, Tells, IsTurn, Held, Turn, GoesOn, IsTimely, All-weaker, All-push, few_ticks}
 use Rattle.cap_word.specs.declared.calls.Block.{Block}
-use Rattle.cap_word.specs.declared.stops.Stop.{Stop}
-use Rattle.cap_word.specs.declared.traps.TrapKind.{TrapKind}
-use Rattle.c_mean.specs.ModelledCalls.{Exchange, blocking_row, immediate_row, ticks_of, wakes_at, Delivery, is_dropped, with_delivery}
-use Rattle.choice_rules.specs.Clock.{latest}
-use Rattle.chunk_pool.specs.Pool.{Taken, taken_for}
-use Rattle.lawful_log.specs.Tests.{waking_time}
-use Rattle.machine_world.specs.Areas.{Areas}
-use Rattle.machine_world.specs.Local as local
-use Rattle.machine_world.specs.Local.{LocalMove, local_step}
-use Rattle.machine_world.specs.Runs.{empty_world, started_on, start_world, Pick, delivered, advanced, may_run, picked_at, picked, is_between, after_action}
-use Rattle.machine_world.specs.Threads.{Blocked, Thread, World, Setting, thread_of, first_with, replaced, without, with_thread, Move, Goes, Puts, Spawns, Blocks, Ends, Stops, retired, resumed, unless_trap, printed, result_of, package_call, spawned, asked, stopped, moved, step_of, step_on, step}
-use Rattle.thread_core.specs.Turns.{Tells, IsTurn}
-use Rattle.thread_core.specs.Worlds.{Held}
-use Rattle.thread_core.specs.declared.turns.Turn.{Turn}
-use Rattle.segment_laws.specs.Silent.{GoesOn}
-use Rattle.run_course.specs.Times.{IsTimely}
+use Rattle.lawful_log.specs.Waking.{waking_time}
+use Rattle.machine_world.proofs.StepCases.{blocked_at, on_printed, on_step, row_for}
 
 -- ---- threads that wake in time
 
@@ -37,8 +17,7 @@ later_some cost None is = tt
 later_some cost (Some time) is = let now : time ≤ latest cost = is in omega (arith, now)
 
 all_later : (cost : ℕ) (threads : List Thread) → AllWake cost threads → AllWake (cost + 1) threads
-all_later cost [] all = tt
-all_later cost (t ∷ ts) all = (later_some cost (waking_time t.blocked) all.0, all_later cost ts all.1)
+all_later cost threads all = All-weaker (Wakes cost) (Wakes (cost + 1)) (λ t. later_some cost (waking_time t.blocked)) threads all
 
 all_replaced : (cost : ℕ) (new : Thread) (threads : List Thread) → Wakes cost new → AllWake cost threads → AllWake cost (replaced new threads)
 all_replaced cost new [] is all = tt
@@ -49,10 +28,6 @@ all_without cost number [] all = tt
 all_without cost number (t ∷ ts) all =
     let rest = all_without cost number ts all.1 in
     cond_both (not (nat_eq t.number number)) (t ∷ without number ts) (without number ts) (AllWake cost) (λ _. (all.0, rest)) (λ _. rest)
-
-all_append : (cost : ℕ) (threads : List Thread) (t : Thread) → AllWake cost threads → Wakes cost t → AllWake cost (threads ++ t ∷ [])
-all_append cost [] t all is = (is, tt)
-all_append cost (u ∷ us) t all is = (all.0, all_append cost us t all.1 is)
 
 found_by : (cost number : ℕ) (u : Thread) (us : List Thread) (t : Thread) → Wakes cost u → (first_with number us ≡ Some t → Wakes cost t) → (b : Bool) → (if b then Some u else first_with number us) ≡ Some t → Wakes cost t
 found_by cost number u us t here later true f = let is : u ≡ t = cc in subst (Wakes cost) is here
@@ -87,76 +62,29 @@ times_exchange w x is = record { clock = is.clock; sleepers = is.sleepers }
 times_running : (w : World) (running : Option ℕ) → IsTimely w → IsTimely (record w { running = running })
 times_running w running is = record { clock = is.clock; sleepers = is.sleepers }
 
-times_trap : (trap : Option TrapKind) (move : Move) → KeepsTimes move → KeepsTimes (unless_trap trap move)
-times_trap (Some kind) move kept = tt
-times_trap None move kept = kept
-
-times_printed : (value : Option ℕ) (after : World) → IsTimely after → KeepsTimes (printed value after)
-times_printed None after is = is
-times_printed (Some value) after is = is
-
--- a sleep has fewer than 2^31 ticks, and so has a wait with a time
-few_ticks : (ticks : ℕ) → ticks_of ticks < 2 ^ 31
-few_ticks ticks = by_test (nat_le (2 ^ 31) ticks) refl where
-  by_test : (b : Bool) → nat_le (2 ^ 31) ticks ≡ b → (if b then 0 else ticks) < 2 ^ 31
-  by_test true e = omega arith
-  by_test false e = grind (arith, nat_tests, e)
-
 wakes_soon : (clock cost : ℕ) (block : Block) → clock ≤ latest cost → IfSome (wakes_at (clock + 1) block) (λ time. time ≤ latest (cost + 1))
 wakes_soon clock cost (Block.Sleep ticks) h = let few = few_ticks ticks in omega (arith, h, few)
 wakes_soon clock cost (Block.WaitFor channel ticks) h = let few = few_ticks ticks in omega (arith, h, few)
 wakes_soon clock cost _ h = tt
 
-times_call : (s : Setting) (w : World) (thread : Thread) (call : Call) → IsTimely w → KeepsTimes (package_call s w thread call)
-times_call s w thread (Blocking block) is =
-    let new : Thread = record thread { core = local.passed thread.core None; blocked = Some (record { block = block; since = w.clock + 1 }) } in
-    times_trap (blocking_row s.caps w.exchange block).trap _ (times_running (retired w new w.areas) None (times_retired w new w.areas is (wakes_soon w.clock w.cost block is.clock)))
-times_call s w thread (Immediate ask) is =
-    let row = immediate_row s.caps w.exchange thread.number w.next ask in
-    let new : Thread = resumed thread (result_of ask row.result) in
-    times_trap row.trap _ (times_printed row.prints _ (times_exchange (retired w new w.areas) row.after (times_retired w new w.areas is tt)))
-
 times_started : (w : World) (taken : Taken) (entry argument : ℕ) → IsTimely w → IsTimely (with_thread w taken entry argument)
-times_started w taken entry argument is = record { clock = is.clock; sleepers = all_append w.cost w.threads _ is.sleepers tt }
-
-times_spawned : (w : World) (thread : Thread) (entry argument : ℕ) (taken : Option Taken) → IsTimely w → KeepsTimes (spawned w thread entry argument taken)
-times_spawned w thread entry argument None is = tt
-times_spawned w thread entry argument (Some taken) is =
-    times_started (retired w (resumed thread (Some w.next)) w.areas) taken entry argument (times_retired w (resumed thread (Some w.next)) w.areas is tt)
-
-times_asked : (s : Setting) (w : World) (thread : Thread) (question : local.Question) → IsTimely w → KeepsTimes (asked s w thread question)
-times_asked s w thread (local.Calls call) is = times_call s w thread call is
-times_asked s w thread (local.Starts entry argument need) is =
-    cond_both (nat_le most_threads (length w.threads)) (Stops Stop.Threads) (spawned w thread entry argument (taken_for w.areas.pool need)) KeepsTimes
-    (λ _. tt)
-    (λ _. times_spawned w thread entry argument (taken_for w.areas.pool need) is)
-
-times_stopped : (w : World) (thread : Thread) (end : local.End) → IsTimely w → KeepsTimes (stopped w thread end)
-times_stopped w thread (local.Ended areas) is = record {
-  clock = clock_later w.clock w.cost is.clock;
-  sleepers = all_without (w.cost + 1) thread.number w.threads (all_later w.cost w.threads is.sleepers);
-}
-times_stopped w thread _ is = tt
-
-times_moved : (s : Setting) (w : World) (thread : Thread) (move : LocalMove) → IsTimely w → Wakes w.cost thread → KeepsTimes (moved s w thread move)
-times_moved s w thread (runs.Goes after) is own = times_retired w (record thread { core = after.core }) after.areas is (later_some w.cost (waking_time thread.blocked) own)
-times_moved s w thread (runs.Asks question waiting) is own = times_asked s w thread question is
-times_moved s w thread (runs.Stops end) is own = times_stopped w thread end is
-
-times_step_of : (s : Setting) (w : World) (number : ℕ) (found : Option Thread) → IsTimely w → thread_of w number ≡ found → KeepsTimes (step_of s w found)
-times_step_of s w number None is e = tt
-times_step_of s w number (Some thread) is e =
-    cond_both (nat_eq w.cost s.fuel) (Stops Stop.Fuel) (moved s w thread (local_step s.code (record { areas = w.areas; core = thread.core }))) KeepsTimes
-    (λ _. tt)
-    (λ _. times_moved s w thread (local_step s.code (record { areas = w.areas; core = thread.core })) is (all_found w.cost number w.threads thread is.sleepers e))
-
-times_step_on : (s : Setting) (w : World) (running : Option ℕ) → IsTimely w → KeepsTimes (step_on s w running)
-times_step_on s w None is = tt
-times_step_on s w (Some number) is = times_step_of s w number (thread_of w number) is refl
+times_started w taken entry argument is = record { clock = is.clock; sleepers = All-push (Wakes w.cost) w.threads _ is.sleepers tt }
 
 times_step : (s : Setting) (w : World) → IsTimely w → KeepsTimes (step s w)
-unfolding step
-times_step s w is = times_step_on s w w.running is
+times_step s w is = on_step s w KeepsTimes (λ stop. tt) tt (λ number thread runs there left. record {
+  goes = λ after e. times_retired w (record thread { core = after.core }) after.areas is (later_some w.cost (waking_time thread.blocked) (all_found w.cost number w.threads thread is.sleepers there));
+  answers = λ ask still e.
+      let row = row_for s w thread ask in
+      let after = times_exchange (retired w (resumed thread (result_of ask row.result)) w.areas) row.after (times_retired w (resumed thread (result_of ask row.result)) w.areas is tt) in
+      on_printed KeepsTimes row.prints _ after (λ word prints. after);
+  blocks = λ block. times_running (retired w (blocked_at w thread block) w.areas) None (times_retired w (blocked_at w thread block) w.areas is (wakes_soon w.clock w.cost block is.clock));
+  spawns = λ entry argument need still taken e few some.
+      times_started (retired w (resumed thread (Some w.next)) w.areas) taken entry argument (times_retired w (resumed thread (Some w.next)) w.areas is tt);
+  ends = λ areas e. record {
+    clock = clock_later w.clock w.cost is.clock;
+    sleepers = all_without (w.cost + 1) thread.number w.threads (all_later w.cost w.threads is.sleepers);
+  };
+})
 
 -- ---- what a run does
 

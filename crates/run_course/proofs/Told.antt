@@ -1,37 +1,8 @@
 -- What is told within a segment: a value, a thread that started, and a cut.
-use Rattle.std.proofs.Common.{◌≡◌, ◌≢◌, ℕ, ◌+◌, ◌-◌, ◌<◌, ◌≤◌, [], ◌∷◌, ◌++◌, Some, None, sym, ap, ◌∙◌, subst, arith}
-use Rattle.std.specs.Prelude.{length}
-use Rattle.cap_word.specs.Word.{signed}
-use Rattle.cap_word.specs.declared.stops.Stop.{Stop}
-use Rattle.cap_word.specs.declared.threads.ThreadId.{ThreadId}
-use Rattle.lawful_log.specs.Good.{checked_of}
-use Rattle.lawful_log.specs.Segments.{IsOut, IsCut}
-use Rattle.lawful_log.specs.Setup.{Setup, setting_of}
-use Rattle.lawful_log.specs.State.{State}
+use Rattle.run_course.proofs.Common.{◌≡◌, ◌≢◌, ℕ, ◌+◌, ◌-◌, ◌<◌, ◌≤◌, [], ◌∷◌, ◌++◌, Some, None, sym, ap, ◌∙◌, subst, arith, length, signed, Stop, ThreadId, checked_of, IsOut, IsCut, Setup, setting_of, State, IsWithin, Counts, StartsOne, counts_step, within_spawns, put_segment, put_state, out_allowed, within_puts, KeepsThread, KeepsThread-step, World, thread_of, Move, Puts, Spawns, Stops, step, HasStarted, MayStart, RuleState, waiter_of, Tells, Held, IsThread, segment_cost, Turn, IsReached, StepReaches, Under, Kept, AreTold, LeavesOwn, StandsFresh, found_below, own_step, need_of_blocked, StandsInside, StandsWithin, StepsAsSource, Rest, free_count}
 use Rattle.lawful_log.specs.Stops.{IsStopped, IsCutBy}
-use Rattle.lawful_log.specs.Within.{IsWithin}
 use Rattle.lawful_log.proofs.Entries.{stops_here}
-use Rattle.machine_world.proofs.Counts.{Counts, StartsOne, counts_step}
-use Rattle.lawful_log.proofs.Within.{within_spawns, put_segment, put_state, out_allowed, within_puts}
-use Rattle.machine_world.specs.Alone.{KeepsThread}
-use Rattle.machine_world.proofs.OtherThreads.{KeepsThread-step}
-use Rattle.machine_world.specs.Threads.{World, thread_of, Move, Puts, Spawns, Stops, step}
-use Rattle.rule_state.specs.Rules.{HasStarted, MayStart}
-use Rattle.rule_state.specs.declared.rules.RuleState.{RuleState}
-use Rattle.lawful_log.specs.Clients.{waiter_of}
-use Rattle.thread_core.specs.Turns.{Tells}
-use Rattle.thread_core.specs.Worlds.{Held, IsThread, segment_cost}
-use Rattle.thread_core.specs.declared.turns.Turn.{Turn}
-use Rattle.machine_meaning.specs.Reached.{IsReached, StepReaches}
-use Rattle.run_course.specs.declared.course.Under.{Under}
-use Rattle.run_course.specs.Kept.{Kept}
-use Rattle.run_course.specs.Rules.{AreTold}
 use Rattle.run_course.proofs.Rules.{accounts_started, kept_started, may_start_within, next_waits, noted_started, told_started, told_step}
-use Rattle.lawful_log.proofs.Own.{LeavesOwn, StandsFresh, found_below, own_step}
-use Rattle.thread_core.specs.Needs.{need_of_blocked}
-use Rattle.run_course.specs.Stands.{StandsInside, StandsWithin, StepsAsSource}
-use Rattle.run_course.specs.Rest.{Rest}
-use Rattle.chunk_pool.specs.Pool.{free_count}
 
 -- ---- which step a turn tells
 

@@ -1,24 +1,5 @@
 -- What a call of `begin` or `proceed` leaves: the segment is under way, and its last turn is to be told.
-use Rattle.std.proofs.Common.{◌≡◌, ℕ, ◌+◌, List, Option, Some, None, refl, sym, ap, ◌∙◌, subst}
-use Rattle.std.specs.Prelude.{IsSome}
-use Rattle.std.specs.List.{AllByRecursion}
-use Rattle.accepted_pairs.specs.Accepting.{accepted_tree}
-use Rattle.choice_rules.specs.Seen.{Waiter}
-use Rattle.lawful_log.specs.Setup.{Setup, setting_of}
-use Rattle.lawful_log.specs.State.{Segment, State}
-use Rattle.lawful_log.specs.Waiting.{IsWaiting}
-use Rattle.lawful_log.specs.Within.{IsWithin}
-use Rattle.lawful_log.proofs.Within.{Still, still_waiting}
-use Rattle.machine_world.specs.Threads.{Thread, World, thread_of, Setting, Move, Puts, Spawns, Blocks, Ends, Stops, step}
-use Rattle.scheduler.specs.declared.choices.Choice.{Choice}
-use Rattle.thread_core.specs.Turns.{Tells, Proceeds, KeepsSetting}
-use Rattle.segment_laws.specs.Silent.{GoesOn}
-use Rattle.thread_core.specs.Worlds.{Held, KeepsPlaces}
-use Rattle.thread_core.specs.declared.turns.Turn.{Turn}
-use Rattle.run_course.specs.Kept.{Kept}
-use Rattle.run_course.specs.Stands.{IsOf, HasPast, StandsInside, StandsWithin, StepsAsSource}
-use Rattle.run_course.specs.Times.{IsTimely}
-use Rattle.run_course.specs.Rest.{Rest}
+use Rattle.run_course.proofs.Common.{◌≡◌, ℕ, ◌+◌, List, Option, Some, None, refl, sym, ap, ◌∙◌, subst, IsSome, AllByRecursion, accepted_tree, Waiter, Setup, setting_of, Segment, State, IsWaiting, IsWithin, Still, still_waiting, Thread, World, thread_of, Setting, Move, Puts, Spawns, Blocks, Ends, Stops, step, Choice, Tells, Proceeds, KeepsSetting, GoesOn, Held, KeepsPlaces, Turn, Kept, IsOf, HasPast, StandsInside, StandsWithin, StepsAsSource, IsTimely, Rest}
 use Rattle.run_course.proofs.Times.{timely_turn}
 use Rattle.run_course.proofs.Going.{Along, along}
 use Rattle.run_course.proofs.Rules.{kept_beside, told_along}

@@ -3,7 +3,7 @@
 use Rattle.std.specs.Prelude.{ℕ, ◌+◌, ◌*◌, ◌^◌, ◌≤◌, IfSome}
 use Rattle.std.specs.List.{AllByRecursion}
 use Rattle.choice_rules.specs.Clock.{latest}
-use Rattle.lawful_log.specs.Tests.{waking_time}
+use Rattle.lawful_log.specs.Waking.{waking_time}
 use Rattle.machine_world.specs.Threads.{World}
 
 -- the clock isn't later, nor does a thread wake later that sleeps

@@ -1,22 +1,7 @@
 -- The answers that are kept are those that are asked for.
-use Rattle.std.proofs.Common.{◌≡◌, ◌∙◌, ℕ, List, Option, ap}
-use Rattle.std.specs.BTreeMap.{get}
-use Rattle.std.specs.Ordering.{nat_cmp}
-use Rattle.report_figures.specs.declared.windows.Window.{Window}
+use Rattle.run_history.proofs.Common.{◌≡◌, ◌∙◌, ℕ, List, Option, ap, get, nat_cmp, Window, ticks_kept, longest_kept, OfPairs, OfSpawned, Answering, ByThread, ByPairing, BySpawn, Followed, Happening, Numbers, Pairs, Keeps, answers_at, IsNumbersOf, KeepsOthers, First, Value}
 use Rattle.run_history.specs.declared.waits.WaitLists.{WaitLists}
-use Rattle.run_history.specs.Waits.{ticks_kept, longest_kept}
-use Rattle.run_history.specs.declared.answering.Answerer.TheVariants.{OfPairs, OfSpawned}
-use Rattle.run_history.specs.declared.answering.Answering.{Answering}
-use Rattle.run_history.specs.declared.answering.Answering.TheVariants.{ByThread, ByPairing, BySpawn}
-use Rattle.run_history.specs.declared.followed.Followed.{Followed}
-use Rattle.run_history.specs.declared.happenings.Happening.{Happening}
-use Rattle.run_history.specs.declared.numbers.Numbers.{Numbers}
-use Rattle.run_history.specs.declared.pairs.Pairs.{Pairs}
 use Rattle.run_history.specs.AnsweredBy.{answers_by}
-use Rattle.run_history.specs.Answering.{Keeps}
-use Rattle.run_history.specs.Answers.{answers_at}
-use Rattle.run_history.specs.Numbers.{IsNumbersOf, KeepsOthers}
-use Rattle.run_history.specs.declared.pairs.Pairing.TheVariants.{First, Value}
 
 abbrev pub ShowAnswers : Answering → List Happening → Numbers → Type 0
 ShowAnswers answering told numbers = (request : ℕ) → answers_at numbers.answers request ≡ answers_by answering told request

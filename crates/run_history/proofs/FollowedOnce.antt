@@ -1,15 +1,5 @@
 -- What is followed in a whole run, when one entry more has told something.
-use Rattle.std.proofs.Common.{◌≡◌, ◌∙◌, ℕ, List, [], ◌∷◌, ◌++◌, Option, None, sym, ap, refl}
-use Rattle.std.specs.BTreeMap.{get}
-use Rattle.std.specs.Ordering.{nat_cmp}
-use Rattle.run_history.specs.declared.answers.Answers.{Answers}
-use Rattle.run_history.specs.declared.happenings.Happening.{Happening}
-use Rattle.run_history.specs.declared.happenings.Happening.TheVariants.{Ran}
-use Rattle.run_history.specs.declared.followed.Spawned.{Spawned}
-use Rattle.run_history.specs.declared.followed.Followed.{Followed}
-use Rattle.run_history.specs.Answers.{answers_at, answers_from}
-use Rattle.run_history.specs.Followed.{clocks_by, followed_with, inherits, left_with, segments_with, started_with, works_for}
-use Rattle.run_history.specs.FollowedRuns.{segments_after, left_after_all, started_after, followed_answers, none_started, IsFollowed}
+use Rattle.run_history.proofs.Common.{◌≡◌, ◌∙◌, ℕ, List, [], ◌∷◌, ◌++◌, Option, None, sym, ap, refl, get, nat_cmp, Answers, Happening, Ran, Spawned, Followed, answers_at, answers_from, clocks_by, followed_with, inherits, left_with, segments_with, started_with, works_for, segments_after, left_after_all, started_after, followed_answers, none_started, IsFollowed}
 
 segments-one : (number : ℕ) (told : List Happening) (one : Happening) → segments_after number (told ++ one ∷ []) ≡ segments_with one (segments_after number told)
 segments-one number [] one = refl

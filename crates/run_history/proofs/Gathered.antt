@@ -1,23 +1,11 @@
 -- The lists and counts of what a log tells, when one entry more has told something.
-use Rattle.std.proofs.Common.{◌≡◌, ◌∙◌, ℕ, ◌+◌, ◌-◌, List, [], ◌∷◌, ◌++◌, Option, Some, None, ap, map, sym, refl, max, append_assoc, arith}
-use Rattle.schedule_log.specs.declared.entries.Item.TheVariants.{Arrive, Data}
-use Rattle.run_history.specs.declared.happenings.Happening.{Happening}
-use Rattle.run_history.specs.declared.happenings.Happening.TheVariants.{Came, Lost, Started, Waited, Put, Ran, Nothing}
-use Rattle.run_history.specs.Happenings.{answered_at, clocks_in, most_held, arrivals_from, requests_dropped, drops_request}
+use Rattle.run_history.proofs.Common.{◌≡◌, ◌∙◌, ℕ, ◌+◌, ◌-◌, List, [], ◌∷◌, ◌++◌, Option, Some, None, ap, map, sym, refl, max, append_assoc, arith, Arrive, Data, Happening, Came, Lost, Started, Waited, Put, Ran, Nothing, answered_at, clocks_in, most_held, arrivals_from, requests_dropped, drops_request, map-append, Window, is_told, told_of, with_ticks, Answers, with_answer, answers_from, ByThread, Numbers, is_event, take_of, takes, takers, taken, wait_lengths, IsNumbersOf, IsOneMore}
 use Rattle.std.specs.Prelude.{count_by, cond, fold}
-use Rattle.std.proofs.lemmas.List.{map-append}
 use Rattle.std.proofs.lemmas.List.Elements.{filter-append}
 use Rattle.std.proofs.lemmas.List.Sums.{sum_by-append, fold-append}
-use Rattle.report_figures.specs.declared.windows.Window.{Window}
 use Rattle.run_history.specs.Longest.{longer_at}
-use Rattle.run_history.specs.Waits.{is_told, told_of, with_ticks}
-use Rattle.run_history.specs.declared.answers.Answers.{Answers}
 use Rattle.run_history.specs.declared.happenings.Wait.{Wait}
 use Rattle.run_history.specs.declared.waits.WaitLength.{WaitLength}
-use Rattle.run_history.specs.Answers.{with_answer, answers_from}
-use Rattle.run_history.specs.declared.answering.Answering.TheVariants.{ByThread}
-use Rattle.run_history.specs.declared.numbers.Numbers.{Numbers}
-use Rattle.run_history.specs.Numbers.{is_event, take_of, takes, takers, taken, wait_lengths, IsNumbersOf, IsOneMore}
 
 -- lists that grow at their end
 pub takes-append : (told more : List Happening) → takes (told ++ more) ≡ takes told ++ takes more

@@ -1,6 +1,5 @@
 -- A request is answered once more.
-use Rattle.std.proofs.Common.{◌≡◌, ℕ, zero, suc, Some, refl}
-use Rattle.run_history.specs.Answers.{answers_of}
+use Rattle.run_history.proofs.Common.{◌≡◌, ℕ, zero, suc, Some, refl, answers_of}
 
 -- a count that isn't 0
 pub some-answers : (first last count : ℕ) → (count ≡ 0 → ⊥) → answers_of first last count ≡ Some (record { first = first; last = last; count = count })

@@ -1,14 +1,6 @@
 -- The output of a number is the answer to the request of that number.
-use Rattle.std.proofs.Common.{◌≡◌, ◌∙◌, ℕ, zero, suc, ◌+◌, ◌<◌, List, [], ◌∷◌, ◌++◌, Option, Some, None, if◌then◌else◌, ap, refl, arith}
-use Rattle.std.proofs.lemmas.Bool.{ne_eqb, eq-eqb}
+use Rattle.run_history.proofs.Common.{◌≡◌, ◌∙◌, ℕ, zero, suc, ◌+◌, ◌<◌, List, [], ◌∷◌, ◌++◌, Option, Some, None, if◌then◌else◌, ap, refl, arith, ne_eqb, eq-eqb, Answers, Happening, Came, Lost, Started, Waited, Put, Ran, Nothing, answers_from, clocks_for, clocks_of, first_answers, answered_once, end_of, output_at}
 use Rattle.std.proofs.lemmas.Grind.{flat_map-append}
-use Rattle.run_history.specs.declared.answers.Answers.{Answers}
-use Rattle.run_history.specs.declared.happenings.Happening.{Happening}
-use Rattle.run_history.specs.declared.happenings.Happening.TheVariants.{Came, Lost, Started, Waited, Put, Ran, Nothing}
-use Rattle.run_history.specs.Answers.{answers_from}
-use Rattle.run_history.specs.Pairs.{clocks_for, clocks_of}
-use Rattle.run_history.specs.PairedRuns.{first_answers}
-use Rattle.run_history.specs.Outputs.{answered_once, end_of, output_at}
 
 -- a request is none of these, or one of them
 abbrev pub IsNone : ℕ → List ℕ → Type 0

@@ -1,13 +1,5 @@
 -- A request that comes finds those of its value that wait.
-use Rattle.std.proofs.Common.{◌≡◌, ◌∙◌, ℕ, ◌+◌, ◌-◌, ◌≤◌, ℤ, Bool, List, [], ◌∷◌, ◌++◌, None, true, take, drop, length, if◌then◌else◌, ap, refl, arith}
-use Rattle.std.specs.Ordering.{int_eq}
-use Rattle.schedule_log.specs.declared.entries.Item.TheVariants.{Arrive, Data}
-use Rattle.run_history.specs.declared.happenings.Happening.{Happening}
-use Rattle.run_history.specs.declared.happenings.Happening.TheVariants.{Came, Lost, Started, Waited, Put, Ran, Nothing}
-use Rattle.run_history.specs.Answers.{answers_from}
-use Rattle.run_history.specs.Pairs.{clocks_of}
-use Rattle.run_history.specs.PairedRuns.{came_after, none_waits, value_answers}
-use Rattle.run_history.specs.Outputs.{answered_once, count_waiting, output_of}
+use Rattle.run_history.proofs.Common.{◌≡◌, ◌∙◌, ℕ, ◌+◌, ◌-◌, ◌≤◌, ℤ, Bool, List, [], ◌∷◌, ◌++◌, None, true, take, drop, length, if◌then◌else◌, ap, refl, arith, int_eq, Arrive, Data, Happening, Came, Lost, Started, Waited, Put, Ran, Nothing, answers_from, clocks_of, came_after, none_waits, value_answers, answered_once, count_waiting, output_of}
 use Rattle.run_history.proofs.Outputs.{IsNone, none-both}
 use Rattle.run_history.proofs.OutputsOf.{Joined, Left, equal, none-joined, none-left, none-taken, follows}
 

@@ -1,15 +1,6 @@
 -- The requests of a value are answered in turn.
-use Rattle.std.proofs.Common.{◌≡◌, ◌∙◌, ℕ, zero, suc, ◌+◌, ◌<◌, ℤ, Bool, List, [], ◌∷◌, ◌++◌, Option, Some, None, false, true, take, drop, length, if◌then◌else◌, sym, ap, refl, subst, append_assoc, arith}
 use Rattle.std.proofs.lemmas.Bool.Decides.{Decides-int_eq}
-use Rattle.std.specs.Ordering.{int_eq}
-use Rattle.schedule_log.specs.declared.entries.Item.TheVariants.{Arrive, Data}
-use Rattle.run_history.specs.declared.answers.Answers.{Answers}
-use Rattle.run_history.specs.declared.happenings.Happening.{Happening}
-use Rattle.run_history.specs.declared.happenings.Happening.TheVariants.{Came, Lost, Started, Waited, Put, Ran, Nothing}
-use Rattle.run_history.specs.Answers.{answers_from}
-use Rattle.run_history.specs.Pairs.{clocks_for, clocks_of}
-use Rattle.run_history.specs.PairedRuns.{value_answers}
-use Rattle.run_history.specs.Outputs.{answered_once, end_of, output_of}
+use Rattle.run_history.proofs.Common.{◌≡◌, ◌∙◌, ℕ, zero, suc, ◌+◌, ◌<◌, ℤ, Bool, List, [], ◌∷◌, ◌++◌, Option, Some, None, false, true, take, drop, length, if◌then◌else◌, sym, ap, refl, subst, append_assoc, arith, int_eq, Arrive, Data, Answers, Happening, Came, Lost, Started, Waited, Put, Ran, Nothing, answers_from, clocks_for, clocks_of, value_answers, answered_once, end_of, output_of}
 use Rattle.run_history.proofs.Outputs.{IsNone, IsOnce, none-both, none-other, once-before, once-now}
 
 -- ---- equal values

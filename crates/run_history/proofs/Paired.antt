@@ -1,11 +1,5 @@
 -- The answers to requests, one more at a time.
-use Rattle.std.proofs.Common.{◌≡◌, ◌∙◌, ℕ, ◌+◌, ◌<◌, List, [], ◌∷◌, ◌++◌, Option, Some, None, option_to_list, false, nat_eq, if◌then◌else◌, length, take, get_or, sym, ap, refl, arith}
-use Rattle.std.proofs.lemmas.List.{flat_map_more, take_more}
-use Rattle.run_history.specs.declared.answers.Answers.{Answers}
-use Rattle.run_history.specs.Answers.{answers_from}
-use Rattle.run_history.specs.Pairs.{clocks_for, clocks_of}
-use Rattle.run_history.specs.declared.followed.Spawned.{Spawned}
-use Rattle.run_history.specs.Followed.{inherits, passed_on}
+use Rattle.run_history.proofs.Common.{◌≡◌, ◌∙◌, ℕ, ◌+◌, ◌<◌, List, [], ◌∷◌, ◌++◌, Option, Some, None, option_to_list, false, nat_eq, if◌then◌else◌, length, take, get_or, sym, ap, refl, arith, flat_map_more, take_more, Answers, answers_from, clocks_for, clocks_of, Spawned, inherits, passed_on}
 use Rattle.run_history.proofs.Gathered.{answers_from-append}
 
 -- the answers to the first of some requests, and to the next one

@@ -1,12 +1,5 @@
 -- The pairs of a whole run, when one entry more has told something.
-use Rattle.std.proofs.Common.{◌≡◌, ◌∙◌, ℕ, ℤ, List, [], ◌∷◌, ◌++◌, Option, None, take, sym, ap, refl}
-use Rattle.run_history.specs.declared.answers.Answers.{Answers}
-use Rattle.run_history.specs.declared.happenings.Happening.{Happening}
-use Rattle.run_history.specs.declared.happenings.Happening.TheVariants.{Put}
-use Rattle.run_history.specs.declared.pairs.Pairs.{Pairs}
-use Rattle.run_history.specs.Answers.{answers_at}
-use Rattle.run_history.specs.Pairs.{answers_with, came_with, first_with, puts_with, value_with, waiting_in, waiting_with}
-use Rattle.run_history.specs.PairedRuns.{put_after, came_after, first_after, first_answers, waiting_after, value_after, value_answers, none_waits, ArePairsByOrder, ArePairsByValue}
+use Rattle.run_history.proofs.Common.{◌≡◌, ◌∙◌, ℕ, ℤ, List, [], ◌∷◌, ◌++◌, Option, None, take, sym, ap, refl, Answers, Happening, Put, Pairs, answers_at, answers_with, came_with, first_with, puts_with, value_with, waiting_in, waiting_with, put_after, came_after, first_after, first_answers, waiting_after, value_after, value_answers, none_waits, ArePairsByOrder, ArePairsByValue}
 
 put-one : (put : ℕ) (told : List Happening) (one : Happening) → put_after put (told ++ one ∷ []) ≡ puts_with one (put_after put told)
 put-one put [] one = refl

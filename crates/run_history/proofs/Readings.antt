@@ -1,9 +1,6 @@
 -- What is gathered from the lines of a log so far is gathered from its entries so far.
-use Rattle.std.proofs.Common.{◌≡◌, ◌∙◌, ℕ, List, [], ◌∷◌, ◌++◌, map, ap, sym, refl, subst, append_assoc}
-use Rattle.std.proofs.lemmas.List.{append-nil, map-append}
+use Rattle.run_history.proofs.Common.{◌≡◌, ◌∙◌, ℕ, List, [], ◌∷◌, ◌++◌, map, ap, sym, refl, subst, append_assoc, append-nil, map-append, lines_of, Entry}
 use Rattle.std.specs.List.{AllByRecursion}
-use Rattle.cap_text.specs.TextLines.{lines_of}
-use Rattle.schedule_log.specs.declared.entries.Entry.{Entry}
 use Rattle.schedule_log.specs.EntryRanges.{FitsEntry, IsLogLine}
 use Rattle.schedule_log.specs.EntryText.{entry_text, log_text}
 use Rattle.schedule_log.proofs.EntryUnique.{text_unique}

@@ -1,24 +1,7 @@
 -- What is known, told and seen after one entry more.
-use Rattle.std.proofs.Common.{◌≡◌, ◌∙◌, ℕ, Bool, List, [], ◌∷◌, ◌++◌, Option, ap, sym, refl, subst, append_assoc}
-use Rattle.std.proofs.lemmas.List.{append-nil}
-use Rattle.std.specs.BTreeMap.{get}
-use Rattle.std.specs.Ordering.{nat_cmp}
-use Rattle.report_figures.specs.declared.windows.Window.{Window}
-use Rattle.schedule_log.specs.declared.entries.Entry.{Entry}
+use Rattle.run_history.proofs.Common.{◌≡◌, ◌∙◌, ℕ, Bool, List, [], ◌∷◌, ◌++◌, Option, ap, sym, refl, subst, append_assoc, append-nil, get, nat_cmp, Window, Entry, OfThreads, OfPairs, OfSpawned, Answering, ByThread, ByPairing, BySpawn, Happening, Ran, Numbers, First, Value, Keeps, named_for, named_by, works_for, none_started, started_after, happenings, happenings_from, IsNumbersOf, IsOneMore}
 use Rattle.run_history.specs.declared.answering.Answerer.{Answerer}
-use Rattle.run_history.specs.declared.answering.Answerer.TheVariants.{OfThreads, OfPairs, OfSpawned}
-use Rattle.run_history.specs.declared.answering.Answering.{Answering}
-use Rattle.run_history.specs.declared.answering.Answering.TheVariants.{ByThread, ByPairing, BySpawn}
-use Rattle.run_history.specs.declared.happenings.Happening.{Happening}
-use Rattle.run_history.specs.declared.happenings.Happening.TheVariants.{Ran}
-use Rattle.run_history.specs.declared.numbers.Numbers.{Numbers}
-use Rattle.run_history.specs.declared.pairs.Pairing.TheVariants.{First, Value}
-use Rattle.run_history.specs.Answering.{Keeps, named_for}
-use Rattle.run_history.specs.Followed.{named_by, works_for}
-use Rattle.run_history.specs.FollowedRuns.{none_started, started_after}
-use Rattle.run_history.specs.Happenings.{happenings, happenings_from}
 use Rattle.run_history.specs.Known.{Known, nothing_known, known_after, known_from, with_entry, happening}
-use Rattle.run_history.specs.Numbers.{IsNumbersOf, IsOneMore}
 use Rattle.run_history.specs.Sights.{Sight, named_in, sight_of, sights, sights_from}
 use Rattle.run_history.proofs.Gathered.{numbers_more}
 

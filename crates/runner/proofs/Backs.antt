@@ -1,14 +1,6 @@
 -- What was put of a log and not written.
-use Rattle.std.proofs.Common.{◌≡◌, ℕ, ◌+◌, ◌-◌, ◌<◌, ◌≤◌, List, [], ◌∷◌, ◌++◌, length, take, drop, Option, Some, None, refl, sym, ap, ◌∙◌, subst, arith, append_assoc, append-nil, length-append, ⊎_elim}
-use Rattle.std.specs.Io.KnownBytes.{Appends, append_known}
-use Rattle.std.proofs.lemmas.Bool.{cases_lt}
-use Rattle.std.proofs.lemmas.List.{append_cancel_left, length-take-le, take-append-drop, take-append-le}
+use Rattle.runner.proofs.Common.{◌≡◌, ℕ, ◌+◌, ◌-◌, ◌<◌, ◌≤◌, List, [], ◌∷◌, ◌++◌, length, take, drop, Option, Some, None, refl, sym, ap, ◌∙◌, subst, arith, append_assoc, append-nil, length-append, ⊎_elim, Appends, append_known, cases_lt, append_cancel_left, length-take-le, take-append-drop, take-append-le, entry_text, log_text, TakesPrefix, Entry, no_line, one_line, text_append, HeldBack, last_line}
 use Rattle.std.proofs.Math.Seq.{take-append-add}
-use Rattle.schedule_log.specs.EntryText.{entry_text, log_text}
-use Rattle.schedule_log.specs.Writing.{TakesPrefix}
-use Rattle.schedule_log.specs.declared.entries.Entry.{Entry}
-use Rattle.run_course.proofs.FitTexts.{no_line, one_line, text_append}
-use Rattle.runner.specs.HeldBack.{HeldBack, last_line}
 
 -- ---- last lines
 

@@ -1,49 +1,14 @@
 -- A run so far beside its log, and how it ends.
-use Rattle.std.proofs.Common.{◌≡◌, ℕ, zero, suc, ◌+◌, ◌-◌, ◌<◌, ◌≤◌, inl, inr, List, [], ◌∷◌, ◌++◌, length, take, Option, Some, None, refl, sym, ap, ◌∙◌, subst, arith, length-append, ⊎_elim}
-use Rattle.std.specs.Prelude.{IfSome}
-use Rattle.std.specs.Io.KnownBytes.{Appends}
-use Rattle.std.proofs.lemmas.Bool.{cases_lt}
-use Rattle.blocking_graph.specs.declared.edges.EdgeLine.{EdgeLine}
+use Rattle.runner.proofs.Common.{◌≡◌, ℕ, zero, suc, ◌+◌, ◌-◌, ◌<◌, ◌≤◌, inl, inr, List, [], ◌∷◌, ◌++◌, length, take, Option, Some, None, refl, sym, ap, ◌∙◌, subst, arith, length-append, ⊎_elim, IfSome, Appends, cases_lt, EdgeLine, Rule, Leads, nowhere, by_entry, ending, IsLawfulLog, Setup, setting_of, State, start_of, World, Setting, MonitorState, IsAtStartBy, HasLog, IsEndAt, IsOfThread, CameTo, FellShort, HeldBack, last_line, Halt, Stop, ThreadId, Kept, halt_end, end_lines, Output, unheld, Grows, IsFitText, IsSound, IsOnWay, HasTicked, IsOnRun, StandsBetween, Stands, ActsTo, GoesTo, HaltsAt, HasThread, FailsIn, stop_line, Rest, HasBytes, bytes_of, Knows, Unasked, Told, Made, log_text, TakesPrefix, Entry, StopLine, Held, IsThread, grows_on, grows_none, whole_on, fit_on, no_line, text_append, no_acts, by_none, scoped, valid, starts, well, fuel_most, free_count}
 use Rattle.log_laws.proofs.Good.{good}
-use Rattle.choice_rules.specs.Policy.{Rule}
 use Rattle.blocking_graph.specs.Edges.{edges_of}
 use Rattle.lawful_log.specs.Good.{IsGoodLog, checked_of}
-use Rattle.lawful_log.specs.Lawful.{Leads, nowhere, by_entry, ending, IsLawfulLog}
-use Rattle.lawful_log.specs.Setup.{Setup, setting_of}
-use Rattle.lawful_log.specs.State.{State, start_of}
 use Rattle.lawful_log.proofs.AtMostOne.{begins_each}
 use Rattle.machine_world.specs.Stretches as stretches
-use Rattle.machine_world.specs.Threads.{World, Setting}
 use Rattle.log_laws.specs.One.{HasOneLog}
 use Rattle.log_laws.proofs.Starting.{one_log}
-use Rattle.resource_monitor.specs.Monitor.{MonitorState}
-use Rattle.run_course.specs.Starts.{IsAtStartBy}
-use Rattle.runner.specs.Answers.{HasLog, IsEndAt, IsOfThread, CameTo, FellShort}
-use Rattle.runner.specs.HeldBack.{HeldBack, last_line}
 use Rattle.runner.proofs.Backs.{Sends, covers, few_bytes, held_at, held_done, last_on, sends_on, text_bytes}
-use Rattle.run_course.specs.declared.ends.Halt.{Halt}
-use Rattle.cap_word.specs.declared.stops.Stop.{Stop}
-use Rattle.cap_word.specs.declared.threads.ThreadId.{ThreadId}
-use Rattle.run_course.specs.Kept.{Kept}
-use Rattle.runner.specs.Ends.{halt_end}
-use Rattle.run_course.specs.Lines.{end_lines}
-use Rattle.run_course.specs.Output.{Output, unheld, Grows, IsFitText}
-use Rattle.run_course.specs.Sound.{IsSound}
-use Rattle.run_course.specs.Ways.{IsOnWay, HasTicked, IsOnRun}
-use Rattle.run_course.specs.Stands.{StandsBetween, Stands}
-use Rattle.run_course.specs.Steps.{ActsTo, GoesTo, HaltsAt, HasThread, FailsIn, stop_line}
-use Rattle.run_course.specs.Rest.{Rest, HasBytes, bytes_of, Knows, Unasked, Told, Made}
-use Rattle.schedule_log.specs.EntryText.{log_text}
-use Rattle.schedule_log.specs.Writing.{TakesPrefix}
-use Rattle.schedule_log.specs.declared.entries.Entry.{Entry}
-use Rattle.schedule_log.specs.declared.entries.StopLine.{StopLine}
-use Rattle.thread_core.specs.Worlds.{Held, IsThread}
 use Rattle.run_course.proofs.Acting.{acts_on}
-use Rattle.run_course.proofs.Joined.{grows_on, grows_none, whole_on}
-use Rattle.run_course.proofs.FitTexts.{fit_on, no_line, text_append}
-use Rattle.run_course.proofs.Parts.{no_acts, by_none}
-use Rattle.run_course.proofs.Started.{scoped, valid, starts, well, fuel_most}
-use Rattle.chunk_pool.specs.Pool.{free_count}
 
 -- ---- lists and texts
 

@@ -1,3 +1,4 @@
+mod Common
 pub mod Backs
 pub mod Waited
 pub mod Waking

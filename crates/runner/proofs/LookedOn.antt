@@ -1,32 +1,9 @@
 -- A step of a choice point: it stops, or goes on behind a look at the next line.
-use Rattle.std.proofs.Common.{◌≡◌, ◌≢◌, ℕ, ◌+◌, ◌*◌, ◌<◌, ◌≤◌, false, List, [], length, Option, Some, None, Result, Ok, Err, refl, sym, ap, ◌∙◌, subst, arith, ⊎_elim}
-use Rattle.std.specs.Prelude.{is_some}
-use Rattle.std.proofs.lemmas.List.{nil_from_length}
-use Rattle.event_trace.specs.declared.events.Event.{Event}
-use Rattle.choice_rules.specs.Stops.{IsDone, IsBadTrace}
-use Rattle.choice_rules.specs.Trace.{IsRefused}
-use Rattle.lawful_log.specs.Setup.{Setup}
-use Rattle.lawful_log.specs.State.{Segment, State, seen_of}
+use Rattle.runner.proofs.Common.{◌≡◌, ◌≢◌, ℕ, ◌+◌, ◌*◌, ◌<◌, ◌≤◌, false, List, [], length, Option, Some, None, Result, Ok, Err, refl, sym, ap, ◌∙◌, subst, arith, ⊎_elim, is_some, nil_from_length, Event, IsDone, IsBadTrace, IsRefused, Setup, Segment, State, seen_of, GraphState, Thread, World, Held, Failure, Halt, CountsLook, CountsPart, CountsStep, Kept, Output, long_rank, lines_rank, stuck_rank, rank, FallsTo, StandsBetween, StandsSomehow, IsAtPoint, HaltsAt, FailsIn, StepEnds, Rest, HasBytes, Unasked, acts_between, way_between, same_ticks, onward_between, no_part, to_between, sound_between, clock_same, stuck_small}
 use Rattle.lawful_log.specs.Beside.{IsGraphOf}
-use Rattle.blocking_graph.specs.Graph.{GraphState}
-use Rattle.machine_world.specs.Threads.{Thread, World}
-use Rattle.thread_core.specs.Worlds.{Held}
 use Rattle.run_course.specs.declared.course.Under.{Under}
-use Rattle.run_course.specs.declared.ends.Failure.{Failure}
-use Rattle.run_course.specs.declared.ends.Halt.{Halt}
 use Rattle.run_course.specs.declared.looking.Looked.{Looked}
-use Rattle.run_course.specs.Counts.{CountsLook, CountsPart, CountsStep}
-use Rattle.run_course.specs.Kept.{Kept}
-use Rattle.run_course.specs.Output.{Output}
 use Rattle.run_course.specs.Looks.{Sees, Refuses, Nears}
-use Rattle.run_course.specs.Ranks.{long_rank, lines_rank, stuck_rank, rank, FallsTo}
-use Rattle.run_course.specs.Stands.{StandsBetween, StandsSomehow, IsAtPoint}
-use Rattle.run_course.specs.Steps.{HaltsAt, FailsIn, StepEnds}
-use Rattle.run_course.specs.Rest.{Rest, HasBytes, Unasked}
-use Rattle.run_course.proofs.Parts.{acts_between, way_between, same_ticks, onward_between, no_part, to_between}
-use Rattle.run_course.proofs.Soundness.{sound_between}
-use Rattle.run_course.proofs.Clocks.{clock_same}
-use Rattle.run_course.proofs.PartSteps.{stuck_small}
 
 -- what is known of the trace may be left out
 pub forget : (g : Setup) (state : State) (k : Kept) (held : Held) (left : Rest) → StandsBetween g state k held left → StandsBetween g state k held Unasked

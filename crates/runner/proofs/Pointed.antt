@@ -1,21 +1,5 @@
 -- A choice point that goes on: no event is due, and what waiting comes to.
-use Rattle.std.proofs.Common.{◌≡◌, ℕ, ◌≤◌, Bool, true, false, Option, Some, None, Ok, refl, sym, ap, ◌∙◌, subst, arith}
-use Rattle.std.specs.Prelude.{nat_le}
-use Rattle.std.proofs.lemmas.Bool.Decides.{nat_tests}
-use Rattle.event_trace.specs.declared.events.Event.{Event}
-use Rattle.choice_rules.specs.Clock.{is_due}
-use Rattle.lawful_log.specs.Setup.{Setup}
-use Rattle.lawful_log.specs.State.{State}
-use Rattle.run_course.specs.declared.ends.Halt.{Halt}
-use Rattle.run_course.specs.Kept.{Kept}
-use Rattle.run_course.specs.Output.{Output}
-use Rattle.run_course.specs.Stands.{IsAtPoint}
-use Rattle.run_course.specs.Steps.{HaltsAt, StepEnds}
-use Rattle.runner.specs.Waits.{WaitEnds}
-use Rattle.run_course.specs.Rest.{Rest}
-use Rattle.thread_core.specs.Worlds.{Held}
-use Rattle.run_course.proofs.Parts.{acts_between, way_between, same_ticks, by_none, silent}
-use Rattle.run_course.proofs.Soundness.{sound_between}
+use Rattle.runner.proofs.Common.{◌≡◌, ℕ, ◌≤◌, Bool, true, false, Option, Some, None, Ok, refl, sym, ap, ◌∙◌, subst, arith, nat_le, nat_tests, Event, is_due, Setup, State, Halt, Kept, Output, IsAtPoint, HaltsAt, StepEnds, WaitEnds, Rest, Held, acts_between, way_between, same_ticks, by_none, silent, sound_between}
 
 due_by : (event : Event) (clock : ℕ) → (event.time ≤ clock → ⊥) → nat_le event.time clock ≡ false
 due_by event clock none = by (nat_le event.time clock) refl where

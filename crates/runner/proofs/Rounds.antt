@@ -1,39 +1,10 @@
 -- The loop of a run.
-use Rattle.std.proofs.Common.{◌≡◌, ℕ, List, [], ◌++◌, Option, Some, None, Result, Ok, Err, refl, ◌∙◌, subst, arith}
-use Rattle.std.specs.Prelude.{IfSome}
-use Rattle.std.specs.Io.KnownBytes.{Appends}
+use Rattle.runner.proofs.Common.{◌≡◌, ℕ, List, [], ◌++◌, Option, Some, None, Result, Ok, Err, refl, ◌∙◌, subst, arith, IfSome, Appends, Puts, Stop, ThreadId, Rule, nowhere, Setup, setting_of, State, start_of, MonitorState, IsAtStartBy, KeepsRun, CameTo, FellShort, IsRunEnd, CountsPart, CountsStep, Failure, Halt, Kept, failure_end, halt_end, end_lines, IsFitText, Output, unheld, IsSound, has_run, StandsBetween, Stands, StandsSomehow, HaltsAt, StepEnds, stop_line, Rest, HasBytes, bytes_of, Knows, BackTo, Unasked, Told, Made, log_text, Held, no_acts, start_sound, free_count}
 use Rattle.std.proofs.KnownBytes.{Appends-nil}
 use Rattle.cap_io.specs.Faults.{IsRisen}
-use Rattle.cap_io.specs.Writes.{Puts}
-use Rattle.cap_word.specs.declared.stops.Stop.{Stop}
-use Rattle.cap_word.specs.declared.threads.ThreadId.{ThreadId}
-use Rattle.choice_rules.specs.Policy.{Rule}
-use Rattle.lawful_log.specs.Lawful.{nowhere}
-use Rattle.lawful_log.specs.Setup.{Setup, setting_of}
-use Rattle.lawful_log.specs.State.{State, start_of}
-use Rattle.resource_monitor.specs.Monitor.{MonitorState}
-use Rattle.run_course.specs.Starts.{IsAtStartBy, KeepsRun}
-use Rattle.runner.specs.Answers.{CameTo, FellShort, IsRunEnd}
-use Rattle.run_course.specs.Counts.{CountsPart, CountsStep}
-use Rattle.run_course.specs.declared.ends.Failure.{Failure}
-use Rattle.run_course.specs.declared.ends.Halt.{Halt}
-use Rattle.run_course.specs.Kept.{Kept}
-use Rattle.runner.specs.Ends.{failure_end, halt_end}
-use Rattle.run_course.specs.Lines.{end_lines}
-use Rattle.run_course.specs.Output.{IsFitText, Output, unheld}
-use Rattle.run_course.specs.Sound.{IsSound}
-use Rattle.run_course.specs.Ways.{has_run}
-use Rattle.run_course.specs.Stands.{StandsBetween, Stands, StandsSomehow}
-use Rattle.run_course.specs.Steps.{HaltsAt, StepEnds, stop_line}
-use Rattle.run_course.specs.Rest.{Rest, HasBytes, bytes_of, Knows, BackTo, Unasked, Told, Made}
-use Rattle.schedule_log.specs.EntryText.{log_text}
-use Rattle.thread_core.specs.Worlds.{Held}
 use Rattle.runner.proofs.Backs.{few_bytes}
 use Rattle.runner.proofs.Following.{Follows, follows_first, follows_on, fails_now, comes_to, stops_short, fell_leads}
-use Rattle.run_course.proofs.Parts.{no_acts}
-use Rattle.run_course.proofs.Started.{start_sound}
 use Rattle.runner.proofs.StepLemmas.{keeps_on, keeps_same}
-use Rattle.chunk_pool.specs.Pool.{free_count}
 
 pub record RunsOn (first : Held) (rule : Rule) (monitor : MonitorState) (left_first taken_first : Option (List ℕ)) (reads_first writes_first : ℕ) (k : Kept) (held : Held) (told_left : Option (List ℕ)) (now : Output) (reads writes : ℕ) : Type 0 where
   pub some : (g : Setup) × IsAtStartBy rule g first monitor

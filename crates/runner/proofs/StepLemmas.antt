@@ -1,7 +1,5 @@
 -- What stays through a run.
-use Rattle.std.proofs.Common.{refl, ◌∙◌}
-use Rattle.run_course.specs.Starts.{KeepsRun}
-use Rattle.thread_core.specs.Worlds.{Held}
+use Rattle.runner.proofs.Common.{refl, ◌∙◌, KeepsRun, Held}
 
 -- ---- what stays
 

@@ -1,37 +1,14 @@
 -- How a choice point goes on where no thread is ready: the clock moves, or the run is idle; and the other stops.
-use Rattle.std.proofs.Common.{◌≡◌, ◌≢◌, ℕ, ◌+◌, ◌*◌, ◌^◌, ◌<◌, ◌≤◌, ◌||◌, Bool, true, false, List, [], ◌++◌, Option, Some, None, refl, sym, ap, ◌∙◌, subst, arith}
-use Rattle.std.specs.Prelude.{IfSome, is_some, if◌then◌else◌}
-use Rattle.std.proofs.lemmas.List.{nil_from_length}
-use Rattle.event_trace.specs.declared.events.Event.{Event}
-use Rattle.event_trace.specs.Lines.{FitsEvent}
+use Rattle.runner.proofs.Common.{◌≡◌, ◌≢◌, ℕ, ◌+◌, ◌*◌, ◌^◌, ◌<◌, ◌≤◌, ◌||◌, Bool, true, false, List, [], ◌++◌, Option, Some, None, refl, sym, ap, ◌∙◌, subst, arith, IfSome, is_some, if◌then◌else◌, nil_from_length, Event, FitsEvent, IsNext, is_due, event_times, IsLeastOf, latest, IsIdle, Setup, setting_of, Segment, State, seen_of, not_moved, moved_goes_on, advanced, Setting, World, StopLine, IsWake, any_ready_in, Held, Halt, Kept, known, due_at, long_rank, lines_rank, stuck_rank, IsTraceIn, IsTraceOf, FitsNext, StandsBetween, IsAtPoint, clock_same, KeepsRun, earlier, time_of, MovesOn, StaysIdle, Rest, HasBytes, Unasked, Told, Made}
 use Rattle.choice_rules.specs.Readiness.{any_ready, waking_times}
-use Rattle.choice_rules.specs.Trace.{IsNext}
-use Rattle.choice_rules.specs.Clock.{is_due, event_times, IsLeastOf, latest}
-use Rattle.choice_rules.specs.Stops.{IsIdle}
-use Rattle.lawful_log.specs.Setup.{Setup, setting_of}
-use Rattle.lawful_log.specs.State.{Segment, State, seen_of}
 use Rattle.lawful_log.specs.Stops.{IsStop}
 use Rattle.lawful_log.specs.Clocks.{goes_on}
 use Rattle.lawful_log.specs.Within.{IsBetween}
 use Rattle.lawful_log.proofs.Between.{between_moved}
-use Rattle.lawful_log.proofs.Clocks.{not_moved, moved_goes_on}
 use Rattle.lawful_log.proofs.Wakes.{none_wakes, least_wakes}
-use Rattle.machine_world.specs.Runs.{advanced}
-use Rattle.machine_world.specs.Threads.{Setting, World}
-use Rattle.schedule_log.specs.declared.entries.StopLine.{StopLine}
 use Rattle.thread_core.specs.Making.{after_wait}
-use Rattle.thread_core.specs.Ready.{IsWake, any_ready_in}
-use Rattle.thread_core.specs.Worlds.{Held}
-use Rattle.run_course.specs.declared.ends.Halt.{Halt}
 use Rattle.run_course.specs.declared.looking.Next.{Next}
-use Rattle.run_course.specs.Kept.{Kept, known}
-use Rattle.run_course.specs.Ranks.{due_at, long_rank, lines_rank, stuck_rank}
-use Rattle.run_course.specs.Stands.{IsTraceIn, IsTraceOf, FitsNext, StandsBetween, IsAtPoint}
-use Rattle.run_course.proofs.Clocks.{clock_same}
 use Rattle.run_course.proofs.Rules.{told_same}
-use Rattle.run_course.specs.Starts.{KeepsRun}
-use Rattle.runner.specs.Waits.{earlier, time_of, MovesOn, StaysIdle}
-use Rattle.run_course.specs.Rest.{Rest, HasBytes, Unasked, Told, Made}
 use Rattle.run_course.proofs.Ready.{any_ready_told}
 use Rattle.run_course.proofs.Times.{possible, timely_advanced}
 use Rattle.runner.proofs.Waking.{AreWakes, time_within, time_least, none_earlier}

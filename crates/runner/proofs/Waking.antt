@@ -1,19 +1,9 @@
 -- The next time at which something may go on, as the machine world tells it.
-use Rattle.std.proofs.Common.{◌≡◌, ℕ, zero, suc, ◌^◌, ◌<◌, ◌≤◌, Bool, true, false, cond, List, [], ◌∷◌, ◌++◌, map, Option, Some, None, refl, sym, subst, arith, ⊎_elim}
-use Rattle.std.specs.Prelude.{All, Contains, IfSome, nat_le, if◌then◌else◌}
+use Rattle.runner.proofs.Common.{◌≡◌, ℕ, zero, suc, ◌^◌, ◌<◌, ◌≤◌, Bool, true, false, cond, List, [], ◌∷◌, ◌++◌, map, Option, Some, None, refl, sym, subst, arith, ⊎_elim, All, Contains, IfSome, nat_le, if◌then◌else◌, nat_tests, Event, FitsEvent, is_due, event_times, IsLeastOf, latest, contains_tail, contains_later, contains_head, contains_none, later_block, asleep_until, Blocked, Setting, Thread, World, IsWake, earlier, time_of}
 use Rattle.std.specs.List.{AllByRecursion}
-use Rattle.std.proofs.lemmas.Bool.Decides.{nat_tests}
 use Rattle.c_mean.specs.ModelledCalls.{is_ready, wakes_at}
-use Rattle.event_trace.specs.declared.events.Event.{Event}
-use Rattle.event_trace.specs.Lines.{FitsEvent}
-use Rattle.choice_rules.specs.Clock.{is_due, event_times, IsLeastOf, latest}
-use Rattle.lawful_log.specs.Tests.{waking_time}
-use Rattle.lawful_log.proofs.Clocks.{contains_tail, contains_later, contains_head, contains_none, later_block}
-use Rattle.machine_world.specs.Runs.{asleep_until}
-use Rattle.machine_world.specs.Threads.{Blocked, Setting, Thread, World}
-use Rattle.thread_core.specs.Ready.{IsWake}
+use Rattle.lawful_log.specs.Waking.{waking_time}
 use Rattle.run_course.specs.Times.{IsTimely}
-use Rattle.runner.specs.Waits.{earlier, time_of}
 
 abbrev wake_in : Setting → World → Thread → Option ℕ
 wake_in s w = λ thread. asleep_until s w thread.blocked

@@ -1,17 +1,6 @@
 -- A step changes no byte outside its access, depends on no other byte, and stores the whole access.
-use Rattle.std.proofs.Common.{◌≡◌, ◌≢◌, ℕ, ◌+◌, ◌%◌, ◌/◌, ◌^◌, Bool, true, false, eqb, List, ℤ, Option, Result, Ok, Err, refl, ap, subst, ◌∙◌, arith}
-use Rattle.std.proofs.lemmas.Bool.{cond_both, cond-false, eqb-true, ne_eqb}
-use Rattle.std.specs.Prelude.{◌&&◌}
-use Rattle.cap_word.specs.declared.faults.FaultKind.{FaultKind}
-use Rattle.cap_word.specs.declared.faults.FaultKind.TheVariants.{Store, Misaligned}
-use Rattle.rv_code.specs.declared.instructions.Instr.{Instr}
-use Rattle.rv_code.specs.declared.instructions.Instr.TheVariants.{Jal, Jalr, Beq, Bne, Blt, Bge, Bltu, Bgeu, Lb, Lh, Lw, Lbu, Lhu, Sb, Sh, Sw}
+use Rattle.rv_machine.proofs.Common.{◌≡◌, ◌≢◌, ℕ, ◌+◌, ◌%◌, ◌/◌, ◌^◌, Bool, true, false, eqb, List, ℤ, Option, Result, Ok, Err, refl, ap, subst, ◌∙◌, arith, cond_both, cond-false, eqb-true, ne_eqb, ◌&&◌, FaultKind, Store, Misaligned, Instr, Jal, Jalr, Beq, Bne, Blt, Bge, Bltu, Bgeu, Lb, Lh, Lw, Lbu, Lhu, Sb, Sh, Sw, half_at, word_at, joined, put_byte, replaced, with_half, with_word, half_is_writable, word_is_writable, Nothing, Byte, Half, Word, effect, read, write, Machine, Outcome, Goes, Fails, next, address, relative, passes, sets, jumps, branches, loads, found, byte_loaded, half_loaded, word_loaded, extended, stores, byte_stored, half_stored, word_stored, instruction_at, started, outcome, bytes_after}
 use Rattle.rv_machine.specs.Access.{Access, access, accessed, access_of, next_access, IsAccessed, AgreeIn, Fills}
-use Rattle.rv_machine.specs.Bytes.{half_at, word_at, joined, put_byte, replaced, with_half, with_word, half_is_writable, word_is_writable, Nothing, Byte, Half, Word}
-use Rattle.rv_machine.specs.Effect.{effect}
-use Rattle.rv_machine.specs.Registers.{read, write}
-use Rattle.rv_machine.specs.Rows.{Machine, Outcome, Goes, Fails, next, address, relative, passes, sets, jumps, branches, loads, found, byte_loaded, half_loaded, word_loaded, extended, stores, byte_stored, half_stored, word_stored}
-use Rattle.rv_machine.specs.Step.{instruction_at, started, outcome, bytes_after}
 
 -- ---- what is stored is the whole access
 

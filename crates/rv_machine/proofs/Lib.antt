@@ -1,3 +1,4 @@
+mod Common
 pub mod AccessLaws
 pub mod Lists
 pub mod Memories

@@ -1,10 +1,7 @@
 -- A list of bytes as memory: to set a place is to write the byte at that address.
-use Rattle.std.proofs.Common.{◌≡◌, ◌≢◌, ℕ, ◌<◌, ◌≤◌, List, length, set, Some, eqb, ap, sym, subst, refl, ◌∙◌, arith, ⊎_elim, get_or-set_same, get_or-set_other}
 use Rattle.std.proofs.Math.ListN.{length-set}
-use Rattle.std.proofs.lemmas.Bool.{cases_eq, cases_lt, eq-eqb, ne_eqb, cond-true, cond-false}
+use Rattle.rv_machine.proofs.Common.{◌≡◌, ◌≢◌, ℕ, ◌<◌, ◌≤◌, List, length, set, Some, eqb, ap, sym, subst, refl, ◌∙◌, arith, ⊎_elim, get_or-set_same, get_or-set_other, cases_eq, cases_lt, eq-eqb, ne_eqb, cond-true, cond-false, slice_get, put_byte, replaced}
 use Rattle.std.proofs.lemmas.Option.{slice_get-get_or, slice_get_past}
-use Rattle.std.specs.Prelude.{slice_get}
-use Rattle.rv_machine.specs.Bytes.{put_byte, replaced}
 
 same_place : (xs : List ℕ) (i v : ℕ) → i < length xs → slice_get (set xs i v) i ≡ replaced (slice_get xs i) v
 same_place xs i v h =

@@ -1,8 +1,5 @@
 -- A memory of any kind where one byte is written as it should: so are halves and words.
-use Rattle.std.proofs.Common.{◌≡◌, ℕ, ◌+◌, ◌/◌, ◌%◌, ◌^◌, ◌<◌, Bool, true, eqb, Option, ap, ◌∙◌, arith, cond}
-use Rattle.std.specs.Prelude.{◌&&◌}
-use Rattle.std.proofs.lemmas.Bool.{and_parts}
-use Rattle.rv_machine.specs.Bytes.{put_byte, replaced, with_half, with_word, half_is_writable, word_is_writable}
+use Rattle.rv_machine.proofs.Common.{◌≡◌, ℕ, ◌+◌, ◌/◌, ◌%◌, ◌^◌, ◌<◌, Bool, true, eqb, Option, ap, ◌∙◌, arith, cond, ◌&&◌, and_parts, put_byte, replaced, with_half, with_word, half_is_writable, word_is_writable}
 
 -- what a kind of memory keeps, its bytes, what is writable, and what it is after a byte was written
 pub record IsMemory {S : Type 0} (Keeps : S → Type 0) (byte_at : S → ℕ → Option ℕ) (is_writable : S → ℕ → Bool) (put : S → ℕ → ℕ → S) : Type 0 where

@@ -1,11 +1,5 @@
 -- The rows that store nothing leave every memory.
-use Rattle.std.proofs.Common.{◌≡◌, ℕ, ◌%◌, Bool, true, false, eqb, ℤ, refl}
-use Rattle.std.proofs.lemmas.Bool.{cond_both}
-use Rattle.cap_word.specs.declared.faults.FaultKind.TheVariants.{Misaligned}
-use Rattle.rv_machine.specs.Bytes.{Nothing}
-use Rattle.rv_machine.specs.Registers.{write}
-use Rattle.rv_machine.specs.Rows.{Machine, Goes, Fails, next, relative, passes, sets, jumps, branches}
-use Rattle.rv_machine.specs.Step.{memory_after}
+use Rattle.rv_machine.proofs.Common.{◌≡◌, ℕ, ◌%◌, Bool, true, false, eqb, ℤ, refl, cond_both, Misaligned, Nothing, write, Machine, Goes, Fails, next, relative, passes, jumps, branches, memory_after}
 
 pub memory_after-jumps : {S : Type 0} (put : S → ℕ → ℕ → S) (memory : S) (m : Machine) (rd target : ℕ) → memory ≡ memory_after put (jumps m rd target) memory
 unfolding jumps

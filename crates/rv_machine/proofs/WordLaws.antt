@@ -1,21 +1,9 @@
 -- A step of a machine of words leaves one, and tells words.
-use Rattle.std.proofs.Common.{◌≡◌, ℕ, ◌+◌, ◌*◌, ◌%◌, ◌/◌, ◌^◌, ◌<◌, ◌≤◌, Bool, true, false, eqb, List, length, set, get_or, ℤ, Option, Some, None, Result, Ok, Err, refl, arith, lit<, All, ⊎_elim}
-use Rattle.std.specs.Prelude.{IfSome, IfOk}
-use Rattle.std.proofs.lemmas.Bool.{cond_both, cases_lt}
-use Rattle.std.proofs.lemmas.List.{length-set, get_or_past}
+use Rattle.rv_machine.proofs.Common.{◌≡◌, ℕ, ◌+◌, ◌*◌, ◌%◌, ◌/◌, ◌^◌, ◌<◌, ◌≤◌, Bool, true, false, eqb, List, length, set, get_or, ℤ, Option, Some, None, Result, Ok, Err, refl, arith, lit<, All, ⊎_elim, IfSome, IfOk, cond_both, cases_lt, length-set, get_or_past, FaultKind, Store, Misaligned, Instr, Lui, Auipc, Jal, Jalr, Beq, Bne, Blt, Bge, Bltu, Bgeu, Lb, Lh, Lw, Lbu, Lhu, Sb, Sh, Sw, Addi, Slti, Sltiu, Xori, Ori, Andi, Slli, Srli, Srai, Add, Sub, Sll, Slt, Sltu, Xor, Srl, Sra, Or, And, Fence, Ecall, Ebreak, Mul, Mulh, Mulhsu, Mulhu, Div, Divu, Rem, Remu, half_at, word_at, joined, put_byte, replaced, with_half, with_word, with_stored, half_is_writable, word_is_writable, Stored, Nothing, Byte, Half, Word, effect, upper, read, write, Machine, Outcome, Goes, Fails, next, address, relative, passes, sets, jumps, branches, loads, found, byte_loaded, half_loaded, word_loaded, extended, stores, byte_stored, half_stored, word_stored, instruction_at, started, outcome, machine_after}
 use Rattle.std.proofs.lemmas.List.Elements.{All-set, All-get_or}
 use Rattle.std.proofs.lemmas.Nat.{xor_lt, or_lt, and_le_l, row_fits}
 use Rattle.cap_word.specs.Word.{word_of}
 use Rattle.cap_word.proofs.WordRange as range
-use Rattle.cap_word.specs.declared.faults.FaultKind.{FaultKind}
-use Rattle.cap_word.specs.declared.faults.FaultKind.TheVariants.{Store, Misaligned}
-use Rattle.rv_code.specs.declared.instructions.Instr.{Instr}
-use Rattle.rv_code.specs.declared.instructions.Instr.TheVariants.{Lui, Auipc, Jal, Jalr, Beq, Bne, Blt, Bge, Bltu, Bgeu, Lb, Lh, Lw, Lbu, Lhu, Sb, Sh, Sw, Addi, Slti, Sltiu, Xori, Ori, Andi, Slli, Srli, Srai, Add, Sub, Sll, Slt, Sltu, Xor, Srl, Sra, Or, And, Fence, Ecall, Ebreak, Mul, Mulh, Mulhsu, Mulhu, Div, Divu, Rem, Remu}
-use Rattle.rv_machine.specs.Bytes.{half_at, word_at, joined, put_byte, replaced, with_half, with_word, with_stored, half_is_writable, word_is_writable, Stored, Nothing, Byte, Half, Word}
-use Rattle.rv_machine.specs.Effect.{effect, upper}
-use Rattle.rv_machine.specs.Registers.{read, write}
-use Rattle.rv_machine.specs.Rows.{Machine, Outcome, Goes, Fails, next, address, relative, passes, sets, jumps, branches, loads, found, byte_loaded, half_loaded, word_loaded, extended, stores, byte_stored, half_stored, word_stored}
-use Rattle.rv_machine.specs.Step.{instruction_at, started, outcome, machine_after}
 use Rattle.rv_machine.specs.Words.{IsWords, TellsWords}
 
 -- what a step comes to leaves a machine of words, and tells words
@@ -34,7 +22,7 @@ read-below x register words =
     (λ (past : length x ≤ register). let none : get_or x register 0 ≡ 0 = get_or_past x register 0 past in omega arith)
     (cases_lt register (length x)))
 
-length-write : (x : List ℕ) (register value : ℕ) → length x ≡ 32 → length (write x register value) ≡ 32
+pub length-write : (x : List ℕ) (register value : ℕ) → length x ≡ 32 → length (write x register value) ≡ 32
 length-write x register value count =
     cond_both (eqb register 0) x (set x register value) (λ x. length x ≡ 32) (λ _. count) (λ _. omega (arith, length-set x register value))
 

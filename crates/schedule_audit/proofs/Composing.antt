@@ -1,28 +1,12 @@
 -- What is said of a line, from what is said of its parts.
-use Rattle.std.proofs.Common.{◌≡◌, ℕ, ◌+◌, ◌<◌, ◌≤◌, true, false, List, Option, Some, None, Result, Ok, Err, refl, sym, ◌∙◌, subst, arith}
-use Rattle.std.specs.Prelude.{ℤ, is_some}
+use Rattle.schedule_audit.proofs.Common.{◌≡◌, ℕ, ◌+◌, ◌<◌, ◌≤◌, true, false, List, Option, Some, None, Result, Ok, Err, refl, sym, ◌∙◌, subst, arith, ℤ, is_some, ReaderState, Given, Segment, State, seen_of, Entry, Item, End, Next, Failure, Ruling, AllowsWithin, RulesWithin, IsNoEnd, IsLine, RulesLine, Kept, Allows, Refuses, Rules, IsLooked, IsTold, IsTraceOf, Stands, stands_as, stands_by}
 use Rattle.choice_rules.specs.Clock.{IsChoicePoint}
 use Rattle.choice_rules.specs.Trace.{Trace}
-use Rattle.event_trace.specs.Reader.{ReaderState}
 use Rattle.event_trace.specs.declared.events.Event.{Event}
-use Rattle.lawful_reading.specs.Given.{Given}
 use Rattle.lawful_reading.specs.State as reading
-use Rattle.lawful_reading.specs.State.{Segment, State, seen_of}
-use Rattle.schedule_log.specs.declared.entries.Entry.{Entry}
-use Rattle.schedule_log.specs.declared.entries.Item.{Item}
-use Rattle.schedule_reading.specs.declared.reading.End.{End}
 use Rattle.schedule_reading.specs.declared.reading.End.TheVariants as end
-use Rattle.schedule_reading.specs.declared.reading.Next.{Next}
-use Rattle.schedule_reading.specs.declared.rulings.Failure.{Failure}
-use Rattle.schedule_reading.specs.declared.rulings.Ruling.{Ruling}
 use Rattle.schedule_reading.specs.declared.rulings.Ruling.TheVariants as ruling
-use Rattle.schedule_reading.specs.Closing.{AllowsWithin, RulesWithin}
-use Rattle.schedule_audit.specs.Judging.{IsNoEnd, IsLine, RulesLine}
-use Rattle.schedule_reading.specs.Kept.{Kept}
-use Rattle.schedule_reading.specs.Rulings.{Allows, Refuses, Rules}
-use Rattle.schedule_reading.specs.Stands.{IsLooked, IsTold, IsTraceOf, Stands}
 use Rattle.schedule_reading.proofs.Delivering.{not_beyond}
-use Rattle.schedule_reading.proofs.Unstopped.{stands_as, stands_by}
 
 -- ---- a line of a segment
 

@@ -1,30 +1,14 @@
 -- The lines of a log, one after another.
-use Rattle.std.proofs.Common.{◌≡◌, ℕ, suc, ◌+◌, ◌<◌, ◌≤◌, Bool, true, false, ◌==◌, not, List, [], ◌∷◌, ◌++◌, length, take, drop, Option, Some, None, Ok, refl, sym, ap, ◌∙◌, subst, arith, cond, append-nil}
-use Rattle.std.specs.Prelude.{IfSome, nat_lt, position}
+use Rattle.schedule_audit.proofs.Common.{◌≡◌, ℕ, suc, ◌+◌, ◌<◌, ◌≤◌, Bool, true, false, ◌==◌, not, List, [], ◌∷◌, ◌++◌, length, take, drop, Option, Some, None, Ok, refl, sym, ap, ◌∙◌, subst, arith, cond, append-nil, IfSome, nat_lt, position, eqb-true, ReaderState, Given, State, start_of, entry_text, log_text, FitsEntry, Entry, End, Next, Verdict, IsReadTo, IsLine, RulesLine, Kept, Allows, IsEnd, IsTold, IsTraceOf, Stands, IsVerdictOf}
 use Rattle.std.specs.List.{position_or_len}
-use Rattle.std.proofs.lemmas.Bool.{eqb-true}
 use Rattle.std.proofs.lemmas.Bool.Decides.{nat_tests}
 use Rattle.cap_text.specs.Pieces.{Lacks}
-use Rattle.event_trace.specs.Reader.{ReaderState}
-use Rattle.lawful_reading.specs.Given.{Given}
 use Rattle.lawful_reading.specs.Reading.{BeginsWith, IsAllowed, IsLawful, IsTooLong, IsUnlawful, Leads, by_line, nowhere}
 use Rattle.lawful_reading.specs.State as reading
-use Rattle.lawful_reading.specs.State.{State, start_of}
-use Rattle.schedule_log.specs.EntryText.{entry_text, log_text}
-use Rattle.schedule_log.specs.EntryRanges.{FitsEntry}
-use Rattle.schedule_log.specs.declared.entries.Entry.{Entry}
 use Rattle.schedule_log.proofs.LogLines.{no_line_feed}
-use Rattle.schedule_reading.specs.declared.reading.End.{End}
 use Rattle.schedule_reading.specs.declared.reading.End.TheVariants as end
-use Rattle.schedule_reading.specs.declared.reading.Next.{Next}
 use Rattle.schedule_reading.specs.declared.reading.Next.TheVariants as next
 use Rattle.schedule_reading.specs.declared.rulings.Ruling.TheVariants as ruling
-use Rattle.lawful_reading.specs.declared.judgement.Verdict.{Verdict}
-use Rattle.schedule_audit.specs.Judging.{IsReadTo, IsLine, RulesLine}
-use Rattle.schedule_reading.specs.Kept.{Kept}
-use Rattle.schedule_reading.specs.Rulings.{Allows}
-use Rattle.schedule_reading.specs.Stands.{IsEnd, IsTold, IsTraceOf, Stands}
-use Rattle.lawful_reading.specs.Verdicts.{IsVerdictOf}
 use Rattle.lawful_reading.proofs.Verdicts.{cut_lines, no_lines}
 use Rattle.lawful_reading.proofs.Found.{last_line}
 

@@ -1,20 +1,8 @@
 -- One line of a log is read, and the verdict.
-use Rattle.std.proofs.Common.{◌≡◌, ℕ, ◌+◌, ◌<◌, ◌≤◌, Bool, true, false, List, [], ◌∷◌, ◌==◌, Option, Some, None, Result, Ok, length, take, drop, refl, sym, ap, ◌∙◌, subst, arith, length-drop}
-use Rattle.std.specs.Prelude.{position}
-use Rattle.std.proofs.lemmas.Bool.{eq-eqb, ne_eqb}
-use Rattle.lawful_reading.specs.Given.{Given}
-use Rattle.lawful_reading.specs.State.{State, start_of}
-use Rattle.schedule_reading.specs.declared.reading.End.{End}
+use Rattle.schedule_audit.proofs.Common.{◌≡◌, ℕ, ◌+◌, ◌<◌, ◌≤◌, Bool, true, false, List, [], ◌∷◌, ◌==◌, Option, Some, None, Result, Ok, length, take, drop, refl, sym, ap, ◌∙◌, subst, arith, length-drop, position, eq-eqb, ne_eqb, Given, State, start_of, End, Failure, Ruling, Verdict, IsReadTo, RulesLine, Kept, Stands, StandsSomehow, IsVerdictOf}
 use Rattle.schedule_reading.specs.declared.reading.End.TheVariants as end
 use Rattle.schedule_reading.specs.declared.reading.Next.TheVariants as next
-use Rattle.schedule_reading.specs.declared.rulings.Failure.{Failure}
-use Rattle.schedule_reading.specs.declared.rulings.Ruling.{Ruling}
 use Rattle.schedule_reading.specs.declared.rulings.Ruling.TheVariants as ruling
-use Rattle.lawful_reading.specs.declared.judgement.Verdict.{Verdict}
-use Rattle.schedule_audit.specs.Judging.{IsReadTo, RulesLine}
-use Rattle.schedule_reading.specs.Kept.{Kept}
-use Rattle.schedule_reading.specs.Stands.{Stands, StandsSomehow}
-use Rattle.lawful_reading.specs.Verdicts.{IsVerdictOf}
 use Rattle.schedule_audit.proofs.Judge.{cut, none_left, read_late, read_lawful, read_on, read_refused, read_start, read_unlawful, start_told, trace_in}
 
 pub begun : (g : Given) (left : Option (List ℕ)) (log : List ℕ) (k : Kept) → ((trace : List ℕ) → Stands g (start_of g trace) k) → k.reader ≡ record { held = []; lines = 0; last = 0; refused = None } → k.next ≡ next.Unread → IsReadTo g left log log 1 k left

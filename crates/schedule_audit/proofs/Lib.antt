@@ -1,3 +1,4 @@
+mod Common
 pub mod Composing
 pub mod Judge
 pub mod Lined

@@ -1,29 +1,8 @@
 -- A line as one of a choice point or of a segment.
-use Rattle.std.proofs.Common.{◌≡◌, ℕ, ◌≤◌, Bool, true, false, List, Option, Some, None, Result, Ok, Err, refl, sym, ap, ◌∙◌, subst, arith}
-use Rattle.std.specs.Prelude.{ℤ, IsTrue}
-use Rattle.lawful_reading.specs.Given.{Given}
-use Rattle.lawful_reading.specs.State.{State}
-use Rattle.schedule_log.specs.EntryRanges.{FitsEntry}
-use Rattle.schedule_log.specs.EntryText.{entry_text}
-use Rattle.schedule_log.specs.declared.entries.Entry.{Entry}
-use Rattle.schedule_log.specs.declared.entries.Item.{Item}
-use Rattle.schedule_log.specs.declared.entries.StopLine.{StopLine}
+use Rattle.schedule_audit.proofs.Common.{◌≡◌, ℕ, ◌≤◌, Bool, true, false, List, Option, Some, None, Result, Ok, Err, refl, sym, ap, ◌∙◌, subst, arith, ℤ, IsTrue, Given, State, FitsEntry, entry_text, Entry, Item, StopLine, Under, Ruling, Failure, RulesWithin, WithinSomehow, IsNoEnd, IsLine, Core, Kept, Refuses, Rules, StandsBetweenSomehow, IsEnd, IsTold, Stands, StandsBy, StandsSomehow, StandsWithin, memory_within, not_yet, between_by, stands_by}
 use Rattle.schedule_log.specs.declared.reading.LogError.{LogError}
 use Rattle.schedule_reading.specs.declared.reading.End.TheVariants as end
-use Rattle.schedule_reading.specs.declared.reading.Under.{Under}
-use Rattle.schedule_reading.specs.declared.rulings.Ruling.{Ruling}
-use Rattle.schedule_reading.specs.declared.rulings.Failure.{Failure}
-use Rattle.schedule_reading.specs.Closing.{RulesWithin, WithinSomehow}
-use Rattle.schedule_audit.specs.Judging.{IsNoEnd, IsLine}
-use Rattle.schedule_reading.specs.Kept.{Core, Kept}
-use Rattle.schedule_reading.specs.Rulings.{Refuses, Rules, StandsBetweenSomehow}
-use Rattle.schedule_reading.specs.Stands.{IsEnd, IsTold, Stands, StandsBy, StandsSomehow, StandsWithin}
 use Rattle.schedule_audit.proofs.Composing.{no_segment, point_in_segment, within_rules}
-use Rattle.schedule_reading.proofs.Delivered.{memory_within}
-use Rattle.schedule_reading.proofs.Proceeding.{not_yet}
-use Rattle.schedule_reading.proofs.Unstopped.{between_by, stands_by}
-
--- ---- after the stop
 
 -- ---- the bytes of a line
 

@@ -1,21 +1,11 @@
 -- A line `out`, where the thread goes on without one.
-use Rattle.std.proofs.Common.{◌≡◌, ℕ, ◌-◌, Some, Ok, refl, subst}
-use Rattle.std.specs.Prelude.{ℤ}
+use Rattle.schedule_audit.proofs.Common.{◌≡◌, ℕ, ◌-◌, Some, Ok, refl, subst, ℤ, Given, Segment, State, Entry, Happening, Under, HasProceeded, RulesWithin, Core, Kept, IsEnd, StandsWithin, came_beyond, came_blocks, came_ends, came_traps, late, same_segment}
 use Rattle.c_mean.specs.World as source
-use Rattle.lawful_reading.specs.Given.{Given}
 use Rattle.lawful_reading.specs.Happenings.{PutsNext, RestsNext}
 use Rattle.lawful_reading.specs.Segments.{IsOut}
-use Rattle.lawful_reading.specs.State.{Segment, State}
 use Rattle.lawful_reading.proofs.Moves.{not_put_and_rest}
-use Rattle.schedule_log.specs.declared.entries.Entry.{Entry}
-use Rattle.schedule_reading.specs.declared.events.Happening.{Happening}
 use Rattle.schedule_reading.specs.declared.events.Happening.TheVariants as happening
-use Rattle.schedule_reading.specs.declared.reading.Under.{Under}
 use Rattle.schedule_reading.specs.declared.rulings.Ruling.TheVariants as ruling
-use Rattle.schedule_reading.specs.Closing.{HasProceeded, RulesWithin}
-use Rattle.schedule_reading.specs.Kept.{Core, Kept}
-use Rattle.schedule_reading.specs.Stands.{IsEnd, StandsWithin}
-use Rattle.schedule_reading.proofs.Proceeding.{came_beyond, came_blocks, came_ends, came_traps, late, same_segment}
 
 out_rests : (g : Given) (state : State) (thread : ℕ) (value : ℤ) (after : State) (segment : Segment) (steps : ℕ) (rested : source.Rested) → state.segment ≡ Some segment → RestsNext g.program g.policy.caps segment.here steps rested → IsOut g state thread value after → ⊥
 out_rests g state thread value after segment steps rested under_way rests q =

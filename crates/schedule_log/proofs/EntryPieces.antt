@@ -1,21 +1,6 @@
 -- An entry's text, cut at its blanks.
-use Rattle.std.proofs.Common.{◌≡◌, ℕ, ℤ, List, [], ◌∷◌, map, refl, ap, sym, ◌∙◌, arith, codes, Option, Some, None, IfSome, IfNone}
-use Rattle.std.specs.List.{AllByRecursion, flat_map}
-use Rattle.cap_text.specs.Decimals.{canonical_decimal, canonical_integer}
-use Rattle.cap_word.specs.declared.traps.TrapKind.{TrapKind}
-use Rattle.cap_word.specs.declared.traps.TrapKind.TheVariants.{Index, Table, Resource, Channel}
-use Rattle.cap_word.specs.declared.stops.Stop.TheVariants.{Trap, NoChunk, Fuel, Threads}
-use Rattle.schedule_log.specs.declared.entries.Item.{Item}
-use Rattle.schedule_log.specs.declared.entries.Item.TheVariants.{Arrive, Data}
-use Rattle.schedule_log.specs.declared.entries.StopLine.{StopLine}
-use Rattle.schedule_log.specs.declared.entries.StopLine.TheVariants.{Done, Idle, Trace, Cut}
-use Rattle.schedule_log.specs.declared.entries.Entry.{Entry}
-use Rattle.schedule_log.specs.declared.entries.Entry.TheVariants.{Event, Dropped, Run, Out, Block, End, Edge, Stop}
-use Rattle.cap_text.specs.Pieces.{pieces}
-use Rattle.schedule_log.specs.EntryText.{key_field, entry_word, entry_fields, entry_text, item_fields, stop_fields, trap_field}
-use Rattle.schedule_log.specs.EntryRanges.{FitsEntry, IsLogLine}
+use Rattle.schedule_log.proofs.Common.{◌≡◌, ℕ, ℤ, List, [], ◌∷◌, map, refl, ap, sym, ◌∙◌, arith, codes, Option, Some, None, IfSome, IfNone, AllByRecursion, flat_map, canonical_decimal, canonical_integer, TrapKind, Index, Table, Resource, Channel, Trap, NoChunk, Fuel, Threads, Item, Arrive, Data, StopLine, Done, Idle, Trace, Cut, Entry, Event, Dropped, Run, Out, Block, End, Edge, Stop, pieces, key_field, entry_word, entry_fields, entry_text, item_fields, stop_fields, trap_field, FitsEntry, IsLogLine, Visible, visible_lacks, all_lack, visible-append, visible_decimal, visible_integer, from_shown, pieces_joined, text_of_pieces}
 use Rattle.schedule_log.specs.Readings.{SpellsEntry, SpellsNoEntry}
-use Rattle.cap_text.proofs.PieceLaws.{Visible, visible_lacks, all_lack, visible-append, visible_decimal, visible_integer, from_shown, pieces_joined, text_of_pieces}
 
 integers : (values : List ℤ) → AllByRecursion Visible (map canonical_integer values)
 integers [] = tt

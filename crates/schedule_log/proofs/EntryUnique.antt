@@ -1,22 +1,8 @@
 -- Two entries never share a text.
-use Rattle.std.proofs.Common.{◌≡◌, ℕ, ℤ, ◌+◌, ◌*◌, ◌≤◌, List, [], ◌∷◌, length, get_or, map, refl, ap, sym, ◌∙◌, arith, codes, Result, Ok, Option, Some, None, IfSome, IfNone}
 use Rattle.std.specs.Option.{ok_or}
 use Rattle.schedule_log.specs.declared.reading.LogError.{LogError}
-use Rattle.cap_text.specs.Decimals.{canonical_decimal, canonical_integer}
-use Rattle.cap_text.proofs.DecimalLaws.{decimal_unique, integer_unique}
-use Rattle.cap_word.specs.declared.traps.TrapKind.{TrapKind}
-use Rattle.cap_word.specs.declared.traps.TrapKind.TheVariants.{Index, Table, Resource, Channel}
+use Rattle.schedule_log.proofs.Common.{◌≡◌, ℕ, ℤ, ◌+◌, ◌*◌, ◌≤◌, List, [], ◌∷◌, length, get_or, map, refl, ap, sym, ◌∙◌, arith, codes, Result, Ok, Option, Some, None, IfSome, IfNone, canonical_decimal, canonical_integer, decimal_unique, integer_unique, TrapKind, Index, Table, Resource, Channel, Trap, NoChunk, Fuel, Threads, Item, Arrive, Data, StopLine, Done, Idle, Trace, Cut, Entry, Event, Dropped, Run, Out, Block, End, Edge, Stop, pieces, key_field, entry_word, entry_fields, entry_text, item_fields, stop_fields, trap_field, FitsEntry, IsLogLine}
 use Rattle.cap_word.specs.declared.stops.Stop.{Stop as Cause}
-use Rattle.cap_word.specs.declared.stops.Stop.TheVariants.{Trap, NoChunk, Fuel, Threads}
-use Rattle.schedule_log.specs.declared.entries.Item.{Item}
-use Rattle.schedule_log.specs.declared.entries.Item.TheVariants.{Arrive, Data}
-use Rattle.schedule_log.specs.declared.entries.StopLine.{StopLine}
-use Rattle.schedule_log.specs.declared.entries.StopLine.TheVariants.{Done, Idle, Trace, Cut}
-use Rattle.schedule_log.specs.declared.entries.Entry.{Entry}
-use Rattle.schedule_log.specs.declared.entries.Entry.TheVariants.{Event, Dropped, Run, Out, Block, End, Edge, Stop}
-use Rattle.cap_text.specs.Pieces.{pieces}
-use Rattle.schedule_log.specs.EntryText.{key_field, entry_word, entry_fields, entry_text, item_fields, stop_fields, trap_field}
-use Rattle.schedule_log.specs.EntryRanges.{FitsEntry, IsLogLine}
 use Rattle.schedule_log.proofs.KeyPieces.{key_pieces}
 use Rattle.schedule_log.proofs.EntryPieces.{entry_pieces}
 

@@ -1,7 +1,5 @@
 -- A list in front of eight zeros, of which it takes the place of the first.
-use Rattle.std.proofs.Common.{◌≡◌, ℕ, ℤ, pos, ◌-◌, ◌≤◌, List, ◌++◌, length, drop, ◌∙◌, arith, length-append, length-drop}
-use Rattle.std.specs.Prelude.{replicate}
-use Rattle.std.proofs.lemmas.List.{drop-replicate, drop_at}
+use Rattle.schedule_log.proofs.Common.{◌≡◌, ℕ, ℤ, pos, ◌-◌, ◌≤◌, List, ◌++◌, length, drop, ◌∙◌, arith, length-append, length-drop, replicate, drop-replicate, drop_at}
 
 pub filled : (values : List ℤ) (n : ℕ) → length values ≡ n → n ≤ 8
     → (length (values ++ drop n (replicate 8 (pos 0))) ≡ 8) × (drop n (values ++ drop n (replicate 8 (pos 0))) ≡ replicate (8 - n) (pos 0))

@@ -1,10 +1,5 @@
 -- A key's field, cut at its marks.
-use Rattle.std.proofs.Common.{◌≡◌, ℕ, ◌≤◌, List, [], ◌∷◌, ◌++◌, length, map, refl, ap, sym, ◌∙◌, arith}
-use Rattle.std.specs.List.{AllByRecursion, flat_map}
-use Rattle.cap_text.specs.Decimals.{canonical_decimal}
-use Rattle.cap_text.specs.Pieces.{pieces, Lacks, after_each}
-use Rattle.cap_text.proofs.PieceLaws.{pieces_joined, text_of_pieces, lacks_decimal}
-use Rattle.schedule_log.specs.EntryText.{key_field}
+use Rattle.schedule_log.proofs.Common.{◌≡◌, ℕ, ◌≤◌, List, [], ◌∷◌, ◌++◌, length, map, refl, ap, sym, ◌∙◌, arith, AllByRecursion, flat_map, canonical_decimal, pieces, Lacks, after_each, pieces_joined, text_of_pieces, lacks_decimal, key_field}
 
 mark_away : (c : ℕ) → 45 ≤ c → c ≤ 57 → c ≡ 60 → ⊥
 mark_away c low high e = omega arith

@@ -1,3 +1,4 @@
+mod Common
 pub mod EntryPieces
 pub mod EntryUnique
 pub mod Filled

@@ -1,11 +1,6 @@
 -- A list of numbers, of which the first were read and the fields of the others are left.
-use Rattle.std.proofs.Common.{◌≡◌, ℕ, zero, suc, ◌+◌, ◌<◌, List, [], ◌∷◌, ◌++◌, length, drop, map, ap, sym, ◌∙◌, arith, Bool, false, ◌==◌, Option, Some, None, IfSome, IfNone}
-use Rattle.cap_text.specs.Decimals.{canonical_decimal}
-use Rattle.cap_text.specs.Pieces.{pieces}
-use Rattle.schedule_log.specs.EntryRanges.{FitsKey}
-use Rattle.schedule_log.specs.EntryText.{key_field}
+use Rattle.schedule_log.proofs.Common.{◌≡◌, ℕ, ◌+◌, ◌<◌, List, [], ◌∷◌, ◌++◌, length, drop, map, ap, sym, ◌∙◌, arith, Bool, false, ◌==◌, Option, Some, None, IfSome, IfNone, canonical_decimal, pieces, FitsKey, key_field, AllByRecursion, All-drop}
 use Rattle.schedule_log.proofs.KeyPieces.{key_pieces, key_of_pieces}
-use Rattle.std.specs.List.{AllByRecursion}
 
 pub if_none : {T : Type 0} {P : Type 0} (o : Option T) → P → IfNone o P
 if_none None p = p
@@ -16,15 +11,10 @@ left_of f [] left all e = e
 left_of f (x ∷ read) left [] e = absurd (cc)
 left_of f (x ∷ read) left (y ∷ all) e = left_of f read left all (cc)
 
-all_drop : {A : Type 0} (P : A → Type 0) (n : ℕ) (all : List A) → AllByRecursion P all → AllByRecursion P (drop n all)
-all_drop P zero all h = h
-all_drop P (suc n) [] h = tt
-all_drop P (suc n) (x ∷ all) h = all_drop P n all h.1
-
 -- what is left begins with the field of the next number
 pub no_next : {A : Type 0} (P : A → Type 0) (f : A → List ℕ) (read : List A) (left : List (List ℕ)) (all : List A) → AllByRecursion P all → map f read ++ left ≡ map f all
     → 0 < length left → ((x : A) (rest : List (List ℕ)) → P x → left ≡ f x ∷ rest → ⊥) → ⊥
-no_next {A} P f read left all h e some none = next (drop (length read) all) (all_drop P (length read) all h) (left_of f read left all e)
+no_next {A} P f read left all h e some none = next (drop (length read) all) (All-drop P (length read) all h) (left_of f read left all e)
   where
     next : (others : List A) → AllByRecursion P others → left ≡ map f others → ⊥
     next [] g is = omega (arith, ap length is)

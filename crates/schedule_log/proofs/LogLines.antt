@@ -1,12 +1,7 @@
 -- The lines of a log.
-use Rattle.std.proofs.Common.{◌≡◌, List, [], ◌∷◌, ◌++◌, map, refl, ap, ◌∙◌, arith}
-use Rattle.std.specs.List.{AllByRecursion, flat_map}
-use Rattle.cap_text.specs.Pieces.{Lacks}
+use Rattle.schedule_log.proofs.Common.{◌≡◌, List, [], ◌∷◌, ◌++◌, map, refl, ap, ◌∙◌, arith, AllByRecursion, flat_map, Lacks, visible_lacks, all_lack, lacks-append, lacks_after_each, Entry, entry_word, entry_fields, entry_text, log_text}
 use Rattle.cap_text.specs.TextLines.{lines_of, ended_lines}
 use Rattle.cap_text.proofs.LineLaws.{ended_lines_back}
-use Rattle.cap_text.proofs.PieceLaws.{visible_lacks, all_lack, lacks-append, lacks_after_each}
-use Rattle.schedule_log.specs.declared.entries.Entry.{Entry}
-use Rattle.schedule_log.specs.EntryText.{entry_word, entry_fields, entry_text, log_text}
 use Rattle.schedule_log.proofs.EntryPieces.{entry_visible}
 
 pub no_line_feed : (entry : Entry) → Lacks 10 (entry_text entry)

@@ -1,11 +1,5 @@
 -- What is written of a line's lists and numbers.
-use Rattle.std.proofs.Common.{◌≡◌, ℕ, ℤ, pos, ◌+◌, ◌<◌, ◌≤◌, List, [], ◌∷◌, ◌++◌, length, get_or, take, drop, map, refl, ap, subst, ◌∙◌, sym, arith, ◌^◌, to_z, of_z, FitsSigned}
-use Rattle.std.specs.Int.{w32, w128}
-use Rattle.std.proofs.lemmas.Int.{to_z-of_z}
-use Rattle.std.proofs.lemmas.List.{flat_map_more, map_more, take_more}
-use Rattle.cap_text.specs.Decimals.{canonical_decimal, canonical_integer}
-use Rattle.schedule_log.specs.EntryText.{after_blanks, key_field, more_sites}
-use Rattle.schedule_log.specs.Writing.{LogState, Writes}
+use Rattle.schedule_log.proofs.Common.{◌≡◌, ℕ, ℤ, pos, ◌+◌, ◌<◌, ◌≤◌, List, [], ◌∷◌, ◌++◌, length, get_or, take, drop, map, refl, ap, subst, ◌∙◌, sym, arith, ◌^◌, to_z, of_z, FitsSigned, w32, w128, to_z-of_z, flat_map_more, map_more, take_more, canonical_decimal, canonical_integer, after_blanks, key_field, more_sites, LogState, Writes}
 
 pub decimal_of_pos : (n : ℕ) → canonical_integer (pos n) ≡ canonical_decimal n
 unfolding canonical_integer

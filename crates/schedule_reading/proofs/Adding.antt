@@ -1,33 +1,13 @@
 -- A thread that starts stands at a place that was vacant, and waits at node 0.
-use Rattle.std.proofs.Common.{◌≡◌, ◌≢◌, ℕ, ◌+◌, ◌-◌, ◌<◌, ◌⊎◌, inl, inr, Bool, List, [], ◌∷◌, ◌++◌, length, map, Option, Some, None, IsSome, option_map, refl, sym, ap, ◌∙◌, subst, arith, append_assoc}
-use Rattle.std.specs.Prelude.{slice_get, if◌then◌else◌}
-use Rattle.std.proofs.lemmas.Bool.{eq-eqb}
+use Rattle.schedule_reading.proofs.Common.{◌≡◌, ◌≢◌, ℕ, ◌+◌, ◌-◌, ◌<◌, ◌⊎◌, inl, inr, Bool, List, [], ◌∷◌, ◌++◌, length, map, Option, Some, None, IsSome, option_map, refl, sym, ap, ◌∙◌, subst, arith, append_assoc, slice_get, if◌then◌else◌, eq-eqb, ThreadId, Exchange, ProgramTree, signature_of, Waiter, newcomers, newcomers_more, Given, State, Need, get, Exchanging, need_for, Wait, Slot, HasAdded, AreBeside, AreThreads, IsScheduled, IsSlot, waiting_with, ThreadsState, VouchesIn, at_place, wait_of, length_push, same_or_not}
 use Rattle.std.proofs.lemmas.Option.{slice_get_within}
-use Rattle.cap_word.specs.declared.threads.ThreadId.{ThreadId}
-use Rattle.c_mean.specs.ModelledCalls.{Exchange}
 use Rattle.c_mean.specs.World as source
-use Rattle.c_tree.specs.Trees.{ProgramTree}
-use Rattle.c_tree.specs.WellScoped.{signature_of}
 use Rattle.cap_word.specs.Signatures.{signature_at}
-use Rattle.choice_rules.specs.Seen.{Waiter, newcomers}
-use Rattle.choice_rules.proofs.Waiters.{newcomers_more}
-use Rattle.lawful_reading.specs.Given.{Given}
-use Rattle.lawful_reading.specs.State.{State}
-use Rattle.ready_tree.specs.declared.needs.Need.{Need}
 use Rattle.scheduler.specs.State.{SchedulerState, IsJoined, IsTold}
-use Rattle.slab.specs.Slab.{get}
-use Rattle.thread_exchange.specs.Exchanges.{Exchanging}
-use Rattle.thread_waits.specs.Needs.{need_for}
-use Rattle.thread_waits.specs.declared.waits.Wait.{Wait}
 use Rattle.schedule_reading.specs.declared.threads.Rest.TheVariants as rest
-use Rattle.schedule_reading.specs.declared.threads.Slot.{Slot}
-use Rattle.schedule_reading.specs.Changes.{HasAdded}
-use Rattle.schedule_reading.specs.Stands.{AreBeside, AreThreads, IsScheduled, IsSlot, waiting_with}
-use Rattle.schedule_reading.specs.Told.{ThreadsState, VouchesIn, at_place, wait_of}
 use Rattle.schedule_reading.proofs.Joins.{joins}
 use Rattle.schedule_reading.proofs.Places.{not_vacant, placed_by, scheduled_kept, vouched_there}
-use Rattle.schedule_reading.proofs.Standing.{are_joined, count_more, more_last, more_long, more_other}
-use Rattle.schedule_reading.proofs.Waits.{here_or_not}
+use Rattle.schedule_reading.proofs.Standing.{are_joined, count_more, more_last, more_other}
 
 abbrev pub newcomer : ℕ → Waiter
 newcomer number = record { thread = number; node = 0; since = 0 }
@@ -96,7 +76,7 @@ pub beside_more : (g : Given) (state : State) (rests : List source.Rest) (exchan
     AreBeside g state (rests ++ source.Fresh function (argument ∷ []) ∷ []) exchange number new after running
 beside_more g state rests exchange number old new scheduler after running thread function argument b added joined told there =
     let more : List source.Rest = rests ++ source.Fresh function (argument ∷ []) ∷ [] in
-    let long : length more ≡ length rests + 1 = more_long rests (source.Fresh function (argument ∷ [])) in
+    let long : length more ≡ length rests + 1 = length_push rests (source.Fresh function (argument ∷ [])) in
     let apart : running.slot ≢ thread.slot = λ same. not_vacant old.slots running.slot b.away (ap (get old.slots) same ∙ added.vacant) b.away_there in
     let who : waiting_with state rests ++ newcomer (length rests) ∷ [] ≡ waiting_with state more =
     append_assoc state.waiting (newcomers state.source (length rests)) (newcomer (length rests) ∷ [])
@@ -115,7 +95,7 @@ beside_more g state rests exchange number old new scheduler after running thread
       away_there = added.others.slots running.slot apart ∙ b.away_there;
       away_number = b.away_number;
       away_waits = added.others.waits running.slot apart ∙ b.away_waits;
-      resting = λ place slot away_from e. resting place slot away_from e (here_or_not place thread.slot);
+      resting = λ place slot away_from e. resting place slot away_from e (same_or_not place thread.slot);
       number_is = b.number_is;
       scheduled = subst (λ (l : List Waiter). IsScheduled new.slots new.waits.places after l) who
           (scheduled_more g.program old new rests (waiting_with state rests) function argument thread b.are.are b.are.count added there scheduler after joined told b.scheduled);

@@ -1,26 +1,8 @@
 -- What one run of the interpreter, and the answer to what it asks, come to.
-use Rattle.std.proofs.Common.{◌≡◌, ℕ, suc, ◌+◌, ◌-◌, Bool, List, length, Option, Some, None, Result, Ok, Err, refl, sym, ap, ◌∙◌, subst, arith, append-nil}
-use Rattle.cap_word.specs.Calls.{Immediate}
-use Rattle.cap_word.specs.Runs.{Goes, Stops, and_then, moves}
-use Rattle.cap_word.proofs.RunLemmas.{moves_add}
-use Rattle.cap_word.specs.declared.calls.Ask.{Ask}
-use Rattle.c_tree.specs.Trees.{ProgramTree}
-use Rattle.c_mean.specs.Frames.{Running}
-use Rattle.c_mean.specs.Steps.{SourceMove, source_machine, source_step}
+use Rattle.schedule_reading.proofs.Common.{◌≡◌, ℕ, suc, ◌+◌, ◌-◌, Bool, List, length, Option, Some, None, Result, Ok, Err, refl, sym, ap, ◌∙◌, subst, arith, append-nil, Immediate, Goes, Stops, and_then, moves, moves_add, Ask, ProgramTree, Running, SourceMove, source_machine, source_step, Segment, segment_move, segment_step, Given, IsSilent, State, LeadsTo, asks, Thread, Happening, Under, Failure, Advances, Answers, CrowdsAt, NoneCrowded, Core}
 use Rattle.c_mean.specs.World as source
-use Rattle.c_mean.specs.World.{Segment, segment_move, segment_step}
-use Rattle.lawful_reading.specs.Given.{Given}
-use Rattle.lawful_reading.specs.Happenings.{IsSilent}
-use Rattle.lawful_reading.specs.State.{State}
 use Rattle.lawful_reading.proofs.Moves.{not_both, same_next}
-use Rattle.source_runs.specs.Steps.{LeadsTo, asks}
-use Rattle.source_runs.specs.declared.frames.Thread.{Thread}
-use Rattle.schedule_reading.specs.declared.events.Happening.{Happening}
 use Rattle.schedule_reading.specs.declared.events.Happening.TheVariants as happening
-use Rattle.schedule_reading.specs.declared.reading.Under.{Under}
-use Rattle.schedule_reading.specs.declared.rulings.Failure.{Failure}
-use Rattle.schedule_reading.specs.Coming.{Advances, Answers, CrowdsAt, NoneCrowded}
-use Rattle.schedule_reading.specs.Kept.{Core}
 use Rattle.schedule_reading.proofs.Going.{none_here, none_on, silent_more}
 use Rattle.schedule_reading.proofs.Leading.{at, last, silent_at, silent_last}
 

@@ -1,14 +1,6 @@
 -- Between segments no segment is under way, whatever is kept of one.
-use Rattle.std.proofs.Common.{◌≡◌, ℕ, true, false, Option, Some, None, IsSome, refl, sym, ◌∙◌}
-use Rattle.lawful_reading.specs.Given.{Given}
-use Rattle.lawful_reading.specs.State.{State}
-use Rattle.thread_waits.specs.declared.waits.Wait.{Wait}
-use Rattle.schedule_reading.specs.declared.reading.End.{End}
+use Rattle.schedule_reading.proofs.Common.{◌≡◌, ℕ, true, false, Option, Some, None, IsSome, refl, sym, ◌∙◌, Given, State, Wait, End, Under, Core, Kept, StandsBetween, StandsBetweenSomehow, Stands, StandsAt, StandsBy, StandsWithin}
 use Rattle.schedule_reading.specs.declared.reading.End.TheVariants as end
-use Rattle.schedule_reading.specs.declared.reading.Under.{Under}
-use Rattle.schedule_reading.specs.Kept.{Core, Kept}
-use Rattle.schedule_reading.specs.Rulings.{StandsBetween, StandsBetweenSomehow}
-use Rattle.schedule_reading.specs.Stands.{Stands, StandsAt, StandsBy, StandsWithin}
 use Rattle.schedule_reading.proofs.Unstopped.{between_by, stands_by}
 
 none_some : (o : Option Wait) → o ≡ None → IsSome o → ⊥

@@ -1,25 +1,6 @@
 -- A call that is answered at once: the thread goes on with its result.
-use Rattle.std.proofs.Common.{◌≡◌, ℕ, List, ◌++◌, length, Option, Some, None, sym, ap, ◌∙◌, subst, arith}
-use Rattle.cap_word.specs.declared.calls.Ask.{Ask}
-use Rattle.cap_word.specs.declared.threads.ThreadId.{ThreadId}
-use Rattle.cap_word.specs.declared.traps.TrapKind.{TrapKind}
-use Rattle.c_mean.specs.ModelledCalls.{Exchange, ImmediateRow, immediate_row}
-use Rattle.c_mean.specs.Steps.{source_resume}
+use Rattle.schedule_reading.proofs.Common.{◌≡◌, ℕ, List, ◌++◌, length, Option, Some, None, sym, ap, ◌∙◌, subst, arith, Ask, ThreadId, TrapKind, Exchange, ImmediateRow, immediate_row, source_resume, Segment, with_printed, with_started, ProgramTree, Given, State, same_next, SchedulerState, IsThread, globals_of, running_of, waiting_of, Thread, Exchanging, Under, CrowdsAt, GoesTo, MayAnswer, TrapsAt, Core, AreBeside, ThreadsState}
 use Rattle.c_mean.specs.World as source
-use Rattle.c_mean.specs.World.{Segment, with_printed, with_started}
-use Rattle.c_tree.specs.Trees.{ProgramTree}
-use Rattle.lawful_reading.specs.Given.{Given}
-use Rattle.lawful_reading.specs.State.{State}
-use Rattle.lawful_reading.proofs.Moves.{same_next}
-use Rattle.scheduler.specs.State.{SchedulerState}
-use Rattle.source_runs.specs.Threads.{IsThread, globals_of, running_of, waiting_of}
-use Rattle.source_runs.specs.declared.frames.Thread.{Thread}
-use Rattle.thread_exchange.specs.Exchanges.{Exchanging}
-use Rattle.schedule_reading.specs.declared.reading.Under.{Under}
-use Rattle.schedule_reading.specs.Coming.{CrowdsAt, GoesTo, MayAnswer, TrapsAt}
-use Rattle.schedule_reading.specs.Kept.{Core}
-use Rattle.schedule_reading.specs.Stands.{AreBeside}
-use Rattle.schedule_reading.specs.Told.{ThreadsState}
 use Rattle.schedule_reading.proofs.Leading.{answered, goes_on, traps_now}
 
 -- what they meet has changed

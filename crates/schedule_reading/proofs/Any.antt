@@ -1,24 +1,14 @@
 -- What some thread does that waits: by the places, and by those that wait.
-use Rattle.std.proofs.Common.{◌≡◌, ℕ, zero, suc, ◌||◌, ◌&&◌, not, Bool, true, false, List, [], ◌∷◌, Option, Some, None, IsSome, refl, sym, ap, ◌∙◌, subst, nat_eq}
-use Rattle.std.specs.Prelude.{slice_get, slice_index_or}
-use Rattle.std.specs.List.{AllByRecursion, list_any}
-use Rattle.std.proofs.lemmas.Bool.{eqb-true}
-use Rattle.c_mean.specs.ModelledCalls.{Exchange}
+use Rattle.schedule_reading.proofs.Common.{◌≡◌, ℕ, zero, suc, ◌||◌, ◌&&◌, not, Bool, true, false, List, [], ◌∷◌, Option, Some, None, IsSome, refl, sym, ap, ◌∙◌, subst, nat_eq, slice_get, slice_index_or, AllByRecursion, list_any, eqb-true, Exchange, Fresh, Blocked, ProgramTree, Waiter, waits, Slab, get, Wait, Rest, Slot, AreThreads, IsSince, IsWaiter, RestsAs, WaitsAs, at_place, or_right, or_left}
 use Rattle.c_mean.specs.World as source
-use Rattle.c_mean.specs.World.{Fresh, Blocked}
-use Rattle.c_tree.specs.Trees.{ProgramTree}
 use Rattle.choice_rules.specs.Readiness as rules
-use Rattle.choice_rules.specs.Seen.{Waiter}
-use Rattle.choice_rules.specs.Waiting.{waits}
-use Rattle.choice_rules.proofs.Tests.{left_true, right_true}
-use Rattle.slab.specs.Slab.{Slab, get}
 use Rattle.thread_waits.specs.Waiting as waits_of
-use Rattle.thread_waits.specs.declared.waits.Wait.{Wait}
-use Rattle.schedule_reading.specs.declared.threads.Rest.{Rest}
 use Rattle.schedule_reading.specs.declared.threads.Rest.TheVariants as rest
-use Rattle.schedule_reading.specs.declared.threads.Slot.{Slot}
-use Rattle.schedule_reading.specs.Stands.{AreThreads, IsSince, IsWaiter, RestsAs}
-use Rattle.schedule_reading.specs.Told.{WaitsAs, at_place}
+
+both_ways : (a b : Bool) → (a ≡ true → b ≡ true) → (b ≡ true → a ≡ true) → a ≡ b
+both_ways true b there back = sym (there refl)
+both_ways false true there back = back refl
+both_ways false false there back = refl
 
 -- ---- lists
 
@@ -51,14 +41,8 @@ place_of test (x ∷ xs) h = place_by test x xs (test x) refl (place_of test xs)
 
 pub at_any : {X : Type 0} (test : Option X → Bool) → test None ≡ false → (xs : List (Option X)) (k : ℕ) → test (slice_index_or xs k None) ≡ true → list_any test xs ≡ true
 at_any test none [] k h = absurd (let no : false ≡ true = sym none ∙ h in cc)
-at_any test none (x ∷ xs) zero h = left_true (test x) (list_any test xs) h
-at_any test none (x ∷ xs) (suc k) h = right_true (test x) (list_any test xs) (at_any test none xs k h)
-
--- two tests that say the same
-same_by : (a b : Bool) → (a ≡ true → b ≡ true) → (b ≡ true → a ≡ true) → a ≡ b
-same_by true b there back = sym (there refl)
-same_by false true there back = back refl
-same_by false false there back = refl
+at_any test none (x ∷ xs) zero h = or_left (test x) (list_any test xs) h
+at_any test none (x ∷ xs) (suc k) h = or_right (test x) (list_any test xs) (at_any test none xs k h)
 
 -- ---- threads
 
@@ -92,10 +76,10 @@ module _ (tree : ProgramTree) (slots : Slab Slot) (places : List (Option Wait)) 
       by : (b : Bool) → nat_eq w.thread slot.number ≡ b → (waits xs slot.number ≡ true → list_any h xs ≡ true) → list_any h (w ∷ xs) ≡ true
       by true same more =
           let here : all.0.has.place ≡ place = are.one all.0.has.place place all.0.has.slot slot all.0.has.there there (all.0.has.number_is ∙ eqb-true w.thread slot.number same) in
-          left_true (h w) (list_any h xs) (agree w all.0 ∙ ap (λ (k : ℕ). f (at_place places k)) here ∙ passes)
+          or_left (h w) (list_any h xs) (agree w all.0 ∙ ap (λ (k : ℕ). f (at_place places k)) here ∙ passes)
       by false other more =
           let rest : waits xs slot.number ≡ true = subst (λ (b : Bool). (b || waits xs slot.number) ≡ true) other e in
-          right_true (h w) (list_any h xs) (more rest)
+          or_right (h w) (list_any h xs) (more rest)
 
     there : list_any f places ≡ true → list_any h waiting ≡ true
     there e =
@@ -105,7 +89,7 @@ module _ (tree : ProgramTree) (slots : Slab Slot) (places : List (Option Wait)) 
         any_with p.place slot.0 slot.1 p.passes waiting are.waiters (are.all p.place slot.0 slot.1 (is_some (at_place places p.place) some))
 
     pub any_same : list_any f places ≡ list_any h waiting
-    any_same = same_by (list_any f places) (list_any h waiting) there back
+    any_same = both_ways (list_any f places) (list_any h waiting) there back
 
   -- ---- what a waiter's thread does
 

@@ -1,35 +1,12 @@
 -- What a call that is answered at once comes to, by what is kept after its answer.
-use Rattle.std.proofs.Common.{◌≡◌, ℕ, ◌-◌, ◌≤◌, Bool, true, List, [], ◌∷◌, ◌++◌, length, Option, Some, None, Ok, refl, sym, ap, ◌∙◌, subst, arith, append-nil, length-set}
-use Rattle.std.specs.Prelude.{IfSome, is_none, if◌then◌else◌}
-use Rattle.cap_word.specs.declared.calls.Ask.{Ask}
-use Rattle.cap_word.specs.declared.threads.ThreadId.{ThreadId}
-use Rattle.cap_word.specs.declared.traps.TrapKind.{TrapKind}
-use Rattle.c_mean.specs.ModelledCalls.{Exchange, ImmediateRow, immediate_row, resource_trap, use_of, with_use}
-use Rattle.c_mean.specs.Steps.{source_resume}
+use Rattle.schedule_reading.proofs.Common.{◌≡◌, ℕ, ◌-◌, ◌≤◌, Bool, true, List, [], ◌∷◌, ◌++◌, length, Option, Some, None, Ok, refl, sym, ap, ◌∙◌, subst, arith, append-nil, length-set, IfSome, is_none, if◌then◌else◌, Ask, ThreadId, TrapKind, Exchange, ImmediateRow, immediate_row, resource_trap, use_of, with_use, source_resume, Segment, with_printed, with_started, latest, Given, most_threads, State, Need, tree_of, IsThread, globals_of, running_of, waiting_of, wake_of, Wait, Under, HasAdded, KeepsAll, Answers, GoesTo, KeepsBut, MayAnswer, Core, AreBeside, IsTimely, ThreadsState, at_place, length_push}
 use Rattle.c_mean.specs.World as source
-use Rattle.c_mean.specs.World.{Segment, with_printed, with_started}
-use Rattle.choice_rules.specs.Clock.{latest}
-use Rattle.lawful_reading.specs.Given.{Given}
-use Rattle.cap_word.specs.Calls.{most_threads}
-use Rattle.lawful_reading.specs.State.{State}
-use Rattle.ready_tree.specs.declared.needs.Need.{Need}
 use Rattle.scheduler.specs.State.{SchedulerState, IsJoined, IsTold, last_of}
-use Rattle.source_runs.specs.Layouts.{tree_of}
-use Rattle.source_runs.specs.Threads.{IsThread, globals_of, running_of, waiting_of}
 use Rattle.thread_exchange.specs.Exchanges.{Exchanging, after_ask}
-use Rattle.thread_waits.specs.Counted.{wake_of}
-use Rattle.thread_waits.specs.declared.waits.Wait.{Wait}
 use Rattle.schedule_reading.specs.declared.events.Happening.TheVariants as happening
-use Rattle.schedule_reading.specs.declared.reading.Under.{Under}
-use Rattle.schedule_reading.specs.Changes.{HasAdded, KeepsAll}
-use Rattle.schedule_reading.specs.Coming.{Answers, GoesTo, KeepsBut, MayAnswer}
-use Rattle.schedule_reading.specs.Kept.{Core}
-use Rattle.schedule_reading.specs.Stands.{AreBeside, IsTimely}
-use Rattle.schedule_reading.specs.Told.{ThreadsState, at_place}
 use Rattle.schedule_reading.proofs.Adding.{beside_more}
 use Rattle.schedule_reading.proofs.Answered.{Resumes, beside_exchange, resumes_in, row, starts_none, trapped, went_on}
 use Rattle.schedule_reading.proofs.Leading.{answered, goes_on}
-use Rattle.schedule_reading.proofs.Standing.{more_long}
 
 -- the thread went on with this word, after what threads meet and the queues had changed
 pub record HasResumed (k mid new : Core) (under under' : Under) (word : ℕ) : Type 0 where
@@ -124,7 +101,7 @@ module _ (g : Given) (state : State) (last : Segment) (crowds : Bool) (k : Core)
       record {
         after = answered g.program g.policy.caps last under.thread k.words (Ask.Spawn function argument) may.asks;
         goes = goes_on g.program g.policy.caps last under.thread k.words (Ask.Spawn function argument) may.asks refl;
-        one_more = let more = more_long last.world.threads (source.Fresh function (argument ∷ [])) in omega (arith, more);
+        one_more = let more = length_push last.world.threads (source.Fresh function (argument ∷ [])) in omega (arith, more);
       },
     ),
     asked,

@@ -1,7 +1,5 @@
 -- The averages that an edge's line shows, one resource after another.
-use Rattle.std.proofs.Common.{◌≡◌, ◌≢◌, ◌↔◌, ℕ, zero, suc, ◌+◌, ◌<◌, ◌≤◌, ◌⊎◌, inl, inr, ℤ, pos, nat_eq, true, List, [], ◌∷◌, length, drop, refl, sym, ap, ◌∙◌, arith, if◌then◌else◌, get_or, drop-cons, add-one, length-drop}
-use Rattle.std.proofs.lemmas.Bool.{eq-eqb, eqb-true, ne_eqb}
-use Rattle.choice_rules.specs.EdgeLines.{given, shown}
+use Rattle.schedule_reading.proofs.Common.{◌≡◌, ◌≢◌, ◌↔◌, ℕ, zero, suc, ◌+◌, ◌<◌, ◌≤◌, ◌⊎◌, inl, inr, ℤ, pos, nat_eq, true, List, [], ◌∷◌, length, drop, refl, sym, ap, ◌∙◌, arith, if◌then◌else◌, get_or, drop-cons, add-one, length-drop, eq-eqb, eqb-true, ne_eqb, given, shown}
 
 -- what is left to be shown from a resource on
 abbrev pub left_at : List ℕ → List ℤ → ℕ → List ℤ

@@ -1,32 +1,11 @@
 -- The chosen thread runs: it stands at its place, and waits no more.
-use Rattle.std.proofs.Common.{◌≡◌, ◌≢◌, ℕ, ◌-◌, Bool, true, false, nat_eq, List, [], ◌∷◌, length, map, Option, Some, None, IsSome, option_map, find, refl, sym, ap, ◌∙◌, subst, arith, ⊎_elim, if◌then◌else◌}
-use Rattle.std.specs.Prelude.{IsTrue}
-use Rattle.std.specs.List.{AllByRecursion, range_with_len}
-use Rattle.std.proofs.lemmas.Bool.{eqb-true}
-use Rattle.cap_word.specs.declared.threads.ThreadId.{ThreadId}
+use Rattle.schedule_reading.proofs.Common.{◌≡◌, ◌≢◌, ℕ, ◌-◌, Bool, true, false, nat_eq, List, [], ◌∷◌, length, map, Option, Some, None, IsSome, option_map, find, refl, sym, ap, ◌∙◌, subst, arith, ⊎_elim, if◌then◌else◌, IsTrue, AllByRecursion, range_with_len, eqb-true, ThreadId, ProgramTree, Waiter, newcomers, AreQueued, IsQueue, at_node, waits, all_at_node, queue_kept, all_but, but, differ_all, once_but, waits_but_other, waits_but_self, lives, Need, SchedulerState, IsNoted, IsTaken, entries_at, queue_of, get, need_for, Wait, Rest, Slot, KeepsOthers, AreThreads, HasSlot, IsScheduled, IsSlot, IsWaiter, RestsAs, numbers_of, ThreadsState, VouchesIn, at_place, wait_of, same_or_not}
 use Rattle.c_mean.specs.World as source
-use Rattle.c_tree.specs.Trees.{ProgramTree}
-use Rattle.choice_rules.specs.Seen.{Waiter, newcomers}
-use Rattle.choice_rules.specs.Waiting.{AreQueued, IsQueue, at_node, waits}
 use Rattle.choice_rules.proofs.Leaving.{queued_left}
-use Rattle.choice_rules.proofs.Queues.{all_at_node, queue_kept}
-use Rattle.choice_rules.proofs.Waiters.{all_but, but, differ_all, once_but, waits_but_other, waits_but_self}
-use Rattle.lawful_reading.specs.Happenings.{lives}
 use Rattle.ready_tree.specs.declared.entries.Entry.{Entry}
-use Rattle.ready_tree.specs.declared.needs.Need.{Need}
 use Rattle.scheduler.specs.Queues.{is_same, threads_of, without_entry}
-use Rattle.scheduler.specs.State.{SchedulerState, IsNoted, IsTaken, entries_at, queue_of}
-use Rattle.slab.specs.Slab.{get}
-use Rattle.thread_waits.specs.Needs.{need_for}
-use Rattle.thread_waits.specs.declared.waits.Wait.{Wait}
-use Rattle.schedule_reading.specs.declared.threads.Rest.{Rest}
 use Rattle.schedule_reading.specs.declared.threads.Rest.TheVariants as rest
-use Rattle.schedule_reading.specs.declared.threads.Slot.{Slot}
-use Rattle.schedule_reading.specs.Changes.{KeepsOthers}
-use Rattle.schedule_reading.specs.Stands.{AreThreads, HasSlot, IsScheduled, IsSlot, IsWaiter, RestsAs, numbers_of}
-use Rattle.schedule_reading.specs.Told.{ThreadsState, VouchesIn, at_place, wait_of}
 use Rattle.schedule_reading.proofs.Places.{At, not_vacant, placed_at, placed_by, same_slot, slot_kept, vouched_kept, waiter_kept}
-use Rattle.schedule_reading.proofs.Waits.{here_or_not}
 
 pub none_new : (old : source.World) → newcomers old (length old.threads) ≡ []
 none_new old =
@@ -69,7 +48,7 @@ module _ (tree : ProgramTree) (old new : ThreadsState) (rests : List source.Rest
       let is : gone ≡ s = same_slot new.slots chosen.slot gone s away (ap (get new.slots) (sym here) ∙ e) in
       record { stood = slot; there = ap (get old.slots) here ∙ was; same = ap (λ (x : Slot). x.number) is })
       (λ apart. record { stood = s; there = sym (others.slots place apart) ∙ e; same = refl })
-      (here_or_not place chosen.slot)
+      (same_or_not place chosen.slot)
 
   each_slot : (place : ℕ) (s : Slot) → get new.slots place ≡ Some s → IsSlot tree new.waits.places rests place s
   each_slot place s e = ⊎_elim
@@ -77,13 +56,13 @@ module _ (tree : ProgramTree) (old new : ThreadsState) (rests : List source.Rest
       let is : gone ≡ s = same_slot new.slots chosen.slot gone s away (ap (get new.slots) (sym here) ∙ e) in
       subst (λ (x : Slot). IsSlot tree new.waits.places rests place x) is (subst (λ (k : ℕ). IsSlot tree new.waits.places rests k gone) (sym here) away_slot))
       (λ apart. slot_kept tree old new chosen.slot others rests rests place s apart refl (are.each place s (sym (others.slots place apart) ∙ e)))
-      (here_or_not place chosen.slot)
+      (same_or_not place chosen.slot)
 
   vacant_slot : (place : ℕ) → get new.slots place ≡ None → at_place new.waits.places place ≡ None
   vacant_slot place e = ⊎_elim
       (λ (here : place ≡ chosen.slot). absurd (not_vacant new.slots chosen.slot gone (ap (get new.slots) (sym here) ∙ e) away))
       (λ apart. others.waits place apart ∙ are.vacant place (sym (others.slots place apart) ∙ e))
-      (here_or_not place chosen.slot)
+      (same_or_not place chosen.slot)
 
   moved : (number : ℕ) → HasSlot old.slots number → HasSlot new.slots number
   moved number has = ⊎_elim
@@ -91,7 +70,7 @@ module _ (tree : ProgramTree) (old new : ThreadsState) (rests : List source.Rest
       let is : slot ≡ has.slot = same_slot old.slots chosen.slot slot has.slot was (ap (get old.slots) (sym here) ∙ has.there) in
       record { place = chosen.slot; slot = gone; there = away; number_is = ap (λ (x : Slot). x.number) is ∙ has.number_is })
       (λ apart. record { place = has.place; slot = has.slot; there = others.slots has.place apart ∙ has.there; number_is = has.number_is })
-      (here_or_not has.place chosen.slot)
+      (same_or_not has.place chosen.slot)
 
   -- another number stands elsewhere
   apart_place : (place : ℕ) (s : Slot) → get old.slots place ≡ Some s → s.number ≢ chosen.number → place ≢ chosen.slot
@@ -120,7 +99,7 @@ module _ (tree : ProgramTree) (old new : ThreadsState) (rests : List source.Rest
       let there : get old.slots place ≡ Some s = sym (others.slots place apart) ∙ e in
       let differ : s.number ≢ chosen.number = λ same. apart (are.one place chosen.slot s slot there was (same ∙ sym number_is)) in
       waits_but_other chosen.number s.number waiting differ ∙ are.all place s there (subst (λ (o : Option Wait). IsSome o) (others.waits place apart) some))
-      (here_or_not place chosen.slot)
+      (same_or_not place chosen.slot)
 
   pub are_left : AreThreads tree new.slots new.waits.places rests (but chosen.number waiting)
   are_left = record {
@@ -143,7 +122,7 @@ module _ (tree : ProgramTree) (old new : ThreadsState) (rests : List source.Rest
       let is : slot ≡ at.slot = same_slot old.slots chosen.slot slot at.slot was (ap (get old.slots) (sym here) ∙ at.there) in
       record { slot = gone; there = ap (get new.slots) here ∙ away; number_is = ap (λ (x : Slot). x.number) is ∙ at.number_is })
       (λ apart. record { slot = at.slot; there = others.slots thread.slot apart ∙ at.there; number_is = at.number_is })
-      (here_or_not thread.slot chosen.slot)
+      (same_or_not thread.slot chosen.slot)
 
   trivial : (ws : List Waiter) → AllByRecursion (λ w. Unit {0}) ws
   trivial [] = tt
@@ -204,7 +183,7 @@ module _ (tree : ProgramTree) (old new : ThreadsState) (rests : List source.Rest
         (subst (AllByRecursion (λ entry. VouchesIn old.slots old.waits.places entry.thread entry.need)) (sym taken.queue)
         (all_without (λ entry. VouchesIn old.slots old.waits.places entry.thread entry.need) (entries_at scheduler node) (is.known node))))
         (λ apart. subst (AllByRecursion (λ entry. VouchesIn old.slots old.waits.places entry.thread entry.need)) (sym (taken.others other apart)) (is.known other))
-        (here_or_not other node)
+        (same_or_not other node)
 
     pub scheduled_left : IsScheduled new.slots new.waits.places after (but chosen.number waiting)
     scheduled_left = record {

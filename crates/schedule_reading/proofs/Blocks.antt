@@ -1,34 +1,14 @@
 -- Lines of a segment that ends: `block` and `end`.
-use Rattle.std.proofs.Common.{◌≡◌, ℕ, ◌+◌, ◌-◌, ◌≤◌, List, [], ◌∷◌, ◌++◌, length, Option, Some, None, Ok, refl, sym, ap, ◌∙◌, subst, arith, length-set}
-use Rattle.std.specs.Prelude.{slice_get, slice_set}
-use Rattle.blocking_graph.specs.Edges.{count_of}
-use Rattle.blocking_graph.specs.Graph.{GraphState}
+use Rattle.schedule_reading.proofs.Common.{◌≡◌, ℕ, ◌+◌, ◌-◌, ◌≤◌, List, [], ◌∷◌, ◌++◌, length, Option, Some, None, Ok, refl, sym, ap, ◌∙◌, subst, arith, length-set, slice_get, slice_set, count_of, GraphState, EdgeLine, Block, TrapKind, Waiter, Given, RestsNext, IsBlock, IsClosed, not_put_and_rest, one_rest, Entry, Choice, globals_of, waiting_of, Happening, Under, AllowsWithin, HasProceeded, HasRested, IsClosing, RulesWithin, Core, Kept, Refuses, AreLive, HasPast, IsEnd, IsOf, IsScheduled, IsTimely, StandsAt, StandsBy, StandsWithin, waiting_with, same_segment}
 use Rattle.blocking_graph.specs.Nodes.{keys_with, node_number}
-use Rattle.blocking_graph.specs.declared.edges.EdgeLine.{EdgeLine}
-use Rattle.cap_word.specs.declared.calls.Block.{Block}
-use Rattle.cap_word.specs.declared.traps.TrapKind.{TrapKind}
 use Rattle.c_mean.specs.Frames.{Waiting, key_of}
 use Rattle.c_mean.specs.World as source
-use Rattle.choice_rules.specs.Seen.{Waiter}
-use Rattle.lawful_reading.specs.Given.{Given}
-use Rattle.lawful_reading.specs.Happenings.{RestsNext}
-use Rattle.lawful_reading.specs.Segments.{IsBlock, IsClosed}
 use Rattle.lawful_reading.specs.State.{Segment, State}
-use Rattle.lawful_reading.proofs.Moves.{not_put_and_rest, one_rest}
-use Rattle.schedule_log.specs.declared.entries.Entry.{Entry}
-use Rattle.scheduler.specs.declared.choices.Choice.{Choice}
-use Rattle.source_runs.specs.Threads.{globals_of, waiting_of}
-use Rattle.schedule_reading.specs.declared.events.Happening.{Happening}
 use Rattle.schedule_reading.specs.declared.events.Happening.TheVariants as happening
 use Rattle.schedule_reading.specs.declared.reading.End.TheVariants as end
-use Rattle.schedule_reading.specs.declared.reading.Under.{Under}
 use Rattle.schedule_reading.specs.declared.rulings.Ruling.TheVariants as ruling
-use Rattle.schedule_reading.specs.Closing.{AllowsWithin, HasProceeded, HasRested, IsClosing, RulesWithin}
-use Rattle.schedule_reading.specs.Kept.{Core, Kept}
-use Rattle.schedule_reading.specs.Rulings.{Refuses}
-use Rattle.schedule_reading.specs.Stands.{AreLive, HasPast, IsEnd, IsOf, IsScheduled, IsTimely, StandsAt, StandsBy, StandsWithin, waiting_with}
 use Rattle.schedule_reading.proofs.Leaves as leaves
-use Rattle.schedule_reading.proofs.Proceeding.{came_beyond, came_blocks, came_ends, came_puts, came_traps, in_steps, its_segment, late, not_yet, of_keeps, past_keeps, same_segment, yet_not}
+use Rattle.schedule_reading.proofs.Proceeding.{came_beyond, came_blocks, came_ends, came_puts, came_traps, in_steps, its_segment, late, not_yet, of_keeps, past_keeps, yet_not}
 use Rattle.schedule_reading.proofs.Resting as resting
 use Rattle.schedule_reading.proofs.Standing.{set_here}
 

@@ -1,33 +1,9 @@
 -- What a run of the interpreter comes to, as the thread under way.
-use Rattle.std.proofs.Common.{◌≡◌, ℕ, ◌-◌, ◌≤◌, Bool, List, Option, Some, None, Result, Ok, refl, sym, ap, ◌∙◌, subst, arith}
-use Rattle.std.specs.Prelude.{slice_set}
-use Rattle.cap_word.specs.Calls.{Blocking, Immediate}
-use Rattle.cap_word.specs.Runs.{Goes, Stops, moves}
-use Rattle.cap_word.specs.declared.calls.Ask.{Ask}
-use Rattle.cap_word.specs.declared.calls.Block.{Block}
-use Rattle.cap_word.specs.declared.traps.TrapKind.{TrapKind}
-use Rattle.c_tree.specs.Trees.{ProgramTree}
-use Rattle.c_mean.specs.Frames.{Running}
-use Rattle.c_mean.specs.ModelledCalls.{Exchange, blocking_row}
-use Rattle.c_mean.specs.Steps.{SourceMove, source_machine}
+use Rattle.schedule_reading.proofs.Common.{◌≡◌, ℕ, ◌-◌, ◌≤◌, Bool, List, Option, Some, None, Result, Ok, refl, sym, ap, ◌∙◌, subst, arith, slice_set, Blocking, Immediate, Goes, Stops, moves, Ask, Block, TrapKind, ProgramTree, Running, Exchange, blocking_row, SourceMove, source_machine, Segment, SegmentMove, Blocked, Ended, rests, segment_move, unless_trap, Given, RestsNext, State, tree_of, HasCome, LeadsTo, asks, ends, traps, globals_of, running_of, waiting_of, Thread, row_of, Happening, Under, Failure, Advances, Answers, KeepsBut, MayAnswer, MayRun, NoneCrowded, Core}
 use Rattle.c_mean.specs.World as source
-use Rattle.c_mean.specs.World.{Segment, SegmentMove, Blocked, Ended, rests, segment_move, unless_trap}
-use Rattle.lawful_reading.specs.Given.{Given}
-use Rattle.lawful_reading.specs.Happenings.{RestsNext}
-use Rattle.lawful_reading.specs.State.{State}
-use Rattle.source_runs.specs.Layouts.{tree_of}
-use Rattle.source_runs.specs.Steps.{HasCome, LeadsTo, asks, ends, traps}
-use Rattle.source_runs.specs.Threads.{globals_of, running_of, waiting_of}
-use Rattle.source_runs.specs.declared.frames.Thread.{Thread}
 use Rattle.source_runs.specs.declared.interpreter.Coming.{Coming}
 use Rattle.source_runs.specs.declared.interpreter.Coming.TheVariants as coming
-use Rattle.thread_exchange.specs.Exchanges.{row_of}
-use Rattle.schedule_reading.specs.declared.events.Happening.{Happening}
 use Rattle.schedule_reading.specs.declared.events.Happening.TheVariants as happening
-use Rattle.schedule_reading.specs.declared.reading.Under.{Under}
-use Rattle.schedule_reading.specs.declared.rulings.Failure.{Failure}
-use Rattle.schedule_reading.specs.Coming.{Advances, Answers, KeepsBut, MayAnswer, MayRun, NoneCrowded}
-use Rattle.schedule_reading.specs.Kept.{Core}
 use Rattle.schedule_reading.proofs.Advancing.{advanced, none_stopped, quiet_none}
 use Rattle.schedule_reading.proofs.Keeping.{of_with, same_monitor}
 use Rattle.schedule_reading.proofs.Leading.{at, last, last_step, rests_by, silent_at}

@@ -1,16 +1,5 @@
 -- The caps and uses of what is kept.
-use Rattle.std.proofs.Common.{◌≡◌, ℕ, zero, suc, ◌-◌, ◌<◌, ◌≤◌, List, nat_eq, refl, sym, ap, ◌∙◌, subst, arith}
-use Rattle.std.specs.Prelude.{slice_index}
-use Rattle.std.proofs.lemmas.Bool.{cond-false, ne_eqb}
-use Rattle.c_mean.specs.ModelledCalls.{cap_of, use_of}
-use Rattle.choice_rules.specs.Policy.{all_caps}
-use Rattle.choice_rules.specs.Seen.{uses_in}
-use Rattle.choice_rules.proofs.Changes.{at_drop}
-use Rattle.lawful_reading.specs.Given.{Given}
-use Rattle.schedule_reading.specs.Kept.{Core}
-use Rattle.schedule_reading.specs.Stands.{IsOf}
-use Rattle.schedule_reading.specs.Uses.{cap_in, used_in}
-use Rattle.resource_monitor.specs.Monitor.{NoneAbove}
+use Rattle.schedule_reading.proofs.Common.{◌≡◌, ℕ, zero, suc, ◌-◌, ◌<◌, ◌≤◌, List, nat_eq, refl, sym, ap, ◌∙◌, subst, arith, slice_index, cond-false, ne_eqb, cap_of, use_of, all_caps, at_drop, Given, Core, IsOf, cap_in, NoneAbove, used_in, uses_in}
 
 -- ---- caps
 

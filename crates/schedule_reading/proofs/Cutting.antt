@@ -1,31 +1,10 @@
 -- Stops that cut the segment under way.
-use Rattle.std.proofs.Common.{◌≡◌, ℕ, ◌+◌, ◌-◌, ◌<◌, ◌≤◌, inl, inr, Bool, true, false, Option, Some, None, Result, Ok, refl, sym, ap, ◌∙◌, subst, arith, ⊎_elim}
-use Rattle.std.proofs.lemmas.Bool.{cases_lt}
-use Rattle.cap_word.specs.declared.calls.Block.{Block}
-use Rattle.cap_word.specs.declared.stops.Stop.{Stop}
-use Rattle.cap_word.specs.declared.traps.TrapKind.{TrapKind}
+use Rattle.schedule_reading.proofs.Common.{◌≡◌, ℕ, ◌+◌, ◌-◌, ◌<◌, ◌≤◌, inl, inr, Bool, true, false, Option, Some, None, Result, Ok, refl, sym, ap, ◌∙◌, subst, arith, ⊎_elim, cases_lt, Block, Stop, TrapKind, IsCause, IsCut, Given, ComesAt, IsCrowdedNext, RestsNext, IsBeyond, StopNeeds, not_put_and_rest, one_put, one_rest, Entry, StopLine, Happening, Under, Failure, Ruling, HasProceeded, IsWithin, CrowdsFirst, HasHappened, NoneCrowded, RulesCause, RulesCrowd, RulesCut, RulesTrap, TrapsNext, Core, ruled, StandsWithin, same_segment}
 use Rattle.c_mean.specs.World as source
-use Rattle.lawful_reading.specs.Ends.{IsCause, IsCut}
-use Rattle.lawful_reading.specs.Given.{Given}
-use Rattle.lawful_reading.specs.Happenings.{ComesAt, IsCrowdedNext, RestsNext}
-use Rattle.lawful_reading.specs.Reading.{IsBeyond, StopNeeds}
 use Rattle.lawful_reading.specs.State.{IsPossible, Segment, State}
-use Rattle.lawful_reading.proofs.Moves.{not_put_and_rest, one_put, one_rest}
-use Rattle.schedule_log.specs.declared.entries.Entry.{Entry}
-use Rattle.schedule_log.specs.declared.entries.StopLine.{StopLine}
-use Rattle.schedule_reading.specs.declared.events.Happening.{Happening}
 use Rattle.schedule_reading.specs.declared.events.Happening.TheVariants as happening
-use Rattle.schedule_reading.specs.declared.reading.Under.{Under}
-use Rattle.schedule_reading.specs.declared.rulings.Failure.{Failure}
-use Rattle.schedule_reading.specs.declared.rulings.Ruling.{Ruling}
 use Rattle.schedule_reading.specs.declared.rulings.Ruling.TheVariants as ruling
-use Rattle.schedule_reading.specs.Closing.{HasProceeded, IsWithin}
-use Rattle.schedule_reading.specs.Coming.{CrowdsFirst, HasHappened, NoneCrowded}
-use Rattle.schedule_reading.specs.Ending.{RulesCause, RulesCrowd, RulesCut, RulesTrap, TrapsNext}
-use Rattle.schedule_reading.specs.Kept.{Core}
-use Rattle.schedule_reading.specs.Ruled.{ruled}
-use Rattle.schedule_reading.specs.Stands.{StandsWithin}
-use Rattle.schedule_reading.proofs.Proceeding.{Came, came_blocks, came_ends, came_puts, came_traps, same_segment, silent_comes}
+use Rattle.schedule_reading.proofs.Proceeding.{Came, came_blocks, came_ends, came_puts, came_traps, silent_comes}
 
 pub cause_needs : (g : Given) (state : State) (segment : Segment) (stop : Stop) (cost steps : ℕ) → IsCause g state segment stop cost steps → StopNeeds g segment stop steps
 cause_needs g state segment (Stop.Trap kind) cost steps c = inr (c.0, c.1)

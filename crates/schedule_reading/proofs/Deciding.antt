@@ -1,20 +1,9 @@
 -- What has to come at a choice point, where the trace was looked at first.
-use Rattle.std.proofs.Common.{◌≡◌, ℕ, ◌<◌, List, Option, Some, None, refl, sym, subst}
-use Rattle.choice_rules.specs.Trace.{IsRefused, Trace}
-use Rattle.event_trace.specs.Reader.{ReaderState}
-use Rattle.event_trace.specs.declared.events.Event.{Event}
-use Rattle.lawful_reading.specs.Given.{Given}
-use Rattle.lawful_reading.specs.State.{State}
-use Rattle.schedule_reading.specs.declared.points.Point.{Point}
+use Rattle.schedule_reading.proofs.Common.{◌≡◌, ℕ, ◌<◌, List, Option, Some, None, refl, sym, subst, IsRefused, Trace, ReaderState, Event, Given, State, Point, Next, Kept, IsTold, IsLooked, IsTraceOf, StandsAt}
 use Rattle.schedule_reading.specs.declared.points.Point.TheVariants as point
-use Rattle.schedule_reading.specs.declared.reading.Next.{Next}
 use Rattle.schedule_reading.specs.declared.reading.Next.TheVariants as next
-use Rattle.schedule_reading.specs.Kept.{Kept}
 use Rattle.schedule_reading.specs.Rulings.{Goes, Halts, IsPoint, Knows}
-use Rattle.schedule_reading.specs.Stands.{IsTold, IsLooked, IsTraceOf, StandsAt}
 use Rattle.schedule_reading.proofs.Pointing.{between_is, live_is}
-
--- ---- every thread has ended
 
 -- ---- the next line was looked at
 

@@ -1,27 +1,10 @@
 -- Lines of choice points, from what had to come there.
-use Rattle.std.proofs.Common.{◌≡◌, ℕ, Bool, true, false, not, List, Option, None, Result, Ok, Err, refl, sym, ap, ◌∙◌, subst}
 use mathlib.Core.Bool.{beq}
-use Rattle.c_mean.specs.ModelledCalls.{is_dropped}
-use Rattle.choice_rules.specs.Deliveries.{delivery_of, item_of, coming_entry}
-use Rattle.event_trace.specs.declared.events.Event.{Event}
-use Rattle.lawful_reading.specs.Given.{Given}
+use Rattle.schedule_reading.proofs.Common.{◌≡◌, ℕ, Bool, true, false, not, List, Option, None, Result, Ok, Err, refl, sym, ap, ◌∙◌, subst, is_dropped, delivery_of, item_of, coming_entry, Event, Given, State, Entry, Item, after_delivery, Point, Failure, Ruling, RulesWithin, Kept, ruled, Comes, ComesToChoice, CountsReads, IsPoint, Refuses, Rules, RulesChoice, Chooses, IsTold, ThreadsState}
 use Rattle.lawful_reading.specs.State as reading
-use Rattle.lawful_reading.specs.State.{State}
-use Rattle.schedule_log.specs.declared.entries.Entry.{Entry}
-use Rattle.schedule_log.specs.declared.entries.Item.{Item}
-use Rattle.thread_exchange.specs.Exchanges.{after_delivery}
-use Rattle.schedule_reading.specs.declared.points.Point.{Point}
 use Rattle.schedule_reading.specs.declared.reading.End.TheVariants as end
 use Rattle.schedule_reading.specs.declared.reading.Next.TheVariants as next
-use Rattle.schedule_reading.specs.declared.rulings.Failure.{Failure}
-use Rattle.schedule_reading.specs.declared.rulings.Ruling.{Ruling}
 use Rattle.schedule_reading.specs.declared.rulings.Ruling.TheVariants as ruling
-use Rattle.schedule_reading.specs.Closing.{RulesWithin}
-use Rattle.schedule_reading.specs.Kept.{Kept}
-use Rattle.schedule_reading.specs.Ruled.{ruled}
-use Rattle.schedule_reading.specs.Rulings.{Comes, ComesToChoice, CountsReads, IsPoint, Refuses, Rules, RulesChoice, Chooses}
-use Rattle.schedule_reading.specs.Stands.{IsTold}
-use Rattle.schedule_reading.specs.Told.{ThreadsState}
 use Rattle.schedule_reading.proofs.PointLines.{chooses, run_elsewhen, run_ruled}
 use Rattle.schedule_reading.proofs.Delivering.{comes_allowed, other_drops}
 

@@ -1,32 +1,9 @@
 -- A line of what comes from outside.
-use Rattle.std.proofs.Common.{◌≡◌, ℕ, Bool, true, false, List, ◌∷◌, ◌++◌, drop, length, Option, Some, None, if◌then◌else◌, refl, sym, ap, ◌∙◌, subst, arith}
-use Rattle.std.proofs.lemmas.Bool.Decides.{nat_tests}
-use Rattle.c_mean.specs.ModelledCalls.{Delivery, Arrival, Message, Exchange, is_dropped, with_delivery}
-use Rattle.choice_rules.specs.Choice.{is_open}
-use Rattle.choice_rules.specs.Clock.{IsChoicePoint, is_due}
+use Rattle.schedule_reading.proofs.Common.{◌≡◌, ℕ, Bool, true, false, List, ◌∷◌, ◌++◌, drop, length, Option, Some, None, if◌then◌else◌, refl, sym, ap, ◌∙◌, subst, arith, nat_tests, Delivery, Arrival, Message, Exchange, is_dropped, with_delivery, is_open, IsChoicePoint, is_due, delivery_of, item_of, coming_entry, all_caps, Trace, behind, one_clock, ReaderState, Event, IsComing, Given, IsAllowed, IsBeyond, State, seen_of, gate_after, pressures, Entry, Item, Exchanging, after_delivery, Next, Core, Kept, Allows, Comes, Knows, Refuses, IsEnd, IsLooked, IsTold, IsTraceOf, StandsAt, StandsBy, StandsUnless}
 use Rattle.choice_rules.specs.Deliveries as rules
-use Rattle.choice_rules.specs.Deliveries.{delivery_of, item_of, coming_entry}
-use Rattle.choice_rules.specs.Policy.{all_caps}
-use Rattle.choice_rules.specs.Trace.{Trace, behind}
-use Rattle.choice_rules.proofs.Points.{one_clock}
-use Rattle.event_trace.specs.Reader.{ReaderState}
-use Rattle.event_trace.specs.declared.events.Event.{Event}
-use Rattle.lawful_reading.specs.Choice.{IsComing}
-use Rattle.lawful_reading.specs.Given.{Given}
-use Rattle.lawful_reading.specs.Reading.{IsAllowed, IsBeyond}
 use Rattle.lawful_reading.specs.State as reading
-use Rattle.lawful_reading.specs.State.{State, seen_of}
-use Rattle.resource_monitor.specs.Gate.{gate_after}
-use Rattle.resource_monitor.specs.Pressure.{pressures}
-use Rattle.schedule_log.specs.declared.entries.Entry.{Entry}
-use Rattle.schedule_log.specs.declared.entries.Item.{Item}
-use Rattle.thread_exchange.specs.Exchanges.{Exchanging, after_delivery}
 use Rattle.schedule_reading.specs.declared.reading.End.TheVariants as end
-use Rattle.schedule_reading.specs.declared.reading.Next.{Next}
 use Rattle.schedule_reading.specs.declared.reading.Next.TheVariants as next
-use Rattle.schedule_reading.specs.Kept.{Core, Kept}
-use Rattle.schedule_reading.specs.Rulings.{Allows, Comes, Knows, Refuses}
-use Rattle.schedule_reading.specs.Stands.{IsEnd, IsLooked, IsTold, IsTraceOf, StandsAt, StandsBy, StandsUnless}
 use Rattle.schedule_reading.proofs.Keeping.{of_with, past_with, same_monitor}
 
 -- ---- lines

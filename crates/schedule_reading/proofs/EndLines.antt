@@ -1,27 +1,10 @@
 -- Lines `end`.
-use Rattle.std.proofs.Common.{◌≡◌, ℕ, ◌+◌, ◌-◌, List, [], Option, Some, None, Ok, refl, sym, ap, ◌∙◌, subst, arith, append-nil, length-set}
-use Rattle.std.specs.Prelude.{slice_get, slice_set}
-use Rattle.blocking_graph.specs.Edges.{count_of}
-use Rattle.cap_word.specs.declared.calls.Block.{Block}
-use Rattle.cap_word.specs.declared.traps.TrapKind.{TrapKind}
+use Rattle.schedule_reading.proofs.Common.{◌≡◌, ℕ, ◌+◌, ◌-◌, List, [], Option, Some, None, Ok, refl, sym, ap, ◌∙◌, subst, arith, append-nil, length-set, slice_get, slice_set, count_of, Block, TrapKind, Waiter, end_node, Given, State, Entry, globals_of, waiting_of, Happening, Under, HasEnded, AllowsWithin, HasProceeded, IsClosing, RulesWithin, closed, Core, Kept, Refuses, AreLive, IsEnd, IsScheduled, StandsAt, StandsBy, StandsWithin, waiting_with, ThreadsState}
 use Rattle.c_mean.specs.World as source
-use Rattle.choice_rules.specs.Seen.{Waiter, end_node}
-use Rattle.lawful_reading.specs.Given.{Given}
 use Rattle.lawful_reading.specs.Segments.{IsEnd as IsEndLine}
-use Rattle.lawful_reading.specs.State.{State}
-use Rattle.schedule_log.specs.declared.entries.Entry.{Entry}
-use Rattle.source_runs.specs.Threads.{globals_of, waiting_of}
-use Rattle.schedule_reading.specs.declared.events.Happening.{Happening}
 use Rattle.schedule_reading.specs.declared.events.Happening.TheVariants as happening
 use Rattle.schedule_reading.specs.declared.reading.End.TheVariants as end
-use Rattle.schedule_reading.specs.declared.reading.Under.{Under}
 use Rattle.schedule_reading.specs.declared.rulings.Ruling.TheVariants as ruling
-use Rattle.schedule_reading.specs.Changes.{HasEnded}
-use Rattle.schedule_reading.specs.Closing.{AllowsWithin, HasProceeded, IsClosing, RulesWithin, closed}
-use Rattle.schedule_reading.specs.Kept.{Core, Kept}
-use Rattle.schedule_reading.specs.Rulings.{Refuses}
-use Rattle.schedule_reading.specs.Stands.{AreLive, IsEnd, IsScheduled, StandsAt, StandsBy, StandsWithin, waiting_with}
-use Rattle.schedule_reading.specs.Told.{ThreadsState}
 use Rattle.schedule_reading.proofs.Blocks as blocks
 use Rattle.schedule_reading.proofs.Leaves as leaves
 use Rattle.schedule_reading.proofs.Proceeding.{came_beyond, came_blocks, came_ends, came_puts, came_traps, in_steps, late, not_yet, yet_not}

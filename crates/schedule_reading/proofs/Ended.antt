@@ -1,42 +1,13 @@
 -- The lines at the end of a log: what they leave standing, and how a ruling on a part of them is one on the line.
-use Rattle.std.proofs.Common.{◌≡◌, ◌↔◌, ℕ, suc, ◌+◌, ◌-◌, Bool, ◌<◌, ◌≤◌, true, false, List, [], ◌∷◌, length, drop, map, get_or, drop-cons, add-one, Option, Some, None, Result, Ok, Err, refl, sym, ap, ◌∙◌, subst, arith, ⊎_elim}
-use Rattle.std.specs.Prelude.{Vec, is_some}
+use Rattle.schedule_reading.proofs.Common.{◌≡◌, ◌↔◌, ℕ, suc, ◌+◌, ◌-◌, Bool, ◌<◌, ◌≤◌, true, false, List, [], ◌∷◌, length, drop, map, get_or, drop-cons, add-one, Option, Some, None, Result, Ok, Err, refl, sym, ap, ◌∙◌, subst, arith, ⊎_elim, Vec, is_some, edges_of, EdgeLine, Stop, ThreadId, Exchange, edge_entry, StopsBy, edges_left, Given, IsBeyond, Needs, StopNeeds, Entry, StopLine, SchedulerState, Between, Shown, Happening, Point, End, Under, Failure, Ruling, CrowdsFirst, HasHappened, KeepsBut, MayRun, AreLeft, AreOver, Fits, MayStopHere, RulesCause, RulesCut, RulesEdge, RulesStop, TellsStop, entry_of, stop_line, Core, Kept, ruled, CountsReads, IsPoint, Rules, StandsBetween, Shows, AreBeside, IsCounted, IsEnd, IsLooked, IsOf, IsTold, Stands, StandsAt, StandsBy, StandsUnless, StandsWithin, ThreadsState, same_segment}
 use Rattle.std.specs.declared.alloc.Global.{Global}
-use Rattle.blocking_graph.specs.Edges.{edges_of}
-use Rattle.blocking_graph.specs.declared.edges.EdgeLine.{EdgeLine}
-use Rattle.cap_word.specs.declared.stops.Stop.{Stop}
-use Rattle.cap_word.specs.declared.threads.ThreadId.{ThreadId}
-use Rattle.c_mean.specs.ModelledCalls.{Exchange}
 use Rattle.c_mean.specs.World as source
-use Rattle.choice_rules.specs.EdgeLines.{edge_entry}
-use Rattle.lawful_reading.specs.Ends.{StopsBy, edges_left}
-use Rattle.lawful_reading.specs.Given.{Given}
-use Rattle.lawful_reading.specs.Reading.{IsBeyond, Needs, StopNeeds}
 use Rattle.lawful_reading.specs.State as reading
 use Rattle.lawful_reading.specs.State.{Segment, State, seen_of}
-use Rattle.schedule_log.specs.declared.entries.Entry.{Entry}
-use Rattle.schedule_log.specs.declared.entries.StopLine.{StopLine}
-use Rattle.scheduler.specs.State.{SchedulerState}
-use Rattle.schedule_reading.specs.declared.stops.Between.{Between}
-use Rattle.schedule_reading.specs.declared.edges.Shown.{Shown}
-use Rattle.schedule_reading.specs.declared.events.Happening.{Happening}
-use Rattle.schedule_reading.specs.declared.points.Point.{Point}
-use Rattle.schedule_reading.specs.declared.reading.End.{End}
 use Rattle.schedule_reading.specs.declared.reading.End.TheVariants as end
-use Rattle.schedule_reading.specs.declared.reading.Under.{Under}
-use Rattle.schedule_reading.specs.declared.rulings.Failure.{Failure}
-use Rattle.schedule_reading.specs.declared.rulings.Ruling.{Ruling}
 use Rattle.schedule_reading.specs.declared.rulings.Ruling.TheVariants as ruling
-use Rattle.schedule_reading.specs.Coming.{CrowdsFirst, HasHappened, KeepsBut, MayRun}
-use Rattle.schedule_reading.specs.Ending.{AreLeft, AreOver, Fits, MayStopHere, RulesCause, RulesCut, RulesEdge, RulesStop, TellsStop, entry_of, stop_line}
-use Rattle.schedule_reading.specs.Kept.{Core, Kept}
-use Rattle.schedule_reading.specs.Ruled.{ruled}
-use Rattle.schedule_reading.specs.Rulings.{CountsReads, IsPoint, Rules, StandsBetween}
-use Rattle.schedule_reading.specs.Shown.{Shows}
-use Rattle.schedule_reading.specs.Stands.{AreBeside, IsCounted, IsEnd, IsLooked, IsOf, IsTold, Stands, StandsAt, StandsBy, StandsUnless, StandsWithin}
-use Rattle.schedule_reading.specs.Told.{ThreadsState}
 use Rattle.schedule_reading.proofs.Cutting.{cause_fuel, cause_needs}
-use Rattle.schedule_reading.proofs.Proceeding.{may_run, same_segment}
+use Rattle.schedule_reading.proofs.Proceeding.{may_run}
 use Rattle.schedule_reading.proofs.Unstopped.{between_by, stands_as, stands_by}
 use Rattle.schedule_reading.proofs.Stopping.{edge_allowed, edge_none, edge_refused, left_over, over_left, stop_allowed, stop_refused, stop_within}
 

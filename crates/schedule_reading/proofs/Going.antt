@@ -1,15 +1,6 @@
 -- Steps of a segment, one after another.
-use Rattle.std.proofs.Common.{◌≡◌, ℕ, suc, ◌+◌, ◌-◌, ◌<◌, ◌≤◌, List, [], ◌∷◌, ◌++◌, sym, ap, ◌∙◌, subst, arith, ⊎_elim}
-use Rattle.std.proofs.lemmas.Bool.{cases_lt}
-use Rattle.cap_word.specs.Runs.{Goes, and_then, moves}
-use Rattle.cap_word.proofs.RunLemmas.{goes_on}
+use Rattle.schedule_reading.proofs.Common.{◌≡◌, ℕ, suc, ◌+◌, ◌-◌, ◌<◌, ◌≤◌, List, [], ◌∷◌, ◌++◌, sym, ap, ◌∙◌, subst, arith, ⊎_elim, cases_lt, Goes, and_then, moves, goes_on, Segment, SegmentMove, segment_machine, segment_step, ProgramTree, Given, IsSilent, IsCrowdedNext, PutsNext, RestsNext, same_next, CrowdsAt, NoneCrowded}
 use Rattle.c_mean.specs.World as source
-use Rattle.c_mean.specs.World.{Segment, SegmentMove, segment_machine, segment_step}
-use Rattle.c_tree.specs.Trees.{ProgramTree}
-use Rattle.lawful_reading.specs.Given.{Given}
-use Rattle.lawful_reading.specs.Happenings.{IsSilent, IsCrowdedNext, PutsNext, RestsNext}
-use Rattle.lawful_reading.proofs.Moves.{same_next}
-use Rattle.schedule_reading.specs.Coming.{CrowdsAt, NoneCrowded}
 
 module _ (program : ProgramTree) (caps : List ℕ) where
   -- silence after silence

@@ -1,14 +1,7 @@
 -- Items of lines as those of events, by their signed numbers.
-use Rattle.std.proofs.Common.{◌≡◌, ℕ, ◌^◌, ◌<◌, ℤ, IsTrue, sym, ap, ◌∙◌, nat_eq, w32, FitsSigned, of_z, to_z}
-use Rattle.std.specs.Prelude.{◌↔◌}
-use Rattle.std.proofs.lemmas.Bool.{eq-eqb, eqb-true}
-use Rattle.std.proofs.lemmas.Int.{to_z-of_z}
-use Rattle.cap_word.specs.Word.{signed}
-use Rattle.cap_word.proofs.WordLemmas.{to_z-signed}
-use Rattle.choice_rules.specs.Deliveries.{item_of}
+use Rattle.schedule_reading.proofs.Common.{◌≡◌, ℕ, ◌^◌, ◌<◌, ℤ, IsTrue, sym, ap, ◌∙◌, nat_eq, w32, FitsSigned, of_z, to_z, ◌↔◌, eq-eqb, eqb-true, to_z-of_z, signed, to_z-signed, item_of, Item}
 use Rattle.event_trace.specs.declared.events.EventKind.{EventKind}
 use Rattle.event_trace.specs.declared.events.EventKind.TheVariants as kinds
-use Rattle.schedule_log.specs.declared.entries.Item.{Item}
 
 same_value : (a b : ℤ) → Item.Arrive a ≡ Item.Arrive b → a ≡ b
 same_value a b e = cc

@@ -1,16 +1,5 @@
 -- What a part of what is kept doesn't change.
-use Rattle.std.proofs.Common.{◌≡◌, ℕ, ◌≤◌, length, refl, sym, ap, ◌∙◌, subst, arith}
-use Rattle.blocking_graph.specs.Edges.{count_of}
-use Rattle.blocking_graph.specs.Graph.{GraphState}
-use Rattle.choice_rules.specs.Seen.{Past}
-use Rattle.lawful_reading.specs.Given.{Given}
-use Rattle.resource_monitor.specs.Monitor.{MonitorState}
-use Rattle.scheduler.specs.State.{SchedulerState, last_of}
-use Rattle.source_runs.specs.Layouts.{IsReady, tree_of}
-use Rattle.source_runs.specs.declared.interpreter.Interpreter.{Interpreter}
-use Rattle.schedule_reading.specs.declared.policy.AuditPolicy.{AuditPolicy}
-use Rattle.schedule_reading.specs.Kept.{Core}
-use Rattle.schedule_reading.specs.Stands.{HasPast, IsOf}
+use Rattle.schedule_reading.proofs.Common.{◌≡◌, ℕ, ◌≤◌, length, refl, sym, ap, ◌∙◌, subst, arith, count_of, GraphState, Past, Given, MonitorState, SchedulerState, last_of, IsReady, tree_of, Interpreter, AuditPolicy, Core, HasPast, IsOf}
 
 -- what stays the same of a monitor that observes
 pub record SameMonitor (old new : MonitorState) : Type 0 where

@@ -1,20 +1,7 @@
 -- The source's run of a thread, as that of its segment.
-use Rattle.std.proofs.Common.{◌≡◌, ℕ, List, length, Option, Some, None, refl, ap, ◌∙◌}
-use Rattle.cap_word.specs.Calls.{Immediate}
-use Rattle.cap_word.specs.Runs.{Goes, Stops, moves}
-use Rattle.cap_word.specs.declared.calls.Ask.{Ask}
-use Rattle.cap_word.specs.declared.traps.TrapKind.{TrapKind}
-use Rattle.c_tree.specs.Trees.{ProgramTree}
-use Rattle.c_mean.specs.Frames.{Running}
-use Rattle.c_mean.specs.ModelledCalls.{ImmediateRow, immediate_row}
-use Rattle.c_mean.specs.Steps.{SourceMove, source_machine, source_resume, source_step}
+use Rattle.schedule_reading.proofs.Common.{◌≡◌, ℕ, List, length, Option, Some, None, refl, ap, ◌∙◌, Immediate, Goes, Stops, moves, Ask, TrapKind, ProgramTree, Running, ImmediateRow, immediate_row, SourceMove, source_machine, source_resume, source_step, Segment, after_ask, segment_move, segment_step, unless_trap, IsSilent, RestsNext, LeadsTo, asks, globals_of, waiting_of, Thread}
 use Rattle.c_mean.specs.World as source
-use Rattle.c_mean.specs.World.{Segment, after_ask, segment_move, segment_step, unless_trap}
 use Rattle.c_mean.proofs.SegmentLemmas as segments
-use Rattle.lawful_reading.specs.Happenings.{IsSilent, RestsNext}
-use Rattle.source_runs.specs.Steps.{LeadsTo, asks}
-use Rattle.source_runs.specs.Threads.{globals_of, waiting_of}
-use Rattle.source_runs.specs.declared.frames.Thread.{Thread}
 
 module _ (program : ProgramTree) (caps : List ℕ) where
   abbrev pub at : Segment → Running → Segment

@@ -1,36 +1,15 @@
 -- The thread that runs stands at its place, and nobody waits there; then it blocks there, or ends.
-use Rattle.std.proofs.Common.{◌≡◌, ◌≢◌, ℕ, ◌+◌, ◌<◌, ◌≤◌, List, [], ◌∷◌, ◌++◌, length, Option, Some, None, IsSome, refl, sym, ap, ◌∙◌, subst, arith, ⊎_elim, length-set}
-use Rattle.std.specs.Prelude.{IfSome, slice_get, slice_set}
-use Rattle.cap_word.specs.declared.calls.Block.{Block}
-use Rattle.cap_word.specs.declared.threads.ThreadId.{ThreadId}
-use Rattle.c_mean.specs.ModelledCalls.{Exchange}
+use Rattle.schedule_reading.proofs.Common.{◌≡◌, ◌≢◌, ℕ, ◌+◌, ◌<◌, ◌≤◌, List, [], ◌∷◌, ◌++◌, length, Option, Some, None, IsSome, refl, sym, ap, ◌∙◌, subst, arith, ⊎_elim, length-set, IfSome, slice_get, slice_set, Block, ThreadId, Exchange, ProgramTree, latest, Waiter, newcomers, Given, State, Need, get, IsFull, IsThread, waiting_of, Thread, Exchanging, wake_of, Wait, Slot, HasBlocked, HasEnded, IsAway, KeepsOthers, AreBeside, AreLive, AreThreads, IsScheduled, IsSince, IsSlot, IsTimely, IsWaiter, waiting_with, ThreadsState, Vouches, at_place, same_or_not}
 use Rattle.c_mean.specs.World as source
-use Rattle.c_tree.specs.Trees.{ProgramTree}
-use Rattle.choice_rules.specs.Clock.{latest}
-use Rattle.choice_rules.specs.Seen.{Waiter, newcomers}
-use Rattle.lawful_reading.specs.Given.{Given}
-use Rattle.lawful_reading.specs.State.{State}
 use Rattle.ready_tree.specs.declared.entries.Entry.{Entry}
-use Rattle.ready_tree.specs.declared.needs.Need.{Need}
 use Rattle.scheduler.specs.State.{SchedulerState, IsJoined, IsTold}
-use Rattle.slab.specs.Slab.{get}
-use Rattle.source_runs.specs.Threads.{IsFull, IsThread, waiting_of}
-use Rattle.source_runs.specs.declared.frames.Thread.{Thread}
-use Rattle.thread_exchange.specs.Exchanges.{Exchanging}
-use Rattle.thread_waits.specs.Counted.{wake_of}
-use Rattle.thread_waits.specs.declared.waits.Wait.{Wait}
 use Rattle.schedule_reading.specs.declared.threads.Rest.TheVariants as rest
-use Rattle.schedule_reading.specs.declared.threads.Slot.{Slot}
-use Rattle.schedule_reading.specs.Changes.{HasBlocked, HasEnded, IsAway, KeepsOthers}
-use Rattle.schedule_reading.specs.Stands.{AreBeside, AreLive, AreThreads, IsScheduled, IsSince, IsSlot, IsTimely, IsWaiter, waiting_with}
-use Rattle.schedule_reading.specs.Told.{ThreadsState, Vouches, at_place}
 use Rattle.schedule_reading.proofs.Beginning.{rest_lives}
 use Rattle.schedule_reading.proofs.Joins.{joins}
 use Rattle.schedule_reading.proofs.Places.{At, not_vacant, placed_by, same_slot, scheduled_kept}
 use Rattle.schedule_reading.proofs.Resting.{later, wakes_in_time}
 use Rattle.schedule_reading.proofs.Standing.{are_joined, are_without, count_less, count_set, set_here, set_other}
 use Rattle.schedule_reading.proofs.Telling.{vouched_waits}
-use Rattle.schedule_reading.proofs.Waits.{here_or_not}
 
 -- only the clock has moved
 abbrev pub at_clock : ThreadsState → ℕ → ThreadsState
@@ -135,7 +114,7 @@ module _ (g : Given) (state : State) (rests : List source.Rest) (exchange : Exch
     blocked_resting p s e = ⊎_elim
         (λ (here : p ≡ place). subst (λ (o : Option Wait). IsSome o) (sym (ap (at_place new.waits.places) here ∙ blocked.waits)) refl)
         (λ apart. subst (λ (o : Option Wait). IsSome o) (sym (blocked.others.waits p apart)) (b.resting p s apart (sym (blocked.others.slots p apart) ∙ e)))
-        (here_or_not p place)
+        (same_or_not p place)
 
     pub blocked_scheduled : (after : SchedulerState) (node since : ℕ) (need : Need) → IsJoined scheduler after node running → IsTold scheduler after node (record { thread = running; need = need }) → Vouches new running need →
         IsScheduled new.slots new.waits.places after (who ++ record { thread = number; node = node; since = since } ∷ [])
@@ -151,7 +130,7 @@ module _ (g : Given) (state : State) (rests : List source.Rest) (exchange : Exch
         subst (λ (o : Option Wait). IfSome (wake_of o) (λ time. time ≤ latest (k_cost + cost))) (sym (ap (at_place new.waits.places) here ∙ blocked.waits ∙ ap (λ (n : ℕ). Some (Wait.At block n)) e))
         (wakes_in_time threads.waits.clock k_cost cost block timely.clock_is some))
         (λ apart. sleepers_by k_cost timely new p cost blocked.others apart)
-        (here_or_not p place)
+        (same_or_not p place)
 
   -- ---- it ends
 

@@ -1,3 +1,4 @@
+mod Common
 pub mod Waits
 pub mod Telling
 pub mod Places

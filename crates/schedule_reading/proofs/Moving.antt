@@ -1,24 +1,9 @@
 -- What has to come at a choice point, by what was tested there; and what is kept where the clock was moved.
-use Rattle.std.proofs.Common.{◌≡◌, ℕ, ◌^◌, ◌<◌, ◌≤◌, false, List, ◌∷◌, ◌++◌, Option, Some, None, sym, ap, ◌∙◌, subst, arith}
-use Rattle.std.specs.Prelude.{nat_le}
-use Rattle.std.proofs.lemmas.Bool.Decides.{nat_tests}
-use Rattle.choice_rules.specs.Clock.{IsLeastOf, event_times, is_due}
-use Rattle.choice_rules.specs.Readiness.{waking_times}
-use Rattle.choice_rules.proofs.Clocks.{past_not}
+use Rattle.schedule_reading.proofs.Common.{◌≡◌, ℕ, ◌^◌, ◌<◌, ◌≤◌, false, List, ◌∷◌, ◌++◌, Option, Some, None, sym, ap, ◌∙◌, subst, arith, IsLeastOf, event_times, is_due, waking_times, past_not, ReaderState, Event, Given, State, seen_of, IsWake, Next, Kept, Comes, ComesToChoice, GoesOnFrom, IsPoint, Knows, IsLooked, StandsAt, ThreadsState, any_ready_in, le_no}
 use Rattle.event_trace.specs.Lines.{FitsEvent}
-use Rattle.event_trace.specs.Reader.{ReaderState}
-use Rattle.event_trace.specs.declared.events.Event.{Event}
-use Rattle.lawful_reading.specs.Given.{Given}
-use Rattle.lawful_reading.specs.State.{State, seen_of}
 use Rattle.thread_waits.specs.Waiting as waits_of
-use Rattle.thread_waits.specs.Waiting.{IsWake}
 use Rattle.schedule_reading.specs.declared.points.Point.TheVariants as point
-use Rattle.schedule_reading.specs.declared.reading.Next.{Next}
 use Rattle.schedule_reading.specs.declared.reading.Next.TheVariants as next
-use Rattle.schedule_reading.specs.Kept.{Kept}
-use Rattle.schedule_reading.specs.Rulings.{Comes, ComesToChoice, GoesOnFrom, IsPoint, Knows}
-use Rattle.schedule_reading.specs.Stands.{IsLooked, StandsAt}
-use Rattle.schedule_reading.specs.Told.{ThreadsState, any_ready_in}
 use Rattle.schedule_reading.proofs.Waking.{at_clock, comes_then, idles, in_time, later, least, least_alone, least_first, least_later, nobody_wakes, possible, wakes_one}
 
 -- ---- what is kept with other threads
@@ -56,14 +41,11 @@ goes_looked g state k new known same stands looked knows live = ((stands_still g
 
 -- ---- times
 
-due_not : (time clock : ℕ) → clock < time → nat_le time clock ≡ false
-due_not time clock h = grind (arith, nat_tests, h)
-
 pub none_due : (known : Option Event) (clock : ℕ) → known ≡ None → is_due known clock ≡ false
 none_due known clock none = ap (λ (o : Option Event). is_due o clock) none
 
 pub some_not_due : (known : Option Event) (clock : ℕ) (event : Event) → known ≡ Some event → clock < event.time → is_due known clock ≡ false
-some_not_due known clock event is later = ap (λ (o : Option Event). is_due o clock) is ∙ due_not event.time clock later
+some_not_due known clock event is later = ap (λ (o : Option Event). is_due o clock) is ∙ le_no event.time clock later
 
 pub fits_known : (reader : ReaderState) (n : Next) (event : Event) → Knows n (Some event) → IsLooked reader n → FitsEvent event
 fits_known reader (next.Event other) event knows looked = subst FitsEvent knows looked.0

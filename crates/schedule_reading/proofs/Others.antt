@@ -1,16 +1,6 @@
 -- What a thread comes to that isn't what a line says.
-use Rattle.std.proofs.Common.{◌≡◌, ℕ, List, Ok, refl}
-use Rattle.cap_word.specs.declared.calls.Block.{Block}
-use Rattle.lawful_reading.specs.Given.{Given}
-use Rattle.lawful_reading.specs.State.{State}
-use Rattle.schedule_log.specs.declared.entries.Entry.{Entry}
-use Rattle.schedule_reading.specs.declared.events.Happening.{Happening}
+use Rattle.schedule_reading.proofs.Common.{◌≡◌, ℕ, List, Ok, refl, Block, Given, State, Entry, Happening, Under, HasProceeded, Core, Kept, Refuses, IsEnd, StandsWithin}
 use Rattle.schedule_reading.specs.declared.events.Happening.TheVariants as happening
-use Rattle.schedule_reading.specs.declared.reading.Under.{Under}
-use Rattle.schedule_reading.specs.Closing.{HasProceeded}
-use Rattle.schedule_reading.specs.Kept.{Core, Kept}
-use Rattle.schedule_reading.specs.Rulings.{Refuses}
-use Rattle.schedule_reading.specs.Stands.{IsEnd, StandsWithin}
 use Rattle.schedule_reading.proofs.Blocks.{block_ends, block_puts, block_traps}
 use Rattle.schedule_reading.proofs.EndLines.{end_blocks, end_puts, end_traps}
 

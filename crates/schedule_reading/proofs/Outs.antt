@@ -1,19 +1,8 @@
 -- A line `out`.
-use Rattle.std.proofs.Common.{◌≡◌, ℕ, Bool, true, false, Some, Ok, refl}
-use Rattle.std.specs.Prelude.{ℤ}
-use Rattle.cap_word.specs.Word.{signed}
-use Rattle.lawful_reading.specs.Given.{Given}
-use Rattle.lawful_reading.specs.State.{State}
-use Rattle.schedule_log.specs.declared.entries.Entry.{Entry}
+use Rattle.schedule_reading.proofs.Common.{◌≡◌, ℕ, Bool, true, false, Some, Ok, refl, ℤ, signed, Given, State, Entry, Under, AllowsWithin, HasProceeded, RulesWithin, Core, Kept, ruled, Refuses, IsEnd, StandsWithin}
 use Rattle.schedule_reading.specs.declared.events.Happening.TheVariants as happening
 use Rattle.schedule_reading.specs.declared.reading.End.TheVariants as end
-use Rattle.schedule_reading.specs.declared.reading.Under.{Under}
 use Rattle.schedule_reading.specs.declared.rulings.Ruling.TheVariants as ruling
-use Rattle.schedule_reading.specs.Closing.{AllowsWithin, HasProceeded, RulesWithin}
-use Rattle.schedule_reading.specs.Kept.{Core, Kept}
-use Rattle.schedule_reading.specs.Ruled.{ruled}
-use Rattle.schedule_reading.specs.Rulings.{Refuses}
-use Rattle.schedule_reading.specs.Stands.{IsEnd, StandsWithin}
 use Rattle.schedule_reading.proofs.Proceeding.{came_beyond, came_puts, end_as, in_steps, not_yet, out_is, out_not, put_stands, put_state, yet_not}
 
 -- the line is that of the output

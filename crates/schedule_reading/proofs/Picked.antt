@@ -1,24 +1,6 @@
 -- The choice that a scheduler takes, after the monitor has seen the uses.
-use Rattle.std.proofs.Common.{◌≡◌, ℕ, ◌^◌, ◌<◌, ◌≤◌, List, length, Option, Some, None, Ok, sym, subst, arith}
-use Rattle.std.specs.Prelude.{IfSome, slice_index}
-use Rattle.c_tree.specs.Trees.{ProgramTree}
-use Rattle.choice_rules.specs.Choice.{observed}
-use Rattle.lawful_reading.specs.Given.{Given}
-use Rattle.lawful_reading.specs.State.{State}
-use Rattle.resource_monitor.specs.Monitor.{MonitorState, NoneAbove}
-use Rattle.scheduler.specs.LawfulChoice.{is_eligible, IsLawfulChoice}
-use Rattle.scheduler.specs.Scores.{score}
-use Rattle.scheduler.specs.State.{SchedulerState, AreKnown, IsNoted, IsTaken, last_of, queue_of}
-use Rattle.scheduler.specs.declared.choices.Choice.{Choice}
-use Rattle.source_runs.specs.Layouts.{tree_of}
-use Rattle.source_runs.specs.declared.frames.Thread.{Thread}
-use Rattle.schedule_reading.specs.declared.reading.Under.{Under}
-use Rattle.schedule_reading.specs.Changes.{HasBegun, MayBegin}
-use Rattle.schedule_reading.specs.Kept.{Core, Kept}
+use Rattle.schedule_reading.proofs.Common.{◌≡◌, ℕ, ◌^◌, ◌<◌, ◌≤◌, List, length, Option, Some, None, Ok, sym, subst, arith, IfSome, slice_index, ProgramTree, observed, Given, State, MonitorState, NoneAbove, is_eligible, IsLawfulChoice, score, SchedulerState, AreKnown, IsNoted, IsTaken, last_of, queue_of, Choice, tree_of, Thread, Under, HasBegun, MayBegin, Core, Kept, Chooses, Chosen, ChosenOther, RulesChoice, ThreadsState, Vouches, any_elsewhere_in, at_accept_in, is_ready_in, cap_in, used_in}
 use Rattle.schedule_reading.specs.declared.rulings.Ruling.TheVariants as ruling
-use Rattle.schedule_reading.specs.Rulings.{Chooses, Chosen, ChosenOther, RulesChoice}
-use Rattle.schedule_reading.specs.Told.{ThreadsState, Vouches, any_elsewhere_in, at_accept_in, is_ready_in}
-use Rattle.schedule_reading.specs.Uses.{cap_in, used_in}
 use Rattle.schedule_reading.proofs.Caps.{within_monitor}
 use Rattle.schedule_reading.proofs.PointLines.{other_ruled}
 use Rattle.schedule_reading.proofs.Taking as taking

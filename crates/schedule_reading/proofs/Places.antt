@@ -1,23 +1,7 @@
 -- One place changes: what stands and waits at the others stays.
-use Rattle.std.proofs.Common.{◌≡◌, ◌≢◌, ℕ, suc, List, [], ◌∷◌, Option, Some, None, option_map, refl, sym, ap, ◌∙◌, subst, arith, if◌then◌else◌, nat_eq}
-use Rattle.std.specs.Prelude.{map, slice_get, slice_index_or}
-use Rattle.std.specs.List.{AllByRecursion}
-use Rattle.cap_word.specs.declared.threads.ThreadId.{ThreadId}
+use Rattle.schedule_reading.proofs.Common.{◌≡◌, ◌≢◌, ℕ, suc, List, [], ◌∷◌, Option, Some, None, option_map, refl, sym, ap, ◌∙◌, subst, arith, if◌then◌else◌, nat_eq, map, slice_get, slice_index_or, AllByRecursion, ThreadId, ProgramTree, Waiter, IsPlaced, at_node, all_at_node, queue_kept, Need, SchedulerState, entries_at, queue_of, Slab, get, need_for, Wait, Slot, KeepsOthers, IsScheduled, IsSince, IsSlot, IsWaiter, numbers_of, ThreadsState, VouchesIn, WaitsAs, at_place, wait_of, waits_in}
 use Rattle.c_mean.specs.World as source
-use Rattle.c_tree.specs.Trees.{ProgramTree}
-use Rattle.choice_rules.specs.Seen.{Waiter}
-use Rattle.choice_rules.specs.Waiting.{IsPlaced, at_node}
-use Rattle.choice_rules.proofs.Queues.{all_at_node, queue_kept}
 use Rattle.ready_tree.specs.declared.entries.Entry.{Entry}
-use Rattle.ready_tree.specs.declared.needs.Need.{Need}
-use Rattle.scheduler.specs.State.{SchedulerState, entries_at, queue_of}
-use Rattle.slab.specs.Slab.{Slab, get}
-use Rattle.thread_waits.specs.Needs.{need_for}
-use Rattle.thread_waits.specs.declared.waits.Wait.{Wait}
-use Rattle.schedule_reading.specs.declared.threads.Slot.{Slot}
-use Rattle.schedule_reading.specs.Changes.{KeepsOthers}
-use Rattle.schedule_reading.specs.Stands.{IsScheduled, IsSince, IsSlot, IsWaiter, numbers_of}
-use Rattle.schedule_reading.specs.Told.{ThreadsState, VouchesIn, WaitsAs, at_place, wait_of, waits_in}
 
 -- ---- what stands at a place, and its number
 

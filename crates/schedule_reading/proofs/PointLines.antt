@@ -1,28 +1,9 @@
 -- What is said of a line of a choice point, from what has to come there.
-use Rattle.std.proofs.Common.{◌≡◌, ℕ, Bool, true, false, List, Option, Some, None, Result, Ok, Err, refl, sym, ap, ◌∙◌, subst, arith}
-use Rattle.std.specs.Prelude.{nat_le}
-use Rattle.std.proofs.lemmas.Bool.Decides.{nat_tests}
-use Rattle.choice_rules.specs.Clock.{is_due}
-use Rattle.choice_rules.specs.Deliveries.{coming_entry}
-use Rattle.choice_rules.proofs.Points.{not_bad, not_done, not_idle, one_clock}
-use Rattle.event_trace.specs.declared.events.Event.{Event}
-use Rattle.lawful_reading.specs.Choice.{IsRun, chosen_from}
-use Rattle.lawful_reading.specs.Given.{Given}
+use Rattle.schedule_reading.proofs.Common.{◌≡◌, ℕ, Bool, true, false, List, Option, Some, None, Result, Ok, Err, refl, sym, ap, ◌∙◌, subst, arith, nat_le, nat_tests, is_due, coming_entry, not_bad, not_done, not_idle, one_clock, Event, IsRun, chosen_from, Given, State, seen_of, Entry, Item, Point, End, Under, Failure, Ruling, Core, Kept, Allows, Chosen, ChosenOther, Chooses, ComesToChoice, IsPoint, Refuses, Rules, RulesChoice, IsEnd, IsTold, StandsAt}
 use Rattle.lawful_reading.specs.State as reading
-use Rattle.lawful_reading.specs.State.{State, seen_of}
-use Rattle.schedule_log.specs.declared.entries.Entry.{Entry}
-use Rattle.schedule_log.specs.declared.entries.Item.{Item}
-use Rattle.schedule_reading.specs.declared.points.Point.{Point}
 use Rattle.schedule_reading.specs.declared.points.Point.TheVariants as point
-use Rattle.schedule_reading.specs.declared.reading.End.{End}
 use Rattle.schedule_reading.specs.declared.reading.End.TheVariants as end
-use Rattle.schedule_reading.specs.declared.reading.Under.{Under}
-use Rattle.schedule_reading.specs.declared.rulings.Failure.{Failure}
-use Rattle.schedule_reading.specs.declared.rulings.Ruling.{Ruling}
 use Rattle.schedule_reading.specs.declared.rulings.Ruling.TheVariants as ruling
-use Rattle.schedule_reading.specs.Kept.{Core, Kept}
-use Rattle.schedule_reading.specs.Rulings.{Allows, Chosen, ChosenOther, Chooses, ComesToChoice, IsPoint, Refuses, Rules, RulesChoice}
-use Rattle.schedule_reading.specs.Stands.{IsEnd, IsTold, StandsAt}
 use Rattle.schedule_reading.proofs.Delivering.{none_comes, not_beyond}
 use Rattle.schedule_reading.proofs.Unstopped.{stands_as}
 

@@ -1,24 +1,9 @@
 -- A choice point: what has to come, by what is kept.
-use Rattle.std.proofs.Common.{◌≡◌, ◌≢◌, ℕ, ◌<◌, ◌||◌, Bool, true, false, List, ◌++◌, Option, Some, None, refl, sym, ap, ◌∙◌, subst, arith}
-use Rattle.std.specs.Prelude.{is_some}
-use Rattle.std.specs.List.{list_any}
-use Rattle.c_mean.specs.ModelledCalls.{Exchange}
-use Rattle.choice_rules.specs.Clock.{IsChoicePoint, is_due}
-use Rattle.choice_rules.specs.Readiness.{any_ready}
-use Rattle.choice_rules.specs.Trace.{Trace, IsNext}
-use Rattle.choice_rules.proofs.Clocks.{clock_stays}
-use Rattle.choice_rules.proofs.Tests.{right_true}
-use Rattle.event_trace.specs.Reader.{ReaderState}
-use Rattle.event_trace.specs.declared.events.Event.{Event}
-use Rattle.lawful_reading.specs.Given.{Given}
+use Rattle.schedule_reading.proofs.Common.{◌≡◌, ◌≢◌, ℕ, ◌<◌, ◌||◌, Bool, true, false, List, ◌++◌, Option, Some, None, refl, sym, ap, ◌∙◌, subst, arith, is_some, list_any, Exchange, IsChoicePoint, is_due, any_ready, Trace, IsNext, clock_stays, ReaderState, Event, Given, Next, Core, Kept, IsTold, IsTraceIn, IsTraceOf, StandsAt, any_ready_in, or_right}
 use Rattle.lawful_reading.specs.State.{Segment, State, seen_of}
 use Rattle.thread_waits.specs.Waiting as waits_of
-use Rattle.schedule_reading.specs.declared.reading.Next.{Next}
 use Rattle.schedule_reading.specs.declared.reading.Next.TheVariants as next
-use Rattle.schedule_reading.specs.Kept.{Core, Kept}
 use Rattle.schedule_reading.specs.Rulings.{ComesToChoice, Goes, GoesOnFrom, Knows}
-use Rattle.schedule_reading.specs.Stands.{IsTold, IsTraceIn, IsTraceOf, StandsAt}
-use Rattle.schedule_reading.specs.Told.{any_ready_in}
 use Rattle.schedule_reading.proofs.Any.{any_ready_same}
 
 -- ---- the next line
@@ -31,8 +16,6 @@ next_in trace reader _ _ bytes e is = absurd e
 pub next_of : (trace : Trace) (reader : ReaderState) (n : Next) (known : Option Event) (left : Option (List ℕ)) → Knows n known → IsTraceOf trace reader n left → IsNext trace known
 next_of trace reader n known None e is = absurd is
 next_of trace reader n known (Some left) e is = next_in trace reader n known (reader.held ++ left) e is
-
--- ---- the clock
 
 -- ---- between segments
 
@@ -88,7 +71,7 @@ module _ (g : Given) (state : State) (k : Kept) (told : Option (List ℕ)) (know
   pub chooses_now : is_due known k.core.threads.waits.clock ≡ false → any_ready_in k.core.threads ≡ true → ComesToChoice g state k told k told
   chooses_now not_due ready = record {
     known = known;
-    goes = goes_here (right_true (is_due known state.clock) (any_ready g.policy (seen_of state) state.clock) (sym (ready_same g state state.clock k.core stands) ∙ ready));
+    goes = goes_here (or_right (is_due known state.clock) (any_ready g.policy (seen_of state) state.clock) (sym (ready_same g state state.clock k.core stands) ∙ ready));
     not_due = not_due;
     ready = ready;
   }

@@ -1,33 +1,10 @@
 -- The thread under way goes on: what is kept then, and how many steps it took.
-use Rattle.std.proofs.Common.{◌≡◌, ℕ, ◌+◌, ◌-◌, ◌<◌, ◌≤◌, inl, inr, List, length, Option, Some, Result, Ok, refl, sym, ap, ◌∙◌, subst, arith}
-use Rattle.std.specs.Prelude.{ℤ, drop, map}
-use Rattle.cap_word.specs.Word.{signed}
-use Rattle.cap_word.specs.declared.calls.Block.{Block}
-use Rattle.cap_word.specs.declared.traps.TrapKind.{TrapKind}
+use Rattle.schedule_reading.proofs.Common.{◌≡◌, ℕ, ◌+◌, ◌-◌, ◌<◌, ◌≤◌, inl, inr, List, length, Some, Result, Ok, refl, sym, ap, ◌∙◌, subst, arith, ℤ, drop, map, signed, Block, TrapKind, count_of, edge_entry, all_caps, Given, chunks_of, ComesAt, IsSilent, PutsNext, IsBeyond, Needs, IsOut, one_put, silent_puts, silent_rests, Entry, NoneAbove, Choice, Happening, End, Under, Failure, HasProceeded, HasHappened, KeepsBut, MayRun, Rests, Core, AreBeside, HasPast, IsEnd, IsOf, IsRunning, IsTimely, StandsWithin, same_segment}
 use Rattle.c_mean.specs.World as source
-use Rattle.blocking_graph.specs.Edges.{count_of}
-use Rattle.choice_rules.specs.EdgeLines.{edge_entry}
-use Rattle.choice_rules.specs.Policy.{all_caps}
-use Rattle.lawful_reading.specs.Given.{Given, chunks_of}
-use Rattle.lawful_reading.specs.Happenings.{ComesAt, IsSilent, PutsNext}
-use Rattle.lawful_reading.specs.Reading.{IsBeyond, Needs}
-use Rattle.lawful_reading.specs.Segments.{IsOut}
 use Rattle.lawful_reading.specs.State as reading
 use Rattle.lawful_reading.specs.State.{Segment, State}
-use Rattle.lawful_reading.proofs.Moves.{one_put, silent_puts, silent_rests}
-use Rattle.schedule_log.specs.declared.entries.Entry.{Entry}
-use Rattle.resource_monitor.specs.Monitor.{NoneAbove}
-use Rattle.scheduler.specs.declared.choices.Choice.{Choice}
-use Rattle.schedule_reading.specs.declared.events.Happening.{Happening}
 use Rattle.schedule_reading.specs.declared.events.Happening.TheVariants as happening
-use Rattle.schedule_reading.specs.declared.reading.End.{End}
 use Rattle.schedule_reading.specs.declared.reading.End.TheVariants as end
-use Rattle.schedule_reading.specs.declared.reading.Under.{Under}
-use Rattle.schedule_reading.specs.declared.rulings.Failure.{Failure}
-use Rattle.schedule_reading.specs.Closing.{HasProceeded}
-use Rattle.schedule_reading.specs.Coming.{HasHappened, KeepsBut, MayRun, Rests}
-use Rattle.schedule_reading.specs.Kept.{Core}
-use Rattle.schedule_reading.specs.Stands.{AreBeside, HasPast, IsEnd, IsOf, IsRunning, IsTimely, StandsWithin}
 use Rattle.schedule_reading.proofs.Keeping.{of_with}
 
 -- ---- the end of the log
@@ -121,9 +98,6 @@ pub record Came (g : Given) (state : State) : Type 0 where
   pub steps : ℕ
   pub comes : ComesAt g.program g.policy.caps segment.here steps
   pub within : state.steps + steps ≤ g.most_steps
-
-pub same_segment : (state : State) (a b : Segment) → state.segment ≡ Some a → state.segment ≡ Some b → a ≡ b
-same_segment state a b p q = let both : ◌≡◌ {A = Option Segment} (Some a) (Some b) = sym p ∙ q in cc
 
 pub came_beyond : (g : Given) (state : State) (entry : Entry) → Came g state → ((segment : Segment) (steps : ℕ) → ComesAt g.program g.policy.caps segment.here steps → Needs g segment entry steps) → IsBeyond g state entry → ⊥
 came_beyond g state entry came needs b =

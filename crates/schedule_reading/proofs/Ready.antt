@@ -1,21 +1,6 @@
 -- The thread under way has come to the end of its segment: what its lines ask of what is kept.
-use Rattle.std.proofs.Common.{◌≡◌, ℕ, ◌^◌, ◌<◌, ◌≤◌, List, length, Option, IsSome, refl, sym, ap, ◌∙◌, subst, arith}
-use Rattle.blocking_graph.specs.Edges.{count_of}
-use Rattle.blocking_graph.specs.Graph.{GraphState}
-use Rattle.c_mean.specs.ModelledCalls.{Exchange}
+use Rattle.schedule_reading.proofs.Common.{◌≡◌, ℕ, ◌^◌, ◌<◌, ◌≤◌, List, length, Option, IsSome, refl, sym, ap, ◌∙◌, subst, arith, count_of, GraphState, Exchange, all_caps, Given, State, NoneAbove, get, Under, Slot, IsAway, IsClosing, MayClose, KeepsBut, Core, AreBeside, IsOf, IsTimely, StandsWithin}
 use Rattle.c_mean.specs.World as source
-use Rattle.choice_rules.specs.Policy.{all_caps}
-use Rattle.lawful_reading.specs.Given.{Given}
-use Rattle.lawful_reading.specs.State.{State}
-use Rattle.resource_monitor.specs.Monitor.{NoneAbove}
-use Rattle.slab.specs.Slab.{get}
-use Rattle.schedule_reading.specs.declared.reading.Under.{Under}
-use Rattle.schedule_reading.specs.declared.threads.Slot.{Slot}
-use Rattle.schedule_reading.specs.Changes.{IsAway}
-use Rattle.schedule_reading.specs.Closing.{IsClosing, MayClose}
-use Rattle.schedule_reading.specs.Coming.{KeepsBut}
-use Rattle.schedule_reading.specs.Kept.{Core}
-use Rattle.schedule_reading.specs.Stands.{AreBeside, IsOf, IsTimely, StandsWithin}
 use Rattle.schedule_reading.proofs.Keeping.{of_with, same_monitor}
 use Rattle.schedule_reading.proofs.Leaves as leaves
 use Rattle.schedule_reading.proofs.Proceeding.{of_keeps, of_left}

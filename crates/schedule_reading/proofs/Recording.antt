@@ -1,20 +1,5 @@
 -- A segment is taken in: its cost, its free chunks, the uses after it and its record.
-use Rattle.std.proofs.Common.{◌≡◌, ℕ, ◌+◌, ◌<◌, ◌≤◌, ℤ, pos, List, [], ◌∷◌, length, sym, ap, ◌∙◌, subst, arith}
-use Rattle.std.specs.Prelude.{slice_index, slice_index_or, ◌-ℤ◌}
-use Rattle.blocking_graph.specs.Edges.{count_of, edges_with}
-use Rattle.blocking_graph.specs.Graph.{GraphState, IsSegment}
-use Rattle.blocking_graph.specs.declared.segments.SegmentRecord.{SegmentRecord}
-use Rattle.choice_rules.specs.Choice.{observed}
-use Rattle.choice_rules.specs.Seen.{changes}
-use Rattle.choice_rules.proofs.Changes.{changes_are, same_eight, small_changes, drop_long}
-use Rattle.lawful_reading.specs.Given.{Given}
-use Rattle.resource_monitor.specs.Monitor.{MonitorState, NoneAbove}
-use Rattle.schedule_reading.specs.declared.reading.Under.{Under}
-use Rattle.schedule_reading.specs.Closing.{IsWithin, MayClose, closed, uses_after}
-use Rattle.schedule_reading.specs.Kept.{Core}
-use Rattle.schedule_reading.specs.Stands.{IsOf, IsTimely}
-use Rattle.schedule_reading.specs.Told.{ThreadsState}
-use Rattle.schedule_reading.specs.Uses.{cap_in, used_in}
+use Rattle.schedule_reading.proofs.Common.{◌≡◌, ℕ, ◌+◌, ◌<◌, ◌≤◌, ℤ, pos, List, [], ◌∷◌, length, sym, ap, ◌∙◌, subst, arith, slice_index, slice_index_or, ◌-ℤ◌, count_of, edges_with, GraphState, IsSegment, SegmentRecord, observed, changes, changes_are, same_eight, small_changes, drop_long, Given, MonitorState, NoneAbove, Under, IsWithin, MayClose, closed, uses_after, Core, IsOf, IsTimely, ThreadsState, cap_in, used_in}
 use Rattle.schedule_reading.proofs.Caps.{cap_is, used_is}
 
 module _ (k : Core) (under : Under) (cost free : ℕ) (may : MayClose k under cost free) where

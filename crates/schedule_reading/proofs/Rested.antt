@@ -1,20 +1,7 @@
 -- A segment was taken in, and its thread has come to wait at a node.
-use Rattle.std.proofs.Common.{◌≡◌, ℕ, ◌+◌, ◌≤◌, Bool, Option, None, IsSome, refl, sym, ap, subst, arith}
-use Rattle.std.specs.Prelude.{if◌then◌else◌}
-use Rattle.std.proofs.lemmas.Bool.{eq-eqb}
-use Rattle.blocking_graph.specs.Edges.{count_of}
-use Rattle.cap_word.specs.declared.calls.Block.{Block}
-use Rattle.ready_tree.specs.declared.needs.Need.{Need}
+use Rattle.schedule_reading.proofs.Common.{◌≡◌, ℕ, ◌+◌, ◌≤◌, Bool, Option, None, IsSome, refl, sym, ap, subst, arith, if◌then◌else◌, eq-eqb, count_of, Block, Need, row_of, Wait, Under, Slot, HasBlocked, IsAway, HasClosed, HasRested, MayClose, closed, Core, Kept, ThreadsState, Vouches, at_place, wait_of, waits_for}
 use Rattle.scheduler.specs.State.{SchedulerState, IsJoined, IsTold}
-use Rattle.thread_exchange.specs.Exchanges.{row_of}
 use Rattle.thread_waits.specs.Waiting.{latest}
-use Rattle.thread_waits.specs.declared.waits.Wait.{Wait}
-use Rattle.schedule_reading.specs.declared.reading.Under.{Under}
-use Rattle.schedule_reading.specs.declared.threads.Slot.{Slot}
-use Rattle.schedule_reading.specs.Changes.{HasBlocked, IsAway}
-use Rattle.schedule_reading.specs.Closing.{HasClosed, HasRested, MayClose, closed}
-use Rattle.schedule_reading.specs.Kept.{Core, Kept}
-use Rattle.schedule_reading.specs.Told.{ThreadsState, Vouches, at_place, wait_of, waits_for}
 
 module _ (old : Kept) (under : Under) (node : ℕ) (block : Block) (cost free : ℕ) (mid : Kept) (c : HasClosed old under node cost free mid) where
   core_is : mid.core ≡ closed old.core under node cost free

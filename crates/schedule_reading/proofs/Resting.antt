@@ -1,38 +1,9 @@
 -- The thread under way rests, and its segment is taken in: what is kept stands beside the state after it.
-use Rattle.std.proofs.Common.{◌≡◌, ℕ, ◌+◌, ◌-◌, ◌^◌, ◌≤◌, Bool, true, false, List, [], length, Option, Some, None, IsSome, refl, sym, ap, ◌∙◌, arith, if◌then◌else◌}
-use Rattle.std.specs.Prelude.{IfSome, slice_set, nat_le}
-use Rattle.std.specs.List.{list_all, list_any}
-use Rattle.blocking_graph.specs.Edges.{count_of, edges_of, edges_with}
-use Rattle.blocking_graph.specs.Graph.{GraphState}
-use Rattle.blocking_graph.specs.declared.edges.EdgeLine.{EdgeLine}
-use Rattle.blocking_graph.specs.declared.segments.SegmentRecord.{SegmentRecord}
-use Rattle.cap_word.specs.declared.calls.Block.{Block}
-use Rattle.c_mean.specs.ModelledCalls.{Exchange, wakes_at}
+use Rattle.schedule_reading.proofs.Common.{◌≡◌, ℕ, ◌+◌, ◌-◌, ◌^◌, ◌≤◌, Bool, true, false, List, [], length, Option, Some, None, IsSome, refl, sym, ap, ◌∙◌, arith, if◌then◌else◌, IfSome, slice_set, nat_le, list_all, list_any, count_of, edges_of, edges_with, GraphState, EdgeLine, SegmentRecord, Block, Exchange, wakes_at, is_open, observed, latest, all_caps, Waiter, changes, uses_in, uses_of, Given, chunks_of, rested, gate, gate_after, pressures, SchedulerState, last_of, Choice, get, IsFull, globals_of, Exchanging, wake_of, Under, Slot, IsClosing, uses_after, KeepsBut, Core, AreBeside, AreLive, IsOf, IsScheduled, StandsAt, StandsWithin, ThreadsState, at_place}
 use Rattle.c_mean.specs.World as source
-use Rattle.choice_rules.specs.Choice.{is_open, observed}
-use Rattle.choice_rules.specs.Clock.{latest}
-use Rattle.choice_rules.specs.Policy.{all_caps}
-use Rattle.choice_rules.specs.Seen.{Waiter, changes, uses_in, uses_of}
 use Rattle.choice_rules.proofs.Past.{edges_more, gate_more}
-use Rattle.lawful_reading.specs.Given.{Given, chunks_of}
-use Rattle.lawful_reading.specs.Segments.{rested}
 use Rattle.lawful_reading.specs.State.{Segment, State, seen_of}
-use Rattle.resource_monitor.specs.Gate.{gate, gate_after}
-use Rattle.resource_monitor.specs.Pressure.{pressures}
-use Rattle.scheduler.specs.State.{SchedulerState, last_of}
-use Rattle.scheduler.specs.declared.choices.Choice.{Choice}
-use Rattle.slab.specs.Slab.{get}
-use Rattle.source_runs.specs.Threads.{IsFull, globals_of}
-use Rattle.thread_exchange.specs.Exchanges.{Exchanging}
-use Rattle.thread_waits.specs.Counted.{wake_of}
 use Rattle.thread_waits.proofs.TimeLaws.{few_ticks}
-use Rattle.schedule_reading.specs.declared.reading.Under.{Under}
-use Rattle.schedule_reading.specs.declared.threads.Slot.{Slot}
-use Rattle.schedule_reading.specs.Closing.{IsClosing, uses_after}
-use Rattle.schedule_reading.specs.Coming.{KeepsBut}
-use Rattle.schedule_reading.specs.Kept.{Core}
-use Rattle.schedule_reading.specs.Stands.{AreBeside, AreLive, IsOf, IsScheduled, StandsAt, StandsWithin}
-use Rattle.schedule_reading.specs.Told.{ThreadsState, at_place}
 use Rattle.schedule_reading.proofs.Keeping.{of_with}
 use Rattle.schedule_reading.proofs.Proceeding.{of_keeps, past_keeps}
 

@@ -1,19 +1,8 @@
 -- A run of the thread under way, part by part.
-use Rattle.std.proofs.Common.{◌≡◌, ℕ, suc, ◌+◌, ◌-◌, ◌≤◌, Bool, true, List, Some, None, Ok, refl, sym, ap, ◌∙◌, subst, arith}
-use Rattle.std.specs.Prelude.{slice_set}
+use Rattle.schedule_reading.proofs.Common.{◌≡◌, ℕ, suc, ◌+◌, ◌-◌, ◌≤◌, Bool, true, List, Some, None, Ok, refl, sym, ap, ◌∙◌, subst, arith, slice_set, Given, IsSilent, PutsNext, RestsNext, State, Choice, globals_of, Exchanging, Happening, Under, Core, AreBeside}
 use Rattle.c_mean.specs.World as source
-use Rattle.lawful_reading.specs.Given.{Given}
-use Rattle.lawful_reading.specs.Happenings.{IsSilent, PutsNext, RestsNext}
-use Rattle.lawful_reading.specs.State.{State}
-use Rattle.scheduler.specs.declared.choices.Choice.{Choice}
-use Rattle.source_runs.specs.Threads.{globals_of}
-use Rattle.thread_exchange.specs.Exchanges.{Exchanging}
-use Rattle.schedule_reading.specs.declared.events.Happening.{Happening}
 use Rattle.schedule_reading.specs.declared.events.Happening.TheVariants as happening
-use Rattle.schedule_reading.specs.declared.reading.Under.{Under}
 use Rattle.schedule_reading.specs.Coming.{CrowdsFirst, GoesOn, GoneOn, HasHappened, KeepsBut, MayRun, NoneCrowded, Rests, RunsOn, RunsSomehow}
-use Rattle.schedule_reading.specs.Kept.{Core}
-use Rattle.schedule_reading.specs.Stands.{AreBeside}
 use Rattle.schedule_reading.proofs.Going.{crowds_on, none_on, puts_on, rests_on, silent_on}
 use Rattle.schedule_reading.proofs.Proceeding.{of_keeps}
 

@@ -1,20 +1,6 @@
 -- A thread that is chosen goes on from where it rests.
-use Rattle.std.proofs.Common.{◌≡◌, ◌≢◌, ℕ, ◌<◌, List, length, Option, Some, None, Result, Ok, Err, IfOk, option_to_list, refl, sym, ap, ◌∙◌, subst, arith, slice_set, length-set}
-use Rattle.cap_word.specs.declared.calls.Block.{Block}
-use Rattle.cap_word.specs.declared.threads.ThreadId.{ThreadId}
-use Rattle.c_mean.specs.Steps.{source_resume, started}
-use Rattle.c_tree.specs.Trees.{ProgramTree}
-use Rattle.slab.specs.Slab.{get}
-use Rattle.source_runs.specs.Threads.{IsThread, globals_of, running_of, waiting_of}
-use Rattle.source_runs.specs.declared.frames.Thread.{Thread}
-use Rattle.thread_exchange.specs.Exchanges.{Exchanging, MayResume, row_of}
-use Rattle.thread_waits.specs.Waiting.{wait_at, IsUntrapped}
-use Rattle.thread_waits.specs.declared.waits.Wait.{Wait}
-use Rattle.schedule_reading.specs.declared.threads.Rest.{Rest}
+use Rattle.schedule_reading.proofs.Common.{◌≡◌, ◌≢◌, ℕ, ◌<◌, List, length, Option, Some, None, Result, Ok, Err, IfOk, option_to_list, refl, sym, ap, ◌∙◌, subst, arith, slice_set, length-set, Block, ThreadId, source_resume, started, ProgramTree, get, IsThread, globals_of, running_of, waiting_of, Thread, Exchanging, MayResume, row_of, wait_at, IsUntrapped, Wait, Rest, Slot, GoesOn, HasBegun, KeepsOthers, MayBegin, MayGo, AreUntrapped, ThreadsState, WaitsAs}
 use Rattle.schedule_reading.specs.declared.threads.Rest.TheVariants as rest
-use Rattle.schedule_reading.specs.declared.threads.Slot.{Slot}
-use Rattle.schedule_reading.specs.Changes.{GoesOn, HasBegun, KeepsOthers, MayBegin, MayGo}
-use Rattle.schedule_reading.specs.Told.{AreUntrapped, ThreadsState, WaitsAs}
 use Rattle.schedule_reading.proofs.Waits.{set_other, set_same, there_if}
 
 -- both of what a call ensures

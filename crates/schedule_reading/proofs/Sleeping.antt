@@ -1,25 +1,11 @@
 -- Those who sleep: by the places, and by those that wait.
-use Rattle.std.proofs.Common.{◌≡◌, ℕ, zero, suc, ◌<◌, ◌≤◌, ◌||◌, Bool, true, false, List, [], ◌∷◌, length, Option, Some, None, IsSome, refl, sym, ap, ◌∙◌, subst, arith, nat_eq, cond}
-use Rattle.std.specs.Prelude.{All, Contains, filter_map, map, slice_get, slice_index_or}
-use Rattle.std.specs.List.{AllByRecursion, cons_option}
-use Rattle.std.proofs.lemmas.Bool.{eqb-true}
+use Rattle.schedule_reading.proofs.Common.{◌≡◌, ℕ, zero, suc, ◌<◌, ◌≤◌, ◌||◌, Bool, true, false, List, [], ◌∷◌, length, Option, Some, None, IsSome, refl, sym, ap, ◌∙◌, subst, arith, nat_eq, cond, All, Contains, filter_map, map, slice_get, slice_index_or, AllByRecursion, cons_option, eqb-true, Exchange, wakes_at, ProgramTree, IsLeastOf, Waiter, waits, Slab, get, Wait, Rest, Slot, AreThreads, IsSince, IsWaiter, RestsAs, WaitsAs, at_place}
 use Rattle.std.proofs.lemmas.List.Elements.{All-from_recursion}
-use Rattle.c_mean.specs.ModelledCalls.{Exchange, wakes_at}
 use Rattle.c_mean.specs.ModelledCalls as table
 use Rattle.c_mean.specs.World as source
-use Rattle.c_tree.specs.Trees.{ProgramTree}
-use Rattle.choice_rules.specs.Clock.{IsLeastOf}
 use Rattle.choice_rules.specs.Readiness as rules
-use Rattle.choice_rules.specs.Seen.{Waiter}
-use Rattle.choice_rules.specs.Waiting.{waits}
-use Rattle.slab.specs.Slab.{Slab, get}
 use Rattle.thread_waits.specs.Waiting as waits_of
-use Rattle.thread_waits.specs.declared.waits.Wait.{Wait}
-use Rattle.schedule_reading.specs.declared.threads.Rest.{Rest}
 use Rattle.schedule_reading.specs.declared.threads.Rest.TheVariants as rest
-use Rattle.schedule_reading.specs.declared.threads.Slot.{Slot}
-use Rattle.schedule_reading.specs.Stands.{AreThreads, IsSince, IsWaiter, RestsAs}
-use Rattle.schedule_reading.specs.Told.{WaitsAs, at_place}
 use Rattle.schedule_reading.proofs.Any.{slot_at, rest_is}
 
 -- ---- lists

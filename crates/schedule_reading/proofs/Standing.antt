@@ -1,33 +1,14 @@
 -- Threads where one place changes: a thread comes to wait there, or leaves it.
-use Rattle.std.proofs.Common.{◌≡◌, ◌≢◌, ℕ, zero, suc, ◌+◌, Bool, true, false, List, [], ◌∷◌, ◌++◌, length, Option, Some, None, IsSome, refl, sym, ap, ◌∙◌, subst, arith, ⊎_elim, cond}
-use Rattle.std.specs.Prelude.{IsTrue, count_by, slice_get, slice_set}
-use Rattle.std.specs.List.{AllByRecursion}
+use Rattle.schedule_reading.proofs.Common.{◌≡◌, ◌≢◌, ℕ, zero, suc, ◌+◌, Bool, true, false, List, [], ◌∷◌, ◌++◌, length, Option, Some, None, IsSome, refl, sym, ap, ◌∙◌, subst, arith, ⊎_elim, cond, IsTrue, count_by, slice_get, slice_set, AllByRecursion, ProgramTree, Waiter, waits, none_waits, once_append, waits_append, waits_one, lives, get, Wait, Slot, KeepsOthers, AreThreads, HasSlot, IsSince, IsSlot, IsWaiter, ThreadsState, at_place, All-append, or_right, or_left, same_or_not}
 use Rattle.std.proofs.lemmas.List.Recursion.{is_count_by}
 use Rattle.c_mean.specs.World as source
-use Rattle.c_tree.specs.Trees.{ProgramTree}
-use Rattle.choice_rules.specs.Seen.{Waiter}
-use Rattle.choice_rules.specs.Waiting.{waits}
-use Rattle.choice_rules.proofs.Tests.{left_true, right_true}
-use Rattle.choice_rules.proofs.Waiters.{all_append, none_waits, once_append, waits_append, waits_one}
-use Rattle.lawful_reading.specs.Happenings.{lives}
-use Rattle.slab.specs.Slab.{get}
-use Rattle.thread_waits.specs.declared.waits.Wait.{Wait}
-use Rattle.schedule_reading.specs.declared.threads.Slot.{Slot}
-use Rattle.schedule_reading.specs.Changes.{KeepsOthers}
-use Rattle.schedule_reading.specs.Stands.{AreThreads, HasSlot, IsSince, IsSlot, IsWaiter}
-use Rattle.schedule_reading.specs.Told.{ThreadsState, at_place}
 use Rattle.schedule_reading.proofs.Places.{not_vacant, same_slot, slot_kept, waiters_kept}
-use Rattle.schedule_reading.proofs.Waits.{here_or_not}
 
 -- ---- lists
 
 pub more_last : {X : Type 0} (xs : List X) (x : X) → slice_get (xs ++ x ∷ []) (length xs) ≡ Some x
 more_last [] x = refl
 more_last (y ∷ xs) x = more_last xs x
-
-pub more_long : {X : Type 0} (xs : List X) (x : X) → length (xs ++ x ∷ []) ≡ length xs + 1
-more_long [] x = refl
-more_long (y ∷ xs) x = let rest = more_long xs x in omega (arith, rest)
 
 pub more_other : {X : Type 0} (xs : List X) (x : X) (k : ℕ) → k ≢ length xs → slice_get (xs ++ x ∷ []) k ≡ slice_get xs k
 more_other [] x zero apart = absurd (apart refl)
@@ -117,7 +98,7 @@ module _ (tree : ProgramTree) (old new : ThreadsState) (place number : ℕ) (res
   kept_found n apart has = ⊎_elim
       (λ (here : has.place ≡ place). absurd (apart (sym has.number_is ∙ own_number has.slot (ap (get old.slots) (sym here) ∙ has.there))))
       (λ away. record { place = has.place; slot = has.slot; there = others.slots has.place away ∙ has.there; number_is = has.number_is })
-      (here_or_not has.place place)
+      (same_or_not has.place place)
 
   -- ---- a thread comes to wait there
 
@@ -132,7 +113,7 @@ module _ (tree : ProgramTree) (old new : ThreadsState) (place number : ℕ) (res
         let is : slot ≡ s = same_slot new.slots place slot s there (ap (get new.slots) (sym here) ∙ e) in
         subst (λ (x : Slot). IsSlot tree new.waits.places more p x) is (subst (λ (k : ℕ). IsSlot tree new.waits.places more k slot) (sym here) stands))
         (λ apart. kept_slot p s e apart)
-        (here_or_not p place)
+        (same_or_not p place)
 
     own_of : (p : ℕ) (s : Slot) → get new.slots p ≡ Some s → p ≡ place → s.number ≡ number
     own_of p s e here = ap (λ (x : Slot). x.number) (sym (same_slot new.slots place slot s there (ap (get new.slots) (sym here) ∙ e))) ∙ number_is
@@ -145,24 +126,24 @@ module _ (tree : ProgramTree) (old new : ThreadsState) (place number : ℕ) (res
         (λ (here : p ≡ place). ⊎_elim
         (λ (too : q ≡ place). here ∙ sym too)
         (λ apart. absurd (other_of q t f apart (sym equal ∙ own_of p s e here)))
-        (here_or_not q place))
+        (same_or_not q place))
         (λ apart. ⊎_elim
         (λ (here : q ≡ place). absurd (other_of p s e apart (equal ∙ own_of q t f here)))
         (λ apart_too. are.one p q s t (sym (others.slots p apart) ∙ e) (sym (others.slots q apart_too) ∙ f) equal)
-        (here_or_not q place))
-        (here_or_not p place)
+        (same_or_not q place))
+        (same_or_not p place)
 
     vacant_slot : (p : ℕ) → get new.slots p ≡ None → at_place new.waits.places p ≡ None
     vacant_slot p e = ⊎_elim
         (λ (here : p ≡ place). absurd (not_vacant new.slots place slot (ap (get new.slots) (sym here) ∙ e) there))
         (λ apart. others.waits p apart ∙ are.vacant p (sym (others.slots p apart) ∙ e))
-        (here_or_not p place)
+        (same_or_not p place)
 
     found_slot : (n : ℕ) (r : source.Rest) → slice_get more n ≡ Some r → IsTrue (lives r) → HasSlot new.slots n
     found_slot n r e live = ⊎_elim
         (λ (here : n ≡ number). record { place = place; slot = slot; there = there; number_is = number_is ∙ sym here })
         (λ apart. kept_found n apart (are.found n r (sym (same n apart) ∙ e) live))
-        (here_or_not n number)
+        (same_or_not n number)
 
     own_waits : IsWaiter new.slots new.waits.places own
     own_waits = record {
@@ -179,11 +160,11 @@ module _ (tree : ProgramTree) (old new : ThreadsState) (place number : ℕ) (res
 
     all_wait : (p : ℕ) (s : Slot) → get new.slots p ≡ Some s → IsSome (at_place new.waits.places p) → IsTrue (waits (waiting ++ own ∷ []) s.number)
     all_wait p s e some = waits_append waiting (own ∷ []) s.number ∙ ⊎_elim
-        (λ (here : p ≡ place). right_true (waits waiting s.number) (waits (own ∷ []) s.number) (ap (waits (own ∷ [])) (own_of p s e here) ∙ waits_one own))
+        (λ (here : p ≡ place). or_right (waits waiting s.number) (waits (own ∷ []) s.number) (ap (waits (own ∷ [])) (own_of p s e here) ∙ waits_one own))
         (λ apart.
-        left_true (waits waiting s.number) (waits (own ∷ []) s.number)
+        or_left (waits waiting s.number) (waits (own ∷ []) s.number)
         (are.all p s (sym (others.slots p apart) ∙ e) (subst (λ (o : Option Wait). IsSome o) (others.waits p apart) some)))
-        (here_or_not p place)
+        (same_or_not p place)
 
     pub are_joined : AreThreads tree new.slots new.waits.places more (waiting ++ own ∷ [])
     are_joined = record {
@@ -191,7 +172,7 @@ module _ (tree : ProgramTree) (old new : ThreadsState) (place number : ℕ) (res
       one = one_slot;
       vacant = vacant_slot;
       found = found_slot;
-      waiters = all_append (IsWaiter new.slots new.waits.places) waiting (own ∷ []) kept_waiters (own_waits, tt);
+      waiters = All-append (IsWaiter new.slots new.waits.places) waiting (own ∷ []) kept_waiters (own_waits, tt);
       once = once_append waiting own are.once (none_waits waiting number (none_of_number waiting are.waiters));
       all = all_wait;
     }
@@ -217,11 +198,11 @@ module _ (tree : ProgramTree) (old new : ThreadsState) (place number : ℕ) (res
       vacant = λ p e. ⊎_elim
           (λ (here : p ≡ place). ap (at_place new.waits.places) here ∙ none)
           (λ apart. others.waits p apart ∙ are.vacant p (sym (others.slots p apart) ∙ e))
-          (here_or_not p place);
+          (same_or_not p place);
       found = λ n r e live. ⊎_elim
           (λ (here : n ≡ number). absurd (no_life r (ap (slice_get more) (sym here) ∙ e) live))
           (λ apart. kept_found n apart (are.found n r (sym (same n apart) ∙ e) live))
-          (here_or_not n number);
+          (same_or_not n number);
       waiters = kept_waiters;
       once = are.once;
       all = λ p s e some. are.all p s (sym (others.slots p (not_here p s e)) ∙ e) (subst (λ (o : Option Wait). IsSome o) (others.waits p (not_here p s e)) some);

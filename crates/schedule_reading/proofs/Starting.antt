@@ -1,50 +1,14 @@
 -- Before the first line: thread 0 waits at node 0, and nothing has happened.
-use Rattle.std.proofs.Common.{◌≡◌, ◌≢◌, ℕ, zero, suc, ◌+◌, ◌-◌, ◌<◌, ◌≤◌, ◌⊎◌, inl, inr, Bool, true, false, List, [], ◌∷◌, drop, Option, Some, None, IsSome, option_map, if◌then◌else◌, refl, sym, ap, ◌∙◌, subst, arith}
-use Rattle.std.specs.Prelude.{IfSome, IsTrue, slice_get, slice_index, slice_index_or}
-use Rattle.std.proofs.lemmas.Bool.{eq-eqb}
-use Rattle.blocking_graph.specs.Graph.{GraphState, empty_graph}
-use Rattle.cap_word.specs.declared.threads.ThreadId.{ThreadId}
-use Rattle.c_mean.specs.Steps.{start_globals}
+use Rattle.schedule_reading.proofs.Common.{◌≡◌, ◌≢◌, ℕ, zero, suc, ◌+◌, ◌-◌, ◌<◌, ◌≤◌, ◌⊎◌, inl, inr, Bool, true, false, List, [], ◌∷◌, drop, Option, Some, None, IsSome, option_map, if◌then◌else◌, refl, sym, ap, ◌∙◌, subst, arith, IfSome, IsTrue, slice_get, slice_index, slice_index_or, eq-eqb, GraphState, empty_graph, ThreadId, start_globals, empty_exchange, ProgramTree, IsWellScoped, latest, all_caps, Waiter, uses_of, at_drop, ReaderState, Given, State, seen_of, start_of, Need, gate_after, MonitorState, pressures, get, IsReady, tree_of, IsFull, globals_of, Interpreter, Exchanging, wake_of, need_for, Waiting, Wait, AuditPolicy, Slot, AreNone, AreVacant, HasAdded, Core, HasFirst, HasSource, AreLive, AreThreads, IsOf, IsScheduled, IsSlot, Stands, StandsAt, ThreadsState, VouchesIn, at_place, wait_of, same_or_not}
 use Rattle.c_mean.specs.World as source
-use Rattle.c_mean.specs.World.{empty_exchange}
-use Rattle.c_tree.specs.Trees.{ProgramTree}
-use Rattle.c_tree.specs.WellScoped.{IsWellScoped}
-use Rattle.choice_rules.specs.Clock.{latest}
-use Rattle.choice_rules.specs.Policy.{all_caps}
-use Rattle.choice_rules.specs.Seen.{Waiter, uses_of}
-use Rattle.choice_rules.proofs.Changes.{at_drop}
-use Rattle.event_trace.specs.Reader.{ReaderState}
-use Rattle.lawful_reading.specs.Given.{Given}
-use Rattle.lawful_reading.specs.State.{State, seen_of, start_of}
-use Rattle.ready_tree.specs.declared.needs.Need.{Need}
-use Rattle.resource_monitor.specs.Gate.{gate_after}
-use Rattle.resource_monitor.specs.Monitor.{MonitorState}
-use Rattle.resource_monitor.specs.Pressure.{pressures}
 use Rattle.scheduler.specs.State.{SchedulerState, IsJoined, IsTold, started}
-use Rattle.slab.specs.Slab.{get}
-use Rattle.source_runs.specs.Layouts.{IsReady, tree_of}
-use Rattle.source_runs.specs.Threads.{IsFull, globals_of}
-use Rattle.source_runs.specs.declared.interpreter.Interpreter.{Interpreter}
-use Rattle.thread_exchange.specs.Exchanges.{Exchanging}
-use Rattle.thread_waits.specs.Counted.{wake_of}
-use Rattle.thread_waits.specs.Needs.{need_for}
-use Rattle.thread_waits.specs.Waiting.{Waiting}
-use Rattle.thread_waits.specs.declared.waits.Wait.{Wait}
-use Rattle.schedule_reading.specs.declared.policy.AuditPolicy.{AuditPolicy}
 use Rattle.schedule_reading.specs.declared.reading.End.TheVariants as end
 use Rattle.schedule_reading.specs.declared.reading.Next.TheVariants as next
 use Rattle.schedule_reading.specs.declared.threads.Rest.TheVariants as rest
-use Rattle.schedule_reading.specs.declared.threads.Slot.{Slot}
-use Rattle.schedule_reading.specs.Changes.{AreNone, AreVacant, HasAdded}
-use Rattle.schedule_reading.specs.Kept.{Core}
-use Rattle.schedule_reading.specs.Starting.{HasFirst, HasSource}
-use Rattle.schedule_reading.specs.Stands.{AreLive, AreThreads, IsOf, IsScheduled, IsSlot, Stands, StandsAt}
-use Rattle.schedule_reading.specs.Told.{ThreadsState, VouchesIn, at_place, wait_of}
 use Rattle.schedule_reading.specs.Limits.{MayAudit, given_of}
 use Rattle.schedule_reading.proofs.Joins.{joins}
 use Rattle.schedule_reading.proofs.Places.{placed_by}
 use Rattle.schedule_reading.proofs.Standing.{are_joined, count_more, more_other}
-use Rattle.schedule_reading.proofs.Waits.{here_or_not}
 
 -- ---- no thread yet
 
@@ -222,7 +186,7 @@ module _ (p : ProgramTree) (policy : AuditPolicy) (monitor : MonitorState) (may 
         clock_is = clock_first;
         later = omega arith;
         threads = live_first;
-        resting = λ place s e. here_only place s e (here_or_not place main.slot);
+        resting = λ place s e. here_only place s e (same_or_not place main.slot);
         globals = subst (λ (t : ProgramTree). globals_of t words ≡ start_globals t) program rows;
         full = subst (λ (t : ProgramTree). IsFull t words) program full;
         scheduled = scheduled_first;
@@ -236,7 +200,7 @@ module _ (p : ProgramTree) (policy : AuditPolicy) (monitor : MonitorState) (may 
           keys = omega arith;
         };
         gate = ap (λ (b : Bool). gate_after g.policy.high g.policy.low b (pressures g.policy.curves (uses_of (seen_of state)) (all_caps g.policy))) (is_true monitor.is_open may.gate);
-        timely = record { clock_is = (let at = clock_first in omega (arith, at)); sleepers = λ place. sleeps_none place (here_or_not place main.slot) };
+        timely = record { clock_is = (let at = clock_first in omega (arith, at)); sleepers = λ place. sleeps_none place (same_or_not place main.slot) };
       }
 
       pub stands_start : (graph : GraphState) → graph ≡ empty_graph → (reader : ReaderState) → reader ≡ record { held = []; lines = 0; last = 0; refused = None } →

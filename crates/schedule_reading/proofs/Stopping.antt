@@ -1,32 +1,9 @@
 -- Stops at choice points, and the end of a log.
-use Rattle.std.proofs.Common.{◌≡◌, ℕ, zero, suc, ◌<◌, ◌≤◌, ◌⊎◌, inl, inr, true, false, List, [], ◌∷◌, length, drop, map, Option, Some, None, Ok, refl, sym, ap, ◌∙◌, subst, arith, ⊎_elim}
-use Rattle.std.proofs.lemmas.Bool.{cases_lt}
-use Rattle.blocking_graph.specs.Edges.{edges_of}
-use Rattle.blocking_graph.specs.declared.edges.EdgeLine.{EdgeLine}
-use Rattle.choice_rules.specs.Clock.{IsChoicePoint}
-use Rattle.choice_rules.specs.EdgeLines.{edge_entry}
-use Rattle.choice_rules.specs.Stops.{IsBadTrace, IsDone, IsIdle}
-use Rattle.choice_rules.proofs.Points.{not_bad, not_done, not_idle, not_refused, one_refusal}
-use Rattle.event_trace.specs.declared.events.Event.{Event}
-use Rattle.lawful_reading.specs.Ends.{StopsBy, edges_left}
-use Rattle.lawful_reading.specs.Given.{Given}
-use Rattle.lawful_reading.specs.Reading.{IsBeyond}
-use Rattle.lawful_reading.specs.State.{State, seen_of}
-use Rattle.schedule_log.specs.declared.entries.Entry.{Entry}
-use Rattle.schedule_log.specs.declared.entries.StopLine.{StopLine}
-use Rattle.schedule_reading.specs.declared.stops.Between.{Between}
+use Rattle.schedule_reading.proofs.Common.{◌≡◌, ℕ, zero, suc, ◌<◌, ◌≤◌, ◌⊎◌, inl, inr, true, false, List, [], ◌∷◌, length, drop, map, Option, Some, None, Ok, refl, sym, ap, ◌∙◌, subst, arith, ⊎_elim, cases_lt, edges_of, EdgeLine, IsChoicePoint, edge_entry, IsBadTrace, IsDone, IsIdle, not_bad, not_done, not_idle, not_refused, one_refusal, Event, StopsBy, edges_left, Given, IsBeyond, State, seen_of, Entry, StopLine, Between, Shown, Point, End, AreOver, Fits, RulesStop, entry_of, stop_line, Core, Kept, IsPoint, Shows, IsEnd, IsTold}
 use Rattle.schedule_reading.specs.declared.stops.Between.TheVariants as stops
-use Rattle.schedule_reading.specs.declared.edges.Shown.{Shown}
-use Rattle.schedule_reading.specs.declared.points.Point.{Point}
 use Rattle.schedule_reading.specs.declared.points.Point.TheVariants as point
-use Rattle.schedule_reading.specs.declared.reading.End.{End}
 use Rattle.schedule_reading.specs.declared.reading.End.TheVariants as end
 use Rattle.schedule_reading.specs.declared.rulings.Ruling.TheVariants as ruling
-use Rattle.schedule_reading.specs.Ending.{AreOver, Fits, RulesStop, entry_of, stop_line}
-use Rattle.schedule_reading.specs.Kept.{Core, Kept}
-use Rattle.schedule_reading.specs.Rulings.{IsPoint}
-use Rattle.schedule_reading.specs.Shown.{Shows}
-use Rattle.schedule_reading.specs.Stands.{IsEnd, IsTold}
 use Rattle.schedule_reading.proofs.Delivering.{not_beyond}
 
 -- ---- stops at choice points

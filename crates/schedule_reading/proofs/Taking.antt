@@ -1,72 +1,27 @@
 -- The lawful choice: which thread goes on, and from where.
-use Rattle.std.proofs.Common.{◌≡◌, ◌≢◌, ℕ, suc, ◌+◌, ◌-◌, ◌<◌, ◌≤◌, ◌||◌, ◌&&◌, not, Bool, true, false, List, [], ◌∷◌, ◌++◌, length, Option, Some, None, IsSome, option_to_list, find, refl, sym, ap, ◌∙◌, subst, arith, ⊎_elim, if◌then◌else◌, append-nil, length-set, ◌⊎◌, inl, inr}
-use Rattle.std.specs.Prelude.{IfSome, IsTrue, count_by, is_some, slice_get, slice_index}
-use Rattle.std.specs.List.{list_any}
-use Rattle.std.proofs.lemmas.Bool.{eq-eqb, ne_eqb}
-use Rattle.cap_word.specs.declared.calls.Block.{Block}
-use Rattle.cap_word.specs.declared.threads.ThreadId.{ThreadId}
+use Rattle.schedule_reading.proofs.Common.{◌≡◌, ◌≢◌, ℕ, suc, ◌+◌, ◌-◌, ◌<◌, ◌≤◌, ◌||◌, ◌&&◌, not, Bool, true, false, List, [], ◌∷◌, ◌++◌, length, Option, Some, None, IsSome, option_to_list, find, refl, sym, ap, ◌∙◌, subst, arith, ⊎_elim, if◌then◌else◌, append-nil, length-set, ◌⊎◌, inl, inr, IfSome, IsTrue, count_by, is_some, slice_get, slice_index, list_any, eq-eqb, ne_eqb, Block, ThreadId, Running, source_resume, started, ProgramTree, begun, begun_at, IsLawful, IsLawfulBy, is_open, monitor_of, queue_at, observed, Rule, any_elsewhere, any_ready, at_accept, is_ready, Seen, Waiter, last_choice, newcomers, uses_in, uses_of, chosen_from, Given, lives, State, seen_of, gate_after, pressures, is_eligible, IsLawfulChoice, score, SchedulerState, IsNoted, IsTaken, last_of, queue_of, Choice, globals_of, running_of, waiting_of, Thread, Exchanging, row_of, Wait, Under, Rest, Slot, GoesOn, HasBegun, MayBegin, MayGo, Core, Chooses, Chosen, ChosenOther, AreThreads, CanGo, IsScheduled, IsSince, IsSlot, IsWaiter, RestsAs, StandsAt, StandsWithin, numbers_of, waiting_with, ThreadsState, WaitsAs, any_elsewhere_in, at_accept_in, at_place, is_ready_in, wait_of, waits_in, cap_in, used_in, IsPlaced, same_eight, drop_long, but, one_choice, both_left, same_or_not}
 use Rattle.c_mean.specs.ModelledCalls.{Exchange, BlockingRow, blocking_row, is_past, use_of, wake_of}
-use Rattle.c_mean.specs.Frames.{Running}
-use Rattle.c_mean.specs.Steps.{source_resume, started}
-use Rattle.c_tree.specs.Trees.{ProgramTree}
 use Rattle.c_mean.specs.World as source
-use Rattle.c_mean.specs.World.{begun, begun_at}
 use Rattle.choice_rules.specs.Choice as rules
-use Rattle.choice_rules.specs.Choice.{IsLawful, IsLawfulBy, is_open, monitor_of, queue_at, observed}
 use Rattle.choice_rules.specs.Clock.{latest as latest_of}
-use Rattle.choice_rules.specs.Policy.{Rule}
 use Rattle.choice_rules.specs.Readiness as readiness
-use Rattle.choice_rules.specs.Readiness.{any_elsewhere, any_ready, at_accept, is_ready}
-use Rattle.choice_rules.specs.Seen.{Seen, Waiter, last_choice, newcomers, uses_in, uses_of}
-use Rattle.lawful_reading.specs.Choice.{chosen_from}
-use Rattle.lawful_reading.specs.Given.{Given}
-use Rattle.lawful_reading.specs.Happenings.{lives}
-use Rattle.lawful_reading.specs.State.{State, seen_of}
-use Rattle.resource_monitor.specs.Gate.{gate_after}
-use Rattle.resource_monitor.specs.Pressure.{pressures}
-use Rattle.scheduler.specs.LawfulChoice.{is_eligible, IsLawfulChoice}
-use Rattle.scheduler.specs.Scores.{score}
-use Rattle.scheduler.specs.State.{SchedulerState, IsNoted, IsTaken, last_of, queue_of}
-use Rattle.scheduler.specs.declared.choices.Choice.{Choice}
-use Rattle.source_runs.specs.Threads.{globals_of, running_of, waiting_of}
-use Rattle.source_runs.specs.declared.frames.Thread.{Thread}
-use Rattle.thread_exchange.specs.Exchanges.{Exchanging, row_of}
 use Rattle.thread_waits.specs.Counted.{wake_of as wake_at}
 use Rattle.thread_waits.specs.Waiting as waits_of
-use Rattle.thread_waits.specs.declared.waits.Wait.{Wait}
-use Rattle.schedule_reading.specs.declared.reading.Under.{Under}
-use Rattle.schedule_reading.specs.declared.threads.Rest.{Rest}
 use Rattle.schedule_reading.specs.declared.threads.Rest.TheVariants as rest
-use Rattle.schedule_reading.specs.declared.threads.Slot.{Slot}
-use Rattle.schedule_reading.specs.Changes.{GoesOn, HasBegun, MayBegin, MayGo}
-use Rattle.schedule_reading.specs.Kept.{Core}
-use Rattle.schedule_reading.specs.Rulings.{Chooses, Chosen, ChosenOther}
-use Rattle.schedule_reading.specs.Stands.{AreThreads, CanGo, IsScheduled, IsSince, IsSlot, IsWaiter, RestsAs, StandsAt, StandsWithin, numbers_of, waiting_with}
-use Rattle.schedule_reading.specs.Told.{ThreadsState, WaitsAs, any_elsewhere_in, at_accept_in, at_place, is_ready_in, wait_of, waits_in}
-use Rattle.schedule_reading.specs.Uses.{cap_in, used_in}
 use Rattle.schedule_reading.proofs.Any.{accept_agrees, any_elsewhere_same, ready_agrees}
 use Rattle.schedule_reading.proofs.Beginning.{are_left, none_new, scheduled_left}
 use Rattle.schedule_reading.proofs.Caps.{used_is, within_policy}
-use Rattle.choice_rules.specs.Waiting.{IsPlaced}
-use Rattle.choice_rules.proofs.Changes.{same_eight, drop_long}
 use Rattle.choice_rules.proofs.GraphChoices.{lawful_choice, some_choice}
-use Rattle.choice_rules.proofs.Waiters.{but}
-use Rattle.choice_rules.proofs.Points.{one_choice}
 use Rattle.choice_rules.proofs.GraphChoices as choosing
 use Rattle.schedule_reading.proofs.Keeping.{of_with}
 use Rattle.schedule_reading.proofs.Places.{At, placed_at, same_slot}
 use Rattle.schedule_reading.proofs.Pointing.{ready_same}
-use Rattle.schedule_reading.proofs.Waits.{here_or_not}
 
 -- ---- small things
 
 since_some : (since : ℕ) (o : Option Wait) → IsSince since o → IsSome o
 since_some since None is = absurd is
 since_some since (Some wait) is = refl
-
-left_of : (a b : Bool) → (a && b) ≡ true → a ≡ true
-left_of true b e = refl
-left_of false b e = absurd (cc)
 
 add_one : (n : ℕ) → n + 1 ≡ suc n
 add_one n = omega arith
@@ -215,7 +170,7 @@ module _ (g : Given) (state : State) (k : Core) (chooses : Chooses g state k) (u
         (its_place choice.thread picked.waiter picked.thread_is picked.placed picked.holds) picked.holds.since
 
     chosen_ready : is_ready_in k.threads choice.thread ≡ true
-    chosen_ready = left_of (is_ready_in k.threads choice.thread) (not (at_accept_in k.threads choice.thread) || ((observed k.monitor uses).is_open || not (any_elsewhere_in k.threads)))
+    chosen_ready = both_left (is_ready_in k.threads choice.thread) (not (at_accept_in k.threads choice.thread) || ((observed k.monitor uses).is_open || not (any_elsewhere_in k.threads)))
         (find_passes tests (queue_of k.scheduler choice.node) choice.thread lawful.first)
 
     ready_here : waits_of.is_ready_in k.threads.exchange.caps k.threads.exchange.exchange now (at_place k.threads.waits.places choice.thread.slot) ≡ true
@@ -329,7 +284,7 @@ module _ (g : Given) (state : State) (k : Core) (chooses : Chooses g state k) (u
             (λ apart.
             noted.other_lasts node apart ∙ stands.past.lasts node
             ∙ sym (ap (λ (b : Bool). if b then suc (length state.past.taken) else last_choice state.past.taken node) (ne_eqb picked.waiter.node node (λ e. apart (sym e ∙ sym picked.node_is)))))
-            (here_or_not node choice.node)
+            (same_or_not node choice.node)
 
         stands_within : StandsWithin g after new under
         stands_within = record {
@@ -386,7 +341,7 @@ module _ (g : Given) (state : State) (k : Core) (chooses : Chooses g state k) (u
           gate = gate_now;
           timely = record {
             clock_is = let same = begun_is.clock in let most = stands.timely.clock_is in omega (arith, same, most);
-            sleepers = λ p. sleeps p (here_or_not p choice.thread.slot);
+            sleepers = λ p. sleeps p (same_or_not p choice.thread.slot);
           };
         } where
           sleeps : (p : ℕ) → (p ≡ choice.thread.slot) ⊎ (p ≢ choice.thread.slot) → IfSome (wake_at (at_place threads.waits.places p)) (λ time. time ≤ latest_of k.cost)

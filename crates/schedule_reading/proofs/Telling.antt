@@ -1,17 +1,7 @@
 -- What threads tell of themselves: what they wait for, and what they need.
-use Rattle.std.proofs.Common.{◌≡◌, ℕ, Bool, true, false, List, Option, Some, None, option_map, refl, sym, ap, ◌∙◌, if◌then◌else◌, nat_eq}
-use Rattle.cap_word.specs.declared.calls.Block.{Block}
-use Rattle.cap_word.specs.declared.threads.ThreadId.{ThreadId}
-use Rattle.c_mean.specs.ModelledCalls.{Exchange}
+use Rattle.schedule_reading.proofs.Common.{◌≡◌, ℕ, Bool, true, false, List, Option, Some, None, option_map, refl, sym, ap, ◌∙◌, if◌then◌else◌, nat_eq, Block, ThreadId, Exchange, Need, is_arrival, is_met, Slab, get, need_for, Wait, Slot, at_place, wait_of, waits_in}
 use Rattle.ready_tree.specs.declared.bounds.Bounds.{Bounds}
-use Rattle.ready_tree.specs.declared.needs.Need.{Need}
-use Rattle.ready_tree.specs.Needs.{is_arrival, is_met}
-use Rattle.slab.specs.Slab.{Slab, get}
-use Rattle.thread_waits.specs.Needs.{need_for}
 use Rattle.thread_waits.specs.Waiting as waits
-use Rattle.thread_waits.specs.declared.waits.Wait.{Wait}
-use Rattle.schedule_reading.specs.declared.threads.Slot.{Slot}
-use Rattle.schedule_reading.specs.Told.{at_place, wait_of, waits_in}
 
 -- ---- at its place
 

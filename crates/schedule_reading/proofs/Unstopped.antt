@@ -1,12 +1,6 @@
 -- What stands where the end of a log may have begun, but hasn't come.
-use Rattle.std.proofs.Common.{◌≡◌, None, refl, subst}
-use Rattle.lawful_reading.specs.Given.{Given}
-use Rattle.lawful_reading.specs.State.{State}
-use Rattle.schedule_reading.specs.declared.reading.End.{End}
+use Rattle.schedule_reading.proofs.Common.{◌≡◌, None, refl, subst, Given, State, End, Kept, StandsBetween, IsEnd, IsLooked, Stands, StandsBy, StandsUnless}
 use Rattle.schedule_reading.specs.declared.reading.End.TheVariants as end
-use Rattle.schedule_reading.specs.Kept.{Kept}
-use Rattle.schedule_reading.specs.Rulings.{StandsBetween}
-use Rattle.schedule_reading.specs.Stands.{IsEnd, IsLooked, Stands, StandsBy, StandsUnless}
 
 pub stands_by : (g : Given) (state : State) (k : Kept) → Stands g state k → (k.end ≡ end.Stopped → ⊥) → StandsBy g state k.core k.under × IsLooked k.reader k.next
 stands_by g state k stands going = by k.end refl stands.stands where

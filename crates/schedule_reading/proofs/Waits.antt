@@ -1,12 +1,6 @@
 -- What is waited for at a place.
-use Rattle.std.proofs.Common.{◌≡◌, ◌≢◌, ℕ, zero, suc, ◌<◌, ◌⊎◌, List, [], ◌∷◌, length, Option, None, IsSome, arith, slice_set}
-use Rattle.std.specs.Prelude.{slice_index_or}
+use Rattle.schedule_reading.proofs.Common.{◌≡◌, ◌≢◌, ℕ, zero, suc, ◌<◌, ◌⊎◌, List, [], ◌∷◌, length, Option, None, IsSome, arith, slice_set, slice_index_or, Waiting, wait_at, Wait}
 use Rattle.std.proofs.lemmas.List.{get_or-set_same, get_or-set_other}
-use Rattle.thread_waits.specs.Waiting.{Waiting, wait_at}
-use Rattle.thread_waits.specs.declared.waits.Wait.{Wait}
-
-pub here_or_not : (k place : ℕ) → (k ≡ place) ⊎ (k ≢ place)
-here_or_not k place = grind arith
 
 pub there_if : {X : Type 0} (xs : List (Option X)) (k : ℕ) → IsSome (slice_index_or xs k None) → k < length xs
 there_if [] k e = absurd (cc)

@@ -1,29 +1,12 @@
 -- The clock goes on to the next time at which something goes on.
-use Rattle.std.proofs.Common.{◌≡◌, ℕ, zero, suc, ◌^◌, ◌<◌, ◌≤◌, ◌||◌, Bool, true, false, List, [], ◌∷◌, ◌++◌, Option, Some, None, refl, sym, ◌∙◌, subst, arith, cond}
-use Rattle.std.specs.Prelude.{All, IfSome, slice_get, slice_index_or}
-use Rattle.std.specs.List.{list_any}
-use Rattle.cap_word.specs.declared.calls.Block.{Block}
+use Rattle.schedule_reading.proofs.Common.{◌≡◌, ℕ, zero, suc, ◌^◌, ◌<◌, ◌≤◌, ◌||◌, Bool, true, false, List, [], ◌∷◌, ◌++◌, Option, Some, None, refl, sym, ◌∙◌, subst, arith, cond, All, IfSome, slice_get, slice_index_or, list_any, Block, IsLeastOf, event_times, is_due, latest, any_ready, waking_times, IsIdle, IsNext, awake_by, clock_moves, later_by, Event, Given, State, seen_of, IsWake, sleeps_in, Wait, Kept, StandsAt, any_ready_in, at_place, or_parts, or_from}
 use Rattle.c_mean.specs.ModelledCalls as table
 use Rattle.c_mean.specs.ModelledCalls.{Exchange, blocking_row, wake_of, wakes_at}
 use Rattle.c_mean.proofs.CallLemmas.{waits_alone}
-use Rattle.choice_rules.specs.Clock.{IsLeastOf, event_times, is_due, latest}
 use Rattle.choice_rules.specs.Readiness as rules
-use Rattle.choice_rules.specs.Readiness.{any_ready, waking_times}
-use Rattle.choice_rules.specs.Stops.{IsIdle}
-use Rattle.choice_rules.specs.Trace.{IsNext}
-use Rattle.choice_rules.proofs.Clocks.{awake_by, clock_moves, later_by}
-use Rattle.choice_rules.proofs.Tests.{not_both, one_false}
-use Rattle.event_trace.specs.declared.events.Event.{Event}
-use Rattle.lawful_reading.specs.Given.{Given}
-use Rattle.lawful_reading.specs.State.{State, seen_of}
 use Rattle.thread_waits.specs.Counted as counted
 use Rattle.thread_waits.specs.Waiting as waits_of
-use Rattle.thread_waits.specs.Waiting.{IsWake, sleeps_in}
-use Rattle.thread_waits.specs.declared.waits.Wait.{Wait}
-use Rattle.schedule_reading.specs.Kept.{Kept}
 use Rattle.schedule_reading.specs.Rulings.{Comes, ComesToChoice, Goes, GoesOnFrom, Halts}
-use Rattle.schedule_reading.specs.Stands.{StandsAt}
-use Rattle.schedule_reading.specs.Told.{any_ready_in, at_place}
 use Rattle.schedule_reading.proofs.Any.{at_any}
 use Rattle.schedule_reading.proofs.Sleeping.{at_map, least_sleeps, nobody_sleeps, wakes_agrees}
 use Rattle.schedule_reading.proofs.Pointing.{between_is, live_is, next_of, ready_same}
@@ -53,8 +36,8 @@ sleeps_is caps x clock _ time e = absurd (cc)
 
 none_any : {X : Type 0} (test : Option X → Bool) → test None ≡ false → (xs : List (Option X)) (k : ℕ) → list_any test xs ≡ false → test (slice_index_or xs k None) ≡ false
 none_any test none [] k e = none
-none_any test none (x ∷ xs) zero e = (not_both (test x) (list_any test xs) e).0
-none_any test none (x ∷ xs) (suc k) e = none_any test none xs k (not_both (test x) (list_any test xs) e).1
+none_any test none (x ∷ xs) zero e = (or_parts (test x) (list_any test xs) e).0
+none_any test none (x ∷ xs) (suc k) e = none_any test none xs k (or_parts (test x) (list_any test xs) e).1
 
 -- what is kept at another clock
 abbrev pub at_clock : Kept → ℕ → Kept
@@ -102,7 +85,7 @@ module _ (g : Given) (state : State) (k : Kept) (known : Option Event) (from : G
   none_ready = sym (ready_same g state state.clock k.core stands) ∙ unready
 
   nothing : (is_due known state.clock || any_ready g.policy (seen_of state) state.clock) ≡ false
-  nothing = one_false (is_due known state.clock) (any_ready g.policy (seen_of state) state.clock) (subst (λ (n : ℕ). is_due known n ≡ false) stands.clock_is not_due) none_ready
+  nothing = or_from (is_due known state.clock) (any_ready g.policy (seen_of state) state.clock) (subst (λ (n : ℕ). is_due known n ≡ false) stands.clock_is not_due) none_ready
 
   none_at : (place : ℕ) → waits_of.is_ready_in caps x now (at_place places place) ≡ false
   none_at place = none_any (waits_of.is_ready_in caps x now) refl places place unready

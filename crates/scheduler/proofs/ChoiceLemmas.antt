@@ -1,39 +1,19 @@
 -- A search through the queues finds the lawful choice.
-use Rattle.std.proofs.Common.{◌≡◌, ◌≢◌, ℕ, suc, Bool, true, false, IsSome, ℤ, Option, Some, None, find, Contains, IfSome, position, List, [], ◌∷◌, refl, sym, ap, ◌∙◌, subst, arith, rules, ⊎_elim}
-use Rattle.std.specs.BTreeMap.{BTreeMap, is_at}
+use Rattle.scheduler.proofs.Common.{◌≡◌, ◌≢◌, ℕ, suc, Bool, true, false, IsSome, ℤ, Option, Some, None, find, Contains, IfSome, position, List, [], ◌∷◌, refl, sym, ap, ◌∙◌, subst, arith, rules, ⊎_elim, BTreeMap, is_at, nat_cmp, cases_eq, ThreadId, Entry, Choice, IsLawfulChoice, queue_in, places_in, passes_at, MonitorState, comes_before, score, score_by, IsBestOf, IsFound, IsPassed, IsNoBetter, IsRankOf, is_rank_below, is_rank_below_best, choice_of, by_test, not_at}
 use Rattle.std.specs.Map.{lookup}
-use Rattle.std.specs.Ordering.{nat_cmp}
-use Rattle.std.proofs.lemmas.Bool.{cases_eq}
-use Rattle.std.proofs.lemmas.Bool.Decides.{nat_tests}
-use Rattle.cap_word.specs.declared.threads.ThreadId.{ThreadId}
-use Rattle.ready_tree.specs.declared.entries.Entry.{Entry}
-use Rattle.scheduler.specs.declared.choices.Choice.{Choice}
 use Rattle.scheduler.specs.declared.choosing.Candidate.{Candidate}
 use Rattle.scheduler.specs.declared.finding.Found.{Found}
 use Rattle.scheduler.specs.declared.scores.Rank.{Rank}
-use Rattle.scheduler.specs.LawfulChoice.{IsLawfulChoice}
-use Rattle.scheduler.specs.Queues.{queue_in, places_in, passes_at}
 use Rattle.blocking_graph.specs.declared.edges.EdgeLine.{EdgeLine}
-use Rattle.resource_monitor.specs.Monitor.{MonitorState}
-use Rattle.scheduler.specs.Scores.{comes_before, score, score_by}
-use Rattle.scheduler.specs.Search.{IsBestOf, IsFound, IsPassed, IsNoBetter, IsRankOf, is_rank_below, is_rank_below_best, choice_of}
 use Rattle.scheduler.proofs.OrderLemmas.{comes_before-self, comes_before-asym, comes_before-total, comes_before-cotrans}
-
--- a test is true or false
-pub by_test : (b : Bool) (P : Type 0) → (b ≡ true → P) → (b ≡ false → P) → P
-by_test true P first second = first refl
-by_test false P first second = second refl
 
 none_if : {X : Type 0} (o : Option X) → (IsSome o → ⊥) → o ≡ None
 none_if None h = refl
 none_if (Some x) h = absurd (h (search rules))
 
-not_none : {X : Type 0} (o : Option X) → o ≡ None → IsSome o → ⊥
+pub not_none : {X : Type 0} (o : Option X) → o ≡ None → IsSome o → ⊥
 not_none None e some = search rules
 not_none (Some x) e some = cc
-
-not_at : (node other : ℕ) → node ≢ other → is_at (nat_cmp node) other ≡ false
-not_at node other ne = grind (arith, nat_tests)
 
 not_there : (node : ℕ) (queue : List (Option Entry)) (rest : List (ℕ × List (Option Entry))) (other : ℕ) → node ≢ other →
     lookup (is_at (nat_cmp other)) rest ≡ None → lookup (is_at (nat_cmp other)) ((node, queue) ∷ rest) ≡ None

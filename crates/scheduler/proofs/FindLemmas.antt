@@ -1,15 +1,7 @@
 -- Needs that say who may go on.
-use Rattle.std.proofs.Common.{◌≡◌, ◌<◌, ℕ, Bool, true, false, ◌&&◌, ◌||◌, not, cond, Option, Some, None, position, List, [], ◌∷◌, length, nat_lt, slice_index_or, IsSome, refl, sym, ap, subst, ◌∙◌}
-use Rattle.std.specs.BTreeMap.{BTreeMap, get}
-use Rattle.std.specs.List.{AllByRecursion}
-use Rattle.std.specs.Ordering.{nat_cmp}
-use Rattle.cap_word.specs.declared.threads.ThreadId.{ThreadId}
-use Rattle.ready_tree.specs.declared.bounds.Bounds.{Bounds}
-use Rattle.ready_tree.specs.declared.entries.Entry.{Entry}
+use Rattle.scheduler.proofs.Common.{◌≡◌, ◌<◌, ℕ, Bool, true, false, ◌&&◌, ◌||◌, not, cond, Option, Some, None, position, List, [], ◌∷◌, length, nat_lt, slice_index_or, IsSome, refl, sym, ap, subst, ◌∙◌, BTreeMap, get, AllByRecursion, nat_cmp, ThreadId, Bounds, Entry, entries_of, may_go, AreExact, entries_in, passes_at, queues_of}
 use Rattle.ready_tree.specs.declared.needs.Need.{Need}
-use Rattle.ready_tree.specs.Entries.{entries_of, may_go}
 use Rattle.ready_tree.specs.Needs.{is_met, is_arrival}
-use Rattle.scheduler.specs.Queues.{AreExact, entries_in, passes_at, queues_of}
 use Rattle.scheduler.proofs.QueueLemmas.{same_first}
 use Rattle.scheduler.proofs.StateLemmas.{entries_are}
 

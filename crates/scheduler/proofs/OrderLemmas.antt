@@ -1,7 +1,5 @@
 -- The order of ranks is a strict total order.
-use Rattle.std.proofs.Common.{◌≡◌, ◌≢◌, ℕ, true, false, ℤ, pos, negsuc, arith}
-use Rattle.std.proofs.lemmas.Bool.Decides.{nat_tests}
-use Rattle.scheduler.specs.Scores.{ranks_below, comes_before}
+use Rattle.scheduler.proofs.Common.{◌≡◌, ◌≢◌, ℕ, true, false, ℤ, pos, negsuc, arith, nat_tests, ranks_below, comes_before}
 
 pub irrefl : (s : ℤ) (l n : ℕ) → ranks_below s l n s l n ≡ false
 irrefl (pos s) l n = grind (arith, nat_tests)

@@ -1,14 +1,7 @@
 -- A thread that leaves its queue, and the first that passes a test.
-use Rattle.std.proofs.Common.{◌≡◌, ℕ, zero, suc, ◌<◌, ◌≤◌, nat_lt, Bool, true, false, cond, Option, Some, None, find, List, [], ◌∷◌, length, position, refl, sym, ap, ◌∙◌, subst, arith, slice_set, slice_index_or, if◌then◌else◌}
-use Rattle.std.proofs.lemmas.Bool.Decides.{nat_tests}
+use Rattle.scheduler.proofs.Common.{◌≡◌, ℕ, zero, suc, ◌<◌, ◌≤◌, nat_lt, Bool, true, false, cond, Option, Some, None, find, List, [], ◌∷◌, length, position, refl, sym, ap, ◌∙◌, subst, arith, slice_set, slice_index_or, if◌then◌else◌, nat_tests, AllByRecursion, position_or_len, ThreadId, Entry, entries_of, place_at, is_of, without, without_entry, is_same, threads_of, passes_at, by_test, some_is}
 use Rattle.std.proofs.lemmas.List.Quantifiers.{position-Some}
 use Rattle.std.proofs.lemmas.List.Sums.{fails_before_first, position_or_len_is}
-use Rattle.std.specs.List.{AllByRecursion, position_or_len}
-use Rattle.cap_word.specs.declared.threads.ThreadId.{ThreadId}
-use Rattle.ready_tree.specs.declared.entries.Entry.{Entry}
-use Rattle.ready_tree.specs.Entries.{entries_of, place_at, is_of}
-use Rattle.scheduler.specs.Queues.{without, without_entry, is_same, threads_of, passes_at}
-use Rattle.scheduler.proofs.ChoiceLemmas.{by_test}
 
 -- ---- places
 
@@ -24,9 +17,6 @@ none_passes : {X : Type 0} (test : X → Bool) (xs : List X) (d : X) → positio
 none_passes test xs d none k below =
     let past : length xs ≤ position_or_len test xs = no_place (position_or_len test xs) (length xs) none in
     fails_before_first test xs k d (omega arith)
-
-some_is : (place len : ℕ) → place < len → cond (nat_lt place len) (Some place) None ≡ Some place
-some_is place len below = grind (arith, nat_tests)
 
 first_is : {X : Type 0} (test : X → Bool) (xs : List X) (d : X) (place : ℕ) → place < length xs → ((k : ℕ) → k < place → test (slice_index_or xs k d) ≡ false) →
     test (slice_index_or xs place d) ≡ true → position test xs ≡ Some place

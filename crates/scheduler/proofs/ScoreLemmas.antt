@@ -1,9 +1,7 @@
 -- Products and sums of the score, which fit 128 bits.
-use Rattle.std.proofs.Common.{to_z, of_z, FitsSigned, ◌≡◌, ℕ, zero, suc, ◌+◌, ◌*◌, ◌^◌, ◌≤◌, ◌<◌, ℤ, pos, ◌+ℤ◌, ◌*ℤ◌, unsigned_abs, add-one, refl, arith, rules}
-use Rattle.std.specs.Int.{w128}
-use Rattle.std.proofs.lemmas.Int.{ints, unsigned_abs-mul, fits_signed_mul, fits_signed_from_abs, to_z-of_z}
+use Rattle.scheduler.proofs.Common.{to_z, of_z, FitsSigned, ◌≡◌, ℕ, zero, suc, ◌+◌, ◌*◌, ◌^◌, ◌≤◌, ◌<◌, ℤ, pos, ◌+ℤ◌, ◌*ℤ◌, unsigned_abs, add-one, refl, arith, rules, w128, score_of_first, sum-le}
+use Rattle.std.proofs.lemmas.Int.{unsigned_abs-mul, fits_signed_mul, fits_signed_from_abs, to_z-of_z}
 use Rattle.std.proofs.lemmas.Nat.{mul-le}
-use Rattle.scheduler.specs.Scores.{score_of_first}
 
 pub strain-le : (pressure : ℕ) (predicted : ℤ) → pressure ≤ 1000 → unsigned_abs predicted ≤ 2 ^ 39 → unsigned_abs (pos pressure *ℤ predicted) ≤ 1000 * 2 ^ 39
 strain-le pressure predicted p q = rw (unsigned_abs-mul (pos pressure) predicted) (mul-le pressure (unsigned_abs predicted) 1000 (2 ^ 39) p q)
@@ -15,9 +13,6 @@ computed_strain pressure predicted p q =
     let a : FitsSigned w128 predicted = search rules in
     let m : FitsSigned w128 (pos pressure *ℤ predicted) = fits_signed_mul w128 (pos pressure) predicted 1000 (2 ^ 39) p q (omega arith) in
     rw (to_z-of_z w128 (pos pressure) n, to_z-of_z w128 predicted a, to_z-of_z w128 (pos pressure *ℤ predicted) m)
-
-pub sum-le : (a b : ℤ) (m n : ℕ) → unsigned_abs a ≤ m → unsigned_abs b ≤ n → unsigned_abs (a +ℤ b) ≤ m + n
-sum-le a b m n p q = omega (arith, ints)
 
 pub computed_sum : (total part : ℤ) (m : ℕ) → unsigned_abs total ≤ m * (1000 * 2 ^ 39) → m ≤ 8 → unsigned_abs part ≤ 1000 * 2 ^ 39 →
     to_z w128 (of_z w128 (total +ℤ to_z w128 (of_z w128 part))) ≡ total +ℤ part

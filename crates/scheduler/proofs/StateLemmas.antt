@@ -1,19 +1,9 @@
 -- The state of a scheduler after one step on its queues.
-use Rattle.std.proofs.Common.{◌≡◌, ◌≢◌, ℕ, ◌+◌, ◌<◌, ◌≤◌, Bool, IsSome, ℤ, Option, Some, None, Contains, List, [], ◌∷◌, ◌++◌, length, map, set, get_or, get_or-set_same, get_or-set_other, slice_index, refl, sym, ap, ◌∙◌, subst, arith, rules, ⊎_elim}
-use Rattle.std.specs.BTreeMap.{BTreeMap, get}
-use Rattle.std.specs.Ordering.{nat_cmp}
+use Rattle.scheduler.proofs.Common.{◌≡◌, ◌≢◌, ℕ, ◌+◌, ◌<◌, ◌≤◌, Bool, IsSome, ℤ, Option, Some, None, Contains, List, [], ◌∷◌, ◌++◌, length, set, get_or, get_or-set_same, get_or-set_other, slice_index, refl, sym, ap, ◌∙◌, subst, arith, rules, ⊎_elim, BTreeMap, get, nat_cmp, cases_eq, cases_lt, ThreadId, Entry, entries_of, Choice, IsLawfulChoice, entries_in, queue_in, queues_of, places_of, threads_of, without_entry, SchedulerState, IsJoined, IsNoted, IsTold, IsTaken}
 use Rattle.std.proofs.Math.Path.{fun_ext}
 use Rattle.std.proofs.Math.ListN.{get_or-eq_default}
-use Rattle.std.proofs.lemmas.Bool.{cases_eq, cases_lt}
 use Rattle.std.proofs.lemmas.List.FromFn.{get_or-map-range_with_len, length-map-range_with_len}
 use Rattle.std.proofs.lemmas.List.{map-append}
-use Rattle.cap_word.specs.declared.threads.ThreadId.{ThreadId}
-use Rattle.ready_tree.specs.declared.entries.Entry.{Entry}
-use Rattle.ready_tree.specs.Entries.{entries_of}
-use Rattle.scheduler.specs.declared.choices.Choice.{Choice}
-use Rattle.scheduler.specs.LawfulChoice.{IsLawfulChoice}
-use Rattle.scheduler.specs.Queues.{entries_in, queue_in, queues_of, places_of, threads_of, without_entry}
-use Rattle.scheduler.specs.State.{SchedulerState, IsJoined, IsNoted, IsTold, IsTaken}
 use Rattle.scheduler.proofs.QueueLemmas.{without_threads}
 
 -- ---- the queue of a node is the one that is kept of it

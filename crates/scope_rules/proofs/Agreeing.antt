@@ -1,12 +1,5 @@
 -- Items that agree up to the limit of calls agree after one more.
-use Rattle.std.proofs.Common.{◌≡◌, ◌≤◌, refl, true, false, List, [], ◌∷◌, ◌++◌, length, length-append, arith}
-use Rattle.c_tree.specs.RawTrees.{RawItemTree, RawGlobal, RawGlobalArray, RawTableItem, RawPrototypeItem, RawFunctionItem}
-use Rattle.c_tree.specs.Temporaries.{capped}
-use Rattle.scope_rules.specs.declared.meanings.Meaning.{Meaning}
-use Rattle.scope_rules.specs.Names.{Binding, find, bound}
-use Rattle.scope_rules.specs.Statements.{stmts_after}
-use Rattle.scope_rules.specs.Items.{Sofar, definitions, at_start, is_defined, with_function, members_of, body_spot, function_left, function_tree_of, item_faults, item_after, items_after}
-use Rattle.scope_rules.specs.Reading.{Agrees}
+use Rattle.scope_rules.proofs.Common.{◌≡◌, ◌≤◌, refl, true, false, List, [], ◌∷◌, ◌++◌, length, length-append, arith, RawItemTree, RawGlobal, RawGlobalArray, RawTableItem, RawPrototypeItem, RawFunctionItem, capped, Meaning, Binding, find, bound, stmts_after, Sofar, definitions, at_start, is_defined, with_function, members_of, body_spot, function_left, function_tree_of, item_faults, item_after, items_after, Agrees}
 use Rattle.scope_rules.proofs.Growth.{stmts_grown}
 use Rattle.scope_rules.proofs.Programs.{body_site}
 use Rattle.scope_rules.proofs.Sites.{items_numbered}

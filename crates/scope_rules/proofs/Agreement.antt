@@ -1,19 +1,6 @@
 -- Where no rule is broken, each prototype of a function agrees with its definition.
-use Rattle.std.proofs.Common.{ℕ, ◌≡◌, refl, sym, subst, ◌∙◌, Bool, true, false, not, List, [], ◌∷◌, ◌++◌, length, Option, Some, None}
-use Rattle.std.specs.Prelude.{nat_eq, ◌||◌, ◌&&◌, if◌then◌else◌}
-use Rattle.std.specs.Str.{bytes_eq}
-use Rattle.c_tree.specs.RawTrees.{NameTree, RawItemTree, RawGlobal, RawGlobalArray, RawTableItem, RawPrototypeItem, RawFunctionItem, RawStmtTrees}
-use Rattle.c_tree.specs.Temporaries.{capped}
-use Rattle.scope_rules.specs.declared.faults.Rule.{Rule}
-use Rattle.scope_rules.specs.declared.meanings.Meaning.{Meaning}
-use Rattle.scope_rules.specs.declared.meanings.Found.{Found}
-use Rattle.scope_rules.specs.Names.{Binding, find, is_fixed, bound}
-use Rattle.scope_rules.specs.Faults.{broken}
-use Rattle.scope_rules.specs.Meanings.{is_modelled, function_of}
-use Rattle.scope_rules.specs.Simples.{size_faults}
-use Rattle.scope_rules.specs.Statements.{stmts_faults}
-use Rattle.scope_rules.specs.Items.{Sofar, with_definition, with_definitions, outer_in, outer_faults, differ, repeated_faults, function_faults, main_faults, is_missing, is_defined, with_function, prototype_faults, params_faults, members_faults, params_spot, body_spot, item_faults, item_after, items_faults, items_after}
-use Rattle.scope_rules.proofs.NoFaults.{both_none, not_broken, not_false, neither, same_number}
+use Rattle.scope_rules.proofs.Common.{ℕ, ◌≡◌, refl, sym, subst, ◌∙◌, Bool, true, false, not, List, [], ◌∷◌, ◌++◌, length, Option, Some, None, nat_eq, ◌||◌, ◌&&◌, if◌then◌else◌, bytes_eq, NameTree, RawItemTree, RawGlobal, RawGlobalArray, RawTableItem, RawPrototypeItem, RawFunctionItem, RawStmtTrees, capped, Rule, Meaning, Found, Binding, find, is_fixed, bound, broken, is_modelled, function_of, size_faults, stmts_faults, Sofar, with_definition, with_definitions, outer_in, outer_faults, differ, repeated_faults, function_faults, main_faults, is_missing, is_defined, with_function, prototype_faults, params_faults, members_faults, params_spot, body_spot, item_faults, item_after, items_faults, items_after, or_parts, not-false}
+use Rattle.scope_rules.proofs.NoFaults.{both_none, not_broken, same_number}
 use Rattle.scope_rules.proofs.Links.{same_text, same_itself}
 
 -- a name is a function with this result and so many parameters
@@ -48,14 +35,14 @@ outer_signed_in None at g k h s = s
 outer_signed_in (Some f) at g k h s = outer_signed_meaning f.meaning at g k h s
 
 same_results : (a b : Bool) → differ a b ≡ false → b ≡ a
-same_results true b h = not_false b h
+same_results true b h = not-false b h
 same_results false b h = h
 
 repeated_signed : (d g' : Bool) (k' at : ℕ) (m : Meaning) (g : Bool) (k : ℕ) → repeated_faults d g' k' at m ≡ [] → IsSignedIn g k m → (g' ≡ g) × (k' ≡ k)
 repeated_signed d g' k' at (Meaning.Function f gives params defined) g k h s =
     let j = both_none (broken (d && defined) at Rule.Twice) (broken (differ gives g' || not (nat_eq params k')) at Rule.Arity) h in
-    let b = neither (differ gives g') (not (nat_eq params k')) (not_broken (differ gives g' || not (nat_eq params k')) at Rule.Arity j.1) in
-    (same_results gives g' b.0 ∙ s.0, sym (same_number params k' (not_false (nat_eq params k') b.1)) ∙ s.1)
+    let b = or_parts (differ gives g') (not (nat_eq params k')) (not_broken (differ gives g' || not (nat_eq params k')) at Rule.Arity j.1) in
+    (same_results gives g' b.0 ∙ s.0, sym (same_number params k' (not-false (nat_eq params k') b.1)) ∙ s.1)
 repeated_signed d g' k' at _ g k h s = absurd s
 
 function_signed : (d g' : Bool) (k' at : ℕ) (o : Option Found) (g : Bool) (k : ℕ) → function_faults d g' k' at o ≡ [] → IsSigned g k o → (g' ≡ g) × (k' ≡ k)

@@ -1,20 +1,6 @@
 -- Operators one after another, against the tree that leans to the left.
-use Rattle.std.proofs.Common.{◌≡◌, refl, sym, ap, ◌∙◌, List, [], ◌∷◌, ◌++◌, map, Option, Result, Ok, Err}
-use Rattle.std.specs.Prelude.{IfOk, MatchResult}
-use Rattle.c_tree.specs.declared.operators.Infix.{Infix}
-use Rattle.c_tree.specs.declared.expressions.Expr.{Expr}
+use Rattle.scope_rules.proofs.Common.{◌≡◌, refl, sym, ap, ◌∙◌, List, [], ◌∷◌, ◌++◌, map, Option, Result, Ok, Err, IfOk, MatchResult, Infix, Expr, RawExprTree, ExprTree, raw_joined, raw_chained, raw_expr_tree, joined, chained, expr_tree, raw_operand_tree, operand_tree, Fault, Binding, least_of, expr_faults, expr_of, operand_trees, operands_of, operands_faults}
 use Rattle.c_tree.specs.declared.raw_expressions.RawExpr.{RawExpr}
-use Rattle.c_tree.specs.RawTrees.{RawExprTree}
-use Rattle.c_tree.specs.Trees.{ExprTree}
-use Rattle.c_tree.specs.RawViews.{raw_joined, raw_chained, raw_expr_tree}
-use Rattle.c_tree.specs.Views.{joined, chained, expr_tree}
-use Rattle.c_tree.proofs.RawExprEquations.{raw_operand_tree}
-use Rattle.c_tree.proofs.ExprEquations.{operand_tree}
-use Rattle.scope_rules.specs.declared.faults.Fault.{Fault}
-use Rattle.scope_rules.specs.Names.{Binding}
-use Rattle.scope_rules.specs.Faults.{least_of}
-use Rattle.scope_rules.specs.Expressions.{expr_faults, expr_of}
-use Rattle.scope_rules.specs.Operands.{operand_trees, operands_of, operands_faults}
 use Rattle.scope_rules.proofs.Least.{least_of_append}
 
 pub operand_trees_map : (ps : List (Infix × Expr)) → map operand_tree ps ≡ operand_trees ps

@@ -1,14 +1,5 @@
 -- The words that functions declare, as they are counted.
-use Rattle.std.proofs.Common.{ℕ, zero, suc, ◌≡◌, refl, ap, ◌∙◌, List, [], ◌∷◌, ◌++◌, length, drop, sum, max, arith}
-use Rattle.c_tree.specs.RawTrees.{NameTree, RawStmtTrees}
-use Rattle.c_tree.specs.Trees.{FunctionTree}
-use Rattle.c_tree.specs.TextOrder.{stmts_names}
-use Rattle.c_tree.specs.Sizes.{scalars, declared_words}
-use Rattle.c_tree.specs.Temporaries.{capped}
-use Rattle.scope_rules.specs.Places.{Spot}
-use Rattle.scope_rules.specs.Statements.{stmts_after, stmts_of}
-use Rattle.scope_rules.specs.Items.{unsized, params_after}
-use Rattle.scope_rules.specs.Limits.{most_locals}
+use Rattle.scope_rules.proofs.Common.{ℕ, zero, suc, ◌≡◌, refl, ap, ◌∙◌, List, [], ◌∷◌, ◌++◌, length, drop, sum, max, arith, NameTree, RawStmtTrees, FunctionTree, stmts_names, scalars, declared_words, capped, Spot, stmts_after, stmts_of, unsized, params_after, most_locals}
 use Rattle.scope_rules.proofs.Growth.{words, stmts_grown}
 use Rattle.scope_rules.proofs.Programs.{params_sizes}
 

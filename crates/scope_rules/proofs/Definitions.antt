@@ -1,18 +1,5 @@
 -- The functions that a source defines, by name and by number.
-use Rattle.std.proofs.Common.{ℕ, ◌≡◌, ◌<◌, ◌≤◌, refl, ap, subst, ◌∙◌, Bool, true, false, List, [], ◌∷◌, ◌++◌, length, length-append, get_or, map, Some, arith}
-use Rattle.std.specs.Prelude.{if◌then◌else◌}
-use Rattle.std.specs.Str.{bytes_eq}
-use Rattle.std.proofs.lemmas.List.{map-append}
-use Rattle.std.proofs.Math.ListN.{get_or-append}
-use Rattle.c_tree.specs.RawTrees.{RawItemTree, RawFunctionItem}
-use Rattle.c_tree.specs.Temporaries.{capped}
-use Rattle.c_tree.specs.WellScoped.{signature_of}
-use Rattle.cap_word.specs.Signatures.{Signature, signature_at}
-use Rattle.scope_rules.specs.declared.meanings.Meaning.{Meaning}
-use Rattle.scope_rules.specs.declared.meanings.Found.{Found}
-use Rattle.scope_rules.specs.Names.{Binding, find}
-use Rattle.scope_rules.specs.Meanings.{function_in}
-use Rattle.scope_rules.specs.Items.{Sofar, with_definition, with_definitions, item_after, items_after}
+use Rattle.scope_rules.proofs.Common.{ℕ, ◌≡◌, ◌<◌, ◌≤◌, refl, ap, subst, ◌∙◌, Bool, true, false, List, [], ◌∷◌, ◌++◌, length, length-append, get_or, map, Some, arith, if◌then◌else◌, bytes_eq, map-append, get_or-append, RawItemTree, RawFunctionItem, capped, signature_of, Signature, signature_at, Meaning, Found, Binding, find, function_in, Sofar, with_definition, with_definitions, item_after, items_after}
 
 abbrev pub signature_in : Meaning → Signature
 signature_in (Meaning.Function f gives params defined) = record { params = capped params; gives = gives }

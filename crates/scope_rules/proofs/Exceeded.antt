@@ -1,14 +1,5 @@
 -- The limits that kept items exceed are those of the source.
-use Rattle.std.proofs.Common.{ℕ, ◌≡◌, ◌≤◌, ◌<◌, refl, sym, ap, subst, ◌∙◌, Bool, true, false, length, Some, None, arith}
-use Rattle.std.specs.Prelude.{nat_lt, if◌then◌else◌}
-use Rattle.cap_word.specs.declared.limits.Which.{Which}
-use Rattle.c_tree.specs.Trees.{ProgramTree}
-use Rattle.c_tree.specs.TextOrder.{functions_sites}
-use Rattle.c_tree.specs.Temporaries.{capped}
-use Rattle.scope_rules.specs.Items.{Sofar}
-use Rattle.scope_rules.specs.ItemViews.{exceeded_with}
-use Rattle.scope_rules.specs.Limits.{most_locals, exceeded}
-use Rattle.scope_rules.specs.Reading.{Agrees}
+use Rattle.scope_rules.proofs.Common.{ℕ, ◌≡◌, ◌≤◌, ◌<◌, refl, sym, ap, subst, ◌∙◌, Bool, true, false, length, Some, None, arith, nat_lt, if◌then◌else◌, Which, ProgramTree, functions_sites, capped, Sofar, exceeded_with, most_locals, exceeded, Agrees}
 use Rattle.scope_rules.proofs.LeastFaults.{is_less, is_not_less}
 use Rattle.scope_rules.proofs.NoFaults.{not_less}
 

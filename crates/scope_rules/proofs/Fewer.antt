@@ -1,25 +1,5 @@
 -- What breaks no rule takes no more temporaries with numbers for names than it did as it was read.
-use Rattle.std.proofs.Common.{ℕ, ◌≡◌, ◌≤◌, ◌+◌, refl, sym, subst, Bool, true, false, not, List, [], ◌∷◌, ◌++◌, length, max, Option, Some, None, arith}
-use Rattle.std.specs.Prelude.{◌||◌, ◌&&◌, if◌then◌else◌, option_map}
-use Rattle.std.specs.Str.{bytes_eq}
-use Rattle.cap_word.specs.ModelledCalls.{parameters_of}
-use Rattle.cap_word.specs.declared.modelled_calls.ModelledCall.{ModelledCall}
-use Rattle.c_tree.specs.RawTrees.{NameTree, RawExprTree, RawExprTrees, RawNumber, RawName, RawElement, RawUnary, RawParenthesized, RawBinary, RawLogicalAnd, RawLogicalOr, RawConditional, RawCall, RawTableCall, NoExprs, And, RawSimpleTree, RawDeclareScalar, RawDeclareArray, RawDeclareWith, RawSet, RawSetElement, RawCalling, RawTableCalling, RawStmtTree, RawStmtTrees, RawDo, RawEmpty, RawBlock, RawIf, RawIfElse, RawWhile, RawFor, RawBreak, RawContinue, RawReturn, NoRawStmts, RawThen}
-use Rattle.c_tree.specs.RawTemporaries.{raw_temporaries, raw_arguments_temporaries, raw_simple_temporaries, raw_simples_temporaries, raw_optional_temporaries, raw_step_temporaries, raw_stmt_temporaries, raw_stmts_temporaries}
-use Rattle.c_tree.specs.Trees.{ExprTree, RightTree}
-use Rattle.c_tree.specs.Temporaries.{expr_temporaries, arguments_temporaries, call_temporaries, right_temporaries, held_temporaries, simple_temporaries, simples_temporaries, condition_temporaries, step_temporaries, returned_temporaries, stmt_temporaries, stmts_temporaries}
-use Rattle.scope_rules.specs.declared.faults.Rule.{Rule}
-use Rattle.scope_rules.specs.declared.meanings.Meaning.{Meaning}
-use Rattle.scope_rules.specs.declared.meanings.Found.{Found}
-use Rattle.scope_rules.specs.declared.meanings.Variable.{Variable}
-use Rattle.scope_rules.specs.Names.{Binding, find, is_fixed, bound}
-use Rattle.scope_rules.specs.Faults.{broken}
-use Rattle.scope_rules.specs.Meanings.{is_callable, is_void, takes, is_wrong_count, variable_of, callee_in, callee_of}
-use Rattle.scope_rules.specs.Expressions.{scalar_faults, array_faults, expr_faults, listed, scalar_value, element_value, expr_of, exprs_of}
-use Rattle.scope_rules.specs.Calls.{call_name_faults, arguments_faults, call_faults, right_faults, call_by, call_of, right_of, spawn_of}
-use Rattle.scope_rules.specs.Places.{Spot}
-use Rattle.scope_rules.specs.Simples.{declare_faults, simple_faults, set_scalar, set_element, simple_of, simple_after, simples_faults, simples_of, simples_after}
-use Rattle.scope_rules.specs.Statements.{inside, left, condition_faults, step_kind, step_faults, step_after, return_faults, returned_of, stmt_after, stmt_faults, stmts_faults, stmt_of, stmts_of}
+use Rattle.scope_rules.proofs.Common.{ℕ, ◌≡◌, ◌≤◌, ◌+◌, refl, sym, subst, Bool, true, false, not, List, [], ◌∷◌, ◌++◌, length, max, Option, Some, None, arith, ◌||◌, ◌&&◌, if◌then◌else◌, option_map, bytes_eq, parameters_of, ModelledCall, NameTree, RawExprTree, RawExprTrees, RawNumber, RawName, RawElement, RawUnary, RawParenthesized, RawBinary, RawLogicalAnd, RawLogicalOr, RawConditional, RawCall, RawTableCall, NoExprs, And, RawSimpleTree, RawDeclareScalar, RawDeclareArray, RawDeclareWith, RawSet, RawSetElement, RawCalling, RawTableCalling, RawStmtTree, RawStmtTrees, RawDo, RawEmpty, RawBlock, RawIf, RawIfElse, RawWhile, RawFor, RawBreak, RawContinue, RawReturn, NoRawStmts, RawThen, raw_temporaries, raw_arguments_temporaries, raw_simple_temporaries, raw_simples_temporaries, raw_optional_temporaries, raw_step_temporaries, raw_stmt_temporaries, raw_stmts_temporaries, ExprTree, RightTree, expr_temporaries, arguments_temporaries, call_temporaries, right_temporaries, held_temporaries, simple_temporaries, simples_temporaries, condition_temporaries, step_temporaries, returned_temporaries, stmt_temporaries, stmts_temporaries, Rule, Meaning, Found, Variable, Binding, find, is_fixed, bound, broken, is_callable, is_void, takes, is_wrong_count, variable_of, callee_in, callee_of, scalar_faults, array_faults, expr_faults, listed, scalar_value, element_value, expr_of, exprs_of, call_name_faults, arguments_faults, call_faults, right_faults, call_by, call_of, right_of, spawn_of, Spot, declare_faults, simple_faults, set_scalar, set_element, simple_of, simple_after, simples_faults, simples_of, simples_after, inside, left, condition_faults, step_kind, step_faults, step_after, return_faults, returned_of, stmt_after, stmt_faults, stmts_faults, stmt_of, stmts_of}
 use Rattle.scope_rules.proofs.NoFaults.{both_none, not_broken}
 use Rattle.scope_rules.proofs.ScopedCalls.{Known, known_call, right_count}
 

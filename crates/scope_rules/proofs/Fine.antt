@@ -1,27 +1,5 @@
 -- Items that break no rule, one after another: their names, functions and tables are well scoped.
-use Rattle.std.proofs.Common.{ℕ, ◌≡◌, ◌<◌, ◌≤◌, ◌+◌, refl, sym, ap, subst, ◌∙◌, Bool, true, false, not, List, [], ◌∷◌, ◌++◌, append_assoc, length, length-append, map, sum, Option, Some, None, arith}
-use Rattle.std.specs.Prelude.{nat_eq, ◌||◌, ◌&&◌, if◌then◌else◌}
-use Rattle.std.specs.List.{AllByRecursion}
-use Rattle.std.specs.Str.{bytes_eq}
-use Rattle.std.proofs.lemmas.List.{map-append, length-map}
-use Rattle.c_tree.specs.declared.facts.GlobalFact.{GlobalFact}
-use Rattle.c_tree.specs.RawTrees.{NameTree, RawItemTree, RawGlobal, RawGlobalArray, RawTableItem, RawPrototypeItem, RawFunctionItem}
-use Rattle.c_tree.specs.RawTemporaries.{raw_item_temporaries, AreWithinTemporaries}
-use Rattle.c_tree.specs.Trees.{FunctionTree, ProgramTree}
-use Rattle.c_tree.specs.TextOrder.{stmts_names}
-use Rattle.c_tree.specs.Temporaries.{capped}
-use Rattle.c_tree.specs.WellScoped.{signature_of, Context, IsFunctionScoped, AreFunctionsScoped}
-use Rattle.cap_word.specs.Signatures.{signature_at, IsMember, IsTable}
-use Rattle.scope_rules.specs.declared.faults.Rule.{Rule}
-use Rattle.scope_rules.specs.declared.meanings.Meaning.{Meaning}
-use Rattle.scope_rules.specs.declared.meanings.Found.{Found}
-use Rattle.scope_rules.specs.Names.{Binding, find, is_fixed, bound}
-use Rattle.scope_rules.specs.Faults.{broken}
-use Rattle.scope_rules.specs.Meanings.{is_member, function_in, function_of}
-use Rattle.scope_rules.specs.Expressions.{use_faults}
-use Rattle.scope_rules.specs.Statements.{stmts_of}
-use Rattle.scope_rules.specs.Items.{Sofar, with_definition, with_definitions, is_missing, is_defined, with_function, outer_faults, members_faults, members_of, body_spot, function_tree_of, item_faults, item_after, items_faults, items_after}
-use Rattle.scope_rules.specs.Limits.{most_params}
+use Rattle.scope_rules.proofs.Common.{ℕ, ◌≡◌, ◌<◌, ◌≤◌, ◌+◌, refl, sym, ap, subst, ◌∙◌, Bool, true, false, not, List, [], ◌∷◌, ◌++◌, append_assoc, length, length-append, map, sum, Option, Some, None, arith, nat_eq, ◌||◌, ◌&&◌, if◌then◌else◌, AllByRecursion, bytes_eq, map-append, length-map, GlobalFact, NameTree, RawItemTree, RawGlobal, RawGlobalArray, RawTableItem, RawPrototypeItem, RawFunctionItem, raw_item_temporaries, AreWithinTemporaries, FunctionTree, ProgramTree, stmts_names, capped, signature_of, Context, IsFunctionScoped, AreFunctionsScoped, signature_at, IsMember, IsTable, Rule, Meaning, Found, Binding, find, is_fixed, bound, broken, is_member, function_in, function_of, use_faults, stmts_of, Sofar, with_definition, with_definitions, is_missing, is_defined, with_function, outer_faults, members_faults, members_of, body_spot, function_tree_of, item_faults, item_after, items_faults, items_after, most_params, All-push, and_parts}
 use Rattle.scope_rules.proofs.NoFaults.{both_none, same_number, Used, used}
 use Rattle.scope_rules.proofs.Links.{same_itself}
 use Rattle.scope_rules.proofs.Fits.{MeaningFits, AllFit, find_fits, all_fit_bound}
@@ -33,7 +11,7 @@ use Rattle.scope_rules.proofs.Programs.{outer_context, function_scoped}
 use Rattle.scope_rules.proofs.Definitions.{signature_in, signatures_of, IsDefinition, AreDefinitions, IsDefinedAs, find_definition}
 use Rattle.scope_rules.proofs.Agreement.{IsSignedIn, IsSigned, AreBacked, one_signature, all_stay, prototype_parts, definition_parts, bound_here, repeated_free}
 use Rattle.scope_rules.proofs.WithinLimits.{AreWithin, one_of_locals, signature_small}
-use Rattle.scope_rules.proofs.Lengthening.{StartsWith, items_longer, all_then, members_length, one_member}
+use Rattle.scope_rules.proofs.Lengthening.{StartsWith, items_longer, members_length, one_member}
 
 -- a definition's result and parameters
 pub record HasSignature (m : Meaning) : Type 0 where
@@ -63,13 +41,8 @@ pub there : (o : Option Found) → is_missing o ≡ false → IsThere o
 there None h = cc
 there (Some f) h = record { found = f; is = refl }
 
--- a table's member
-both_true : (a b : Bool) → (a && b) ≡ true → (a ≡ true) × (b ≡ true)
-both_true true b h = (refl, h)
-both_true false b h = cc
-
 member_in : (c : Context) (m : Meaning) → MeaningFits c [] m → is_member m ≡ true → IsMember c.signatures (function_in m)
-member_in c (Meaning.Function f gives params defined) h e = let b = both_true gives (nat_eq params 1) e in (h.0, h.1 ∙ same_number params 1 b.1, h.2 ∙ b.0)
+member_in c (Meaning.Function f gives params defined) h e = let b = and_parts gives (nat_eq params 1) e in (h.0, h.1 ∙ same_number params 1 b.1, h.2 ∙ b.0)
 member_in c _ h e = cc
 
 members_scoped : (c : Context) (names : List Binding) (ns : List NameTree) → AllFit c [] names → members_faults names ns ≡ [] → AllByRecursion (IsMember c.signatures) (members_of names ns)
@@ -182,7 +155,7 @@ module _ (p : ProgramTree) (defs final : List Binding) (lim : AreWithin p)
         fits = fine_table w n row fine qt;
         six = bound_six w.spot.names n.text (Meaning.Table (capped (length w.tables))) tt fine.six;
         functions = fine.functions;
-        tables = all_then (IsTable (map signature_of p.functions)) w.tables row fine.tables (one, members_scoped (outer_context p) w.spot.names members fine.fits k.1);
+        tables = All-push (IsTable (map signature_of p.functions)) w.tables row fine.tables (one, members_scoped (outer_context p) w.spot.names members fine.fits k.1);
       }
   fine_step ds w (RawPrototypeItem gives n params) is none ends last qf qg qt held fine =
       let i = RawPrototypeItem gives n params in

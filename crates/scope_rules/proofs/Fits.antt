@@ -1,12 +1,5 @@
 -- What a program's names stand for is there, and of the right kind.
-use Rattle.std.proofs.Common.{ℕ, ◌≡◌, ◌<◌, refl, subst, Bool, true, false, List, [], ◌∷◌, length, Some}
-use Rattle.std.specs.Prelude.{slice_index, IsTrue, eqb, ◌||◌, if◌then◌else◌}
-use Rattle.std.specs.Str.{bytes_eq}
-use Rattle.c_tree.specs.WellScoped.{Context, visible}
-use Rattle.cap_word.specs.Signatures.{signature_at}
-use Rattle.scope_rules.specs.declared.meanings.Meaning.{Meaning}
-use Rattle.scope_rules.specs.declared.meanings.Found.{Found}
-use Rattle.scope_rules.specs.Names.{Binding, find}
+use Rattle.scope_rules.proofs.Common.{ℕ, ◌≡◌, ◌<◌, refl, subst, Bool, true, false, List, [], ◌∷◌, length, Some, slice_index, IsTrue, eqb, ◌||◌, if◌then◌else◌, bytes_eq, Context, visible, signature_at, Meaning, Found, Binding, find}
 
 abbrev pub MeaningFits : Context → List ℕ → Meaning → Type 0
 MeaningFits c scope (Meaning.Local x array) = (x < length c.sizes) × IsTrue (visible x scope) × (array ≡ false → slice_index c.sizes x ≡ 1)

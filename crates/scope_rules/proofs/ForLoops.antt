@@ -1,11 +1,5 @@
 -- A for: what is in scope after it, and the rules that it breaks.
-use Rattle.std.proofs.Common.{◌≡◌, ◌-◌, ℕ, sym, ap, ◌∙◌, subst, Bool, true, List, length, drop, Option, ◌++◌, append_assoc}
-use Rattle.c_tree.specs.RawTrees.{RawExprTree, RawSimpleTree, RawStmtTree}
-use Rattle.scope_rules.specs.declared.faults.Fault.{Fault}
-use Rattle.scope_rules.specs.Faults.{least_of}
-use Rattle.scope_rules.specs.Places.{Spot}
-use Rattle.scope_rules.specs.Simples.{simples_after, simples_faults}
-use Rattle.scope_rules.specs.Statements.{inside, left, step_after, step_faults, condition_faults, parts_faults, stmt_after, stmt_faults}
+use Rattle.scope_rules.proofs.Common.{◌≡◌, ◌-◌, ℕ, sym, ap, ◌∙◌, subst, Bool, true, List, length, drop, Option, ◌++◌, append_assoc, RawExprTree, RawSimpleTree, RawStmtTree, Fault, least_of, Spot, simples_after, simples_faults, inside, left, step_after, step_faults, condition_faults, parts_faults, stmt_after, stmt_faults}
 use Rattle.scope_rules.proofs.Least.{least_of_then}
 use Rattle.scope_rules.proofs.Scopes.{Extends, then_extends, simples_extends, step_extends, leaves}
 

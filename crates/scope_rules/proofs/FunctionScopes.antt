@@ -1,13 +1,5 @@
 -- A function: what is in scope after its parameters and after its body, and the rules that its parts break.
-use Rattle.std.proofs.Common.{ℕ, ◌≡◌, ◌-◌, ◌++◌, ap, ◌∙◌, Bool, true, false, List, [], ◌∷◌, length, drop, append_assoc}
-use Rattle.c_tree.specs.RawTrees.{NameTree, RawStmtTrees, RawFunctionItem}
-use Rattle.scope_rules.specs.declared.meanings.Meaning.{Meaning}
-use Rattle.scope_rules.specs.Names.{Binding, find}
-use Rattle.scope_rules.specs.Places.{Spot}
-use Rattle.scope_rules.specs.Simples.{next_variable, with_variable}
-use Rattle.scope_rules.specs.Statements.{stmts_after, stmts_faults}
-use Rattle.scope_rules.specs.Items.{Sofar, params_after, params_faults, params_spot, body_spot, with_function, function_left, function_faults, main_faults, item_faults}
-use Rattle.scope_rules.specs.Heads.{head_faults}
+use Rattle.scope_rules.proofs.Common.{ℕ, ◌≡◌, ◌-◌, ◌++◌, ap, ◌∙◌, Bool, true, false, List, [], ◌∷◌, length, drop, append_assoc, NameTree, RawStmtTrees, RawFunctionItem, Meaning, Binding, find, Spot, next_variable, with_variable, stmts_after, stmts_faults, Sofar, params_after, params_faults, params_spot, body_spot, with_function, function_left, function_faults, main_faults, item_faults, head_faults}
 use Rattle.scope_rules.proofs.Scopes.{Extends, same_names, then_extends, bound_extends, stmts_extends, names_left}
 
 pub params_extends : (s : Spot) (ns : List NameTree) → Extends (params_after s ns).names s.names

@@ -1,22 +1,6 @@
 -- What statements declare and call, against the counts of variables and sites before and after them.
-use Rattle.std.proofs.Common.{ℕ, ◌≡◌, ◌≤◌, ◌+◌, refl, sym, ap, ◌∙◌, List, [], ◌∷◌, ◌++◌, length, map, length-append, append_assoc, add-zero, arith, Bool, true, false, Option, Some, None, subst}
-use Rattle.std.proofs.lemmas.List.{map-append, length-map, append-nil}
-use Rattle.c_tree.specs.declared.facts.Site.{Site}
-use Rattle.c_tree.specs.RawTrees.{RawExprTree, RawCall, RawTableCall, RawSimpleTree, RawDeclareScalar, RawDeclareArray, RawDeclareWith, RawSet, RawSetElement, RawCalling, RawTableCalling, RawStmtTree, RawStmtTrees, RawDo, RawBlock, RawIf, RawIfElse, RawWhile, RawFor, RawReturn, NoRawStmts, RawThen}
-use Rattle.c_tree.specs.Trees.{CallTree}
-use Rattle.c_tree.specs.TextOrder.{Declared, simple_names, simples_names, step_names, stmt_names, stmts_names, call_site, right_sites, returned_sites, simple_sites, simples_sites, step_sites, stmt_sites, stmts_sites, counting}
-use Rattle.c_tree.specs.Temporaries.{capped}
-use Rattle.c_tree.proofs.SiteNumbers.{counting-append}
+use Rattle.scope_rules.proofs.Common.{ℕ, ◌≡◌, ◌≤◌, ◌+◌, refl, sym, ap, ◌∙◌, List, [], ◌∷◌, ◌++◌, length, map, length-append, append_assoc, add-zero, arith, Bool, true, false, Option, Some, None, subst, map-append, length-map, append-nil, Site, RawExprTree, RawCall, RawTableCall, RawSimpleTree, RawDeclareScalar, RawDeclareArray, RawDeclareWith, RawSet, RawSetElement, RawCalling, RawTableCalling, RawStmtTree, RawStmtTrees, RawDo, RawBlock, RawIf, RawIfElse, RawWhile, RawFor, RawReturn, NoRawStmts, RawThen, CallTree, Declared, simple_names, simples_names, step_names, stmt_names, stmts_names, call_site, right_sites, returned_sites, simple_sites, simples_sites, step_sites, stmt_sites, stmts_sites, counting, capped, counting-append, Variable, Binding, find, callee_of, variable_of, listed, expr_of, call_by, call_of, table_call_of, right_of, right_after, spawn_of, Spot, called, next_variable, with_variable, set_scalar, set_element, simple_of, simple_after, simples_of, simples_after, inside, left, step_after, returned_of, returned_after, stmt_of, stmts_of, stmt_after, stmts_after, option_map}
 use Rattle.scope_rules.specs.declared.meanings.Callee.{Callee}
-use Rattle.scope_rules.specs.declared.meanings.Variable.{Variable}
-use Rattle.scope_rules.specs.Names.{Binding, find}
-use Rattle.scope_rules.specs.Meanings.{callee_of, variable_of}
-use Rattle.scope_rules.specs.Expressions.{listed, expr_of}
-use Rattle.scope_rules.specs.Calls.{call_by, call_of, table_call_of, right_of, right_after, spawn_of}
-use Rattle.scope_rules.specs.Places.{Spot, called}
-use Rattle.scope_rules.specs.Simples.{next_variable, with_variable, set_scalar, set_element, simple_of, simple_after, simples_of, simples_after}
-use Rattle.scope_rules.specs.Statements.{inside, left, step_after, returned_of, returned_after, stmt_of, stmts_of, stmt_after, stmts_after}
-use Rattle.std.specs.Prelude.{option_map}
 
 abbrev pub variables : List Declared → List ℕ
 variables ds = map (λ d. d.variable) ds

@@ -1,8 +1,5 @@
 -- What a value tells that was made while another was held, or was put into a box or behind others.
-use Rattle.std.proofs.Common.{◌≡◌, refl, Result, Ok, Err, List, [], ◌∷◌, ◌++◌, map}
-use Rattle.std.specs.Prelude.{Box, IfOk, OnOk, MatchResult}
-use Rattle.std.specs.declared.alloc.Global.{Global}
-use Rattle.std.proofs.lemmas.List.{map-append}
+use Rattle.scope_rules.proofs.Common.{◌≡◌, refl, Result, Ok, Err, List, [], ◌∷◌, ◌++◌, map, Box, IfOk, OnOk, MatchResult, Global, map-append}
 
 -- a value in a box
 pub boxed_fact : {T E : Type 0} (F : Type 0) (r : Result T E) (b : Result (Box T Global) E) → IfOk b (λ made. r ≡ Ok made.value) → OnOk r F → OnOk b F

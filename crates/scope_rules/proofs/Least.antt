@@ -1,7 +1,5 @@
 -- The fault to refuse, of some and then some more.
-use Rattle.std.proofs.Common.{◌≡◌, refl, sym, ap, ◌∙◌, List, [], ◌∷◌, ◌++◌, Option}
-use Rattle.scope_rules.specs.declared.faults.Fault.{Fault}
-use Rattle.scope_rules.specs.Faults.{lesser, least_of}
+use Rattle.scope_rules.proofs.Common.{◌≡◌, refl, sym, ap, ◌∙◌, List, [], ◌∷◌, ◌++◌, Option, Fault, lesser, least_of}
 
 pub least_of_append : (o : Option Fault) (xs ys : List Fault) → least_of o (xs ++ ys) ≡ least_of (least_of o xs) ys
 least_of_append o [] ys = refl

@@ -1,15 +1,5 @@
 -- The fault that is kept is the least.
-use Rattle.std.proofs.Common.{ℕ, ◌≡◌, ◌<◌, ◌≤◌, ◌+◌, ◌*◌, refl, sym, subst, ◌∙◌, Bool, true, false, List, [], ◌∷◌, Some, None, arith}
-use Rattle.std.specs.Prelude.{nat_lt, nat_eq, ◌||◌, ◌&&◌, if◌then◌else◌}
-use mathlib.Core.Logic.{◌⊎◌, inl, inr}
-use Rattle.std.specs.List.{AllByRecursion}
-use Rattle.std.proofs.lemmas.Bool.Decides.{nat_tests}
-use Rattle.c_tree.specs.RawTrees.{RawItemTree}
-use Rattle.scope_rules.specs.declared.faults.Rule.{Rule}
-use Rattle.scope_rules.specs.declared.faults.Fault.{Fault}
-use Rattle.scope_rules.specs.Faults.{rank, fault, is_before, least_of}
-use Rattle.scope_rules.specs.Outcomes.{IsOneOf, here, further, IsLeast, IsRefused, refusal_by}
-use Rattle.scope_rules.specs.Items.{faults_of}
+use Rattle.scope_rules.proofs.Common.{ℕ, ◌≡◌, ◌<◌, ◌≤◌, ◌+◌, ◌*◌, refl, sym, subst, ◌∙◌, Bool, true, false, List, [], ◌∷◌, Some, None, arith, nat_lt, nat_eq, ◌||◌, ◌&&◌, if◌then◌else◌, ◌⊎◌, inl, inr, AllByRecursion, nat_tests, RawItemTree, Rule, Fault, rank, fault, is_before, least_of, IsOneOf, here, further, IsLeast, IsRefused, refusal_by, faults_of}
 use Rattle.scope_rules.proofs.NoFaults.{not_less, same_number}
 
 abbrev pub key : Fault → ℕ

@@ -1,17 +1,6 @@
 -- What items make is what was made before them, and more.
-use Rattle.std.proofs.Common.{ℕ, suc, ◌≡◌, ◌≤◌, refl, sym, ap, ◌∙◌, not, List, [], ◌∷◌, ◌++◌, append_assoc, length, map, sum, arith}
-use Rattle.std.specs.Prelude.{nat_eq, nat_lt, ◌||◌}
-use Rattle.std.specs.List.{AllByRecursion}
-use Rattle.std.proofs.lemmas.List.{append-nil}
-use Rattle.std.proofs.lemmas.List.Sums.{sum_by-cons}
-use Rattle.c_tree.specs.declared.facts.GlobalFact.{GlobalFact}
-use Rattle.c_tree.specs.RawTrees.{NameTree, RawItemTree, RawGlobal, RawGlobalArray, RawTableItem, RawPrototypeItem, RawFunctionItem}
-use Rattle.scope_rules.specs.declared.faults.Rule.{Rule}
-use Rattle.scope_rules.specs.Names.{Binding, find}
-use Rattle.scope_rules.specs.Faults.{broken}
-use Rattle.scope_rules.specs.Simples.{size_faults}
-use Rattle.scope_rules.specs.Items.{Sofar, outer_faults, members_faults, members_of, item_faults, item_after, items_faults, items_after}
-use Rattle.scope_rules.proofs.NoFaults.{both_none, not_broken, not_false, neither, not_less, same_number}
+use Rattle.scope_rules.proofs.Common.{ℕ, suc, ◌≡◌, ◌≤◌, refl, sym, ap, ◌∙◌, not, List, [], ◌∷◌, ◌++◌, append_assoc, length, map, sum, arith, nat_eq, nat_lt, ◌||◌, AllByRecursion, append-nil, sum_by-cons, GlobalFact, NameTree, RawItemTree, RawGlobal, RawGlobalArray, RawTableItem, RawPrototypeItem, RawFunctionItem, Rule, Binding, find, broken, size_faults, Sofar, outer_faults, members_faults, members_of, item_faults, item_after, items_faults, items_after, All-push, or_parts, not-false}
+use Rattle.scope_rules.proofs.NoFaults.{both_none, not_broken, not_less, same_number}
 
 abbrev pub StartsWith : {A : Type 0} → List A → List A → Type 0
 StartsWith {A} xs ys = (rest : List A) × (ys ≡ xs ++ rest)
@@ -53,33 +42,29 @@ HasWord g = 1 ≤ g.words
 abbrev pub HasMember : List ℕ → Type 0
 HasMember row = 1 ≤ length row
 
-pub all_then : {A : Type 0} (P : A → Type 0) (xs : List A) (y : A) → AllByRecursion P xs → P y → AllByRecursion P (xs ++ y ∷ [])
-all_then P [] y h k = (k, tt)
-all_then P (x ∷ xs) y h k = (h.0, all_then P xs y h.1 k)
-
 pub members_length : (names : List Binding) (ns : List NameTree) → length (members_of names ns) ≡ length ns
 members_length names [] = refl
 members_length names (n ∷ ns) = ap suc (members_length names ns)
 
 pub one_member : (size count : ℕ) (at : ℕ) → broken (nat_eq size 0 || not (nat_eq size count)) at Rule.Arity ≡ [] → 1 ≤ count
 one_member size count at h =
-    let b = neither (nat_eq size 0) (not (nat_eq size count)) (not_broken (nat_eq size 0 || not (nat_eq size count)) at Rule.Arity h) in
-    let e = same_number size count (not_false (nat_eq size count) b.1) in
+    let b = or_parts (nat_eq size 0) (not (nat_eq size count)) (not_broken (nat_eq size 0 || not (nat_eq size count)) at Rule.Arity h) in
+    let e = same_number size count (not-false (nat_eq size count) b.1) in
     grind (arith, b.0, e)
 
 item_positive : (defs : List Binding) (w : Sofar) (i : RawItemTree) → item_faults defs w i ≡ [] → AllByRecursion HasWord w.globals × AllByRecursion HasMember w.tables
     → AllByRecursion HasWord (item_after defs w i).globals × AllByRecursion HasMember (item_after defs w i).tables
-item_positive defs w (RawGlobal n start) h k = (all_then HasWord w.globals (record { words = 1; start = start }) k.0 (omega arith), k.1)
+item_positive defs w (RawGlobal n start) h k = (All-push HasWord w.globals (record { words = 1; start = start }) k.0 (omega arith), k.1)
 item_positive defs w (RawGlobalArray n size) h k =
     let j = both_none (outer_faults (find n.text w.spot.names) n.at) (size_faults n size) h in
-    let b = neither (nat_lt size 1) (nat_lt 65536 size) (not_broken (nat_lt size 1 || nat_lt 65536 size) n.at Rule.Kind j.1) in
-    (all_then HasWord w.globals (record { words = size; start = 0 }) k.0 (not_less size 1 b.0), k.1)
+    let b = or_parts (nat_lt size 1) (nat_lt 65536 size) (not_broken (nat_lt size 1 || nat_lt 65536 size) n.at Rule.Kind j.1) in
+    (All-push HasWord w.globals (record { words = size; start = 0 }) k.0 (not_less size 1 b.0), k.1)
 item_positive defs w (RawTableItem n size members) h k =
     let fa = broken (nat_eq size 0 || not (nat_eq size (length members))) n.at Rule.Arity in
     let j = both_none (outer_faults (find n.text w.spot.names) n.at) (fa ++ members_faults w.spot.names members) h in
     let i = both_none fa (members_faults w.spot.names members) j.1 in
     let o : 1 ≤ length members = one_member size (length members) n.at i.0 in
-    (k.0, all_then HasMember w.tables (members_of w.spot.names members) k.1 (rw (members_length w.spot.names members) o))
+    (k.0, All-push HasMember w.tables (members_of w.spot.names members) k.1 (rw (members_length w.spot.names members) o))
 item_positive defs w _ h k = k
 
 pub items_positive : (defs : List Binding) (w : Sofar) (is : List RawItemTree) → items_faults defs w is ≡ [] → AllByRecursion HasWord w.globals × AllByRecursion HasMember w.tables

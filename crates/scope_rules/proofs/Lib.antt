@@ -1,8 +1,8 @@
+mod Common
 pub mod TextKeys
 pub mod Links
 pub mod Least
 pub mod Chains
-pub mod Cuts
 pub mod NeitherForms
 pub mod Scopes
 pub mod StmtLists

@@ -1,16 +1,9 @@
 -- The map of names and the list of what each hides, as a name is added and taken away.
-use Rattle.std.proofs.Common.{ℕ, suc, ◌≡◌, refl, sym, ap, ◌∙◌, List, [], ◌∷◌, ◌++◌, length, map, reverse, arith, nat_cmp, Some, None, Bool, true, false, Option, ◌<◌, ◌-◌, drop, rules}
-use Rattle.std.proofs.lemmas.List.{reverse-append, length-map, length-reverse}
+use Rattle.scope_rules.proofs.Common.{ℕ, suc, ◌≡◌, refl, sym, ap, ◌∙◌, List, [], ◌∷◌, ◌++◌, length, map, reverse, arith, nat_cmp, Some, None, Bool, true, false, Option, ◌<◌, ◌-◌, drop, rules, reverse-append, length-map, length-reverse, BTreeMap, get, UpdatesBy, slice_cmp, bytes_eq, Found, Vec, Binding, find, binding_of, AreLinked, Finds}
 use Rattle.std.proofs.lemmas.Slice.Eq.{bytes_eq-Decides}
-use Rattle.std.specs.BTreeMap.{BTreeMap, get, UpdatesBy}
-use Rattle.std.specs.Cmp.Lexicographic.{slice_cmp}
-use Rattle.std.specs.Str.{bytes_eq}
 use mathlib.Core.Bool.{cond}
-use Rattle.scope_rules.specs.declared.meanings.Found.{Found}
 use Rattle.scope_rules.specs.declared.names.Declared.{Declared}
-use Rattle.std.specs.Global.{Vec}
 use Rattle.scope_rules.proofs.TextKeys.{at_text, ByText, text_updates}
-use Rattle.scope_rules.specs.Names.{Binding, find, binding_of, AreLinked, Finds}
 
 pub reverse-snoc : {A : Type 0} (xs : List A) (y : A) → reverse (xs ++ y ∷ []) ≡ y ∷ reverse xs
 reverse-snoc xs y = reverse-append xs (y ∷ [])

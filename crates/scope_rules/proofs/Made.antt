@@ -1,17 +1,6 @@
 -- From the parts of a program to the program, and to the one with other numbers of its calls.
-use Rattle.std.proofs.Common.{ℕ, ◌≡◌, ◌≤◌, refl, sym, ap, subst, ◌∙◌, List, length, Result, arith}
-use Rattle.std.specs.Prelude.{IfOk, IfErr}
-use Rattle.std.proofs.lemmas.Result.{IfOk-weaker, IfErr-weaker}
-use Rattle.c_tree.specs.RawTrees.{RawItemTree}
-use Rattle.c_tree.specs.Trees.{ProgramTree}
-use Rattle.c_tree.specs.ProgramView.{program_tree}
-use Rattle.c_tree.specs.TextOrder.{program_sites, counting}
-use Rattle.c_tree.specs.WellScoped.{IsWellScoped, AreSiteNumbers}
+use Rattle.scope_rules.proofs.Common.{ℕ, ◌≡◌, ◌≤◌, refl, sym, ap, subst, ◌∙◌, List, length, Result, arith, IfOk, IfErr, IfOk-weaker, IfErr-weaker, RawItemTree, ProgramTree, program_tree, program_sites, counting, IsWellScoped, AreSiteNumbers, ScopeError, program_of, numbered, IsResolvedBy, IsResolved, IsRefused}
 use Rattle.c_tree.specs.declared.programs.Program.{Program}
-use Rattle.scope_rules.specs.declared.errors.ScopeError.{ScopeError}
-use Rattle.scope_rules.specs.Items.{program_of}
-use Rattle.scope_rules.specs.Numbered.{numbered, IsResolvedBy}
-use Rattle.scope_rules.specs.Outcomes.{IsResolved, IsRefused}
 use Rattle.scope_rules.proofs.Growth.{numbers}
 use Rattle.scope_rules.proofs.Sites.{all_numbered}
 use Rattle.scope_rules.proofs.NumberedPrograms.{well_numbered}

@@ -1,14 +1,6 @@
 -- Where no rule is broken, main has no parameters.
-use Rattle.std.proofs.Common.{ℕ, ◌≡◌, refl, sym, subst, ◌∙◌, Bool, true, false, not, List, [], ◌∷◌, length, Some}
-use Rattle.std.specs.Prelude.{nat_eq, ◌&&◌, if◌then◌else◌, codes}
-use Rattle.std.specs.Str.{bytes_eq}
-use Rattle.c_tree.specs.RawTrees.{NameTree, RawItemTree, RawFunctionItem}
-use Rattle.c_tree.specs.Temporaries.{capped}
-use Rattle.scope_rules.specs.declared.faults.Rule.{Rule}
-use Rattle.scope_rules.specs.declared.meanings.Meaning.{Meaning}
-use Rattle.scope_rules.specs.Names.{Binding, find}
-use Rattle.scope_rules.specs.Items.{Sofar, with_definition, with_definitions, main_faults, item_faults, item_after, items_faults}
-use Rattle.scope_rules.proofs.NoFaults.{both_none, not_broken, not_false, same_number}
+use Rattle.scope_rules.proofs.Common.{ℕ, ◌≡◌, refl, sym, subst, ◌∙◌, Bool, true, false, not, List, [], ◌∷◌, length, Some, nat_eq, ◌&&◌, if◌then◌else◌, codes, bytes_eq, NameTree, RawItemTree, RawFunctionItem, capped, Rule, Meaning, Binding, find, Sofar, with_definition, with_definitions, main_faults, item_faults, item_after, items_faults, not-false}
+use Rattle.scope_rules.proofs.NoFaults.{both_none, not_broken, same_number}
 use Rattle.scope_rules.proofs.Agreement.{IsSigned, definition_parts}
 
 abbrev pub MainHasNone : List Binding → Type 0
@@ -18,7 +10,7 @@ no_parameters : (n : NameTree) (k : ℕ) (v : Bool) → v ≡ bytes_eq n.text (c
 no_parameters n k v e t h =
     let b = not_broken (bytes_eq n.text (codes "main") && not (nat_eq k 0)) n.at Rule.Kind h in
     let d : (true && not (nat_eq k 0)) ≡ false = subst (λ x. (x && not (nat_eq k 0)) ≡ false) (sym e ∙ t) b in
-    same_number k 0 (not_false (nat_eq k 0) d)
+    same_number k 0 (not-false (nat_eq k 0) d)
 
 main_function : (n : NameTree) (gives : Bool) (count : ℕ) (ds : List Binding) (g : Bool) (k : ℕ) (v : Bool) → v ≡ bytes_eq n.text (codes "main") → main_faults n count ≡ []
     → MainHasNone ds → IsSigned g k (if v then Some (record { position = length ds; meaning = Meaning.Function (capped (length ds)) gives count true }) else find (codes "main") ds) → k ≡ 0

@@ -1,23 +1,5 @@
 -- A definition that is resolved statement by statement: one more statement, and its end.
-use Rattle.std.proofs.Common.{ℕ, ◌≡◌, ◌≤◌, ◌-◌, refl, sym, ap, subst, ◌∙◌, Bool, true, false, List, [], ◌∷◌, ◌++◌, append_assoc, append-nil, length, length-append, drop, map, sum, max, None, arith}
-use Rattle.c_tree.specs.RawTrees.{NameTree, RawStmtTree, RawItemTree, RawFunctionItem}
-use Rattle.c_tree.specs.RawViews.{raw_in_order}
-use Rattle.c_tree.specs.Trees.{StmtTree, FunctionTree}
-use Rattle.c_tree.specs.TextOrder.{stmts_names}
-use Rattle.c_tree.specs.Views.{in_order, function_tree, table_row}
-use Rattle.c_tree.specs.Temporaries.{capped}
-use Rattle.scope_rules.specs.declared.items.Items.{Items}
-use Rattle.scope_rules.specs.Names.{Binding}
-use Rattle.scope_rules.specs.Faults.{least_of}
-use Rattle.scope_rules.specs.Limits.{most_locals}
-use Rattle.scope_rules.specs.Places.{Spot, spot_of}
-use Rattle.scope_rules.specs.Statements.{stmt_of, stmt_after, stmt_faults, stmts_of, stmts_after, stmts_faults}
-use Rattle.scope_rules.specs.Items.{Sofar, definitions, at_start, item_after, item_faults, items_faults, with_function, function_tree_of}
-use Rattle.scope_rules.specs.ItemViews.{sofar_of, IsCounted}
-use Rattle.scope_rules.specs.Making.{Making, IsMaking, with_statement, with_statements, stmts_list, items_read, body_start}
-use Rattle.scope_rules.specs.Heads.{head_faults}
-use Rattle.scope_rules.specs.Kept.{kept_with}
-use Rattle.scope_rules.specs.Reading.{Agrees, HaveRead}
+use Rattle.scope_rules.proofs.Common.{ℕ, ◌≡◌, ◌≤◌, ◌-◌, refl, sym, ap, subst, ◌∙◌, Bool, true, false, List, [], ◌∷◌, ◌++◌, append_assoc, append-nil, length, length-append, drop, map, sum, max, None, arith, NameTree, RawStmtTree, RawItemTree, RawFunctionItem, raw_in_order, StmtTree, FunctionTree, stmts_names, in_order, function_tree, table_row, capped, Items, Binding, least_of, most_locals, Spot, spot_of, stmt_of, stmt_after, stmt_faults, stmts_of, stmts_after, stmts_faults, Sofar, definitions, at_start, item_after, item_faults, items_faults, with_function, function_tree_of, sofar_of, IsCounted, Making, IsMaking, with_statement, with_statements, stmts_list, items_read, body_start, head_faults, kept_with, Agrees, HaveRead}
 use Rattle.scope_rules.proofs.Agreeing.{few_sites}
 use Rattle.scope_rules.proofs.Counted.{counted_more, body_words}
 use Rattle.scope_rules.proofs.FunctionScopes.{spot_ended, faults_joined}
@@ -45,7 +27,7 @@ list_last : (s : Spot) (ss : List RawStmtTree) (t : RawStmtTree) → stmts_list 
 list_last s [] t = refl
 list_last s (x ∷ ss) t = ap (λ ys. stmt_of s x ∷ ys) (list_last (stmt_after s x) ss t)
 
-kept_below : (site : ℕ) (ss : List StmtTree) (s : StmtTree) → site ≤ 65535 → kept_with site ss s ≡ ss ++ s ∷ []
+pub kept_below : (site : ℕ) (ss : List StmtTree) (s : StmtTree) → site ≤ 65535 → kept_with site ss s ≡ ss ++ s ∷ []
 kept_below site ss s h = rw (sym (is_not_less 65535 site h)) refl
 
 few_in_body : (all read : List RawItemTree) (gives : Bool) (n : NameTree) (params : List NameTree) (ss : List RawStmtTree)

@@ -1,9 +1,6 @@
 -- A loop that changes the items of a list in place, one after another, told by what each item stands for.
-use Rattle.std.proofs.Common.{◌≡◌, ◌≢◌, ℕ, ◌+◌, ◌<◌, ◌≤◌, List, ◌++◌, length, map, take, drop, get_or, sym, ap, ◌∙◌, arith}
-use Rattle.std.proofs.Math.ListN.{set}
-use Rattle.std.proofs.lemmas.List.{map-set, get_or-map, get_or-set_other, length-set, length-map, take_all, append-nil}
+use Rattle.scope_rules.proofs.Common.{◌≡◌, ◌≢◌, ℕ, ◌+◌, ◌<◌, ◌≤◌, List, ◌++◌, length, map, take, drop, get_or, sym, ap, ◌∙◌, arith, set, map-set, get_or-map, get_or-set_other, length-set, length-map, take_all, append-nil, drop_of_length-le}
 use Rattle.std.proofs.lemmas.List.Edits.{map_over_more}
-use Rattle.std.proofs.Math.ListN.{drop_of_length-le}
 
 -- the trees of a list whose first i items are changed
 abbrev pub changed_to : {B : Type 0} → (B → B) → ℕ → List B → List B

@@ -1,10 +1,6 @@
 -- An expression with an operator in it is neither a name nor a call.
-use Rattle.std.proofs.Common.{◌≡◌, ◌<◌, List, [], ◌∷◌, length, refl, ap, arith}
-use Rattle.c_tree.specs.declared.operators.Infix.{Infix}
-use Rattle.c_tree.specs.RawTrees.{RawExprTree}
-use Rattle.c_tree.specs.RawViews.{raw_joined, raw_chained, raw_arguments}
+use Rattle.scope_rules.proofs.Common.{◌≡◌, ◌<◌, List, [], ◌∷◌, length, refl, ap, arith, Infix, RawExprTree, raw_joined, raw_chained, raw_arguments, listed}
 use Rattle.scope_rules.specs.Forms.{IsNeither}
-use Rattle.scope_rules.specs.Expressions.{listed}
 
 joined_neither : (l : RawExprTree) (o : Infix) (r : RawExprTree) → IsNeither (raw_joined l o r)
 joined_neither l (Infix.Binary op) r = tt

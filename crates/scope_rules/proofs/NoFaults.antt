@@ -1,13 +1,5 @@
 -- What follows where no rule is broken.
-use Rattle.std.proofs.Common.{ℕ, ◌≡◌, ◌≤◌, refl, Bool, true, false, not, List, [], ◌∷◌, ◌++◌, Option, Some, None, arith}
-use Rattle.std.specs.Prelude.{nat_eq, nat_lt, ◌||◌}
-use Rattle.std.proofs.lemmas.Bool.Decides.{nat_tests}
-use Rattle.scope_rules.specs.declared.faults.Rule.{Rule}
-use Rattle.scope_rules.specs.declared.faults.Fault.{Fault}
-use Rattle.scope_rules.specs.declared.meanings.Meaning.{Meaning}
-use Rattle.scope_rules.specs.declared.meanings.Found.{Found}
-use Rattle.scope_rules.specs.Faults.{broken}
-use Rattle.scope_rules.specs.Expressions.{use_faults}
+use Rattle.scope_rules.proofs.Common.{ℕ, ◌≡◌, ◌≤◌, refl, Bool, true, false, not, List, [], ◌∷◌, ◌++◌, Option, Some, None, arith, nat_eq, nat_lt, ◌||◌, nat_tests, Rule, Fault, Meaning, Found, broken, not-false, use_faults}
 
 pub both_none : (xs ys : List Fault) → xs ++ ys ≡ [] → (xs ≡ []) × (ys ≡ [])
 both_none [] ys h = (refl, h)
@@ -16,14 +8,6 @@ both_none (x ∷ xs) ys h = cc
 pub not_broken : (b : Bool) (at : ℕ) (r : Rule) → broken b at r ≡ [] → b ≡ false
 not_broken true at r h = cc
 not_broken false at r h = refl
-
-pub not_false : (b : Bool) → not b ≡ false → b ≡ true
-not_false true h = refl
-not_false false h = cc
-
-pub neither : (a b : Bool) → (a || b) ≡ false → (a ≡ false) × (b ≡ false)
-neither true b h = cc
-neither false b h = (refl, h)
 
 pub same_number : (a b : ℕ) → nat_eq a b ≡ true → a ≡ b
 same_number a b h = grind (arith, nat_tests)
@@ -39,4 +23,4 @@ pub record Used (may : Meaning → Bool) (o : Option Found) : Type 0 where
 
 pub used : (may : Meaning → Bool) (o : Option Found) (at : ℕ) → use_faults may o at ≡ [] → Used may o
 used may None at h = cc
-used may (Some f) at h = record { found = f; is = refl; may_be = not_false (may f.meaning) (not_broken (not (may f.meaning)) at Rule.Kind h) }
+used may (Some f) at h = record { found = f; is = refl; may_be = not-false (may f.meaning) (not_broken (not (may f.meaning)) at Rule.Kind h) }

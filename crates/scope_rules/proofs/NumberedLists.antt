@@ -1,15 +1,6 @@
 -- Statements whose parts have other numbers of their calls.
-use Rattle.std.proofs.Common.{◌≡◌, ℕ, List, [], ◌∷◌, map, refl, sym, ap, ◌∙◌}
-use Rattle.std.specs.Prelude.{Box, option_map}
-use Rattle.std.specs.declared.alloc.Global.{Global}
-use Rattle.c_tree.specs.declared.expressions.Expr.{Expr}
-use Rattle.c_tree.specs.declared.statements.ForParts.{ForParts}
-use Rattle.c_tree.specs.declared.statements.Stmt.{Stmt}
+use Rattle.scope_rules.proofs.Common.{◌≡◌, ℕ, List, [], ◌∷◌, map, refl, sym, ap, ◌∙◌, Box, option_map, Global, Expr, ForParts, Stmt, StmtTree, If, IfElse, While, For, Then, expr_tree, simple_tree, stmt_tree, in_order, stmt_tree-If, stmt_tree-IfElse, stmt_tree-While, stmt_tree-For, simple_numbered, stmt_numbered, stmts_numbered}
 use Rattle.c_tree.specs.declared.statements.Stmt.TheViews as code
-use Rattle.c_tree.specs.Trees.{StmtTree, If, IfElse, While, For, Then}
-use Rattle.c_tree.specs.Views.{expr_tree, simple_tree, stmt_tree, in_order}
-use Rattle.c_tree.proofs.StmtEquations.{stmt_tree-If, stmt_tree-IfElse, stmt_tree-While, stmt_tree-For}
-use Rattle.scope_rules.specs.Numbered.{simple_numbered, stmt_numbered, stmts_numbered}
 
 pub numbered_in_order : (ns : List ℕ) (ts : List StmtTree) → in_order (map (stmt_numbered ns) ts) ≡ stmts_numbered ns (in_order ts)
 numbered_in_order ns [] = refl

@@ -1,17 +1,6 @@
 -- A well-scoped program stays one where its calls, which are numbered in the order of the tree, get other numbers: nothing but the
 -- rule on the numbers of calls looks at them.
-use Rattle.std.proofs.Common.{max, ℕ, ◌≡◌, ◌+◌, ◌≤◌, refl, sym, ap, subst, ◌∙◌, Bool, true, false, List, [], ◌∷◌, ◌++◌, append_assoc, length, length-append, map, Option, Some, None, arith}
-use Rattle.std.specs.List.{AllByRecursion}
-use Rattle.std.specs.Prelude.{if◌then◌else◌, option_map, sum, slice_index_or}
-use Rattle.std.proofs.lemmas.List.{map-append, length-map}
-use Rattle.c_tree.specs.declared.facts.Site.{Site}
-use Rattle.c_tree.specs.Trees.{CallTree, CallFunction, RightTree, Computed, Called, SimpleTree, DeclareScalar, DeclareWith, SetLocal, SetGlobal, SetLocalElement, SetGlobalElement, Calling, StmtTree, StmtTrees, Do, Empty, Block, If, IfElse, While, For, Return, NoStmts, Then, FunctionTree, ProgramTree}
-use Rattle.c_tree.specs.TextOrder.{Declared, simple_names, simples_names, step_names, stmt_names, stmts_names, call_site, right_sites, returned_sites, simple_sites, simples_sites, step_sites, stmt_sites, stmts_sites, functions_sites, program_sites, counting}
-use Rattle.c_tree.specs.Sizes.{scalars, below}
-use Rattle.c_tree.specs.Temporaries.{call_temporaries, right_temporaries, held_temporaries, simple_temporaries, simples_temporaries, step_temporaries, returned_temporaries, stmt_temporaries, stmts_temporaries}
-use Rattle.c_tree.specs.WellScoped.{Context, context_of, signature_of, call_gives, IsCallScoped, IsRightScoped, IsSimpleScoped, AreSimplesScoped, IsConditionScoped, IsStepScoped, IsReturnScoped, with_names, scope_after, scope_after_all, IsStmtScoped, AreStmtsScoped, IsFunctionScoped, AreFunctionsScoped, AreSiteNumbers, IsWellScoped}
-use Rattle.cap_word.specs.Signatures.{Signature, signature_at, IsTable}
-use Rattle.scope_rules.specs.Numbered.{number_at, call_numbered, right_numbered, simple_numbered, stmt_numbered, stmts_numbered, function_numbered, numbered}
+use Rattle.scope_rules.proofs.Common.{max, ℕ, ◌≡◌, ◌+◌, ◌≤◌, refl, sym, ap, subst, ◌∙◌, Bool, true, false, List, [], ◌∷◌, ◌++◌, append_assoc, length, length-append, map, Option, Some, None, arith, AllByRecursion, if◌then◌else◌, option_map, sum, slice_index_or, map-append, length-map, Site, CallTree, CallFunction, RightTree, Computed, Called, SimpleTree, DeclareScalar, DeclareWith, SetLocal, SetGlobal, SetLocalElement, SetGlobalElement, Calling, StmtTree, StmtTrees, Do, Empty, Block, If, IfElse, While, For, Return, NoStmts, Then, FunctionTree, ProgramTree, Declared, simple_names, simples_names, step_names, stmt_names, stmts_names, call_site, right_sites, returned_sites, simple_sites, simples_sites, step_sites, stmt_sites, stmts_sites, functions_sites, program_sites, counting, scalars, below, call_temporaries, right_temporaries, held_temporaries, simple_temporaries, simples_temporaries, step_temporaries, returned_temporaries, stmt_temporaries, stmts_temporaries, Context, context_of, signature_of, call_gives, IsCallScoped, IsRightScoped, IsSimpleScoped, AreSimplesScoped, IsConditionScoped, IsStepScoped, IsReturnScoped, with_names, scope_after, scope_after_all, IsStmtScoped, AreStmtsScoped, IsFunctionScoped, AreFunctionsScoped, AreSiteNumbers, IsWellScoped, Signature, signature_at, IsTable, number_at, call_numbered, right_numbered, simple_numbered, stmt_numbered, stmts_numbered, function_numbered, numbered}
 use Rattle.scope_rules.proofs.Growth.{numbers}
 
 module _ (ns : List ℕ) where

@@ -1,17 +1,5 @@
 -- A source ends in one thing alone: one program, or one refusal.
-use Rattle.std.proofs.Common.{ℕ, ◌≡◌, ◌+◌, ◌*◌, refl, sym, ap, ◌∙◌, true, false, List, [], ◌∷◌, Some, arith}
-use mathlib.Core.Logic.{◌⊎◌, inl, inr}
-use Rattle.std.specs.List.{AllByRecursion}
-use Rattle.cap_word.specs.declared.limits.Which.{Which}
-use Rattle.c_tree.specs.RawTrees.{RawItemTree}
-use Rattle.c_tree.specs.Trees.{ProgramTree}
-use Rattle.scope_rules.specs.declared.faults.Rule.{Rule}
-use Rattle.scope_rules.specs.declared.faults.Fault.{Fault}
-use Rattle.scope_rules.specs.declared.errors.ScopeError.{ScopeError}
-use Rattle.scope_rules.specs.Faults.{rank, fault, is_before}
-use Rattle.scope_rules.specs.Items.{faults_of, has_main, program_of}
-use Rattle.scope_rules.specs.Limits.{exceeded}
-use Rattle.scope_rules.specs.Outcomes.{IsOneOf, here, further, IsLeast, IsResolved, IsRefused, IsNoMemory, refusal_by}
+use Rattle.scope_rules.proofs.Common.{ℕ, ◌≡◌, ◌+◌, ◌*◌, refl, sym, ap, ◌∙◌, true, false, List, [], ◌∷◌, Some, arith, ◌⊎◌, inl, inr, AllByRecursion, Which, RawItemTree, ProgramTree, Rule, Fault, ScopeError, rank, fault, is_before, faults_of, has_main, program_of, exceeded, IsOneOf, here, further, IsLeast, IsResolved, IsRefused, IsNoMemory, refusal_by}
 use Rattle.scope_rules.proofs.NoFaults.{not_less}
 use Rattle.scope_rules.proofs.LeastFaults.{key, before, rank_small}
 

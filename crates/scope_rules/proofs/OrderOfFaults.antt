@@ -1,9 +1,5 @@
 -- The least of some faults doesn't depend on which of them come first.
-use Rattle.std.proofs.Common.{ℕ, suc, zero, ◌≡◌, refl, sym, ap, ◌∙◌, Bool, true, false, List, [], ◌∷◌, ◌++◌, Option, Some, None, arith}
-use Rattle.std.specs.Prelude.{if◌then◌else◌}
-use Rattle.scope_rules.specs.declared.faults.Rule.{Rule}
-use Rattle.scope_rules.specs.declared.faults.Fault.{Fault}
-use Rattle.scope_rules.specs.Faults.{rank, is_before, lesser, least_of}
+use Rattle.scope_rules.proofs.Common.{ℕ, suc, zero, ◌≡◌, refl, sym, ap, ◌∙◌, Bool, true, false, List, [], ◌∷◌, ◌++◌, Option, Some, None, arith, if◌then◌else◌, Rule, Fault, rank, is_before, lesser, least_of}
 use Rattle.scope_rules.proofs.Least.{least_of_append}
 use Rattle.scope_rules.proofs.LeastFaults.{key, before, rank_small, less, is_not_less}
 use Rattle.scope_rules.proofs.NoFaults.{not_less}

@@ -1,11 +1,5 @@
 -- Beyond the limit of calls no later site is within it.
-use Rattle.std.proofs.Common.{ℕ, ◌≡◌, ◌≤◌, refl, sym, Bool, true, false, List, [], ◌∷◌, Option, Some, None, arith}
-use Rattle.std.specs.Prelude.{nat_lt}
-use Rattle.c_tree.specs.RawTrees.{RawExprTree, RawNumber, RawName, RawElement, RawUnary, RawParenthesized, RawBinary, RawLogicalAnd, RawLogicalOr, RawConditional, RawCall, RawTableCall, RawSimpleTree, RawDeclareWith, RawSet, RawSetElement, RawCalling, RawTableCalling, RawStmtTree, RawStmtTrees, RawDo, RawBlock, RawIf, RawIfElse, RawWhile, RawFor, RawReturn, NoRawStmts, RawThen}
-use Rattle.scope_rules.specs.Calls.{right_after}
-use Rattle.scope_rules.specs.Places.{Spot}
-use Rattle.scope_rules.specs.Simples.{simple_after, simples_after}
-use Rattle.scope_rules.specs.Statements.{inside, left, step_after, returned_after, stmt_after, stmts_after}
+use Rattle.scope_rules.proofs.Common.{ℕ, ◌≡◌, ◌≤◌, refl, sym, Bool, true, false, List, [], ◌∷◌, Option, Some, None, arith, nat_lt, RawExprTree, RawNumber, RawName, RawElement, RawUnary, RawParenthesized, RawBinary, RawLogicalAnd, RawLogicalOr, RawConditional, RawCall, RawTableCall, RawSimpleTree, RawDeclareWith, RawSet, RawSetElement, RawCalling, RawTableCalling, RawStmtTree, RawStmtTrees, RawDo, RawBlock, RawIf, RawIfElse, RawWhile, RawFor, RawReturn, NoRawStmts, RawThen, right_after, Spot, simple_after, simples_after, inside, left, step_after, returned_after, stmt_after, stmts_after}
 use Rattle.scope_rules.proofs.LeastFaults.{less}
 use Rattle.scope_rules.proofs.NoFaults.{not_less}
 

@@ -1,18 +1,6 @@
 -- Each name that is declared where no rule is broken has a word.
-use Rattle.std.proofs.Common.{ℕ, ◌≡◌, ◌≤◌, Bool, true, List, [], ◌∷◌, ◌++◌, length, sum, Option, Some, None, arith}
-use Rattle.std.specs.Prelude.{nat_lt, ◌||◌, option_map}
-use Rattle.c_tree.specs.RawTrees.{RawSimpleTree, RawDeclareArray, RawSet, RawSetElement, RawCalling, RawTableCalling, RawStmtTree, RawStmtTrees, RawDo, RawBlock, RawIf, RawIfElse, RawWhile, RawFor, NoRawStmts, RawThen}
-use Rattle.std.proofs.lemmas.List.Sums.{sum_by-cons}
-use Rattle.c_tree.specs.TextOrder.{Declared, simple_names, simples_names, step_names, stmt_names, stmts_names}
-use Rattle.scope_rules.specs.declared.faults.Rule.{Rule}
-use Rattle.scope_rules.specs.Names.{find}
-use Rattle.scope_rules.specs.Meanings.{variable_of}
-use Rattle.scope_rules.specs.Expressions.{expr_faults, expr_of}
-use Rattle.scope_rules.specs.Calls.{right_of}
-use Rattle.scope_rules.specs.Places.{Spot}
-use Rattle.scope_rules.specs.Simples.{declare_faults, size_faults, simple_faults, simple_of, simple_after, simples_faults, simples_of, simples_after}
-use Rattle.scope_rules.specs.Statements.{inside, left, condition_faults, step_kind, step_faults, step_after, stmt_after, stmt_faults, stmts_faults, stmt_of, stmts_of}
-use Rattle.scope_rules.proofs.NoFaults.{both_none, not_broken, neither, not_less}
+use Rattle.scope_rules.proofs.Common.{ℕ, ◌≡◌, ◌≤◌, Bool, true, List, [], ◌∷◌, ◌++◌, length, sum, Option, Some, None, arith, nat_lt, ◌||◌, option_map, RawSimpleTree, RawDeclareArray, RawSet, RawSetElement, RawCalling, RawTableCalling, RawStmtTree, RawStmtTrees, RawDo, RawBlock, RawIf, RawIfElse, RawWhile, RawFor, NoRawStmts, RawThen, sum_by-cons, Declared, simple_names, simples_names, step_names, stmt_names, stmts_names, Rule, find, variable_of, expr_faults, expr_of, right_of, Spot, declare_faults, size_faults, simple_faults, simple_of, simple_after, simples_faults, simples_of, simples_after, inside, left, condition_faults, step_kind, step_faults, step_after, stmt_after, stmt_faults, stmts_faults, stmt_of, stmts_of, or_parts}
+use Rattle.scope_rules.proofs.NoFaults.{both_none, not_broken, not_less}
 use Rattle.scope_rules.proofs.Growth.{words, set_scalar_names, set_element_names}
 
 abbrev pub ArePositive : List Declared → Type 0
@@ -30,7 +18,7 @@ no_more_than_words (d ∷ ds) h = let k = no_more_than_words ds h.1 in omega (ar
 simple_positive : (s : Spot) (p : RawSimpleTree) → simple_faults s p ≡ [] → ArePositive (simple_names (simple_of s p))
 simple_positive s (RawDeclareArray n size) h =
     let k = both_none (declare_faults s n) (size_faults n size) h in
-    let b = neither (nat_lt size 1) (nat_lt 65536 size) (not_broken (nat_lt size 1 || nat_lt 65536 size) n.at Rule.Kind k.1) in
+    let b = or_parts (nat_lt size 1) (nat_lt 65536 size) (not_broken (nat_lt size 1 || nat_lt 65536 size) n.at Rule.Kind k.1) in
     (not_less size 1 b.0, tt)
 simple_positive s (RawSet n v) h = rw (set_scalar_names (variable_of (find n.text s.names)) (right_of s.names s.site v)) tt
 simple_positive s (RawSetElement n i v) h = rw (set_element_names (variable_of (find n.text s.names)) (expr_of s.names i) (right_of s.names s.site v)) tt

@@ -1,20 +1,5 @@
 -- A source that breaks no rule and exceeds no limit is a well-scoped program.
-use Rattle.std.proofs.Common.{ℕ, zero, suc, ◌≡◌, ◌≤◌, ◌+◌, refl, sym, ap, subst, ◌∙◌, Bool, true, false, List, [], ◌∷◌, ◌++◌, length, length-append, append_assoc, map, sum, arith, max}
-use Rattle.std.specs.Prelude.{if◌then◌else◌}
-use Rattle.std.proofs.lemmas.List.{length-map, append-nil}
-use Rattle.c_tree.specs.RawTrees.{NameTree, RawStmtTrees}
-use Rattle.c_tree.specs.RawTemporaries.{raw_stmts_temporaries}
-use Rattle.c_tree.specs.Trees.{ProgramTree}
-use Rattle.c_tree.specs.TextOrder.{Declared, stmts_names, counting}
-use Rattle.c_tree.specs.Sizes.{scalars, below}
-use Rattle.c_tree.specs.Temporaries.{capped, stmts_temporaries}
-use Rattle.c_tree.specs.WellScoped.{signature_of, Context, context_of, IsFunctionScoped}
-use Rattle.scope_rules.specs.declared.meanings.Meaning.{Meaning}
-use Rattle.scope_rules.specs.Names.{Binding}
-use Rattle.scope_rules.specs.Places.{Spot}
-use Rattle.scope_rules.specs.Simples.{next_variable, with_variable}
-use Rattle.scope_rules.specs.Statements.{stmts_after, stmts_faults, stmts_of}
-use Rattle.scope_rules.specs.Items.{params_after, params_spot, body_spot, function_tree_of}
+use Rattle.scope_rules.proofs.Common.{ℕ, zero, suc, ◌≡◌, ◌≤◌, ◌+◌, refl, sym, ap, subst, ◌∙◌, Bool, true, false, List, [], ◌∷◌, ◌++◌, length, length-append, append_assoc, map, sum, arith, max, if◌then◌else◌, length-map, append-nil, NameTree, RawStmtTrees, raw_stmts_temporaries, ProgramTree, Declared, stmts_names, counting, scalars, below, capped, stmts_temporaries, signature_of, Context, context_of, IsFunctionScoped, Meaning, Binding, Spot, next_variable, with_variable, stmts_after, stmts_faults, stmts_of, params_after, params_spot, body_spot, function_tree_of}
 use Rattle.scope_rules.proofs.Fits.{MeaningFits, AllFit}
 use Rattle.scope_rules.proofs.Growth.{Grown, words, variables, stmts_grown}
 use Rattle.scope_rules.proofs.Fewer.{AreSix, bound_six, stmts_fewer}
@@ -38,7 +23,7 @@ pub params_sizes : (s : Spot) (ns : List NameTree) → (params_after s ns).sizes
 params_sizes s [] = sym (append-nil s.sizes)
 params_sizes s (n ∷ ns) = params_sizes (with_variable s n false 1) ns ∙ append_assoc s.sizes (1 ∷ []) (scalars (length ns))
 
-scalars_length : (n : ℕ) → length (scalars n) ≡ n
+pub scalars_length : (n : ℕ) → length (scalars n) ≡ n
 scalars_length zero = refl
 scalars_length (suc n) = ap suc (scalars_length n)
 
@@ -59,7 +44,7 @@ params_fit c small s (n ∷ ns) h p =
     let g : AllFit c (below (length t.sizes)) t.names = subst (λ x. AllFit c (below x) t.names) (sym l) (subst (λ x. AllFit c (x ∷ below (length s.sizes)) t.names) e f) in
     params_fit c small t ns g p
 
-params_site : (s : Spot) (ns : List NameTree) → (params_after s ns).site ≡ s.site
+pub params_site : (s : Spot) (ns : List NameTree) → (params_after s ns).site ≡ s.site
 params_site s [] = refl
 params_site s (n ∷ ns) = params_site (with_variable s n false 1) ns
 

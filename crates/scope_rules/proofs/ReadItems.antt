@@ -1,12 +1,5 @@
 -- One more item of a source that is read item by item.
-use Rattle.std.proofs.Common.{◌≡◌, ◌≤◌, refl, sym, ap, subst, ◌∙◌, List, [], ◌∷◌, ◌++◌, append_assoc, append-nil, None}
-use Rattle.c_tree.specs.RawTrees.{RawItemTree}
-use Rattle.scope_rules.specs.declared.items.Items.{Items}
-use Rattle.scope_rules.specs.Names.{Binding}
-use Rattle.scope_rules.specs.Faults.{least_of}
-use Rattle.scope_rules.specs.Items.{Sofar, definitions, at_start, item_after, item_faults, items_after, items_faults}
-use Rattle.scope_rules.specs.ItemViews.{sofar_of, IsCounted}
-use Rattle.scope_rules.specs.Reading.{Agrees, HaveRead}
+use Rattle.scope_rules.proofs.Common.{◌≡◌, ◌≤◌, refl, sym, ap, subst, ◌∙◌, List, [], ◌∷◌, ◌++◌, append_assoc, append-nil, None, RawItemTree, Items, Binding, least_of, Sofar, definitions, at_start, item_after, item_faults, items_after, items_faults, sofar_of, IsCounted, Agrees, HaveRead}
 use Rattle.scope_rules.proofs.Agreeing.{few_sites, fewer_before, agrees, agrees_item, same_faults}
 use Rattle.scope_rules.proofs.Least.{least_of_append}
 

@@ -1,24 +1,7 @@
 -- From what the code found to what the source is.
-use Rattle.std.proofs.Common.{ℕ, ◌≡◌, ◌≤◌, refl, sym, ap, subst, ◌∙◌, true, List, [], Option, Some, None}
-use Rattle.std.specs.Prelude.{codes}
-use Rattle.cap_word.specs.declared.limits.Which.{Which}
-use Rattle.c_tree.specs.RawTrees.{RawItemTree}
-use Rattle.c_tree.specs.RawTemporaries.{AreWithinTemporaries}
-use Rattle.c_tree.specs.Temporaries.{capped}
-use Rattle.c_tree.specs.WellScoped.{IsWellScoped}
-use Rattle.scope_rules.specs.declared.faults.Fault.{Fault}
-use Rattle.scope_rules.specs.declared.meanings.Found.{Found}
-use Rattle.scope_rules.specs.declared.errors.ScopeError.{ScopeError}
-use Rattle.scope_rules.specs.Names.{Binding, find}
-use Rattle.scope_rules.specs.Meanings.{function_of}
-use Rattle.scope_rules.specs.Faults.{least_of}
-use Rattle.scope_rules.specs.Items.{Sofar, definitions, faults_of, parts_of, program_of, has_main}
-use Rattle.scope_rules.specs.Limits.{exceeded, most_locals}
-use Rattle.scope_rules.specs.ItemViews.{exceeded_with}
-use Rattle.scope_rules.specs.Reading.{Agrees}
+use Rattle.scope_rules.proofs.Common.{ℕ, ◌≡◌, ◌≤◌, refl, sym, ap, subst, ◌∙◌, true, List, [], Option, Some, None, codes, Which, RawItemTree, AreWithinTemporaries, capped, IsWellScoped, Fault, Found, ScopeError, Binding, find, function_of, least_of, Sofar, definitions, faults_of, parts_of, program_of, has_main, exceeded, most_locals, exceeded_with, Agrees, IsResolved, IsRefused}
 use Rattle.scope_rules.proofs.Exceeded.{tree_from, same_sofar, same_exceeded, within_calls}
 use Rattle.scope_rules.proofs.Sites.{all_numbered}
-use Rattle.scope_rules.specs.Outcomes.{IsResolved, IsRefused}
 use Rattle.scope_rules.proofs.LeastFaults.{none_is_none}
 use Rattle.scope_rules.proofs.WellScopedPrograms.{well_scoped}
 

@@ -1,20 +1,6 @@
 -- A call or a right side that breaks no rule is well scoped, with numbers for names.
-use Rattle.std.proofs.Common.{ℕ, ◌≡◌, ◌<◌, refl, sym, ◌∙◌, Bool, true, false, not, List, [], ◌∷◌, ◌++◌, length, Option, Some, None, arith}
-use Rattle.std.specs.Prelude.{nat_eq, ◌||◌, ◌&&◌}
-use Rattle.std.proofs.lemmas.List.{length-map}
-use Rattle.cap_word.specs.ModelledCalls.{parameters_of, gives_result}
-use Rattle.c_tree.specs.RawTrees.{NameTree, RawExprTree, RawNumber, RawName, RawElement, RawUnary, RawParenthesized, RawBinary, RawLogicalAnd, RawLogicalOr, RawConditional, RawCall, RawTableCall}
-use Rattle.c_tree.specs.WellScoped.{Context, IsCallScoped, call_gives, IsRightScoped}
-use Rattle.cap_word.specs.Signatures.{signature_at}
-use Rattle.scope_rules.specs.declared.faults.Rule.{Rule}
-use Rattle.scope_rules.specs.declared.meanings.Meaning.{Meaning}
-use Rattle.scope_rules.specs.declared.meanings.Found.{Found}
-use Rattle.scope_rules.specs.Names.{Binding, find}
-use Rattle.scope_rules.specs.Faults.{broken}
-use Rattle.scope_rules.specs.Meanings.{is_callable, is_table, is_spawnable, is_void, takes, is_wrong_count, function_in, table_in, table_of, callee_in, callee_of}
-use Rattle.scope_rules.specs.Expressions.{expr_faults, exprs_faults, listed, expr_of}
-use Rattle.scope_rules.specs.Calls.{call_name_faults, table_name_faults, spawned_faults, spawn_faults, arguments_faults, call_faults, table_call_faults, right_faults, spawned_function, spawn_of, call_by, call_of, table_call_of, right_of}
-use Rattle.scope_rules.proofs.NoFaults.{both_none, not_broken, not_false, same_number, Used, used}
+use Rattle.scope_rules.proofs.Common.{ℕ, ◌≡◌, ◌<◌, refl, sym, ◌∙◌, Bool, true, false, not, List, [], ◌∷◌, ◌++◌, length, Option, Some, None, arith, nat_eq, ◌||◌, ◌&&◌, length-map, parameters_of, gives_result, NameTree, RawExprTree, RawNumber, RawName, RawElement, RawUnary, RawParenthesized, RawBinary, RawLogicalAnd, RawLogicalOr, RawConditional, RawCall, RawTableCall, Context, IsCallScoped, call_gives, IsRightScoped, signature_at, Rule, Meaning, Found, Binding, find, broken, is_callable, is_table, is_spawnable, is_void, takes, is_wrong_count, function_in, table_in, table_of, callee_in, callee_of, expr_faults, exprs_faults, listed, expr_of, call_name_faults, table_name_faults, spawned_faults, spawn_faults, arguments_faults, call_faults, table_call_faults, right_faults, spawned_function, spawn_of, call_by, call_of, table_call_of, right_of, not-false}
+use Rattle.scope_rules.proofs.NoFaults.{both_none, not_broken, same_number, Used, used}
 use Rattle.scope_rules.proofs.Fits.{MeaningFits, AllFit, find_fits}
 use Rattle.scope_rules.proofs.ScopedExprs.{expr_scoped, exprs_scoped}
 
@@ -32,10 +18,10 @@ known_table None at h = cc
 known_table (Some f) at h = record { found = f; is = refl }
 
 pub right_count : (n k : ℕ) → is_wrong_count (Some n) k ≡ false → n ≡ k
-right_count n k h = same_number n k (not_false (nat_eq n k) h)
+right_count n k h = same_number n k (not-false (nat_eq n k) h)
 
 used_gives : (u : Bool) (g : Bool) → (u && not g) ≡ false → u ≡ true → g ≡ true
-used_gives true g h e = not_false g h
+used_gives true g h e = not-false g h
 used_gives false g h e = cc
 
 spawnable_in : (c : Context) (scope : List ℕ) (m : Meaning) → MeaningFits c scope m → is_spawnable m ≡ true
@@ -105,7 +91,7 @@ module _ (c : Context) (scope : List ℕ) (names : List Binding) (fit : AllFit c
       let m = kn.found.meaning in
       let a = rw kn.is at j.0 in
       let b = both_none (broken (is_wrong_count (takes m) 1) n.at Rule.Arity) (broken (not (is_table m)) n.at Rule.Kind) a in
-      let t : table_of o < c.tables = rw kn.is (table_scoped_in c scope m (find_fits c scope n.text names kn.found fit kn.is) (not_false (is_table m) (not_broken (not (is_table m)) n.at Rule.Kind b.1))) in
+      let t : table_of o < c.tables = rw kn.is (table_scoped_in c scope m (find_fits c scope n.text names kn.found fit kn.is) (not-false (is_table m) (not_broken (not (is_table m)) n.at Rule.Kind b.1))) in
       (t, expr_scoped c scope names fit i l.0, expr_scoped c scope names fit e l.1)
 
   pub right_scoped : (k : ℕ) (v : RawExprTree) → right_faults names v ≡ [] → IsRightScoped c scope (right_of names k v)

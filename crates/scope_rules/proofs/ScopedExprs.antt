@@ -1,12 +1,5 @@
 -- An expression that breaks no rule is well scoped, with numbers for names.
-use Rattle.std.proofs.Common.{ℕ, ◌≡◌, ◌<◌, ◌%◌, ◌^◌, refl, true, false, List, [], ◌∷◌, ◌++◌, arith}
-use Rattle.c_tree.specs.RawTrees.{NameTree, RawExprTree, RawNumber, RawName, RawElement, RawUnary, RawParenthesized, RawBinary, RawLogicalAnd, RawLogicalOr, RawConditional}
-use Rattle.c_tree.specs.Trees.{ExprTree}
-use Rattle.c_tree.specs.WellScoped.{Context, IsExprScoped, AreExprsScoped}
-use Rattle.scope_rules.specs.declared.meanings.Meaning.{Meaning}
-use Rattle.scope_rules.specs.Names.{Binding, find}
-use Rattle.scope_rules.specs.Meanings.{is_scalar, is_array, variable_in, variable_of}
-use Rattle.scope_rules.specs.Expressions.{scalar_faults, array_faults, expr_faults, exprs_faults, scalar_value, element_value, expr_of, exprs_of}
+use Rattle.scope_rules.proofs.Common.{ℕ, ◌≡◌, ◌<◌, ◌%◌, ◌^◌, refl, true, false, List, [], ◌∷◌, ◌++◌, arith, NameTree, RawExprTree, RawNumber, RawName, RawElement, RawUnary, RawParenthesized, RawBinary, RawLogicalAnd, RawLogicalOr, RawConditional, ExprTree, Context, IsExprScoped, AreExprsScoped, Meaning, Binding, find, is_scalar, is_array, variable_in, variable_of, scalar_faults, array_faults, expr_faults, exprs_faults, scalar_value, element_value, expr_of, exprs_of}
 use Rattle.scope_rules.proofs.NoFaults.{both_none, Used, used}
 use Rattle.scope_rules.proofs.Fits.{MeaningFits, AllFit, find_fits}
 

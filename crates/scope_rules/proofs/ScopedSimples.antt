@@ -1,22 +1,6 @@
 -- Declarations, assignments and calls that break no rule are well scoped, with numbers for names.
-use Rattle.std.proofs.Common.{ℕ, ◌≡◌, ◌<◌, ◌≤◌, ◌+◌, refl, ap, ◌∙◌, Bool, true, false, List, [], ◌∷◌, ◌++◌, length, length-append, append_assoc, get_or, arith}
-use Rattle.std.specs.Prelude.{slice_index, IsTrue, eqb, nat_lt, ◌||◌}
-use Rattle.std.proofs.lemmas.Bool.Decides.{nat_tests}
-use Rattle.c_tree.specs.RawTrees.{NameTree, RawSimpleTree, RawDeclareScalar, RawDeclareArray, RawDeclareWith, RawSet, RawSetElement, RawCalling, RawTableCalling}
-use Rattle.c_tree.specs.Trees.{ExprTree, RightTree}
-use Rattle.c_tree.specs.TextOrder.{simple_names}
-use Rattle.c_tree.specs.Temporaries.{capped}
-use Rattle.c_tree.specs.WellScoped.{Context, visible, IsExprScoped, IsRightScoped, IsSimpleScoped, AreSimplesScoped, with_names, scope_after_all}
-use Rattle.scope_rules.specs.declared.faults.Rule.{Rule}
-use Rattle.scope_rules.specs.declared.meanings.Meaning.{Meaning}
-use Rattle.scope_rules.specs.declared.meanings.Variable.{Variable}
-use Rattle.scope_rules.specs.Names.{find, is_fixed}
-use Rattle.scope_rules.specs.Meanings.{is_scalar, is_array, variable_in, variable_of}
-use Rattle.scope_rules.specs.Expressions.{scalar_faults, array_faults, expr_faults, listed, expr_of}
-use Rattle.scope_rules.specs.Calls.{right_faults, right_of, right_after}
-use Rattle.scope_rules.specs.Places.{Spot}
-use Rattle.scope_rules.specs.Simples.{declare_faults, size_faults, next_variable, with_variable, simple_faults, set_scalar, set_element, simple_of, simple_after, simples_faults, simples_of, simples_after}
-use Rattle.scope_rules.proofs.NoFaults.{both_none, not_broken, neither, not_less, Used, used}
+use Rattle.scope_rules.proofs.Common.{ℕ, ◌≡◌, ◌<◌, ◌≤◌, ◌+◌, refl, ap, ◌∙◌, Bool, true, false, List, [], ◌∷◌, ◌++◌, length, length-append, append_assoc, get_or, arith, slice_index, IsTrue, eqb, nat_lt, ◌||◌, nat_tests, NameTree, RawSimpleTree, RawDeclareScalar, RawDeclareArray, RawDeclareWith, RawSet, RawSetElement, RawCalling, RawTableCalling, ExprTree, RightTree, simple_names, capped, Context, visible, IsExprScoped, IsRightScoped, IsSimpleScoped, AreSimplesScoped, with_names, scope_after_all, Rule, Meaning, Variable, find, is_fixed, is_scalar, is_array, variable_in, variable_of, scalar_faults, array_faults, expr_faults, listed, expr_of, right_faults, right_of, right_after, Spot, declare_faults, size_faults, next_variable, with_variable, simple_faults, set_scalar, set_element, simple_of, simple_after, simples_faults, simples_of, simples_after, or_parts}
+use Rattle.scope_rules.proofs.NoFaults.{both_none, not_broken, not_less, Used, used}
 use Rattle.scope_rules.proofs.Fits.{MeaningFits, AllFit, find_fits, all_fit_more, all_fit_bound}
 use Rattle.scope_rules.proofs.ScopedExprs.{expr_scoped}
 use Rattle.scope_rules.proofs.ScopedCalls.{call_scoped, table_call_scoped, right_scoped}
@@ -77,7 +61,7 @@ module _ (c : Context) (small : length c.sizes ≤ 65536) where
   simple_scoped scope s (RawDeclareScalar n) fit h p = next_is_there s.sizes c.sizes 1 p small
   simple_scoped scope s (RawDeclareArray n size) fit h p =
       let k = both_none (declare_faults s n) (size_faults n size) h in
-      let b = neither (nat_lt size 1) (nat_lt 65536 size) (not_broken (nat_lt size 1 || nat_lt 65536 size) n.at Rule.Kind k.1) in
+      let b = or_parts (nat_lt size 1) (nat_lt 65536 size) (not_broken (nat_lt size 1 || nat_lt 65536 size) n.at Rule.Kind k.1) in
       let t = next_is_there s.sizes c.sizes size p small in
       (t.0, t.1, not_less size 1 b.0)
   simple_scoped scope s (RawDeclareWith n v) fit h p =

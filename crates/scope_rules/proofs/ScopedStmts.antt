@@ -1,19 +1,6 @@
 -- Statements that break no rule are well scoped, with numbers for names.
-use Rattle.std.proofs.Common.{ℕ, ◌≡◌, ◌≤◌, refl, ap, Bool, true, false, not, List, [], ◌++◌, length, Option, Some, None}
-use Rattle.std.specs.Prelude.{IsTrue, option_map}
-use Rattle.c_tree.specs.RawTrees.{RawExprTree, RawSimpleTree, RawSet, RawSetElement, RawCalling, RawTableCalling, RawStmtTree, RawStmtTrees, RawDo, RawEmpty, RawBlock, RawIf, RawIfElse, RawWhile, RawFor, RawBreak, RawContinue, RawReturn, NoRawStmts, RawThen}
-use Rattle.c_tree.specs.TextOrder.{simple_names}
-use Rattle.c_tree.specs.WellScoped.{Context, with_names, scope_after, scope_after_all, IsConditionScoped, IsStepScoped, IsReturnScoped, IsStmtScoped, AreStmtsScoped}
-use Rattle.scope_rules.specs.declared.faults.Rule.{Rule}
-use Rattle.scope_rules.specs.Names.{Binding, find}
-use Rattle.scope_rules.specs.Faults.{broken}
-use Rattle.scope_rules.specs.Meanings.{variable_of}
-use Rattle.scope_rules.specs.Expressions.{expr_faults, expr_of}
-use Rattle.scope_rules.specs.Calls.{right_faults, right_of}
-use Rattle.scope_rules.specs.Places.{Spot}
-use Rattle.scope_rules.specs.Simples.{simple_faults, simple_of, simples_faults, simples_of, simples_after}
-use Rattle.scope_rules.specs.Statements.{inside, left, condition_faults, step_kind, step_faults, step_after, return_faults, returned_of, stmt_after, stmts_after, stmt_faults, stmts_faults, stmt_of, stmts_of}
-use Rattle.scope_rules.proofs.NoFaults.{both_none, not_broken, not_false}
+use Rattle.scope_rules.proofs.Common.{ℕ, ◌≡◌, ◌≤◌, refl, ap, Bool, true, false, not, List, [], ◌++◌, length, Option, Some, None, IsTrue, option_map, RawExprTree, RawSimpleTree, RawSet, RawSetElement, RawCalling, RawTableCalling, RawStmtTree, RawStmtTrees, RawDo, RawEmpty, RawBlock, RawIf, RawIfElse, RawWhile, RawFor, RawBreak, RawContinue, RawReturn, NoRawStmts, RawThen, simple_names, Context, with_names, scope_after, scope_after_all, IsConditionScoped, IsStepScoped, IsReturnScoped, IsStmtScoped, AreStmtsScoped, Rule, Binding, find, broken, variable_of, expr_faults, expr_of, right_faults, right_of, Spot, simple_faults, simple_of, simples_faults, simples_of, simples_after, inside, left, condition_faults, step_kind, step_faults, step_after, return_faults, returned_of, stmt_after, stmts_after, stmt_faults, stmts_faults, stmt_of, stmts_of, not-false}
+use Rattle.scope_rules.proofs.NoFaults.{both_none, not_broken}
 use Rattle.scope_rules.proofs.Fits.{AllFit}
 use Rattle.scope_rules.proofs.ScopedExprs.{expr_scoped}
 use Rattle.scope_rules.proofs.ScopedCalls.{right_scoped}
@@ -53,7 +40,7 @@ module _ (c : Context) (small : length c.sizes ≤ 65536) where
   return_scoped scope s at None fit h = not_broken c.gives at Rule.Kind h
   return_scoped scope s at (Some v) fit h =
       let k = both_none (broken (not c.gives) at Rule.Kind) (right_faults s.names v) h in
-      (not_false c.gives (not_broken (not c.gives) at Rule.Kind k.0), right_scoped c scope s.names fit s.site v k.1)
+      (not-false c.gives (not_broken (not c.gives) at Rule.Kind k.0), right_scoped c scope s.names fit s.site v k.1)
 
   stmt_fits : (scope : List ℕ) (s : Spot) (p : RawStmtTree) → AllFit c scope s.names → IsPrefix (stmt_after s p).sizes c.sizes → AllFit c (scope_after scope (stmt_of s p)) (stmt_after s p).names
   stmt_fits scope s (RawDo p) fit q = simple_fits c small scope s p fit q

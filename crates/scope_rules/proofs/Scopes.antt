@@ -1,13 +1,6 @@
 -- What is in scope after a statement is what was in scope before it, and more names.
-use Rattle.std.proofs.Common.{◌≡◌, ◌-◌, ℕ, refl, sym, ap, ◌∙◌, Bool, true, false, List, [], ◌∷◌, ◌++◌, length, drop, length-append, append_assoc, arith, Option, Some, None}
-use Rattle.std.specs.Prelude.{if◌then◌else◌}
-use Rattle.scope_rules.specs.Items.{param_bound}
-use Rattle.c_tree.specs.RawTrees.{NameTree, RawExprTree, RawSimpleTree, RawDeclareScalar, RawDeclareArray, RawDeclareWith, RawStmtTree, RawStmtTrees, RawDo, RawReturn, NoRawStmts, RawThen}
-use Rattle.scope_rules.specs.declared.meanings.Meaning.{Meaning}
-use Rattle.scope_rules.specs.Names.{Binding, find, is_fixed, bound}
-use Rattle.scope_rules.specs.Places.{Spot}
-use Rattle.scope_rules.specs.Simples.{simple_after, simples_after}
-use Rattle.scope_rules.specs.Statements.{left, step_after, returned_after, stmt_after, stmts_after}
+use Rattle.std.proofs.lemmas.List.{length-append}
+use Rattle.scope_rules.proofs.Common.{◌≡◌, ◌-◌, ℕ, refl, sym, ap, ◌∙◌, Bool, true, false, List, [], ◌∷◌, ◌++◌, length, drop, append_assoc, Option, Some, None, if◌then◌else◌, param_bound, NameTree, RawExprTree, RawSimpleTree, RawDeclareScalar, RawDeclareArray, RawDeclareWith, RawStmtTree, RawStmtTrees, RawDo, RawReturn, NoRawStmts, RawThen, Meaning, Binding, find, is_fixed, bound, Spot, simple_after, simples_after, left, step_after, returned_after, stmt_after, stmts_after, arith}
 
 abbrev pub Extends : List Binding → List Binding → Type 0
 Extends long short = (more : List Binding) × (long ≡ more ++ short)
@@ -56,20 +49,17 @@ drop_all : (more names : List Binding) → drop (length more) (more ++ names) �
 drop_all [] names = refl
 drop_all (x ∷ more) names = drop_all more names
 
-drop_more : (names long : List Binding) (count : ℕ) → count ≡ length names → Extends long names → drop (length long - count) long ≡ names
-drop_more names long count e h =
+-- the names before a scope, once its own are taken away
+pub names_left : (names long : List Binding) (count : ℕ) → count ≡ length names → Extends long names → drop (length long - count) long ≡ names
+names_left names long count e h =
     let k : length (h.0 ++ names) - count ≡ length h.0 = omega (arith, length-append h.0 names) in
     rw (h.1, k) (drop_all h.0 names)
 
 -- after a scope that began at s, had count names outside it, and ended at m
 pub leaves : (s m e : Spot) (count outer : ℕ) → count ≡ length s.names → outer ≡ s.outer → Extends m.names s.names
     → e ≡ record m { names = drop (length m.names - count) m.names; outer = outer } → e ≡ left s m
-leaves s m e count outer c o h k = k ∙ (ap (λ x. record m { names = x; outer = outer }) (drop_more s.names m.names count c h) ∙ ap (λ x. record m { names = s.names; outer = x }) o)
+leaves s m e count outer c o h k = k ∙ (ap (λ x. record m { names = x; outer = outer }) (names_left s.names m.names count c h) ∙ ap (λ x. record m { names = s.names; outer = x }) o)
 
 pub param_extends : (names : List Binding) (p : Option NameTree) → Extends (param_bound names p) names
 param_extends names None = same_names names
 param_extends names (Some n) = bound_extends names n.text (Meaning.Local 0 false)
-
--- the names before a scope, once its own are taken away
-pub names_left : (names long : List Binding) (count : ℕ) → count ≡ length names → Extends long names → drop (length long - count) long ≡ names
-names_left names long count c h = drop_more names long count c h

@@ -1,16 +1,5 @@
 -- The calls of a program are numbered in the order of the text.
-use Rattle.std.proofs.Common.{ℕ, ◌≡◌, ◌≤◌, ◌+◌, refl, sym, ap, subst, ◌∙◌, List, [], ◌∷◌, ◌++◌, append_assoc, length, length-append, arith}
-use Rattle.std.proofs.lemmas.List.{map-append, length-map, append-nil}
-use Rattle.c_tree.specs.declared.facts.Site.{Site}
-use Rattle.c_tree.specs.RawTrees.{RawItemTree, RawFunctionItem}
-use Rattle.c_tree.specs.Trees.{FunctionTree}
-use Rattle.c_tree.specs.TextOrder.{stmts_names, stmts_sites, functions_sites, counting}
-use Rattle.c_tree.specs.Temporaries.{capped}
-use Rattle.c_tree.proofs.SiteNumbers.{counting-append}
-use Rattle.scope_rules.specs.Names.{Binding}
-use Rattle.scope_rules.specs.Places.{Spot}
-use Rattle.scope_rules.specs.Statements.{stmts_of, stmts_after}
-use Rattle.scope_rules.specs.Items.{Sofar, definitions, at_start, parts_of, body_spot, function_tree_of, item_after, items_after}
+use Rattle.scope_rules.proofs.Common.{ℕ, ◌≡◌, ◌≤◌, ◌+◌, refl, sym, ap, subst, ◌∙◌, List, [], ◌∷◌, ◌++◌, append_assoc, length, length-append, arith, map-append, length-map, append-nil, Site, RawItemTree, RawFunctionItem, FunctionTree, stmts_names, stmts_sites, functions_sites, counting, capped, counting-append, Binding, Spot, stmts_of, stmts_after, Sofar, definitions, at_start, parts_of, body_spot, function_tree_of, item_after, items_after}
 use Rattle.scope_rules.proofs.Growth.{Grown, numbers, stmts_grown}
 use Rattle.scope_rules.proofs.Programs.{body_site}
 

@@ -1,13 +1,9 @@
 -- A map whose keys are bytes: what a change at these bytes leaves at others.
-use Rattle.std.proofs.Common.{ℕ, ◌≡◌, sym, subst, ◌∙◌, ⊎_elim, List, Bool, true, false, Option, Ordering, nat_cmp}
 use Rattle.std.proofs.lemmas.Bool.{cases_Bool, cond-true, cond-false}
-use Rattle.std.specs.Global.{Vec}
-use Rattle.std.specs.BTreeMap.{BTreeMap, get_by, UpdatesBy}
+use Rattle.scope_rules.proofs.Common.{ℕ, ◌≡◌, sym, subst, ◌∙◌, ⊎_elim, List, Bool, true, false, Option, Ordering, nat_cmp, Vec, BTreeMap, get_by, UpdatesBy, slice_cmp, bytes_decides, nat_list_cmp_total, nat_list_eq_equiv, bytes_eq, is_eq-slice_cmp}
 use Rattle.std.specs.Map.{lookup, update, IsKeyTest, AreApart, KeepsOthers}
 use Rattle.std.specs.Ordering.{is_eq}
 use Rattle.std.specs.Cmp.{eq_by_cmp_equiv}
-use Rattle.std.specs.Cmp.Lexicographic.{slice_cmp, bytes_decides, nat_list_cmp_total, nat_list_eq_equiv, texts_ties}
-use Rattle.std.specs.Str.{bytes_eq}
 
 -- what a text finds
 abbrev pub at_text : {X : Type 0} → List ℕ → BTreeMap (Vec ℕ) X → Option X
@@ -16,14 +12,11 @@ at_text t m = get_by (λ k. slice_cmp nat_cmp t k.items) m
 abbrev pub ByText : Vec ℕ → Vec ℕ → Ordering
 ByText = λ x y. slice_cmp nat_cmp x.items y.items
 
-equal_in_order : (xs ys : List ℕ) → is_eq (slice_cmp nat_cmp xs ys) ≡ bytes_eq xs ys
-equal_in_order xs ys = sym (texts_ties xs ys)
-
 apart : (bs cs ks : List ℕ) → bytes_eq bs cs ≡ false → bytes_eq bs ks ≡ true → bytes_eq cs ks ≡ false
 apart bs cs ks n y = nat_list_eq_equiv.symm cs ks ∙ sym (nat_list_eq_equiv.congr bs ks cs y) ∙ n
 
 apart_in_order : (bs cs ks : List ℕ) → bytes_eq bs cs ≡ false → is_eq (slice_cmp nat_cmp bs ks) ≡ true → is_eq (slice_cmp nat_cmp cs ks) ≡ false
-apart_in_order bs cs ks n y = equal_in_order cs ks ∙ apart bs cs ks n (sym (equal_in_order bs ks) ∙ y)
+apart_in_order bs cs ks n y = is_eq-slice_cmp cs ks ∙ apart bs cs ks n (sym (is_eq-slice_cmp bs ks) ∙ y)
 
 others_stay : {X : Type 0} (eq : Vec ℕ → Vec ℕ → Bool) (test : Vec ℕ → Bool) (old new : List (Vec ℕ × X)) → KeepsOthers eq test old new
     → (other : Vec ℕ → Bool) → IsKeyTest eq other → AreApart test other → lookup other new ≡ lookup other old

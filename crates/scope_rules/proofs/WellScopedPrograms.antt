@@ -1,19 +1,5 @@
 -- A source that breaks no rule, defines main and exceeds no limit is a well-scoped program.
-use Rattle.std.proofs.Common.{◌≡◌, ◌<◌, ◌≤◌, refl, ap, ◌∙◌, Bool, true, false, not, List, [], length, map, None, arith}
-use Rattle.std.specs.Prelude.{codes}
-use Rattle.std.specs.List.{AllByRecursion}
-use Rattle.std.proofs.lemmas.List.{length-map}
-use Rattle.c_tree.specs.RawTrees.{RawItemTree}
-use Rattle.c_tree.specs.RawTemporaries.{AreWithinTemporaries}
-use Rattle.c_tree.specs.TextOrder.{program_sites}
-use Rattle.c_tree.specs.Temporaries.{capped}
-use Rattle.c_tree.specs.WellScoped.{signature_of, IsWellScoped}
-use Rattle.cap_word.specs.Signatures.{signature_at}
-use Rattle.c_tree.proofs.SiteNumbers.{counting_site_numbers}
-use Rattle.scope_rules.specs.Names.{find}
-use Rattle.scope_rules.specs.Meanings.{function_in}
-use Rattle.scope_rules.specs.Items.{definitions, at_start, is_missing, faults_of, parts_of, program_of, has_main}
-use Rattle.scope_rules.specs.Limits.{exceeded}
+use Rattle.scope_rules.proofs.Common.{◌≡◌, ◌<◌, ◌≤◌, refl, ap, ◌∙◌, Bool, true, false, not, List, [], length, map, None, arith, codes, AllByRecursion, length-map, RawItemTree, AreWithinTemporaries, program_sites, capped, signature_of, IsWellScoped, signature_at, counting_site_numbers, find, function_in, definitions, at_start, is_missing, faults_of, parts_of, program_of, has_main, exceeded}
 use Rattle.scope_rules.proofs.Growth.{numbers}
 use Rattle.scope_rules.proofs.Definitions.{signatures_of, AreDefinitions, IsDefinedAs, definitions_are, find_definition, signatures_length, items_signatures}
 use Rattle.scope_rules.proofs.Agreement.{AreBacked, all_backed}

@@ -1,24 +1,12 @@
 -- A block, or a statement with a body, that is resolved statement by statement is resolved as a whole.
-use Rattle.std.proofs.Common.{ℕ, ◌≡◌, ◌≤◌, ◌-◌, refl, sym, ap, subst, ◌∙◌, Bool, true, false, List, [], ◌∷◌, ◌++◌, append_assoc, append-nil, length, Option}
-use Rattle.std.specs.Prelude.{nat_lt, option_map, if◌then◌else◌}
-use Rattle.c_tree.specs.RawTrees.{RawExprTree, RawStmtTree, RawIfElse}
-use Rattle.c_tree.specs.RawViews.{raw_in_order, as_body}
-use Rattle.c_tree.specs.Trees.{StmtTree, Block, If, IfElse, While, For}
-use Rattle.scope_rules.specs.declared.faults.Fault.{Fault}
-use Rattle.scope_rules.specs.Expressions.{expr_faults, expr_of}
-use Rattle.scope_rules.specs.Faults.{least_of}
-use Rattle.scope_rules.specs.Kept.{kept_with}
-use Rattle.scope_rules.specs.Making.{Making, with_statement, with_statements, stmts_list, opened, closed, switched, back}
+use Rattle.scope_rules.proofs.Common.{ℕ, ◌≡◌, ◌≤◌, ◌-◌, refl, sym, ap, subst, ◌∙◌, Bool, true, false, List, [], ◌∷◌, ◌++◌, append_assoc, append-nil, length, Option, nat_lt, option_map, if◌then◌else◌, RawExprTree, RawStmtTree, RawIfElse, raw_in_order, as_body, StmtTree, Block, If, IfElse, While, For, Fault, expr_faults, expr_of, least_of, kept_with, Making, with_statement, with_statements, stmts_list, opened, closed, switched, back, Spot, simples_of, simples_after, simple_of, simples_faults, inside, left, step_after, condition_faults, step_faults, stmt_of, stmt_after, stmts_after, stmt_faults, stmts_faults}
 use Rattle.scope_rules.specs.Openings.{OpeningTree, OpenBlock, OpenIf, OpenWhile, OpenFor, ElseHead, whole, body, with_body, head_of, opening_faults, body_start, is_in_loop}
-use Rattle.scope_rules.specs.Places.{Spot}
-use Rattle.scope_rules.specs.Simples.{simples_of, simples_after, simple_of, simples_faults}
-use Rattle.scope_rules.specs.Statements.{inside, left, step_after, condition_faults, step_faults, stmt_of, stmt_after, stmts_after, stmt_faults, stmts_faults}
 use Rattle.scope_rules.proofs.Least.{least_of_append}
-use Rattle.scope_rules.proofs.LeastFaults.{is_not_less}
 use Rattle.scope_rules.proofs.NoFaults.{not_less}
 use Rattle.scope_rules.proofs.Past.{within_before}
 use Rattle.scope_rules.proofs.Scopes.{Extends, same_names, then_extends, simples_extends, step_extends, stmts_extends, names_left}
 use Rattle.scope_rules.proofs.StmtLists.{stmts_listed}
+use Rattle.scope_rules.proofs.Makings.{kept_below}
 
 -- a definition so far, with another scope, least fault and list of statements
 abbrev changed : Making → Spot → Option Fault → List StmtTree → Making
@@ -39,14 +27,11 @@ after_all m (t ∷ ts) =
     ∙ ap (λ o. changed m (stmts_after (stmt_after s t) (raw_in_order ts)) o (kept_all (kept_with (stmt_after s t).site m.body (stmt_of s t)) (stmt_after s t) ts))
     (sym (least_of_append m.least (stmt_faults m.gives m.loops s t) (stmts_faults m.gives m.loops (stmt_after s t) (raw_in_order ts))))
 
-kept_within : (site : ℕ) (b : List StmtTree) (x : StmtTree) → site ≤ 65535 → kept_with site b x ≡ b ++ x ∷ []
-kept_within site b x h = rw (sym (is_not_less 65535 site h)) refl
-
 all_kept : (b : List StmtTree) (s : Spot) (ss : List RawStmtTree) → (stmts_after s (raw_in_order ss)).site ≤ 65535 → kept_all b s ss ≡ b ++ stmts_list s ss
 all_kept b s [] h = sym (append-nil b)
 all_kept b s (t ∷ ts) h =
     let now = within_before (stmt_after s t) (raw_in_order ts) h in
-    ap (λ x. kept_all x (stmt_after s t) ts) (kept_within (stmt_after s t).site b (stmt_of s t) now)
+    ap (λ x. kept_all x (stmt_after s t) ts) (kept_below (stmt_after s t).site b (stmt_of s t) now)
     ∙ (all_kept (b ++ stmt_of s t ∷ []) (stmt_after s t) ts h
     ∙ append_assoc b (stmt_of s t ∷ []) (stmts_list (stmt_after s t) ts))
 

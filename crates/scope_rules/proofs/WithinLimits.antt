@@ -1,13 +1,5 @@
 -- What the limits say of each part of a program.
-use Rattle.std.proofs.Common.{ℕ, suc, ◌≡◌, ◌≤◌, refl, Bool, true, false, List, [], ◌∷◌, ◌++◌, length, map, sum, Option, Some, None, arith}
-use Rattle.std.specs.Prelude.{nat_lt, if◌then◌else◌}
-use Rattle.cap_word.specs.declared.limits.Which.{Which}
-use Rattle.c_tree.specs.Trees.{FunctionTree, ProgramTree}
-use Rattle.c_tree.specs.Sizes.{declared_words}
-use Rattle.c_tree.specs.TextOrder.{program_sites}
-use Rattle.c_tree.specs.WellScoped.{signature_of}
-use Rattle.cap_word.specs.Signatures.{signature_at}
-use Rattle.scope_rules.specs.Limits.{most_locals, most_params, exceeded}
+use Rattle.scope_rules.proofs.Common.{ℕ, suc, ◌≡◌, ◌≤◌, refl, Bool, true, false, List, [], ◌∷◌, ◌++◌, length, map, sum, Option, Some, None, arith, nat_lt, if◌then◌else◌, Which, FunctionTree, ProgramTree, declared_words, program_sites, signature_of, signature_at, most_locals, most_params, exceeded}
 use Rattle.scope_rules.proofs.NoFaults.{not_less}
 
 pub record AreWithin (p : ProgramTree) : Type 0 where

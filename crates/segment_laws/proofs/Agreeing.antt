@@ -1,16 +1,7 @@
 -- Two pools that agree in the chunks of a chain: what holds of a thread's frames in the one holds in the other.
-use Rattle.std.proofs.Common.{◌≡◌, ℕ, ◌+◌, ◌-◌, ◌*◌, ◌/◌, ◌<◌, ◌≤◌, Bool, true, false, List, [], ◌∷◌, get_or, Some, slice_get, refl, sym, ap, subst, ◌∙◌, arith}
-use Rattle.std.specs.Prelude.{nat_eq}
+use Rattle.segment_laws.proofs.Common.{◌≡◌, ℕ, ◌+◌, ◌-◌, ◌*◌, ◌/◌, ◌<◌, ◌≤◌, Bool, true, false, List, [], ◌∷◌, get_or, Some, slice_get, refl, sym, ap, subst, ◌∙◌, arith, nat_eq, FlatFrame, fact_at, copies, Frame, word_in, IsFrame, chain_below, low_below, IsStack, HeadersName, Checked, HoldsVariables, AreFlatFrames, copies-cons, count-same, place_of-same, payload_place_of-same, end_of-same}
 use Rattle.chunk_pool.specs.Pool.{Pool, word_of, place_of, shape_of}
-use Rattle.flat_code.specs.Frames.{FlatFrame}
-use Rattle.stack_certificate.specs.Certificates.{fact_at}
-use Rattle.machine_world.specs.Held.{copies}
-use Rattle.machine_world.specs.InPlace.{Frame, word_in, IsFrame, chain_below, low_below, IsStack, HeadersName}
-use Rattle.machine_world.specs.Places.{Checked}
-use Rattle.machine_world.specs.Rests.{HoldsVariables, AreFlatFrames}
-use Rattle.machine_world.proofs.HeldLaws.{copies-cons}
 use Rattle.segment_laws.proofs.Stacks.{IsFront, copies-front}
-use Rattle.chunk_pool.proofs.ShapeLaws.{count-same, place_of-same, payload_place_of-same, end_of-same}
 
 -- the same shape, and the same words in the chunks of a chain
 pub record Agrees (p q : Pool) (chain : List ℕ) : Type 0 where

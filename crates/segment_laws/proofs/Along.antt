@@ -1,21 +1,10 @@
 -- From where a machine thread stands for a flat thread: each state to which it comes in silence is good, and its next step is
 -- one of the flat thread's.
-use Rattle.std.proofs.Common.{◌≡◌, ℕ, zero, suc, ◌+◌, ◌-◌, ◌<◌, ◌≤◌, List, refl, sym, ap, subst, ◌∙◌, arith, ⊎_elim}
-use Rattle.std.proofs.lemmas.Bool.{cases_lt}
-use Rattle.cap_word.specs.Calls.{Finish}
-use Rattle.cap_word.specs.Runs.{Goes, Asks, Stops, moves, and_then}
-use Rattle.cap_word.proofs.RunLemmas.{goes_on}
-use Rattle.flat_code.specs.Frames.{FlatThread, Finished, Lost}
-use Rattle.flat_code.specs.Step.{FlatMove, flat_step, flat_machine}
-use Rattle.flat_code.specs.WellFormed.{IsWellFormed}
+use Rattle.segment_laws.proofs.Common.{◌≡◌, ℕ, zero, suc, ◌+◌, ◌-◌, ◌<◌, ◌≤◌, List, refl, sym, ap, subst, ◌∙◌, arith, ⊎_elim, cases_lt, Finish, Goes, Asks, Stops, moves, and_then, goes_on, FlatThread, Finished, Lost, FlatMove, flat_step, flat_machine, IsWellFormed, Local, LocalMove, Ended, Trapped, NoRoom, Wrong, local_step, Checked, CallFacts, IsNeverLost, StopsAlike, IsStepAlike, IsAlong, IsCutMove, first_of, Comes}
 use Rattle.machine_world.specs.Local as local
-use Rattle.machine_world.specs.Local.{Local, LocalMove, Ended, Trapped, NoRoom, Wrong, local_step}
-use Rattle.machine_world.specs.Places.{Checked}
-use Rattle.segment_laws.specs.Calls.{CallFacts}
 use Rattle.segment_laws.proofs.Facts.{CodeFacts}
 use Rattle.segment_laws.proofs.Simulation.{Simulates}
 use Rattle.segment_laws.proofs.Ways.{HasForm, IsGoodState, Leads}
-use Rattle.segment_laws.specs.Alike.{IsNeverLost, StopsAlike, IsStepAlike, IsAlong, IsCutMove, first_of, Comes}
 use Rattle.segment_laws.proofs.Firsts.{moves-first}
 use Rattle.segment_laws.proofs.Moves.{Comes-rest, Comes-first, HasForm-comes, Leads-comes, Leads-within}
 use Rattle.segment_laws.proofs.Needs.{NeedsFit}

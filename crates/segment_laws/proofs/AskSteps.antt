@@ -1,23 +1,10 @@
 -- Each question of a flat thread is the machine's.
-use Rattle.std.proofs.Common.{◌≡◌, ℕ, suc, ◌+◌, ◌^◌, ◌<◌, List, ◌++◌, length, true, Option, Some, refl, sym, ap, subst, ◌∙◌, arith, append_assoc}
-use Rattle.std.specs.Prelude.{slice_get}
-use Rattle.rv_code.specs.declared.instructions.Instr.{Instr}
-use Rattle.rv_machine.specs.Registers.{read}
+use Rattle.segment_laws.proofs.Common.{◌≡◌, ℕ, suc, ◌+◌, ◌^◌, ◌<◌, List, ◌++◌, length, true, Option, Some, refl, sym, ap, subst, ◌∙◌, arith, append_assoc, slice_get, Instr, read, Frame, Call, Question, call_of, spawn_of, Asks, Stops, Op, FlatThread, FlatWaiting, Lost, standing, with_result, FlatMove, on, scalar, scalars, asks, does, flat_step, fact_at, need_of, kind_of, Local, Checked}
 use Rattle.flat_code.specs.Modelled.{modelled_gives}
 use Rattle.stack_certificate.specs.Parts.{arguments, system_call, result}
-use Rattle.machine_world.specs.InPlace.{Frame}
 use Rattle.segment_laws.proofs.Arguments.{arguments-past}
 use Rattle.segment_laws.proofs.FrameWords.{stack_frame}
 use Rattle.segment_laws.proofs.Immediate.{words_of}
-use Rattle.cap_word.specs.Calls.{Call, Question, call_of, spawn_of}
-use Rattle.cap_word.specs.Runs.{Asks, Stops}
-use Rattle.flat_code.specs.declared.operations.Op.{Op}
-use Rattle.flat_code.specs.Frames.{FlatThread, FlatWaiting, Lost, standing, with_result}
-use Rattle.flat_code.specs.Step.{FlatMove, on, scalar, scalars, asks, does, flat_step}
-use Rattle.stack_certificate.specs.Certificates.{fact_at, need_of}
-use Rattle.stack_certificate.specs.Templates.{kind_of}
-use Rattle.machine_world.specs.Local.{Local}
-use Rattle.machine_world.specs.Places.{Checked}
 use Rattle.segment_laws.proofs.Asking.{Arrives, model_asks, spawn_asks, result_arrives}
 use Rattle.segment_laws.proofs.Facts.{CodeFacts}
 use Rattle.segment_laws.proofs.FlatSteps.{was_there, function_there}

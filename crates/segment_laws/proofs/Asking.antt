@@ -1,25 +1,9 @@
 -- The operations that ask the world: the thread comes to rest at their ECALL, asks the flat thread's call, and goes on with
 -- the result that came.
-use Rattle.std.proofs.Common.{◌≡◌, ℕ, suc, ◌+◌, ◌*◌, ◌^◌, ◌<◌, List, [], ◌∷◌, ◌++◌, length, get_or, pos, Bool, Option, Some, None, refl, sym, ap, subst, ◌∙◌, arith, append_assoc}
-use Rattle.std.specs.Prelude.{slice_get}
-use Rattle.cap_word.specs.Calls.{Call, call_of}
-use Rattle.cap_word.specs.Runs.{Asks}
+use Rattle.segment_laws.proofs.Common.{◌≡◌, ℕ, suc, ◌+◌, ◌*◌, ◌^◌, ◌<◌, List, [], ◌∷◌, ◌++◌, length, get_or, pos, Bool, Option, Some, None, refl, sym, ap, subst, ◌∙◌, arith, append_assoc, slice_get, Call, call_of, Asks, Instr, read, Op, function_at, FlatThread, variable, with_result, scalar, scalars, IsResultPlace, context_of, fact_at, need_of, begin, size, result_size, kind_of, Frame, Local, Checked, variable_word, HoldsVariables, HoldArguments}
 use Rattle.cap_word.specs.Word as word
-use Rattle.rv_code.specs.declared.instructions.Instr.{Instr}
-use Rattle.rv_machine.specs.Registers.{read}
-use Rattle.flat_code.specs.declared.operations.Op.{Op}
-use Rattle.flat_code.specs.Codes.{function_at}
-use Rattle.flat_code.specs.Frames.{FlatThread, variable, with_result}
-use Rattle.flat_code.specs.Step.{scalar, scalars}
-use Rattle.flat_code.specs.WellFormed.{IsResultPlace, context_of}
-use Rattle.stack_certificate.specs.Certificates.{fact_at, need_of}
 use Rattle.stack_certificate.specs.Parts.{arguments, system_call, result}
-use Rattle.stack_certificate.specs.Templates.{begin, size, result_size, kind_of}
-use Rattle.machine_world.specs.InPlace.{Frame}
 use Rattle.machine_world.specs.Local as local
-use Rattle.machine_world.specs.Local.{Local, local_step}
-use Rattle.machine_world.specs.Places.{Checked}
-use Rattle.machine_world.specs.Rests.{variable_word, HoldsVariables, HoldArguments}
 use Rattle.segment_laws.proofs.Arguments.{both_values, scalars-length, arguments-at, arguments-past, load_arguments}
 use Rattle.segment_laws.proofs.Facts.{CodeFacts, IsOperationAt}
 use Rattle.segment_laws.proofs.Finish.{store_scalar, Simulates-at}

@@ -1,25 +1,7 @@
 -- Operators of two values: both are loaded, one or two instructions make the result, and it is stored.
-use Rattle.std.proofs.Common.{◌≡◌, ℕ, ◌^◌, ◌<◌, List, get_or, pos, Bool, not, Some, None, refl, sym, ap, subst, ◌∙◌, arith}
-use Rattle.std.specs.Prelude.{slice_get, bit_and, bit_or, bit_xor, nat_eq, nat_lt, int_lt, int_le}
+use Rattle.segment_laws.proofs.Common.{◌≡◌, ℕ, ◌^◌, ◌<◌, List, get_or, pos, Bool, not, Some, None, refl, sym, ap, subst, ◌∙◌, arith, slice_get, bit_and, bit_or, bit_xor, nat_eq, nat_lt, int_lt, int_le, word_of, signed, Instr, accessed, effect, read, sets, read-below, Op, BinOp, function_at, FlatThread, result_of, scalar, fact_at, size, kind_of, Local, machine_of, Checked}
 use Rattle.cap_word.specs.Word as word
-use Rattle.cap_word.specs.Word.{word_of, signed}
-use Rattle.rv_code.specs.declared.instructions.Instr.{Instr}
-use Rattle.rv_machine.specs.Access.{accessed}
-use Rattle.rv_machine.specs.Effect.{effect}
-use Rattle.rv_machine.specs.Registers.{read}
 use Rattle.rv_machine.specs.Rows as rows
-use Rattle.rv_machine.specs.Rows.{sets}
-use Rattle.rv_machine.proofs.WordLaws.{read-below}
-use Rattle.flat_code.specs.declared.operations.Op.{Op}
-use Rattle.flat_code.specs.declared.operators.BinOp.{BinOp}
-use Rattle.flat_code.specs.Codes.{function_at}
-use Rattle.flat_code.specs.Frames.{FlatThread}
-use Rattle.flat_code.specs.Operators.{result_of}
-use Rattle.flat_code.specs.Step.{scalar}
-use Rattle.stack_certificate.specs.Certificates.{fact_at}
-use Rattle.stack_certificate.specs.Templates.{size, kind_of}
-use Rattle.machine_world.specs.Local.{Local, machine_of}
-use Rattle.machine_world.specs.Places.{Checked}
 use Rattle.segment_laws.proofs.Facts.{CodeFacts, IsOperationAt}
 use Rattle.segment_laws.proofs.Finish.{store_scalar, Reaches-after}
 use Rattle.segment_laws.proofs.Immediate.{words_of, fetch_at, is_t0}

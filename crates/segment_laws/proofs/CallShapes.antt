@@ -1,28 +1,10 @@
 -- The words of an operation that calls a function or through a table: those before the transfer, the transfer, and the
 -- result.
-use Rattle.std.proofs.Common.{◌≡◌, ℕ, ◌+◌, ◌*◌, Bool, true, false, cond, List, [], ◌∷◌, ◌++◌, length, pos, Option, Some, None, Ok, refl, sym, ap, subst, ◌∙◌, arith}
-use Rattle.std.specs.Prelude.{nat_eq, slice_get, ◌||◌}
-use Rattle.std.proofs.lemmas.Bool.{ne_eqb}
-use Rattle.rv_code.specs.declared.instructions.Instr.{Instr}
-use Rattle.rv_machine.specs.Step.{instruction_at}
-use Rattle.flat_code.specs.declared.operations.Op.{Op}
-use Rattle.flat_code.specs.Codes.{function_at, result_place}
-use Rattle.flat_code.specs.WellFormed.{IsResultPlace, context_of}
-use Rattle.stack_certificate.specs.declared.settings.Setting.{Setting}
-use Rattle.stack_certificate.specs.declared.sites.LinkKind.{LinkKind}
-use Rattle.stack_certificate.specs.Certificates.{fact_at}
-use Rattle.stack_certificate.specs.Parts.{li, load, store, guard, arguments, transfer, result}
-use Rattle.stack_certificate.specs.Templates.{begin, size, kind_of, row, setting, transfer_size, result_size}
-use Rattle.machine_world.specs.InPlace.{Calls, words_through_call, joined}
-use Rattle.machine_world.specs.Places.{Checked, Whole, Linking, before_transfer, through_call, transfer_row, row_in}
-use Rattle.segment_laws.proofs.Calling.{get_front, get_behind, arguments_length}
+use Rattle.segment_laws.proofs.Common.{◌≡◌, ℕ, ◌+◌, ◌*◌, Bool, true, false, cond, List, [], ◌∷◌, ◌++◌, length, pos, Option, Some, None, Ok, refl, sym, ap, subst, ◌∙◌, arith, nat_eq, slice_get, ◌||◌, ne_eqb, Instr, instruction_at, Op, function_at, result_place, IsResultPlace, context_of, Setting, LinkKind, fact_at, li, load, store, guard, arguments, transfer, result, begin, size, kind_of, row, setting, transfer_size, result_size, Calls, words_through_call, joined, Checked, Whole, Linking, before_transfer, through_call, transfer_row, row_in, length-transfer, length-arguments}
+use Rattle.segment_laws.proofs.Calling.{get_front, get_behind}
 use Rattle.segment_laws.proofs.Coming.{IsResultWord}
 use Rattle.segment_laws.proofs.Facts.{IsOperationAt}
 use Rattle.segment_laws.proofs.Simulation.{IsOneWord}
-
-pub transfer_length : (kind : LinkKind) (callee : Option ℕ) (here : ℕ) → length (transfer kind callee here) ≡ transfer_size kind
-transfer_length LinkKind.Plain callee here = refl
-transfer_length _ callee here = refl
 
 -- the word of the result is one of the caller's frame
 row_result : (kind : LinkKind) (n : ℕ) → transfer_row kind (n + transfer_size kind) (Some n) ≡ Whole
@@ -67,7 +49,7 @@ call_shape c code f i g (Op.Call site d h args) there calls = record {
   to = d;
   before_is = refl;
   words = refl;
-  front_length = arguments_length (fact_at c.certificate f) 10 args;
+  front_length = length-arguments (fact_at c.certificate f) 10 args;
   size_is = refl;
   place = refl;
   row_is = λ w. refl;
@@ -110,7 +92,7 @@ result_word c code f i op there s =
     let moves = transfer kind s.callee (begin c.flat c.certificate f i + 4 * s.before) in
     let n = s.before + transfer_size kind in
     let size_is = s.size_is in
-    let long : length (s.front ++ moves) ≡ n = Rattle.std.proofs.lemmas.List.length-append s.front moves ∙ ap (λ (k : ℕ). k + length moves) s.front_length ∙ ap (λ (k : ℕ). s.before + k) (transfer_length kind s.callee (begin c.flat c.certificate f i + 4 * s.before)) in
+    let long : length (s.front ++ moves) ≡ n = Rattle.std.proofs.lemmas.List.length-append s.front moves ∙ ap (λ (k : ℕ). k + length moves) s.front_length ∙ ap (λ (k : ℕ). s.before + k) (length-transfer kind s.callee (begin c.flat c.certificate f i + 4 * s.before)) in
     record {
       none = λ e. let none : result_size s.to ≡ 0 = ap result_size e in omega (arith, size_is, none);
       word = λ d e. let one : result_size s.to ≡ 1 = ap result_size e in record { small = omega (arith, size_is, one); row_is = s.row_is n ∙ row_result kind s.before };

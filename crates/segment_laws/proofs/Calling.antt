@@ -1,39 +1,14 @@
 -- A call at a plain site: its arguments are loaded, and the call instruction leads to the function's first word.
-use Rattle.std.proofs.Common.{◌≡◌, ℕ, zero, suc, ◌+◌, ◌-◌, ◌*◌, ◌%◌, ◌^◌, ◌<◌, ◌≤◌, Bool, false, cond, List, [], ◌∷◌, ◌++◌, length, get_or, ℤ, pos, ◌-ℤ◌, Some, None, Ok, refl, sym, ap, subst, ◌∙◌, arith, lit<}
-use Rattle.std.specs.Prelude.{nat_eq, slice_get, unsigned_abs, ◌||◌}
-use Rattle.std.proofs.lemmas.Bool.{ne_eqb, eq-eqb}
-use Rattle.std.proofs.lemmas.Int.{ints, int_rem_euclid_is}
+use Rattle.segment_laws.proofs.Common.{◌≡◌, ℕ, zero, suc, ◌+◌, ◌-◌, ◌*◌, ◌%◌, ◌^◌, ◌<◌, ◌≤◌, Bool, false, cond, List, [], ◌∷◌, ◌++◌, length, get_or, ℤ, pos, ◌-ℤ◌, Some, None, Ok, refl, sym, ap, subst, ◌∙◌, arith, lit<, nat_eq, slice_get, unsigned_abs, ◌||◌, ne_eqb, eq-eqb, ints, int_rem_euclid_is, word_of, Goes, Misaligned, end_of, payload_place_of, Instr, accessed, Nothing, effect, read, write, instruction_at, Op, function_at, operation_at, FlatThread, pushed, scalar, scalars, FunctionFact, LinkKind, fact_at, load, arguments, begin, Frame, frame_bytes, return_word, Calls, ReturnsInto, words_through_call, IsGoodAccess, Local, machine_of, local_move, local_step, Checked, InPrologue, Empty, Whole, Linking, transfer_row, read-write_same}
 use Rattle.cap_word.specs.Word as word
-use Rattle.cap_word.specs.Word.{word_of}
-use Rattle.cap_word.specs.Runs.{Goes}
-use Rattle.cap_word.specs.declared.faults.FaultKind.TheVariants.{Misaligned}
-use Rattle.chunk_pool.specs.Pool.{end_of, payload_place_of}
-use Rattle.rv_code.specs.declared.instructions.Instr.{Instr}
-use Rattle.rv_machine.specs.Access.{accessed}
-use Rattle.rv_machine.specs.Bytes.{Nothing}
-use Rattle.rv_machine.specs.Effect.{effect}
-use Rattle.rv_machine.specs.Registers.{read, write}
 use Rattle.rv_machine.specs.Rows as rows
 use Rattle.rv_machine.specs.Rows.{jumps}
-use Rattle.rv_machine.specs.Step.{instruction_at}
-use Rattle.flat_code.specs.declared.operations.Op.{Op}
-use Rattle.flat_code.specs.Codes.{function_at, operation_at}
-use Rattle.flat_code.specs.Frames.{FlatThread, pushed}
-use Rattle.flat_code.specs.Step.{scalar, scalars}
-use Rattle.stack_certificate.specs.declared.functions.FunctionFact.{FunctionFact}
-use Rattle.stack_certificate.specs.declared.sites.LinkKind.{LinkKind}
-use Rattle.stack_certificate.specs.Certificates.{fact_at}
-use Rattle.stack_certificate.specs.Parts.{load, arguments}
-use Rattle.stack_certificate.specs.Templates.{begin}
-use Rattle.machine_world.specs.InPlace.{Frame, frame_bytes, return_word, Calls, ReturnsInto, words_through_call, IsGoodAccess}
-use Rattle.machine_world.specs.Local.{Local, machine_of, local_move, local_step}
-use Rattle.machine_world.specs.Places.{Checked, InPrologue, Empty, Whole, Linking, transfer_row}
 use Rattle.segment_laws.proofs.Entering.{ArgumentsIn, EntryFacts, Entered, enters}
 use Rattle.segment_laws.proofs.Facts.{CodeFacts, IsOperationAt}
 use Rattle.segment_laws.proofs.FrameWords.{stack_frame}
 use Rattle.segment_laws.proofs.Inside.{IsWholeWord, IsGoodState-inside}
 use Rattle.segment_laws.proofs.Finish.{Reaches-after}
-use Rattle.segment_laws.proofs.Registers.{read-write_same, read-write_other, add-small, step-is}
+use Rattle.segment_laws.proofs.Registers.{read-write_other, add-small, step-is}
 use Rattle.segment_laws.proofs.Simulation.{During, Reaches, IsOneWord, load_scalar}
 use Rattle.segment_laws.proofs.Standing.{Standing}
 use Rattle.segment_laws.proofs.Ways.{Leads, Leads-none, Leads-one, Leads-then, HasForm-next}
@@ -51,10 +26,6 @@ get_behind [] b n j e = let same : n ≡ j = omega arith in ap (λ (k : ℕ). sl
 get_behind (y ∷ a) b zero j e = absurd (omega arith)
 get_behind (y ∷ a) b (suc n) j e = get_behind a b n j (omega arith)
 
-pub arguments_length : (fact : FunctionFact) (r : ℕ) (xs : List ℕ) → length (arguments fact r xs) ≡ length xs
-arguments_length fact r [] = refl
-arguments_length fact r (x ∷ xs) = ap suc (arguments_length fact (r + 1) xs)
-
 pub arguments_at : (fact : FunctionFact) (r : ℕ) (xs : List ℕ) (j : ℕ) → j < length xs → slice_get (arguments fact r xs) j ≡ Some (load fact (r + j) (get_or xs j 0))
 arguments_at fact r [] j lt = absurd (omega arith)
 arguments_at fact r (x ∷ xs) zero lt = let e : r ≡ r + 0 = omega arith in ap (λ (k : ℕ). Some (load fact k x)) e
@@ -66,10 +37,6 @@ pub value_at : (t : FlatThread) (xs values : List ℕ) (j : ℕ) → scalars t x
 value_at t [] values j e lt = absurd (omega arith)
 value_at t (x ∷ xs) values zero e lt = let b = both_values (scalar t x) (scalars t xs) values e in b.2 ∙ ap (λ (vs : List ℕ). Some (get_or vs 0 0)) (sym b.4)
 value_at t (x ∷ xs) values (suc j) e lt = let b = both_values (scalar t x) (scalars t xs) values e in value_at t xs b.1 j b.3 (omega arith) ∙ ap (λ (vs : List ℕ). Some (get_or vs (suc j) 0)) (sym b.4)
-
-pub values_length : (t : FlatThread) (xs values : List ℕ) → scalars t xs ≡ Some values → length values ≡ length xs
-values_length t [] values e = let same : [] ≡ values = cc in ap length (sym same)
-values_length t (x ∷ xs) values e = let b = both_values (scalar t x) (scalars t xs) values e in ap length b.4 ∙ ap suc (values_length t xs b.1 b.3)
 
 -- ---- rows
 

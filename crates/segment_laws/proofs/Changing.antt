@@ -1,9 +1,5 @@
 -- A record that is written, put or taken away, and the threads.
-use Rattle.std.proofs.Common.{◌≡◌, ℕ, ◌+◌, ◌<◌, ◌≤◌, List, [], ◌∷◌, ◌++◌, length, Option, Some, None, refl, sym, ap, subst, ◌∙◌, arith, ⊎_elim}
-use Rattle.std.specs.List.{AllByRecursion}
-use Rattle.std.proofs.lemmas.Bool.{cases_eq}
-use Rattle.machine_world.specs.Threads.{Thread, first_with, replaced, without}
-use Rattle.segment_laws.specs.Found.{at_place, find_from, with_found, threads_from, threads_in, IsNumbered, IsOfRecord, KeepsRecords}
+use Rattle.segment_laws.proofs.Common.{◌≡◌, ℕ, ◌+◌, ◌<◌, ◌≤◌, List, [], ◌∷◌, ◌++◌, length, Option, Some, None, refl, sym, ap, subst, ◌∙◌, arith, ⊎_elim, AllByRecursion, cases_eq, Thread, first_with, replaced, without, at_place, find_from, with_found, threads_from, threads_in, IsNumbered, IsOfRecord, KeepsRecords}
 use Rattle.segment_laws.proofs.Finding.{finds, found, find_same}
 use Rattle.segment_laws.proofs.Numbering.{AreNamed, first_found, first_back, all_found, threads_same, threads_replaced, threads_more, threads_without, length_less}
 

@@ -1,20 +1,5 @@
 -- A return to a caller in the same chunk: it goes on in its operation, and its result is stored.
-use Rattle.std.proofs.Common.{◌≡◌, ℕ, suc, ◌+◌, ◌*◌, Bool, true, false, List, ◌∷◌, get_or, pos, Option, Some, None, Ok, refl, sym, ap, subst, ◌∙◌, arith}
-use Rattle.std.specs.Prelude.{slice_get}
-use Rattle.chunk_pool.specs.Pool.{Pool, payload_place_of}
-use Rattle.rv_code.specs.declared.instructions.Instr.{Instr}
-use Rattle.rv_machine.specs.Registers.{read}
-use Rattle.rv_machine.specs.Step.{instruction_at}
-use Rattle.flat_code.specs.declared.operations.Op.{Op}
-use Rattle.flat_code.specs.Codes.{function_at}
-use Rattle.flat_code.specs.Frames.{FlatFrame, FlatThread, with_result}
-use Rattle.stack_certificate.specs.Certificates.{fact_at}
-use Rattle.stack_certificate.specs.Templates.{begin, size, kind_of}
-use Rattle.machine_world.specs.Globals.{AreGlobals}
-use Rattle.machine_world.specs.InPlace.{Frame, frame_bytes, return_word, IsAbove, IsStack, low_below, HeadersName}
-use Rattle.machine_world.specs.Local.{Local}
-use Rattle.machine_world.specs.Places.{Checked}
-use Rattle.machine_world.specs.Rests.{AreFlatFrames}
+use Rattle.segment_laws.proofs.Common.{◌≡◌, ℕ, suc, ◌+◌, ◌*◌, Bool, true, false, List, ◌∷◌, get_or, pos, Option, Some, None, Ok, refl, sym, ap, subst, ◌∙◌, arith, slice_get, Pool, payload_place_of, Instr, read, instruction_at, Op, function_at, FlatFrame, FlatThread, with_result, fact_at, begin, size, kind_of, AreGlobals, Frame, frame_bytes, return_word, IsStack, low_below, Local, Checked, AreFlatFrames}
 use Rattle.segment_laws.proofs.Facts.{CodeFacts, IsOperationAt}
 use Rattle.segment_laws.proofs.Finish.{Reaches-after, store_scalar, Simulates-at}
 use Rattle.segment_laws.proofs.Inside.{IsWholeWord}

@@ -1,22 +1,8 @@
 -- The return of a thread's last frame: the end stub ends the thread.
-use Rattle.std.proofs.Common.{◌≡◌, ℕ, ◌+◌, ◌*◌, ◌<◌, List, [], ◌∷◌, pos, Option, None, Ok, refl, sym, ap, subst, ◌∙◌, arith, lit<}
-use Rattle.std.proofs.lemmas.Bool.{eqb-true}
+use Rattle.segment_laws.proofs.Common.{◌≡◌, ℕ, ◌+◌, ◌*◌, ◌<◌, List, [], ◌∷◌, pos, Option, None, Ok, refl, sym, ap, subst, ◌∙◌, arith, lit<, eqb-true, word_of, Goes, Stops, after_give, end_of, payload_place_of, Instr, accessed, effect, read, sets, instruction_at, Areas, Frame, FramesAt, HeadersName, TpIsFront, IsGoodAccess, Local, Ended, machine_of, local_move, local_step, ended, system_call, Checked, InStub, NoFrame, read-write_same}
 use Rattle.cap_word.specs.Word as word
-use Rattle.cap_word.specs.Word.{word_of}
-use Rattle.cap_word.specs.Runs.{Goes, Stops}
-use Rattle.chunk_pool.specs.Pool.{after_give, end_of, payload_place_of}
-use Rattle.rv_code.specs.declared.instructions.Instr.{Instr}
-use Rattle.rv_machine.specs.Access.{accessed}
-use Rattle.rv_machine.specs.Effect.{effect}
-use Rattle.rv_machine.specs.Registers.{read}
-use Rattle.rv_machine.specs.Rows.{sets}
-use Rattle.rv_machine.specs.Step.{instruction_at}
-use Rattle.machine_world.specs.Areas.{Areas}
-use Rattle.machine_world.specs.InPlace.{Frame, FramesAt, HeadersName, TpIsFront, IsGoodAccess}
-use Rattle.machine_world.specs.Local.{Local, Ended, machine_of, local_move, local_step, ended, system_call}
-use Rattle.machine_world.specs.Places.{Checked, InStub, NoFrame}
 use Rattle.segment_laws.proofs.Facts.{CodeFacts}
-use Rattle.segment_laws.proofs.Registers.{read-write_same, read-write_other, add-small, word_of-small, step-is, access-is, with_register, move-sets}
+use Rattle.segment_laws.proofs.Registers.{read-write_other, add-small, word_of-small, step-is, access-is, with_register, move-sets}
 use Rattle.segment_laws.proofs.Returning.{HasReturned}
 use Rattle.segment_laws.proofs.Ways.{IsGoodState, Leads, Leads-one, Leads-then, ComesTo}
 

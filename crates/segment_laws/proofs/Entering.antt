@@ -1,40 +1,10 @@
 -- A function is entered: its prologue makes room for its frame, saves the return address and the arguments.
-use Rattle.std.proofs.Common.{◌≡◌, ℕ, zero, suc, ◌+◌, ◌-◌, ◌*◌, ◌/◌, ◌%◌, ◌^◌, ◌<◌, ◌≤◌, Bool, true, false, List, [], ◌∷◌, ◌++◌, length, map, replicate, get_or, pos, ◌-ℤ◌, Option, Some, None, Ok, refl, sym, ap, subst, ◌∙◌, arith, lit<, ⊎_elim}
-use Rattle.std.specs.Prelude.{nat_eq, slice_get, unsigned_abs}
-use Rattle.std.proofs.lemmas.Bool.{cases_eq}
-use Rattle.std.proofs.lemmas.List.{length-append, length-map, length-replicate}
-use Rattle.std.proofs.lemmas.Int.{ints, int_rem_euclid_is}
+use Rattle.segment_laws.proofs.Common.{◌≡◌, ℕ, zero, suc, ◌+◌, ◌-◌, ◌*◌, ◌/◌, ◌%◌, ◌^◌, ◌<◌, ◌≤◌, Bool, true, false, List, [], ◌∷◌, ◌++◌, length, map, replicate, get_or, pos, ◌-ℤ◌, Option, Some, None, Ok, refl, sym, ap, subst, ◌∙◌, arith, lit<, ⊎_elim, nat_eq, slice_get, unsigned_abs, cases_eq, length-append, length-map, length-replicate, ints, int_rem_euclid_is, word_of, add, Goes, Pool, place_of, end_of, payload_place_of, words_of, place_of-bounded, word_of-with_word_same, Instr, accessed, effect, read, sets, instruction_at, Op, function_at, operation_at, FlatFrame, pushed, FunctionFact, fact_at, store, saves, prologue, begin, Areas, AreGlobals, Frame, frame_bytes, return_word, IsFrame, ReturnsInto, IsStack, low_below, HeadersName, sp, tp, Local, machine_of, local_move, local_step, Checked, InPrologue, Empty, Fresh, Whole, variable_word, AreFlatFrames, HasForm, read-write_same}
 use Rattle.cap_word.specs.Word as word
-use Rattle.cap_word.specs.Word.{word_of, add}
-use Rattle.cap_word.specs.Runs.{Goes}
-use Rattle.chunk_pool.specs.Pool.{Pool, place_of, end_of, payload_place_of, words_of}
-use Rattle.chunk_pool.proofs.AddressLaws.{place_of-bounded}
-use Rattle.chunk_pool.proofs.PoolLaws.{word_of-with_word_same}
-use Rattle.rv_code.specs.declared.instructions.Instr.{Instr}
-use Rattle.rv_machine.specs.Access.{accessed}
-use Rattle.rv_machine.specs.Effect.{effect}
-use Rattle.rv_machine.specs.Registers.{read}
-use Rattle.rv_machine.specs.Rows.{sets}
-use Rattle.rv_machine.specs.Step.{instruction_at}
-use Rattle.flat_code.specs.declared.operations.Op.{Op}
-use Rattle.flat_code.specs.Codes.{function_at, operation_at}
-use Rattle.flat_code.specs.Frames.{FlatFrame, pushed}
-use Rattle.stack_certificate.specs.declared.functions.FunctionFact.{FunctionFact}
-use Rattle.stack_certificate.specs.Certificates.{fact_at}
-use Rattle.stack_certificate.specs.Parts.{store, saves}
-use Rattle.stack_certificate.specs.Templates.{prologue, begin}
-use Rattle.machine_world.specs.Areas.{Areas}
-use Rattle.machine_world.specs.Globals.{AreGlobals}
-use Rattle.machine_world.specs.InPlace.{Frame, frame_bytes, return_word, IsFrame, ReturnsInto, IsStack, low_below, HeadersName}
-use Rattle.stack_certificate.specs.Registers.{sp, tp}
-use Rattle.machine_world.specs.Local.{Local, machine_of, local_move, local_step}
-use Rattle.machine_world.specs.Places.{Checked, InPrologue, Empty, Fresh, Whole}
-use Rattle.machine_world.specs.Rests.{variable_word, AreFlatFrames}
-use Rattle.segment_laws.specs.Ways.{HasForm}
 pub use Rattle.segment_laws.specs.Calls.{EntryFacts}
 use Rattle.segment_laws.proofs.Facts.{CodeFacts}
 use Rattle.segment_laws.proofs.FrameWords.{InFrame, stack_frame}
-use Rattle.segment_laws.proofs.Registers.{read-write_same, read-write_other, add-small, step-is, with_register, move-sets}
+use Rattle.segment_laws.proofs.Registers.{read-write_other, add-small, step-is, with_register, move-sets}
 use Rattle.segment_laws.proofs.Stacks.{IsFront, word_of-other, AreFlatFrames-with_word}
 use Rattle.segment_laws.proofs.Simulation.{Simulates, Reaches}
 use Rattle.segment_laws.proofs.Standing.{Standing, Stepped, stepped, InFrame-standing, pool_with, stored_at, store_standing}

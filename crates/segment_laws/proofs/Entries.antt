@@ -1,27 +1,8 @@
 -- The words of the tables are the entries of the members, table by table; one of them is loaded by a thread within an
 -- operation.
-use Rattle.std.proofs.Common.{◌≡◌, ℕ, ◌+◌, ◌-◌, ◌*◌, ◌/◌, ◌^◌, ◌<◌, ◌≤◌, List, [], ◌∷◌, length, get_or, map, take, ℤ, Some, Ok, refl, sym, ap, subst, ◌∙◌, arith, inr}
-use Rattle.std.specs.Prelude.{sum_by}
-use Rattle.std.specs.List.{flat_map}
-use Rattle.std.proofs.lemmas.List.{length-map, get_or-map}
-use Rattle.std.proofs.lemmas.List.Concat.{length-flat_map, get_or-flat_map}
+use Rattle.segment_laws.proofs.Common.{◌≡◌, ℕ, ◌+◌, ◌-◌, ◌*◌, ◌/◌, ◌^◌, ◌<◌, ◌≤◌, List, [], ◌∷◌, length, get_or, map, take, ℤ, Some, Ok, refl, sym, ap, subst, ◌∙◌, arith, inr, sum_by, flat_map, length-map, get_or-map, length-flat_map, get_or-flat_map, sum_by-cons, word_of, Instr, accessed, read, instruction_at, Op, members_of, FlatThread, fact_at, table_address, member_count, Areas, tables_place, Frame, IsGoodAccess, Local, machine_of, Checked, member_entries}
 use Rattle.std.proofs.lemmas.List.Folds.{length-flat_map-take}
-use Rattle.std.proofs.lemmas.List.Sums.{sum_by-cons}
 use Rattle.cap_word.specs.Word as word
-use Rattle.cap_word.specs.Word.{word_of}
-use Rattle.rv_code.specs.declared.instructions.Instr.{Instr}
-use Rattle.rv_machine.specs.Access.{accessed}
-use Rattle.rv_machine.specs.Registers.{read}
-use Rattle.rv_machine.specs.Step.{instruction_at}
-use Rattle.flat_code.specs.declared.operations.Op.{Op}
-use Rattle.flat_code.specs.Codes.{members_of}
-use Rattle.flat_code.specs.Frames.{FlatThread}
-use Rattle.stack_certificate.specs.Certificates.{fact_at, table_address, member_count}
-use Rattle.machine_world.specs.Areas.{Areas, tables_place}
-use Rattle.machine_world.specs.InPlace.{Frame, IsGoodAccess}
-use Rattle.machine_world.specs.Local.{Local, machine_of}
-use Rattle.machine_world.specs.Places.{Checked}
-use Rattle.machine_world.specs.WellFormed.{member_entries}
 use Rattle.segment_laws.proofs.Facts.{CodeFacts, IsOperationAt, Fit-areas}
 use Rattle.segment_laws.proofs.Immediate.{is_t2}
 use Rattle.segment_laws.proofs.Inside.{IsWholeWord, set_register}

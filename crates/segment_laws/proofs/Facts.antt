@@ -1,8 +1,5 @@
 -- What the rules of a certificate give, in the forms in which one operation after another is followed.
-use Rattle.std.proofs.Common.{ℕ, ◌≤◌, List, length, sym, subst, arith}
-use Rattle.machine_world.specs.Areas.{Areas}
-use Rattle.machine_world.specs.Places.{Checked}
-use Rattle.machine_world.specs.WellFormed.{AreWellFormed}
+use Rattle.segment_laws.proofs.Common.{ℕ, ◌≤◌, List, length, sym, subst, arith, Areas, Checked, AreWellFormed}
 use Rattle.segment_laws.proofs.Spots.{Fit}
 pub use Rattle.segment_laws.specs.Facts.{FrameFacts, IsOperationAt, CodeFacts}
 

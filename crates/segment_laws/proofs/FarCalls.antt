@@ -1,24 +1,6 @@
 -- The call on a chunk that was linked.
-use Rattle.std.proofs.Common.{◌≡◌, ℕ, ◌+◌, ◌*◌, ◌<◌, ◌≤◌, true, List, ◌∷◌, length, Option, Some, Ok, slice_get, refl, sym, ap, subst, ◌∙◌, arith, lit<}
-use Rattle.std.proofs.lemmas.Bool.{eq-eqb, leb-true}
-use Rattle.std.proofs.lemmas.List.{length-set}
+use Rattle.segment_laws.proofs.Common.{◌≡◌, ℕ, ◌+◌, ◌*◌, ◌<◌, ◌≤◌, true, List, ◌∷◌, length, Option, Some, Ok, slice_get, refl, sym, ap, subst, ◌∙◌, arith, lit<, eq-eqb, leb-true, length-set, Goes, Pool, Taken, taken_for, end_of, payload_place_of, payload_bytes_of, shape_of, taken_for-fits, taken_for-sound, taken_for-shape, read, write, instruction_at, Op, function_at, operation_at, FlatThread, pushed, LinkKind, fact_at, transfer, call_instruction, begin, kind_of, transfer_size, Frame, frame_bytes, return_word, ReturnsInto, IsStack, FramesAt, HeadersName, HasFrames, IsGoodAccess, words_through_call, joined, Local, local_step, linked_on, with_header, saved_tp, saved_sp, Checked, InOperation, InPrologue, Row, Empty, Linking, row_at, size_in, through_call, transfer_row, HasForm, words_of-payload, words_of-same, payload_place_of-same, saved_tp-with_header, read-write_same}
 use Rattle.cap_word.specs.Word as word
-use Rattle.cap_word.specs.Runs.{Goes}
-use Rattle.chunk_pool.specs.Pool.{Pool, Taken, taken_for, end_of, payload_place_of, payload_bytes_of, shape_of}
-use Rattle.chunk_pool.proofs.NeedLaws.{taken_for-fits, taken_for-sound, taken_for-shape}
-use Rattle.rv_machine.specs.Registers.{read, write}
-use Rattle.rv_machine.specs.Step.{instruction_at}
-use Rattle.flat_code.specs.declared.operations.Op.{Op}
-use Rattle.flat_code.specs.Codes.{function_at, operation_at}
-use Rattle.flat_code.specs.Frames.{FlatThread, pushed}
-use Rattle.stack_certificate.specs.declared.sites.LinkKind.{LinkKind}
-use Rattle.stack_certificate.specs.Certificates.{fact_at}
-use Rattle.stack_certificate.specs.Parts.{transfer, call_instruction}
-use Rattle.stack_certificate.specs.Templates.{begin, kind_of, transfer_size}
-use Rattle.machine_world.specs.InPlace.{Frame, frame_bytes, return_word, ReturnsInto, IsStack, FramesAt, HeadersName, HasFrames, IsGoodAccess, words_through_call, joined}
-use Rattle.machine_world.specs.Local.{Local, local_step, linked_on, with_header, saved_tp, saved_sp}
-use Rattle.machine_world.specs.Places.{Checked, InOperation, InPrologue, Row, Empty, Linking, row_at, size_in, through_call, transfer_row}
-use Rattle.segment_laws.specs.Ways.{HasForm}
 use Rattle.segment_laws.proofs.Agreeing.{stack_agrees, headers_agree, word_in_same, in_front, stack_in, flats_agree}
 use Rattle.segment_laws.proofs.Calling.{jumped}
 use Rattle.segment_laws.proofs.CallShapes.{CallShape, transfer_word}
@@ -26,14 +8,13 @@ use Rattle.segment_laws.proofs.Entering.{EntryFacts, Entered, enters}
 use Rattle.segment_laws.proofs.Facts.{CodeFacts, IsOperationAt}
 use Rattle.segment_laws.proofs.Finish.{Reaches-after}
 use Rattle.segment_laws.proofs.Linked.{ready_kept}
-use Rattle.segment_laws.proofs.Linking.{header_tp, header_sp, linked_agrees, after_link, linking_row, AtLink}
+use Rattle.segment_laws.proofs.Linking.{header_sp, linked_agrees, after_link, linking_row, AtLink}
 use Rattle.segment_laws.proofs.PlainCalls.{CallFacts}
-use Rattle.segment_laws.proofs.Registers.{read-write_same, read-write_other, add-small, access-is}
+use Rattle.segment_laws.proofs.Registers.{read-write_other, add-small, access-is}
 use Rattle.segment_laws.proofs.Simulation.{Reaches}
 use Rattle.segment_laws.proofs.Standing.{Standing}
 use Rattle.segment_laws.proofs.Transfers.{ReadyToCall, call_step}
 use Rattle.segment_laws.proofs.Ways.{IsGoodState, Leads-one, Leads-then, HasForm-next}
-use Rattle.chunk_pool.proofs.ShapeLaws.{words_of-payload, words_of-same, payload_place_of-same}
 
 -- the frame of a function that is called on a chunk that was linked
 abbrev pub far_frame : Local → Taken → ℕ → Frame
@@ -81,7 +62,7 @@ calls_far c code l t op g need values frame below taken facts calls there s read
     let pc2 : l2.core.pc ≡ here + 4 * (n + 8) = add-small l1.core.pc 4 (omega (arith, pc, room, size_is, eleven)) ∙ (let e : l1.core.pc + 4 ≡ here + 4 * (n + 8) = omega (arith, pc) in e) in
     let sp_saved : saved_sp q taken.chunk ≡ frame.low = header_sp taken.pool taken.chunk (read l1.core.x 4) (read l1.core.x 2) sound.0 sound.1.0 ∙ is.sp_is in
     let tp_saved : saved_tp q taken.chunk ≡ payload_place_of q frame.chunk =
-    header_tp taken.pool taken.chunk (read l1.core.x 4) (read l1.core.x 2) sound.0 sound.1.0 ∙ is.tp_is ∙ sym (payload_place_of-same p taken.pool frame.chunk shape) in
+    saved_tp-with_header taken.pool taken.chunk (read l1.core.x 4) (read l1.core.x 2) sound.0 sound.1.0 ∙ is.tp_is ∙ sym (payload_place_of-same p taken.pool frame.chunk shape) in
     let headers2 : HeadersName q (taken.chunk ∷ frame.chunk ∷ is.front.rest) = (tp_saved, subst (HeadersName q) is.front.is (headers_agree p q chain agrees is.headers)) in
     let stack2 : IsStack c q chain frame below = stack_agrees c p q chain frame below agrees is.front is.stack in
     let same_return : return_word c q f frame.chunk frame.low ≡ return_word c p f frame.chunk frame.low = word_in_same p q chain frame.chunk (frame.low + (fact_at c.certificate f).ra) agrees chunk_in in

@@ -1,9 +1,5 @@
 -- The thread of a number among records: it is that of the record with the number, wherever it stands.
-use Rattle.std.proofs.Common.{◌≡◌, ℕ, zero, suc, ◌+◌, Bool, true, false, cond, List, [], ◌∷◌, Option, Some, None, refl, sym, ap, ◌∙◌, arith, ⊎_elim}
-use Rattle.std.specs.Prelude.{nat_eq}
-use Rattle.std.proofs.lemmas.Bool.{eq-eqb, ne_eqb, cases_eq}
-use Rattle.machine_world.specs.Threads.{Thread}
-use Rattle.segment_laws.specs.Found.{at_place, find_from, IsNumbered}
+use Rattle.segment_laws.proofs.Common.{◌≡◌, ℕ, zero, suc, ◌+◌, Bool, true, false, cond, List, [], ◌∷◌, Option, Some, None, refl, sym, ap, ◌∙◌, arith, ⊎_elim, nat_eq, eq-eqb, ne_eqb, cases_eq, Thread, at_place, find_from, IsNumbered}
 
 module _ {R : Type 0} (number_of : R → ℕ) (thread_in : ℕ → R → Thread) where
   -- ---- a record that stands at a place

@@ -1,22 +1,6 @@
 -- The last instruction of an operation: the thread then stands for the flat thread after its step.
-use Rattle.std.proofs.Common.{◌≡◌, ℕ, suc, ◌+◌, ◌*◌, ◌%◌, ◌<◌, ◌≤◌, List, [], ◌∷◌, length, get_or, ℤ, pos, Ok, refl, sym, ap, subst, ◌∙◌, arith}
 use Rattle.cap_word.specs.Word as word
-use Rattle.cap_word.specs.Word.{word_of}
-use Rattle.chunk_pool.specs.Pool.{Pool}
-use Rattle.rv_code.specs.declared.instructions.Instr.{Instr}
-use Rattle.rv_machine.specs.Registers.{read}
-use Rattle.rv_machine.specs.Step.{instruction_at}
-use Rattle.flat_code.specs.declared.operations.Op.{Op}
-use Rattle.flat_code.specs.Codes.{function_at}
-use Rattle.flat_code.specs.Frames.{FlatThread, at, set_to, with_scalar}
-use Rattle.stack_certificate.specs.Certificates.{fact_at}
-use Rattle.stack_certificate.specs.Templates.{begin, size, kind_of}
-use Rattle.machine_world.specs.Areas.{Areas}
-use Rattle.machine_world.specs.Globals.{AreGlobals}
-use Rattle.machine_world.specs.InPlace.{Frame, frame_bytes}
-use Rattle.machine_world.specs.Local.{Local}
-use Rattle.machine_world.specs.Places.{Checked}
-use Rattle.machine_world.specs.Rests.{variable_word, HoldsVariables, AreFlatFrames}
+use Rattle.segment_laws.proofs.Common.{◌≡◌, ℕ, suc, ◌+◌, ◌*◌, ◌%◌, ◌<◌, ◌≤◌, List, [], ◌∷◌, length, get_or, ℤ, pos, Ok, refl, sym, ap, subst, ◌∙◌, arith, word_of, Pool, Instr, read, instruction_at, Op, function_at, FlatThread, at, set_to, with_scalar, fact_at, begin, size, kind_of, Areas, AreGlobals, Frame, frame_bytes, Local, Checked, variable_word, HoldsVariables, AreFlatFrames}
 use Rattle.segment_laws.proofs.Facts.{CodeFacts, FrameFacts, IsOperationAt}
 use Rattle.segment_laws.proofs.FrameWords.{InFrame-inside, store_at, once_of}
 use Rattle.segment_laws.proofs.Inside.{Inside, IsWholeWord}

@@ -1,16 +1,7 @@
 -- No operation begins with an ECALL, and one that asks has it at its word.
-use Rattle.std.proofs.Common.{◌≡◌, ℕ, zero, suc, ◌+◌, ◌*◌, ◌<◌, List, [], ◌∷◌, ◌++◌, length, get_or, pos, Option, Some, None, slice_get, refl, ap, subst, ◌∙◌, arith}
-use Rattle.std.proofs.lemmas.List.{length-append}
-use Rattle.rv_code.specs.declared.instructions.Instr.{Instr}
-use Rattle.flat_code.specs.Codes.{result_place}
-use Rattle.flat_code.specs.declared.operations.Op.{Op}
-use Rattle.stack_certificate.specs.declared.functions.FunctionFact.{FunctionFact}
-use Rattle.stack_certificate.specs.declared.settings.Setting.{Setting}
-use Rattle.stack_certificate.specs.declared.sites.LinkKind.{LinkKind}
+use Rattle.segment_laws.proofs.Common.{◌≡◌, ℕ, zero, suc, ◌+◌, ◌*◌, ◌<◌, List, [], ◌∷◌, ◌++◌, length, get_or, pos, Option, Some, None, slice_get, refl, ap, subst, ◌∙◌, arith, length-append, Instr, result_place, Op, FunctionFact, Setting, LinkKind, row, ecall_word, length-arguments}
 use Rattle.stack_certificate.specs.Parts.{zeroes, arguments, transfer, result, system_call}
-use Rattle.stack_certificate.specs.Templates.{row}
-use Rattle.machine_world.specs.Rests.{ecall_word}
-use Rattle.segment_laws.proofs.Calling.{get_front, get_behind, arguments_length}
+use Rattle.segment_laws.proofs.Calling.{get_front, get_behind}
 
 -- an instruction that is there and no ECALL
 abbrev pub IsOther : Option Instr → Type 0
@@ -87,12 +78,12 @@ stored_last fact front (Some d') n d long is =
     get_behind front (result fact (Some d')) n 0 (omega (arith, long)) ∙ ap (λ (x : ℕ). Some (Instr.Sw 2 10 (pos (get_or fact.places x 0)))) same
 
 model_length : (fact : FunctionFact) (args : List ℕ) (n : ℕ) → length (arguments fact 10 args ++ system_call n) ≡ length args + 2
-model_length fact args n = length-append (arguments fact 10 args) (system_call n) ∙ ap (λ (k : ℕ). k + 2) (arguments_length fact 10 args)
+model_length fact args n = length-append (arguments fact 10 args) (system_call n) ∙ ap (λ (k : ℕ). k + 2) (length-arguments fact 10 args)
 
 pub ask_words : (fact : FunctionFact) (sizes : List ℕ) (s : Setting) (op : Op) (word : ℕ) → ecall_word op ≡ Some word → AskWords fact sizes s op word
 ask_words fact sizes s (Op.Model site d n args) word e =
     let word_is : length args + 1 ≡ word = (let same : some_word (length args + 1) ≡ Some word = e in cc) in
-    let long = arguments_length fact 10 args in
+    let long = length-arguments fact 10 args in
     let whole = model_length fact args n in
     record {
       ecall = get_front (arguments fact 10 args ++ system_call n) (result fact d) word Instr.Ecall (get_behind (arguments fact 10 args) (system_call n) word 1 (omega (arith, word_is, long)));

@@ -1,19 +1,5 @@
 -- No step of a thread of flat code changes the function with which it started.
-use Rattle.std.proofs.Common.{◌≡◌, ℕ, zero, suc, Bool, true, false, List, [], ◌∷◌, length, Option, Some, None, refl, sym, ap, ◌∙◌, subst}
-use Rattle.std.specs.Prelude.{nat_lt}
-use Rattle.cap_word.specs.Calls.{Call, call_of}
-use Rattle.cap_word.specs.Rows.{width, word_at, with_word}
-use Rattle.cap_word.specs.Runs.{Goes, and_then, moves}
-use Rattle.cap_word.specs.declared.traps.TrapKind.{TrapKind}
-use Rattle.chunk_pool.specs.Pool.{Pool}
-use Rattle.flat_code.specs.declared.operations.Op.{Op}
-use Rattle.flat_code.specs.Codes.{FlatCode, members_of}
-use Rattle.flat_code.specs.Frames.{FlatFrame, FlatThread, standing, variable, with_result}
-use Rattle.flat_code.specs.Step.{FlatMove, on, scalar, scalars, where_in, jumps, puts, goes_with, asks, place_in, returns, does, flat_step, flat_machine}
-use Rattle.machine_world.specs.InPlace.{Frame}
-use Rattle.machine_world.specs.Places.{Checked}
-use Rattle.machine_world.specs.Rests.{AreFlatFrames}
-use Rattle.segment_laws.specs.Alike.{last_function, last_flat, first_of}
+use Rattle.segment_laws.proofs.Common.{◌≡◌, ℕ, zero, suc, Bool, true, false, List, [], ◌∷◌, length, Option, Some, None, refl, sym, ap, ◌∙◌, subst, nat_lt, Call, call_of, width, word_at, with_word, Goes, and_then, moves, TrapKind, Pool, Op, FlatCode, members_of, FlatFrame, FlatThread, standing, variable, with_result, FlatMove, on, scalar, scalars, where_in, jumps, puts, goes_with, asks, place_in, returns, does, flat_step, flat_machine, Frame, Checked, AreFlatFrames, last_function, last_flat, first_of}
 
 -- ---- frames of both
 

@@ -1,14 +1,5 @@
 -- What a step of a flat thread can't lead to, by its operation: which operations ask, and which end or trap.
-use Rattle.std.proofs.Common.{◌≡◌, ℕ, zero, suc, ◌<◌, ◌≤◌, Bool, true, false, List, [], ◌∷◌, length, Option, Some, None, sym, ap, subst, ◌∙◌, ⊎_elim}
-use Rattle.std.specs.Prelude.{nat_lt}
-use Rattle.std.proofs.lemmas.Bool.{cases_lt, lt-ltb, le-ltb}
-use Rattle.cap_word.specs.Calls.{Finish, call_of}
-use Rattle.cap_word.specs.Runs.{Goes, Asks, Stops}
-use Rattle.cap_word.specs.declared.traps.TrapKind.{TrapKind}
-use Rattle.flat_code.specs.Codes.{FlatCode}
-use Rattle.flat_code.specs.Frames.{FlatFrame, FlatThread, Finished, Lost, variable}
-use Rattle.flat_code.specs.Step.{FlatMove, on, scalar, scalars, where_in, trapped, jumps, asks, returns, does}
-use Rattle.flat_code.specs.declared.operations.Op.{Op}
+use Rattle.segment_laws.proofs.Common.{◌≡◌, ℕ, zero, suc, ◌<◌, ◌≤◌, Bool, true, false, List, [], ◌∷◌, length, Option, Some, None, sym, ap, subst, ◌∙◌, ⊎_elim, nat_lt, cases_lt, lt-ltb, le-ltb, Finish, call_of, Goes, Asks, Stops, TrapKind, FlatCode, FlatFrame, FlatThread, Finished, Lost, variable, FlatMove, on, scalar, scalars, where_in, trapped, jumps, asks, returns, does, Op}
 
 -- ---- no question
 

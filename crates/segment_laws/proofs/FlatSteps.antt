@@ -1,18 +1,7 @@
 -- What a step of a flat thread is told by: from where it leads, which values it read; and so each silent step and each trap
 -- of an operation that is no call is the machine's.
-use Rattle.std.proofs.Common.{◌≡◌, ℕ, zero, suc, ◌-◌, ◌^◌, ◌<◌, ◌≤◌, List, length, get_or, set, Bool, Option, Some, None, refl, sym, ap, subst, ◌∙◌, ⊎_elim}
-use Rattle.std.specs.Prelude.{bit_xor, nat_eq}
-use Rattle.std.proofs.lemmas.Bool.{cases_lt, lt-ltb, le-ltb}
-use Rattle.cap_word.specs.Rows.{width, word_at, with_word}
-use Rattle.cap_word.specs.Runs.{Goes, Stops}
+use Rattle.segment_laws.proofs.Common.{◌≡◌, ℕ, zero, suc, ◌-◌, ◌^◌, ◌<◌, ◌≤◌, List, length, get_or, set, Bool, Option, Some, None, refl, sym, ap, subst, ◌∙◌, ⊎_elim, bit_xor, nat_eq, cases_lt, lt-ltb, le-ltb, width, word_at, with_word, Goes, Stops, TrapKind, Op, FlatThread, Lost, standing, variable, passed, set_to, result_of, FlatMove, on, scalar, puts, where_in, within, trapped, jumps, does, flat_step, Local, Checked}
 use Rattle.cap_word.specs.Word as word
-use Rattle.cap_word.specs.declared.traps.TrapKind.{TrapKind}
-use Rattle.flat_code.specs.declared.operations.Op.{Op}
-use Rattle.flat_code.specs.Frames.{FlatThread, Lost, standing, variable, passed, set_to}
-use Rattle.flat_code.specs.Operators.{result_of}
-use Rattle.flat_code.specs.Step.{FlatMove, on, scalar, puts, where_in, within, trapped, jumps, does, flat_step}
-use Rattle.machine_world.specs.Local.{Local}
-use Rattle.machine_world.specs.Places.{Checked}
 use Rattle.segment_laws.proofs.Binary.{bin_reaches}
 use Rattle.segment_laws.proofs.Facts.{CodeFacts, IsOperationAt}
 use Rattle.segment_laws.proofs.FrameWords.{stack_frame}

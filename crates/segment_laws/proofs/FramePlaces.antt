@@ -1,15 +1,5 @@
 -- The places of variables and return address in a frame, from the rules.
-use Rattle.std.proofs.Common.{◌≡◌, ℕ, zero, suc, ◌+◌, ◌*◌, ◌%◌, ◌<◌, ◌≤◌, List, [], ◌∷◌, ◌++◌, length, get_or, refl, sym, ap, ◌∙◌, arith, ⊎_elim}
-use Rattle.std.proofs.lemmas.Bool.{cases_lt}
-use Rattle.flat_code.specs.Codes.{FlatCode, function_at}
-use Rattle.stack_image.specs.declared.images.Image.{Image}
-use Rattle.stack_certificate.specs.declared.certificates.Certificate.{Certificate}
-use Rattle.stack_certificate.specs.declared.functions.FunctionFact.{FunctionFact}
-use Rattle.stack_certificate.specs.Certificates.{fact_at}
-use Rattle.certificate_rules.specs.Ranges.{AreApart}
-use Rattle.certificate_rules.specs.Rules.{frame_places, frame_words, IsPlaced}
-use Rattle.certificate_rules.specs.Validity.{IsValid}
-use Rattle.segment_laws.specs.Facts.{FrameFacts}
+use Rattle.segment_laws.proofs.Common.{◌≡◌, ℕ, zero, suc, ◌+◌, ◌*◌, ◌%◌, ◌<◌, ◌≤◌, List, [], ◌∷◌, ◌++◌, length, get_or, refl, sym, ap, ◌∙◌, arith, ⊎_elim, cases_lt, FlatCode, function_at, Image, Certificate, FunctionFact, fact_at, AreApart, frame_places, frame_words, IsPlaced, IsValid, FrameFacts}
 
 before_last : (xs : List ℕ) (y i : ℕ) → i < length xs → get_or (xs ++ y ∷ []) i 0 ≡ get_or xs i 0
 before_last [] y i below = absurd (omega arith)

@@ -1,32 +1,14 @@
 -- Words of the running frame, loaded and stored.
-use Rattle.std.proofs.Common.{◌≡◌, ℕ, ◌+◌, ◌-◌, ◌/◌, ◌%◌, ◌^◌, ◌<◌, ◌≤◌, Bool, true, false, List, [], ◌∷◌, length, ℤ, pos, Ok, refl, sym, ap, subst, ◌∙◌, arith, inl}
-use Rattle.std.specs.Prelude.{nat_lt}
-use Rattle.std.proofs.lemmas.Bool.{cond_both, eqb-true}
+use Rattle.segment_laws.proofs.Common.{◌≡◌, ℕ, ◌+◌, ◌-◌, ◌/◌, ◌%◌, ◌^◌, ◌<◌, ◌≤◌, Bool, true, false, List, [], ◌∷◌, length, ℤ, pos, Ok, refl, sym, ap, subst, ◌∙◌, arith, inl, nat_lt, cond_both, eqb-true, word_of, Goes, place_of-aligned, place_of-bounded, Instr, accessed, read, instruction_at, read-below, Op, fact_at, Areas, with_byte, Frame, word_in, frame_bytes, IsFrame, IsStack, chain_below, low_below, IsGoodAccess, Local, machine_of, local_step, Checked, HasForm, bytes_of-aligned}
 use Rattle.cap_word.specs.Word as word
-use Rattle.cap_word.specs.Word.{word_of}
-use Rattle.cap_word.specs.Runs.{Goes}
 use Rattle.chunk_pool.specs.Pool.{Pool, with_word as with_pool_word, place_of, end_of, IsPool}
-use Rattle.chunk_pool.proofs.AddressLaws.{place_of-aligned, place_of-bounded}
-use Rattle.rv_code.specs.declared.instructions.Instr.{Instr}
-use Rattle.rv_machine.specs.Access.{accessed}
 use Rattle.rv_machine.specs.Bytes.{with_word}
-use Rattle.rv_machine.specs.Registers.{read}
-use Rattle.rv_machine.specs.Step.{instruction_at}
-use Rattle.rv_machine.proofs.WordLaws.{read-below}
-use Rattle.flat_code.specs.declared.operations.Op.{Op}
-use Rattle.stack_certificate.specs.Certificates.{fact_at}
-use Rattle.machine_world.specs.Areas.{Areas, with_byte}
-use Rattle.machine_world.specs.InPlace.{Frame, word_in, frame_bytes, IsFrame, IsStack, chain_below, low_below, IsGoodAccess}
-use Rattle.machine_world.specs.Local.{Local, machine_of, local_step}
-use Rattle.machine_world.specs.Places.{Checked}
-use Rattle.segment_laws.specs.Ways.{HasForm}
 use Rattle.segment_laws.proofs.Facts.{CodeFacts, IsOperationAt, Fit-areas}
 use Rattle.segment_laws.proofs.Inside.{Inside, IsWholeWord, IsGoodState-inside, pc_next, IsValueRegister, IsSet, set_register}
 use Rattle.segment_laws.proofs.Registers.{add-small, word_of-small, step-is, with_areas, effect-lw, move-sw}
 use Rattle.segment_laws.proofs.Stacks.{IsOnce, EndsBy, stack_away, word_of-other, IsStack-with_word, HeadersName-with_word}
 use Rattle.segment_laws.proofs.Ways.{Leads, Leads-one, HasForm-next}
 use Rattle.segment_laws.proofs.Words.{PayloadWord, word_number, loaded-payload, stored-payload, writable-payload}
-use Rattle.chunk_pool.proofs.ShapeLaws.{bytes_of-aligned}
 
 -- ---- the frame
 

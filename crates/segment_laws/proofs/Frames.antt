@@ -1,15 +1,6 @@
 -- Frames in place, where the chunks of a chain have the words that they had.
-use Rattle.std.proofs.Common.{◌≡◌, ℕ, ◌+◌, ◌-◌, ◌/◌, ◌<◌, ◌≤◌, Bool, true, false, List, [], ◌∷◌, Some, refl, sym, ap, ◌∙◌, subst, slice_get}
-use Rattle.std.specs.Prelude.{nat_eq, slice_index}
-use Rattle.std.specs.List.{AllByRecursion}
+use Rattle.segment_laws.proofs.Common.{◌≡◌, ℕ, ◌+◌, ◌-◌, ◌/◌, ◌<◌, ◌≤◌, Bool, true, false, List, [], ◌∷◌, Some, refl, sym, ap, ◌∙◌, subst, slice_get, nat_eq, slice_index, AllByRecursion, read, Frame, word_in, return_word, IsFrame, IsAbove, IsStack, IsRunning, FramesAt, HeadersName, TpIsFront, HasFrames, chain_below, low_below, ra, sp, tp, Core, saved_sp, Checked, Place, Row, NoFrame, Empty, Fresh, Linking, Whole, IsAt, row_of, KeepsChunks, KeepsStack, count-same, place_of-same, payload_place_of-same, end_of-same}
 use Rattle.chunk_pool.specs.Pool.{Pool, chunk_of, word_of, end_of, payload_place_of, shape_of}
-use Rattle.rv_machine.specs.Registers.{read}
-use Rattle.machine_world.specs.InPlace.{Frame, word_in, return_word, IsFrame, IsAbove, IsStack, IsRunning, FramesAt, HeadersName, TpIsFront, HasFrames, chain_below, low_below}
-use Rattle.stack_certificate.specs.Registers.{ra, sp, tp}
-use Rattle.machine_world.specs.Local.{Core, saved_sp}
-use Rattle.machine_world.specs.Places.{Checked, Place, Row, NoFrame, Empty, Fresh, Linking, Whole, IsAt, row_of}
-use Rattle.segment_laws.specs.Kept.{KeepsChunks, KeepsStack}
-use Rattle.chunk_pool.proofs.ShapeLaws.{count-same, place_of-same, payload_place_of-same, end_of-same}
 
 module _ (c : Checked) (pool after : Pool) (shape : shape_of after ≡ shape_of pool) where
   count : after.count ≡ pool.count

@@ -1,32 +1,12 @@
 -- A thread at rest, at a function's first word or just behind an ECALL: good steps lead to where it stands for the flat thread
 -- that runs on.
-use Rattle.std.proofs.Common.{◌≡◌, ℕ, zero, suc, ◌+◌, ◌<◌, List, [], ◌∷◌, length, Option, Some, None, slice_get, refl, sym, ap, subst, ◌∙◌, arith}
-use Rattle.chunk_pool.specs.Pool.{payload_place_of}
-use Rattle.rv_machine.specs.Registers.{read}
-use Rattle.flat_code.specs.declared.operations.Op.{Op}
-use Rattle.flat_code.specs.Codes.{FlatCode, function_at, operation_at, result_place}
-use Rattle.flat_code.specs.Frames.{FlatFrame, FlatThread, standing, with_result}
-use Rattle.flat_code.specs.Step.{place_in}
-use Rattle.stack_image.specs.declared.images.Image.{Image}
-use Rattle.stack_certificate.specs.Templates.{size, result_size, kind_of}
-use Rattle.stack_certificate.specs.declared.certificates.Certificate.{Certificate}
-use Rattle.stack_certificate.specs.declared.sites.LinkKind.{LinkKind}
-use Rattle.certificate_rules.specs.Validity.{IsValid}
-use Rattle.machine_world.specs.Globals.{AreGlobals}
-use Rattle.machine_world.specs.InPlace.{Frame, IsStack, FramesAt, TpIsFront, HasFrames}
-use Rattle.stack_certificate.specs.Registers.{a0}
-use Rattle.machine_world.specs.Local.{Local}
-use Rattle.machine_world.specs.Places.{Checked, Place, InPrologue, IsAt, Whole, Empty, row_in}
-use Rattle.machine_world.specs.Rests.{IsResting, AtStart, AtCall, PastCall, ecall_word, IsPastCall, IsFlatStart, AreFlatFrames, AreFlatPast, StandsForFlat}
-use Rattle.segment_laws.specs.Calls.{CallFacts, EntryFacts}
+use Rattle.segment_laws.proofs.Common.{◌≡◌, ℕ, zero, suc, ◌+◌, ◌<◌, List, [], ◌∷◌, length, Option, Some, None, slice_get, refl, sym, ap, subst, ◌∙◌, arith, payload_place_of, read, Op, FlatCode, function_at, operation_at, result_place, FlatFrame, FlatThread, standing, with_result, place_in, Image, size, result_size, kind_of, Certificate, LinkKind, IsValid, AreGlobals, Frame, IsStack, FramesAt, TpIsFront, HasFrames, a0, Local, Checked, Place, InPrologue, IsAt, Whole, Empty, row_in, IsResting, AtStart, AtCall, PastCall, ecall_word, IsPastCall, IsFlatStart, AreFlatFrames, AreFlatPast, StandsForFlat, CallFacts, EntryFacts, Arrives, FollowsAsks, MayRun, running_on}
 use Rattle.segment_laws.proofs.Entering.{Entered, enters}
 use Rattle.segment_laws.proofs.Standing.{Standing}
-use Rattle.segment_laws.specs.Asking.{Arrives}
 use Rattle.segment_laws.proofs.Facts.{CodeFacts}
 use Rattle.segment_laws.proofs.Simulation.{Reaches}
 use Rattle.segment_laws.proofs.Ways.{HasForm}
 use Rattle.segment_laws.proofs.Past.{behind, function_of_op, past_arrives}
-use Rattle.segment_laws.specs.Alike.{FollowsAsks, MayRun, running_on}
 
 -- ---- an operation that asks
 

@@ -1,25 +1,6 @@
 -- Operations on globals and their elements.
-use Rattle.std.proofs.Common.{◌≡◌, ℕ, ◌+◌, ◌*◌, ◌^◌, ◌<◌, ◌≤◌, List, [], length, get_or, map, pos, Some, refl, sym, ap, subst, ◌∙◌, arith}
-use Rattle.std.specs.Prelude.{slice_get}
-use Rattle.std.proofs.lemmas.List.{length-map, get_or-map}
+use Rattle.segment_laws.proofs.Common.{◌≡◌, ℕ, ◌+◌, ◌*◌, ◌^◌, ◌<◌, ◌≤◌, List, [], length, get_or, map, pos, Some, refl, sym, ap, subst, ◌∙◌, arith, slice_get, length-map, get_or-map, word_of, width, word_at, with_word, Stops, TrapKind, Instr, read, Op, FlatGlobal, FlatCode, FlatThread, passed, scalar, global_address, global_words, upper_part, lower_part, AreGlobals, Frame, Local, Trapped, Checked}
 use Rattle.cap_word.specs.Word as word
-use Rattle.cap_word.specs.Word.{word_of}
-use Rattle.cap_word.specs.Rows.{width, word_at, with_word}
-use Rattle.cap_word.specs.Runs.{Stops}
-use Rattle.cap_word.specs.declared.traps.TrapKind.{TrapKind}
-use Rattle.rv_code.specs.declared.instructions.Instr.{Instr}
-use Rattle.rv_machine.specs.Registers.{read}
-use Rattle.flat_code.specs.declared.operations.Op.{Op}
-use Rattle.flat_code.specs.declared.programs.FlatGlobal.{FlatGlobal}
-use Rattle.flat_code.specs.Codes.{FlatCode}
-use Rattle.flat_code.specs.Frames.{FlatThread, passed}
-use Rattle.flat_code.specs.Step.{scalar}
-use Rattle.stack_certificate.specs.Certificates.{global_address, global_words}
-use Rattle.stack_certificate.specs.Parts.{upper_part, lower_part}
-use Rattle.machine_world.specs.Globals.{AreGlobals}
-use Rattle.machine_world.specs.InPlace.{Frame}
-use Rattle.machine_world.specs.Local.{Local, Trapped}
-use Rattle.machine_world.specs.Places.{Checked}
 use Rattle.segment_laws.proofs.Facts.{CodeFacts, IsOperationAt}
 use Rattle.segment_laws.proofs.Finish.{store_scalar, Simulates-at, behind_last, Reaches-after}
 use Rattle.segment_laws.proofs.GlobalWords.{element_of, load_global, store_global}

@@ -1,22 +1,7 @@
 -- Words of globals, loaded and stored by a thread within an operation.
-use Rattle.std.proofs.Common.{◌≡◌, ℕ, ◌+◌, ◌-◌, ◌*◌, ◌/◌, ◌^◌, ◌<◌, List, ◌∷◌, length, get_or, set, ℤ, Some, Ok, ap, subst, ◌∙◌, arith, inl, inr}
 use Rattle.cap_word.specs.Word as word
-use Rattle.cap_word.specs.Word.{word_of}
-use Rattle.cap_word.specs.Rows.{word_at, with_word}
-use Rattle.cap_word.specs.Runs.{Goes}
-use Rattle.rv_code.specs.declared.instructions.Instr.{Instr}
-use Rattle.rv_machine.specs.Access.{accessed}
+use Rattle.segment_laws.proofs.Common.{◌≡◌, ℕ, ◌+◌, ◌-◌, ◌*◌, ◌/◌, ◌^◌, ◌<◌, List, ◌∷◌, length, get_or, set, ℤ, Some, Ok, ap, subst, ◌∙◌, arith, inl, inr, word_of, word_at, with_word, Goes, Instr, accessed, read, instruction_at, read-below, Op, FlatThread, global_address, Areas, globals_place, with_byte, Frame, IsGoodAccess, Local, machine_of, local_step, Checked}
 use Rattle.rv_machine.specs.Bytes as bytes
-use Rattle.rv_machine.specs.Registers.{read}
-use Rattle.rv_machine.specs.Step.{instruction_at}
-use Rattle.rv_machine.proofs.WordLaws.{read-below}
-use Rattle.flat_code.specs.declared.operations.Op.{Op}
-use Rattle.flat_code.specs.Frames.{FlatThread}
-use Rattle.stack_certificate.specs.Certificates.{global_address}
-use Rattle.machine_world.specs.Areas.{Areas, globals_place, with_byte}
-use Rattle.machine_world.specs.InPlace.{Frame, IsGoodAccess}
-use Rattle.machine_world.specs.Local.{Local, machine_of, local_step}
-use Rattle.machine_world.specs.Places.{Checked}
 use Rattle.segment_laws.proofs.Facts.{CodeFacts, IsOperationAt, Fit-areas}
 use Rattle.segment_laws.proofs.Inside.{IsWholeWord, IsGoodState-inside, pc_next, IsValueRegister, set_register}
 use Rattle.segment_laws.proofs.Registers.{step-is, with_areas, effect-lw, move-sw}

@@ -1,24 +1,8 @@
 -- The guard of an index: in range it goes on behind the guard with the index in t0, and else it traps.
-use Rattle.std.proofs.Common.{◌≡◌, ℕ, ◌+◌, ◌^◌, ◌<◌, ◌≤◌, List, ◌∷◌, get_or, pos, true, false, Some, None, refl, sym, ap, subst, ◌∙◌, arith}
-use Rattle.std.specs.Prelude.{slice_get, nat_lt}
-use Rattle.std.proofs.lemmas.Bool.{lt-ltb, le-ltb}
+use Rattle.segment_laws.proofs.Common.{◌≡◌, ℕ, ◌+◌, ◌^◌, ◌<◌, ◌≤◌, List, ◌∷◌, get_or, pos, true, false, Some, None, refl, sym, ap, subst, ◌∙◌, arith, slice_get, nat_lt, lt-ltb, le-ltb, Instr, accessed, effect, read, branches, Op, function_at, FlatThread, scalar, fact_at, upper_part, lower_part, size, kind_of, Frame, IsGoodAccess, Checked}
 use Rattle.cap_word.specs.Word as word
-use Rattle.rv_code.specs.declared.instructions.Instr.{Instr}
-use Rattle.rv_machine.specs.Access.{accessed}
-use Rattle.rv_machine.specs.Effect.{effect}
-use Rattle.rv_machine.specs.Registers.{read}
 use Rattle.rv_machine.specs.Rows as rows
-use Rattle.rv_machine.specs.Rows.{branches}
-use Rattle.flat_code.specs.declared.operations.Op.{Op}
-use Rattle.flat_code.specs.Codes.{function_at}
-use Rattle.flat_code.specs.Frames.{FlatThread}
-use Rattle.flat_code.specs.Step.{scalar}
-use Rattle.stack_certificate.specs.Certificates.{fact_at}
-use Rattle.stack_certificate.specs.Parts.{upper_part, lower_part}
-use Rattle.stack_certificate.specs.Templates.{size, kind_of}
-use Rattle.machine_world.specs.InPlace.{Frame, IsGoodAccess}
 use Rattle.machine_world.specs.Local.{Local, machine_of, local_move, local_step, system_call, trapped}
-use Rattle.machine_world.specs.Places.{Checked}
 use Rattle.segment_laws.proofs.Facts.{CodeFacts, IsOperationAt}
 use Rattle.segment_laws.proofs.Immediate.{words_of, fetch_at, is_t0, is_t1, is_a0, is_a7, add_immediate, load_immediate}
 use Rattle.segment_laws.proofs.Inside.{IsWholeWord, IsGoodState-inside, pc_next}

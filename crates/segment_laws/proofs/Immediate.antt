@@ -1,24 +1,7 @@
 -- A value that is put into a register by one or two instructions, and the instructions of an operation by their number.
-use Rattle.std.proofs.Common.{◌≡◌, ℕ, ◌+◌, ◌^◌, ◌<◌, List, ℤ, pos, Some, None, Ok, refl, ap, subst, ◌∙◌, arith}
-use Rattle.std.specs.Prelude.{slice_get}
+use Rattle.segment_laws.proofs.Common.{◌≡◌, ℕ, ◌+◌, ◌^◌, ◌<◌, List, ℤ, pos, Some, None, Ok, refl, ap, subst, ◌∙◌, arith, slice_get, word_of, Instr, accessed, effect, upper, read, sets, instruction_at, Op, function_at, FlatThread, fact_at, upper_part, lower_part, begin, row, setting, Frame, Local, machine_of, Checked}
 use Rattle.cap_word.specs.Word as word
-use Rattle.cap_word.specs.Word.{word_of}
-use Rattle.rv_code.specs.declared.instructions.Instr.{Instr}
-use Rattle.rv_machine.specs.Access.{accessed}
-use Rattle.rv_machine.specs.Effect.{effect, upper}
-use Rattle.rv_machine.specs.Registers.{read}
 use Rattle.rv_machine.specs.Rows as rows
-use Rattle.rv_machine.specs.Rows.{sets}
-use Rattle.rv_machine.specs.Step.{instruction_at}
-use Rattle.flat_code.specs.declared.operations.Op.{Op}
-use Rattle.flat_code.specs.Codes.{function_at}
-use Rattle.flat_code.specs.Frames.{FlatThread}
-use Rattle.stack_certificate.specs.Certificates.{fact_at}
-use Rattle.stack_certificate.specs.Parts.{upper_part, lower_part}
-use Rattle.stack_certificate.specs.Templates.{begin, row, setting}
-use Rattle.machine_world.specs.InPlace.{Frame}
-use Rattle.machine_world.specs.Local.{Local, machine_of}
-use Rattle.machine_world.specs.Places.{Checked}
 use Rattle.segment_laws.proofs.Facts.{IsOperationAt}
 use Rattle.segment_laws.proofs.Inside.{Inside, IsWholeWord, IsValueRegister}
 use Rattle.segment_laws.proofs.Numbers.{li_value}

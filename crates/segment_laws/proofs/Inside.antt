@@ -1,23 +1,8 @@
 -- A thread in a word of an operation, where its running frame is whole: what an instruction there needs, and what it leaves.
-use Rattle.std.proofs.Common.{◌≡◌, ℕ, ◌+◌, ◌*◌, ◌<◌, List, ◌∷◌, Option, Ok, refl, sym, ap, subst, ◌∙◌, arith}
 use Rattle.cap_word.specs.Word as word
-use Rattle.cap_word.specs.Runs.{Goes}
-use Rattle.chunk_pool.specs.Pool.{payload_place_of}
-use Rattle.rv_code.specs.declared.instructions.Instr.{Instr}
-use Rattle.rv_machine.specs.Access.{accessed}
-use Rattle.rv_machine.specs.Effect.{effect}
-use Rattle.rv_machine.specs.Registers.{read}
-use Rattle.rv_machine.specs.Rows.{sets}
-use Rattle.rv_machine.specs.Step.{instruction_at}
-use Rattle.flat_code.specs.declared.operations.Op.{Op}
-use Rattle.flat_code.specs.Codes.{function_at, operation_at}
-use Rattle.stack_certificate.specs.Templates.{begin, size, kind_of}
-use Rattle.machine_world.specs.InPlace.{Frame, return_word, IsStack, FramesAt, TpIsFront, HasFrames, IsGoodAccess}
-use Rattle.stack_certificate.specs.Registers.{tp}
-use Rattle.machine_world.specs.Local.{Local, machine_of, local_move, local_step}
-use Rattle.machine_world.specs.Places.{Checked, InOperation, Row, Whole, row_in, row_at, size_in}
+use Rattle.segment_laws.proofs.Common.{◌≡◌, ℕ, ◌+◌, ◌*◌, ◌<◌, List, ◌∷◌, Option, Ok, refl, sym, ap, subst, ◌∙◌, arith, Goes, payload_place_of, Instr, accessed, effect, read, sets, instruction_at, Op, function_at, operation_at, begin, size, kind_of, Frame, return_word, IsStack, FramesAt, TpIsFront, HasFrames, IsGoodAccess, tp, Local, machine_of, local_move, local_step, Checked, InOperation, Row, Whole, row_in, row_at, size_in, read-write_same}
 use Rattle.segment_laws.proofs.Facts.{IsOperationAt}
-use Rattle.segment_laws.proofs.Registers.{read-write_same, read-write_other, add-small, step-is, access-is, with_register, move-sets}
+use Rattle.segment_laws.proofs.Registers.{read-write_other, add-small, step-is, access-is, with_register, move-sets}
 use Rattle.segment_laws.proofs.Ways.{IsGoodState, Leads, Leads-one, HasForm-next}
 pub use Rattle.segment_laws.specs.Simulation.{IsBody, Inside}
 

@@ -1,26 +1,8 @@
 -- Instructions that change pc alone: within an operation, and to another one.
-use Rattle.std.proofs.Common.{◌≡◌, ℕ, zero, suc, ◌+◌, ◌-◌, ◌*◌, ◌%◌, ◌^◌, ◌<◌, List, [], ◌∷◌, length, ℤ, pos, ◌-ℤ◌, Bool, true, false, not, Some, None, refl, sym, ap, subst, ◌∙◌, arith, cond}
-use Rattle.std.specs.Prelude.{slice_get, nat_eq, ◌==◌}
-use Rattle.std.proofs.lemmas.Bool.{eq-eqb, ne_eqb}
+use Rattle.segment_laws.proofs.Common.{◌≡◌, ℕ, zero, suc, ◌+◌, ◌-◌, ◌*◌, ◌%◌, ◌^◌, ◌<◌, List, [], ◌∷◌, length, ℤ, pos, ◌-ℤ◌, Bool, true, false, not, Some, None, refl, sym, ap, subst, ◌∙◌, arith, cond, slice_get, nat_eq, ◌==◌, eq-eqb, ne_eqb, word_of, Goes, Instr, Misaligned, accessed, Nothing, effect, read, Op, function_at, FlatThread, scalar, begin, Frame, IsGoodAccess, Local, machine_of, local_move, local_step, Checked}
 use Rattle.cap_word.specs.Word as word
-use Rattle.cap_word.specs.Word.{word_of}
-use Rattle.cap_word.specs.Runs.{Goes}
-use Rattle.rv_code.specs.declared.instructions.Instr.{Instr}
-use Rattle.cap_word.specs.declared.faults.FaultKind.TheVariants.{Misaligned}
-use Rattle.rv_machine.specs.Access.{accessed}
-use Rattle.rv_machine.specs.Bytes.{Nothing}
-use Rattle.rv_machine.specs.Effect.{effect}
-use Rattle.rv_machine.specs.Registers.{read}
 use Rattle.rv_machine.specs.Rows as rows
 use Rattle.rv_machine.specs.Rows.{passes, branches, jumps, relative}
-use Rattle.flat_code.specs.declared.operations.Op.{Op}
-use Rattle.flat_code.specs.Codes.{function_at}
-use Rattle.flat_code.specs.Frames.{FlatThread}
-use Rattle.flat_code.specs.Step.{scalar}
-use Rattle.stack_certificate.specs.Templates.{begin}
-use Rattle.machine_world.specs.InPlace.{Frame, IsGoodAccess}
-use Rattle.machine_world.specs.Local.{Local, machine_of, local_move, local_step}
-use Rattle.machine_world.specs.Places.{Checked}
 use Rattle.segment_laws.proofs.Facts.{CodeFacts, IsOperationAt}
 use Rattle.segment_laws.proofs.Finish.{frame_at, flat_at, Reaches-after}
 use Rattle.segment_laws.proofs.Immediate.{words_of, fetch_at, is_t0}

@@ -1,22 +1,10 @@
 -- The law of one segment, as a lemma for the crates above.
-use Rattle.std.proofs.Common.{◌∷◌}
-use Rattle.certificate_rules.specs.Validity.{IsValid}
-use Rattle.flat_code.specs.Codes.{FlatCode}
-use Rattle.flat_code.specs.Frames.{FlatThread}
-use Rattle.flat_code.specs.WellFormed.{IsWellFormed}
-use Rattle.machine_world.specs.Local.{Local}
-use Rattle.machine_world.specs.Places.{Checked}
-use Rattle.machine_world.specs.StandsFor.{StandsForFlatThread}
+use Rattle.segment_laws.proofs.Common.{◌∷◌, IsValid, FlatCode, FlatThread, IsWellFormed, Local, Checked, StandsForFlatThread, ZeroesSome, HasForm, FollowsAsks, IsNeverLost, MayRun, running_on, RunsAlike, Certificate, Image}
 use Rattle.segment_laws.proofs.ValidCalls.{CallFacts-valid}
 use Rattle.segment_laws.proofs.ValidFacts.{CodeFacts-valid}
-use Rattle.segment_laws.specs.Zeroes.{ZeroesSome}
-use Rattle.segment_laws.specs.Ways.{HasForm}
 use Rattle.segment_laws.proofs.Needs.{NeedsFit-valid}
 use Rattle.segment_laws.proofs.Reaching.{runs_alike}
 use Rattle.segment_laws.proofs.FromRest.{rest_arrives}
-use Rattle.segment_laws.specs.Alike.{FollowsAsks, IsNeverLost, MayRun, running_on, RunsAlike}
-use Rattle.stack_certificate.specs.declared.certificates.Certificate.{Certificate}
-use Rattle.stack_image.specs.declared.images.Image.{Image}
 
 pub segment_runs : (flat : FlatCode) (image : Image) (certificate : Certificate) (l : Local) (t : FlatThread) → IsWellFormed flat → ZeroesSome flat → FollowsAsks flat → IsValid flat image certificate →
     HasForm (record { flat = flat; certificate = certificate }) l → (stands : StandsForFlatThread (record { flat = flat; certificate = certificate }) l (t.frame ∷ t.below) t.globals) →

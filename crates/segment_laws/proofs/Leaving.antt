@@ -1,31 +1,12 @@
 -- A function is left: the return address is loaded, its frame is given up, and the jump leads to where it was called.
-use Rattle.std.proofs.Common.{◌≡◌, ℕ, ◌+◌, ◌-◌, ◌*◌, ◌%◌, ◌^◌, ◌<◌, ◌≤◌, Bool, true, false, List, [], ◌∷◌, length, pos, Option, Some, None, Ok, refl, sym, ap, subst, ◌∙◌, arith, lit<}
-use Rattle.std.specs.Prelude.{nat_eq}
+use Rattle.segment_laws.proofs.Common.{◌≡◌, ℕ, ◌+◌, ◌-◌, ◌*◌, ◌%◌, ◌^◌, ◌<◌, ◌≤◌, Bool, true, false, List, [], ◌∷◌, length, pos, Option, Some, None, Ok, refl, sym, ap, subst, ◌∙◌, arith, lit<, nat_eq, word_of, Goes, Pool, end_of, payload_place_of, place_of-bounded, Instr, accessed, effect, read, instruction_at, read-below, Op, function_at, operation_at, fact_at, begin, size, kind_of, Frame, IsFrame, ReturnsInto, IsStack, low_below, HeadersName, Local, machine_of, local_move, local_step, Checked, InOperation, Empty, row_in, row_at, size_in, HasForm, read-write_same}
 use Rattle.cap_word.specs.Word as word
-use Rattle.cap_word.specs.Word.{word_of}
-use Rattle.cap_word.specs.Runs.{Goes}
-use Rattle.chunk_pool.specs.Pool.{Pool, end_of, payload_place_of}
-use Rattle.chunk_pool.proofs.AddressLaws.{place_of-bounded}
-use Rattle.rv_code.specs.declared.instructions.Instr.{Instr}
-use Rattle.rv_machine.specs.Access.{accessed}
-use Rattle.rv_machine.specs.Effect.{effect}
-use Rattle.rv_machine.specs.Registers.{read}
 use Rattle.rv_machine.specs.Rows.{sets, jumps}
-use Rattle.rv_machine.specs.Step.{instruction_at}
-use Rattle.rv_machine.proofs.WordLaws.{read-below}
-use Rattle.flat_code.specs.declared.operations.Op.{Op}
-use Rattle.flat_code.specs.Codes.{function_at, operation_at}
-use Rattle.stack_certificate.specs.Certificates.{fact_at}
-use Rattle.stack_certificate.specs.Templates.{begin, size, kind_of}
-use Rattle.machine_world.specs.InPlace.{Frame, IsFrame, ReturnsInto, IsStack, low_below, HeadersName}
-use Rattle.machine_world.specs.Local.{Local, machine_of, local_move, local_step}
-use Rattle.machine_world.specs.Places.{Checked, InOperation, Empty, row_in, row_at, size_in}
-use Rattle.segment_laws.specs.Ways.{HasForm}
 use Rattle.segment_laws.proofs.Calling.{jumped, move-jumps}
 use Rattle.segment_laws.proofs.Facts.{CodeFacts, IsOperationAt}
 use Rattle.segment_laws.proofs.FrameWords.{stack_frame, load_word}
 use Rattle.segment_laws.proofs.Inside.{Inside, IsWholeWord, IsGoodState-inside, pc_next}
-use Rattle.segment_laws.proofs.Registers.{read-write_same, read-write_other, add-small, word_of-small, step-is, with_register, move-sets}
+use Rattle.segment_laws.proofs.Registers.{read-write_other, add-small, word_of-small, step-is, with_register, move-sets}
 use Rattle.segment_laws.proofs.Stacks.{IsFront}
 use Rattle.segment_laws.proofs.Standing.{Standing, stepped}
 use Rattle.segment_laws.proofs.Ways.{Leads, Leads-one, Leads-then, HasForm-next}

@@ -1,3 +1,4 @@
+mod Common
 pub mod Spots
 pub mod Words
 pub mod Ways

@@ -1,27 +1,8 @@
 -- The transfer of a call at a linked site: the test of the room that is left, and the call in the caller's chunk where
 -- there is enough.
-use Rattle.std.proofs.Common.{◌≡◌, ℕ, ◌+◌, ◌-◌, ◌*◌, ◌^◌, ◌<◌, ◌≤◌, false, List, ◌∷◌, pos, Option, Some, None, refl, sym, ap, subst, ◌∙◌, arith}
-use Rattle.std.specs.Prelude.{slice_get, nat_lt}
-use Rattle.std.proofs.lemmas.Bool.{le-ltb}
+use Rattle.segment_laws.proofs.Common.{◌≡◌, ℕ, ◌+◌, ◌-◌, ◌*◌, ◌^◌, ◌<◌, ◌≤◌, false, List, ◌∷◌, pos, Option, Some, None, refl, sym, ap, subst, ◌∙◌, arith, slice_get, nat_lt, le-ltb, place_of, payload_place_of, end_of, place_of-bounded, Instr, accessed, effect, read, sets, branches, Op, FlatThread, pushed, LinkKind, fact_at, upper_part, lower_part, transfer, call_instruction, begin, kind_of, transfer_size, Frame, Local, machine_of, local_move, Checked, through_call}
 use Rattle.cap_word.specs.Word as word
-use Rattle.cap_word.specs.Word.{word_of}
-use Rattle.chunk_pool.specs.Pool.{place_of, payload_place_of, end_of}
-use Rattle.chunk_pool.proofs.AddressLaws.{place_of-bounded}
-use Rattle.rv_code.specs.declared.instructions.Instr.{Instr}
-use Rattle.rv_machine.specs.Access.{accessed}
-use Rattle.rv_machine.specs.Effect.{effect}
-use Rattle.rv_machine.specs.Registers.{read}
 use Rattle.rv_machine.specs.Rows as rows
-use Rattle.rv_machine.specs.Rows.{sets, branches}
-use Rattle.flat_code.specs.declared.operations.Op.{Op}
-use Rattle.flat_code.specs.Frames.{FlatThread, pushed}
-use Rattle.stack_certificate.specs.declared.sites.LinkKind.{LinkKind}
-use Rattle.stack_certificate.specs.Certificates.{fact_at}
-use Rattle.stack_certificate.specs.Parts.{upper_part, lower_part, transfer, call_instruction}
-use Rattle.stack_certificate.specs.Templates.{begin, kind_of, transfer_size}
-use Rattle.machine_world.specs.InPlace.{Frame}
-use Rattle.machine_world.specs.Local.{Local, machine_of, local_move}
-use Rattle.machine_world.specs.Places.{Checked, through_call}
 use Rattle.segment_laws.proofs.Calling.{row_before}
 use Rattle.segment_laws.proofs.CallShapes.{CallShape, transfer_slice}
 use Rattle.segment_laws.proofs.Facts.{CodeFacts, IsOperationAt}

@@ -1,24 +1,7 @@
 -- The far path of a linked transfer: LINK takes a chunk, and the call is made on it.
-use Rattle.std.proofs.Common.{◌≡◌, ℕ, ◌+◌, ◌-◌, ◌<◌, ◌≤◌, Bool, true, cond, List, [], ◌∷◌, length, get_or, set, pos, Some, refl, ap, subst, ◌∙◌, arith, lit<, get_or-set_same}
-use Rattle.std.specs.Prelude.{nat_eq, nat_lt, ◌||◌}
-use Rattle.std.proofs.lemmas.Bool.{lt-ltb, eq-eqb, cond_both}
-use Rattle.std.proofs.lemmas.List.{length-set}
+use Rattle.segment_laws.proofs.Common.{◌≡◌, ℕ, ◌+◌, ◌-◌, ◌<◌, ◌≤◌, Bool, true, cond, List, [], ◌∷◌, length, get_or, set, pos, Some, refl, ap, subst, ◌∙◌, arith, lit<, get_or-set_same, nat_eq, nat_lt, ◌||◌, lt-ltb, eq-eqb, cond_both, length-set, taken_for-leaves, taken_for-keeps, taken_for-shape, Instr, read, Op, FlatThread, LinkKind, kind_of, transfer_size, copies, Frame, Local, machine_of, local_step, linked, with_header, saved_sp, Checked, Whole, Linking, transfer_row, HasForm, copies-cons, IsChunk-chunk_of, words_of-payload}
 use Rattle.cap_word.specs.Word as word
-use Rattle.cap_word.specs.Word.{word_of}
 use Rattle.chunk_pool.specs.Pool.{Pool, Taken, taken_for, chunk_of, word_of as pool_word, with_word as with_pool_word, end_of, payload_place_of, IsPool, words_of, all_free}
-use Rattle.chunk_pool.proofs.NeedLaws.{taken_for-leaves, taken_for-keeps, taken_for-shape}
-use Rattle.rv_code.specs.declared.instructions.Instr.{Instr}
-use Rattle.rv_machine.specs.Registers.{read}
-use Rattle.flat_code.specs.declared.operations.Op.{Op}
-use Rattle.flat_code.specs.Frames.{FlatThread}
-use Rattle.stack_certificate.specs.declared.sites.LinkKind.{LinkKind}
-use Rattle.stack_certificate.specs.Templates.{kind_of, transfer_size}
-use Rattle.machine_world.specs.Held.{copies}
-use Rattle.machine_world.specs.InPlace.{Frame}
-use Rattle.machine_world.specs.Local.{Core, Local, LocalMove, NoRoom, machine_of, local_move, local_step, linked, linked_on, with_header, saved_tp, saved_sp, system_call}
-use Rattle.machine_world.specs.Places.{Checked, Whole, Linking, transfer_row}
-use Rattle.segment_laws.specs.Ways.{HasForm}
-use Rattle.machine_world.proofs.HeldLaws.{copies-cons}
 use Rattle.segment_laws.proofs.Agreeing.{Agrees}
 use Rattle.segment_laws.proofs.CallShapes.{CallShape}
 use Rattle.segment_laws.proofs.Facts.{IsOperationAt}
@@ -30,20 +13,12 @@ use Rattle.segment_laws.proofs.Registers.{add-small, word_of-small}
 use Rattle.segment_laws.proofs.Simulation.{During}
 use Rattle.segment_laws.proofs.Stacks.{word_of-other}
 use Rattle.segment_laws.proofs.Ways.{IsGoodState, Leads, Leads-then}
-use Rattle.chunk_pool.proofs.ShapeLaws.{IsChunk-chunk_of, words_of-payload}
 
 -- ---- a header
 
 word_same : (p : Pool) (chunk k value : ℕ) → chunk < length p.contents → k < length (chunk_of p chunk) → pool_word (with_pool_word p chunk k value) chunk k ≡ value
 word_same p chunk k value there small =
     ap (λ (row : List ℕ). get_or row k 0) (get_or-set_same p.contents chunk (set (chunk_of p chunk) k value) [] there) ∙ get_or-set_same (chunk_of p chunk) k value 0 small
-
-pub header_tp : (p : Pool) (chunk tp_now sp_now : ℕ) → IsPool p → chunk < p.count → saved_tp (with_header p chunk tp_now sp_now) chunk ≡ tp_now
-header_tp p chunk tp_now sp_now sound lt =
-    let there : chunk < length p.contents = omega (arith, sound.count_is, lt) in
-    let long : length (chunk_of p chunk) ≡ words_of p chunk = (IsChunk-chunk_of p chunk sound lt).length in
-    let fits = words_of-payload p chunk sound lt in
-    word_of-other (with_pool_word p chunk 0 tp_now) chunk 1 sp_now chunk 0 (λ e k. omega arith) ∙ word_same p chunk 0 tp_now there (omega (arith, long, fits))
 
 pub header_sp : (p : Pool) (chunk tp_now sp_now : ℕ) → IsPool p → chunk < p.count → saved_sp (with_header p chunk tp_now sp_now) chunk ≡ sp_now
 header_sp p chunk tp_now sp_now sound lt =

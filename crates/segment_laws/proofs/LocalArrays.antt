@@ -1,26 +1,7 @@
 -- Elements of a variable, by an index behind its guard.
-use Rattle.std.proofs.Common.{◌≡◌, ℕ, ◌+◌, ◌*◌, ◌%◌, ◌^◌, ◌<◌, ◌≤◌, List, length, get_or, set, pos, Some, None, refl, sym, ap, subst, ◌∙◌, arith, get_or-set_same, get_or-set_other}
-use Rattle.std.specs.Prelude.{slice_get}
-use Rattle.std.proofs.lemmas.List.{length-set}
+use Rattle.segment_laws.proofs.Common.{◌≡◌, ℕ, ◌+◌, ◌*◌, ◌%◌, ◌^◌, ◌<◌, ◌≤◌, List, length, get_or, set, pos, Some, None, refl, sym, ap, subst, ◌∙◌, arith, get_or-set_same, get_or-set_other, slice_get, length-set, word_of, Stops, TrapKind, Instr, accessed, effect, read, sets, Op, function_at, FlatThread, variable, passed, set_to, scalar, fact_at, Frame, word_in, Local, Trapped, machine_of, Checked, variable_word}
 use Rattle.cap_word.specs.Word as word
-use Rattle.cap_word.specs.Word.{word_of}
-use Rattle.cap_word.specs.Runs.{Stops}
-use Rattle.cap_word.specs.declared.traps.TrapKind.{TrapKind}
-use Rattle.rv_code.specs.declared.instructions.Instr.{Instr}
-use Rattle.rv_machine.specs.Access.{accessed}
-use Rattle.rv_machine.specs.Effect.{effect}
-use Rattle.rv_machine.specs.Registers.{read}
 use Rattle.rv_machine.specs.Rows as rows
-use Rattle.rv_machine.specs.Rows.{sets}
-use Rattle.flat_code.specs.declared.operations.Op.{Op}
-use Rattle.flat_code.specs.Codes.{function_at}
-use Rattle.flat_code.specs.Frames.{FlatThread, variable, passed, set_to}
-use Rattle.flat_code.specs.Step.{scalar}
-use Rattle.stack_certificate.specs.Certificates.{fact_at}
-use Rattle.machine_world.specs.InPlace.{Frame, word_in}
-use Rattle.machine_world.specs.Local.{Local, Trapped, machine_of}
-use Rattle.machine_world.specs.Places.{Checked}
-use Rattle.machine_world.specs.Rests.{variable_word}
 use Rattle.segment_laws.proofs.Facts.{CodeFacts, IsOperationAt}
 use Rattle.segment_laws.proofs.Finish.{store_scalar, store_variable, Simulates-at, behind_last, Reaches-after}
 use Rattle.segment_laws.proofs.FrameWords.{InFrame-inside, frame_bounded, load_at}

@@ -1,11 +1,5 @@
 -- The member of a table that is called: a function with one parameter.
-use Rattle.std.proofs.Common.{◌≡◌, ℕ, ◌<◌, [], length, map, get_or, sym, ◌∙◌, arith}
-use Rattle.std.proofs.lemmas.List.{length-map, get_or_default}
-use Rattle.std.specs.Prelude.{Contains}
-use Rattle.flat_code.specs.Codes.{function_at, members_of}
-use Rattle.flat_code.specs.WellFormed.{signature_of, IsWellFormed}
-use Rattle.cap_word.specs.Signatures.{IsMember, IsTable}
-use Rattle.machine_world.specs.Places.{Checked}
+use Rattle.segment_laws.proofs.Common.{◌≡◌, ℕ, ◌<◌, [], length, map, get_or, sym, ◌∙◌, arith, length-map, get_or_default, Contains, function_at, members_of, signature_of, IsWellFormed, IsMember, IsTable, Checked}
 use Rattle.segment_laws.proofs.StandingCode.{all_index}
 use Rattle.segment_laws.proofs.PlainCalls.{parameters_of}
 

@@ -1,13 +1,10 @@
 -- The modelled calls by their numbers: what an ECALL asks where the argument registers hold a call's arguments.
-use Rattle.std.proofs.Common.{◌≡◌, ℕ, ◌+◌, ◌<◌, ◌≤◌, List, length, get_or, Some, refl, ap, ◌∙◌, arith}
-use Rattle.cap_word.specs.Calls.{Call, Blocking, Immediate, call_of, call_with}
+use Rattle.segment_laws.proofs.Common.{◌≡◌, ℕ, ◌+◌, ◌<◌, ◌≤◌, List, length, get_or, Some, refl, ap, ◌∙◌, arith, Call, Blocking, Immediate, call_of, call_with, Asks, read}
 use Rattle.cap_word.specs.ModelledCalls.{number_of, parameters_of}
 use Rattle.cap_word.specs.declared.calls.Ask.{Ask}
 use Rattle.cap_word.specs.declared.calls.Block.{Block}
 use Rattle.cap_word.specs.declared.modelled_calls.ModelledCall.{ModelledCall}
-use Rattle.cap_word.specs.Runs.{Asks}
 use Rattle.c_mean.proofs.CallLemmas.{made_of}
-use Rattle.rv_machine.specs.Registers.{read}
 use Rattle.machine_world.specs.Local.{Local, Calls, system_call}
 
 -- the ECALL asks the call

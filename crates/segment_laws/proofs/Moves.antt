@@ -1,11 +1,6 @@
 -- Silent steps of the machine and of flat code, one after another.
-use Rattle.std.proofs.Common.{◌≡◌, ℕ, zero, suc, ◌+◌, ◌<◌, List, refl, sym, ap, subst, ◌∙◌, arith}
-use Rattle.cap_word.specs.Runs.{Move, Goes, moves, and_then}
-use Rattle.cap_word.proofs.RunLemmas.{goes_on}
-use Rattle.machine_world.specs.Local.{Local, LocalMove, local_step, local_machine}
-use Rattle.machine_world.specs.Places.{Checked}
+use Rattle.segment_laws.proofs.Common.{◌≡◌, ℕ, zero, suc, ◌+◌, ◌<◌, List, refl, sym, ap, subst, ◌∙◌, arith, Move, Goes, moves, and_then, goes_on, Local, LocalMove, local_step, local_machine, Checked, Comes}
 use Rattle.segment_laws.proofs.Ways.{HasForm, IsGoodState, WayIn, Leads, HasForm-next}
-use Rattle.segment_laws.specs.Alike.{Comes}
 
 -- ---- steps of the machine
 
@@ -47,7 +42,7 @@ HasForm-comes c code (suc k) l at form comes =
 
 -- ---- good steps
 
-way_comes : (c : Checked) (code : List ℕ) (n : ℕ) (l after : Local) → WayIn c code n l after → Comes code n l after
+pub way_comes : (c : Checked) (code : List ℕ) (n : ℕ) (l after : Local) → WayIn c code n l after → Comes code n l after
 way_comes c code zero l after way = ap Goes way
 way_comes c code (suc n) l after way = Comes-suc code n l way.1.0 after way.1.1 (way_comes c code n way.1.0 after way.1.2)
 

@@ -1,22 +1,5 @@
 -- What a linked call and a new thread need fits a chunk.
-use Rattle.std.proofs.Common.{◌≡◌, ℕ, ◌+◌, ◌<◌, ◌≤◌, List, [], ◌∷◌, length, map, Option, Some, true, refl, ◌∙◌, subst, arith}
-use Rattle.std.proofs.lemmas.Bool.{false≢true}
-use Rattle.std.specs.List.{AllByRecursion}
-use Rattle.std.proofs.lemmas.List.{length-map}
-use Rattle.flat_code.specs.declared.operations.Op.{Op}
-use Rattle.flat_code.specs.Codes.{FlatCode, function_at, operation_at, members_of}
-use Rattle.flat_code.specs.WellFormed.{signature_of, IsOperation, IsFunction, IsWellFormed, context_of}
-use Rattle.cap_word.specs.Signatures.{IsMember, IsTable}
-use Rattle.stack_image.specs.declared.images.Image.{Image}
-use Rattle.stack_certificate.specs.declared.certificates.Certificate.{Certificate}
-use Rattle.stack_certificate.specs.declared.sites.LinkKind.{LinkKind}
-use Rattle.stack_certificate.specs.Certificates.{fact_at, need_of}
-use Rattle.stack_certificate.specs.Templates.{kind_of}
-use Rattle.certificate_rules.specs.Rules.{IsNeed}
-use Rattle.certificate_rules.specs.Sites.{certified_site, greatest_bound, callee_bound, is_spawned}
-use Rattle.certificate_rules.specs.Validity.{IsValid}
-use Rattle.machine_world.specs.InPlace.{Calls}
-use Rattle.machine_world.specs.Places.{Checked}
+use Rattle.segment_laws.proofs.Common.{◌≡◌, ℕ, ◌+◌, ◌<◌, ◌≤◌, List, [], ◌∷◌, length, map, Option, Some, true, refl, ◌∙◌, subst, arith, false≢true, AllByRecursion, length-map, Op, FlatCode, function_at, operation_at, members_of, signature_of, IsOperation, IsFunction, IsWellFormed, context_of, IsMember, IsTable, Image, Certificate, LinkKind, fact_at, need_of, kind_of, IsNeed, certified_site, greatest_bound, callee_bound, is_spawned, IsValid, Calls, Checked}
 use Rattle.segment_laws.proofs.StandingCode.{all_at, all_index}
 
 -- with the header of 16 bytes

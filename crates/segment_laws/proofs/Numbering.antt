@@ -1,10 +1,5 @@
 -- Threads that are found by their numbers, in the order of the numbers.
-use Rattle.std.proofs.Common.{◌≡◌, ℕ, zero, suc, ◌+◌, ◌<◌, ◌≤◌, Bool, true, false, cond, not, List, [], ◌∷◌, ◌++◌, length, Option, Some, None, refl, sym, ap, subst, ◌∙◌, arith, ⊎_elim}
-use Rattle.std.specs.Prelude.{nat_eq}
-use Rattle.std.specs.List.{AllByRecursion}
-use Rattle.std.proofs.lemmas.Bool.{eq-eqb, ne_eqb, cases_eq}
-use Rattle.machine_world.specs.Threads.{Thread, first_with, replaced, without}
-use Rattle.segment_laws.specs.Found.{with_found, threads_from}
+use Rattle.segment_laws.proofs.Common.{◌≡◌, ℕ, zero, suc, ◌+◌, ◌<◌, ◌≤◌, Bool, true, false, cond, not, List, [], ◌∷◌, ◌++◌, length, Option, Some, None, refl, sym, ap, subst, ◌∙◌, arith, ⊎_elim, nat_eq, AllByRecursion, eq-eqb, ne_eqb, cases_eq, Thread, first_with, replaced, without, with_found, threads_from}
 
 -- what is found has its number
 abbrev pub AreNamed : (ℕ → Option Thread) → Type 0

@@ -1,11 +1,5 @@
 -- Sums of words as templates make them: an immediate in two parts, differences, and comparisons from differences.
-use Rattle.std.proofs.Common.{◌≡◌, ℕ, zero, suc, ◌+◌, ◌-◌, ◌*◌, ◌/◌, ◌%◌, ◌^◌, ◌<◌, ◌≤◌, Bool, true, false, not, ℤ, pos, negsuc, ◌-ℤ◌, refl, sym, ap, ◌∙◌, arith, lit<, ⊎_elim}
-use Rattle.std.specs.Prelude.{nat_eq, nat_le, nat_lt, int_lt, int_le, bit_xor, unsigned_abs}
-use Rattle.std.proofs.lemmas.Bool.{cond-true, cond-false, cases_eq, cases_lt, lt-ltb, le-ltb, lt-leb, le-leb, eq-eqb, ne_eqb}
-use Rattle.std.proofs.lemmas.Int.{ints, int_rem_euclid_is}
-use Rattle.cap_word.specs.Word.{word_of, add, sub, flag}
-use Rattle.rv_machine.specs.Effect.{upper}
-use Rattle.stack_certificate.specs.Parts.{upper_part, lower_part}
+use Rattle.segment_laws.proofs.Common.{◌≡◌, ℕ, zero, suc, ◌+◌, ◌-◌, ◌*◌, ◌/◌, ◌%◌, ◌^◌, ◌<◌, ◌≤◌, Bool, true, false, not, ℤ, pos, negsuc, ◌-ℤ◌, refl, sym, ap, ◌∙◌, arith, lit<, ⊎_elim, nat_eq, nat_le, nat_lt, int_lt, int_le, bit_xor, unsigned_abs, cond-true, cond-false, cases_eq, cases_lt, lt-ltb, le-ltb, lt-leb, le-leb, eq-eqb, ne_eqb, ints, int_rem_euclid_is, word_of, add, sub, flag, upper, upper_part, lower_part}
 use Rattle.segment_laws.proofs.Registers.{word_of-small}
 
 pub word_of-difference : (a b : ℕ) → b ≤ 2 ^ 32 → word_of (pos a -ℤ pos b) ≡ (a + (2 ^ 32 - b)) % 2 ^ 32

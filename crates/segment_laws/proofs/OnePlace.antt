@@ -1,17 +1,5 @@
 -- In code with a valid certificate each pc has one place at most.
-use Rattle.std.proofs.Common.{◌≡◌, ℕ, zero, suc, ◌+◌, ◌*◌, ◌<◌, ◌≤◌, List, [], ◌∷◌, length, take, Option, Some, None, slice_get, refl, sym, ap, ◌∙◌, arith, ⊎_elim}
-use Rattle.std.specs.Prelude.{sum_by}
-use Rattle.std.proofs.lemmas.Bool.{cases_eq, cases_lt}
-use Rattle.std.proofs.lemmas.List.Sums.{sum_by-cons}
-use Rattle.flat_code.specs.Codes.{FlatCode, function_at, operation_at}
-use Rattle.flat_code.specs.declared.operations.Op.{Op}
-use Rattle.stack_image.specs.declared.images.Image.{Image}
-use Rattle.stack_certificate.specs.Certificates.{fact_at}
-use Rattle.stack_certificate.specs.Templates.{words_before, size, size_at, kind_of}
-use Rattle.stack_certificate.specs.declared.certificates.Certificate.{Certificate}
-use Rattle.stack_certificate.proofs.AddressLemmas.{words_step}
-use Rattle.certificate_rules.specs.Validity.{IsValid}
-use Rattle.machine_world.specs.Places.{Checked, Place, InStub, InPrologue, InOperation, IsAt, size_in}
+use Rattle.segment_laws.proofs.Common.{◌≡◌, ℕ, zero, suc, ◌+◌, ◌*◌, ◌<◌, ◌≤◌, List, [], ◌∷◌, length, take, Option, Some, None, slice_get, refl, sym, ap, ◌∙◌, arith, ⊎_elim, sum_by, cases_eq, cases_lt, sum_by-cons, FlatCode, function_at, operation_at, Op, Image, fact_at, words_before, size, size_at, kind_of, Certificate, words_step, IsValid, Checked, Place, InStub, InPrologue, InOperation, IsAt, size_in}
 
 -- ---- words before an operation
 
@@ -21,7 +9,7 @@ sum-front f _ (suc i) zero below = absurd (omega arith)
 sum-front f (op ∷ ops) (suc i) (suc j) below = omega (arith, sum-front f ops i j (omega arith), sum_by-cons f op (take i ops), sum_by-cons f op (take j ops))
 sum-front f _ _ _ below = omega arith
 
-before-front : (code : FlatCode) (certificate : Certificate) (f i j : ℕ) → i ≤ j → words_before code certificate f i ≤ words_before code certificate f j
+pub before-front : (code : FlatCode) (certificate : Certificate) (f i j : ℕ) → i ≤ j → words_before code certificate f i ≤ words_before code certificate f j
 before-front code certificate f i j below = omega (arith, sum-front (λ op. size (function_at code f).sizes (kind_of certificate op) op) (function_at code f).ops i j below)
 
 -- word w of the operation, if it is there, stands before the next operation's words
@@ -37,7 +25,7 @@ has_operation c f i w (Some op) there small =
     ap (λ (o : Option Op). words_before c.flat c.certificate f i + size_at (function_at c.flat f).sizes (kind_of c.certificate op) o) (sym there) ∙ words_step c.flat c.certificate f i op (sym there) in
     record { op = op; there = there; past = omega (arith, step, small) }
 
-within : (ops : List Op) (i : ℕ) (op : Op) → slice_get ops i ≡ Some op → i < length ops
+pub within : (ops : List Op) (i : ℕ) (op : Op) → slice_get ops i ≡ Some op → i < length ops
 within [] i op e = absurd (cc)
 within (x ∷ ops) zero op e = omega arith
 within (x ∷ ops) (suc i) op e = (let rest = within ops i op e in omega (arith, rest))
@@ -45,22 +33,22 @@ within (x ∷ ops) (suc i) op e = (let rest = within ops i op e in omega (arith,
 -- ---- the words of a function
 
 -- pc is word n of function f
-record IsWordOf (code : FlatCode) (certificate : Certificate) (pc f n : ℕ) : Type 0 where
-  function : f < length code.functions
-  is : pc ≡ (fact_at certificate f).entry + 4 * n
-  small : n < (fact_at certificate f).words
+pub record IsWordOf (code : FlatCode) (certificate : Certificate) (pc f n : ℕ) : Type 0 where
+  pub function : f < length code.functions
+  pub is : pc ≡ (fact_at certificate f).entry + 4 * n
+  pub small : n < (fact_at certificate f).words
 
 -- the words of all operations are those of the function
-whole_function : (code : FlatCode) (image : Image) (certificate : Certificate) (f : ℕ) → IsValid code image certificate → f < length code.functions → words_before code certificate f (length (function_at code f).ops) ≡ (fact_at certificate f).words
+pub whole_function : (code : FlatCode) (image : Image) (certificate : Certificate) (f : ℕ) → IsValid code image certificate → f < length code.functions → words_before code certificate f (length (function_at code f).ops) ≡ (fact_at certificate f).words
 whole_function code image certificate f valid there = ((valid.holds 6 f (length (function_at code f).ops)).v6 refl).over there refl
 
-in_prologue : (code : FlatCode) (image : Image) (certificate : Certificate) (pc f w : ℕ) → IsValid code image certificate → IsAt (record { flat = code; certificate = certificate }) pc (InPrologue f w) → IsWordOf code certificate pc f w
+pub in_prologue : (code : FlatCode) (image : Image) (certificate : Certificate) (pc f w : ℕ) → IsValid code image certificate → IsAt (record { flat = code; certificate = certificate }) pc (InPrologue f w) → IsWordOf code certificate pc f w
 in_prologue code image certificate pc f w valid at =
     let whole = whole_function code image certificate f valid at.0 in
     let front = before-front code certificate f 0 (length (function_at code f).ops) (omega arith) in
     record { function = at.0; is = at.2; small = omega (arith, whole, front, at.1) }
 
-in_operation : (code : FlatCode) (image : Image) (certificate : Certificate) (pc f i w : ℕ) → IsValid code image certificate → IsAt (record { flat = code; certificate = certificate }) pc (InOperation f i w) → IsWordOf code certificate pc f (words_before code certificate f i + w)
+pub in_operation : (code : FlatCode) (image : Image) (certificate : Certificate) (pc f i w : ℕ) → IsValid code image certificate → IsAt (record { flat = code; certificate = certificate }) pc (InOperation f i w) → IsWordOf code certificate pc f (words_before code certificate f i + w)
 in_operation code image certificate pc f i w valid at =
     let c : Checked = record { flat = code; certificate = certificate } in
     let has = has_operation c f i w (operation_at code f i) refl at.1 in
@@ -70,7 +58,7 @@ in_operation code image certificate pc f i w valid at =
     record { function = at.0; is = omega (arith, at.2); small = omega (arith, has.past, front, whole) }
 
 -- words of two functions are apart
-same_function : (code : FlatCode) (image : Image) (certificate : Certificate) (pc f g m n : ℕ) → IsValid code image certificate → IsWordOf code certificate pc f m → IsWordOf code certificate pc g n → f ≡ g
+pub same_function : (code : FlatCode) (image : Image) (certificate : Certificate) (pc f g m n : ℕ) → IsValid code image certificate → IsWordOf code certificate pc f m → IsWordOf code certificate pc g n → f ≡ g
 same_function code image certificate pc f g m n valid first second = ⊎_elim (λ (same : f ≡ g). same)
     (λ (apart : f ≡ g → ⊥). absurd (⊎_elim
     (λ (lower : g < f). (((valid.holds 2 f 3).v2 refl).apart refl first.function g lower).no_byte pc (omega (arith, first.is), omega (arith, first.is, first.small)) (omega (arith, second.is), omega (arith, second.is, second.small)))

@@ -1,27 +1,12 @@
 -- What the next step of a flat thread comes to, the machine comes to.
-use Rattle.std.proofs.Common.{◌≡◌, ℕ, ◌+◌, ◌<◌, List, ◌∷◌, length, Option, Some, None, refl, sym, ap, subst, ◌∙◌, arith}
-use Rattle.std.proofs.lemmas.List.{length-map}
-use Rattle.cap_word.specs.Calls.{Question, Finish}
-use Rattle.cap_word.specs.Runs.{Goes, Asks, Stops}
-use Rattle.flat_code.specs.declared.operations.Op.{Op}
-use Rattle.flat_code.specs.Frames.{FlatThread, FlatWaiting, Finished, Lost, standing}
-use Rattle.flat_code.specs.Step.{FlatMove, on, does, flat_step}
-use Rattle.flat_code.specs.WellFormed.{IsWellFormed, signature_of}
-use Rattle.machine_world.specs.Globals.{AreGlobals}
-use Rattle.machine_world.specs.InPlace.{Frame}
+use Rattle.segment_laws.proofs.Common.{◌≡◌, ℕ, ◌+◌, ◌<◌, List, ◌∷◌, length, Option, Some, None, refl, sym, ap, subst, ◌∙◌, arith, length-map, Question, Finish, Goes, Asks, Stops, Op, FlatThread, FlatWaiting, Finished, Lost, standing, FlatMove, on, does, flat_step, IsWellFormed, signature_of, AreGlobals, Frame, Local, Ended, Trapped, NoRoom, local_step, Checked, AreFlatFrames, IsAtCall, CallFacts, EndsAlike, AtAsk, AsksTheSame, WaitsAlike, StopsAlike, FindsNoChunk, IsCutOff, first_of}
 use Rattle.machine_world.specs.Local as local
-use Rattle.machine_world.specs.Local.{Local, Ended, Trapped, NoRoom, local_step}
-use Rattle.machine_world.specs.Places.{Checked}
-use Rattle.machine_world.specs.Rests.{AreFlatFrames, IsAtCall}
-use Rattle.segment_laws.specs.Calls.{CallFacts, EndsAlike}
 use Rattle.segment_laws.proofs.ReturnSteps.{return_alike, end_alike}
-use Rattle.segment_laws.specs.Asking.{AtAsk}
 use Rattle.segment_laws.proofs.AskSteps.{step_asks, step_starts}
 use Rattle.segment_laws.proofs.Facts.{CodeFacts, IsOperationAt}
 use Rattle.segment_laws.proofs.FlatSteps.{IsStraight, function_there, step_reaches}
 use Rattle.segment_laws.proofs.Simulation.{Simulates, Reaches}
 use Rattle.segment_laws.proofs.Ways.{IsGoodState, Leads}
-use Rattle.segment_laws.specs.Alike.{AsksTheSame, WaitsAlike, StopsAlike, FindsNoChunk, IsCutOff, first_of}
 use Rattle.segment_laws.proofs.Firsts.{step-first}
 use Rattle.segment_laws.proofs.FlatMoves.{NoQuestion, IsQuestion, asks_nothing, OnlyQuestion, model_asks, spawn_asks, NoFinish, MayStop, call_goes, goes_alone}
 use Rattle.segment_laws.proofs.Needs.{NeedsFit}

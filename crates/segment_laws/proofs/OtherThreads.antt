@@ -1,16 +1,6 @@
 -- The threads that don't run keep the words of their chunks.
-use Rattle.std.proofs.Common.{◌≡◌, ◌≢◌, ℕ, ◌+◌, ◌<◌, ◌≤◌, Bool, true, false, nat_eq, ltb, not, List, [], ◌∷◌, ◌++◌, Some, refl, sym, ap, ◌∙◌, arith, cond, ⊎_elim}
-use Rattle.std.specs.List.{AllByRecursion}
-use Rattle.std.proofs.lemmas.Bool.{cond_both, cases_eq, cond-true, cond-false, eq-eqb, ne_eqb, eqb-true}
-use Rattle.std.proofs.lemmas.List.Sums.{sum_by-cons}
-use Rattle.chunk_pool.specs.Pool.{Pool, Taken, chunk_of, taken_for, all_free}
-use Rattle.chunk_pool.proofs.NeedLaws.{taken_for-leaves, taken_for-keeps}
+use Rattle.segment_laws.proofs.Common.{◌≡◌, ◌≢◌, ℕ, ◌+◌, ◌<◌, ◌≤◌, Bool, true, false, nat_eq, ltb, not, List, [], ◌∷◌, ◌++◌, Some, refl, sym, ap, ◌∙◌, arith, cond, ⊎_elim, AllByRecursion, cond_both, cases_eq, cond-true, cond-false, eq-eqb, ne_eqb, eqb-true, sum_by-cons, Pool, Taken, chunk_of, taken_for, all_free, taken_for-leaves, taken_for-keeps, IsCounted, copies_in, copies, with_header, Thread, World, first_with, thread_of, replaced, without, local_in, chunk_of-with_header}
 use Rattle.machine_world.specs.Chains.{held_copies}
-use Rattle.machine_world.specs.Counted.{IsCounted}
-use Rattle.machine_world.specs.Held.{copies_in, copies}
-use Rattle.machine_world.specs.Local.{with_header}
-use Rattle.machine_world.specs.Threads.{Thread, World, first_with, thread_of, replaced, without, local_in}
-use Rattle.machine_world.proofs.AloneLaws.{chunk_of-with_header}
 
 -- ---- chunks
 
@@ -59,7 +49,7 @@ each_chunk P (chunk ∷ chain) each = (
     copies_cons : (chunk first : ℕ) (chain : List ℕ) → copies chunk (first ∷ chain) ≡ cond (nat_eq first chunk) 1 0 + copies chunk chain
     copies_cons chunk first chain = sum_by-cons (λ (other : ℕ). cond (nat_eq other chunk) 1 0) first chain
 
-at_most_one : (b : Bool) → ◌≤◌ (cond b 1 0) 1
+pub at_most_one : (b : Bool) → ◌≤◌ (cond b 1 0) 1
 at_most_one true = omega arith
 at_most_one false = omega arith
 

@@ -1,26 +1,7 @@
 -- A thread at an ECALL, and just behind it.
-use Rattle.std.proofs.Common.{◌≡◌, ℕ, ◌+◌, ◌*◌, ◌^◌, ◌<◌, List, [], ◌∷◌, get_or, pos, Option, Some, None, Result, Ok, slice_get, refl, sym, ap, subst, ◌∙◌, arith}
-use Rattle.std.specs.Prelude.{IfSome}
-use Rattle.cap_word.specs.Calls.{Question}
-use Rattle.chunk_pool.specs.Pool.{Pool}
-use Rattle.rv_code.specs.declared.instructions.Instr.{Instr}
-use Rattle.cap_word.specs.declared.faults.FaultKind.{FaultKind}
-use Rattle.rv_machine.specs.Registers.{read}
-use Rattle.rv_machine.specs.Step.{instruction_at}
-use Rattle.flat_code.specs.Codes.{function_at, operation_at, result_place}
-use Rattle.flat_code.specs.Frames.{FlatFrame, FlatWaiting}
-use Rattle.flat_code.specs.declared.operations.Op.{Op}
-use Rattle.stack_certificate.specs.Certificates.{fact_at}
-use Rattle.stack_certificate.specs.Templates.{begin, size, result_size, kind_of, row, setting}
-use Rattle.machine_world.specs.Globals.{AreGlobals}
-use Rattle.machine_world.specs.InPlace.{Frame, return_word, FramesAt, TpIsFront}
+use Rattle.segment_laws.proofs.Common.{◌≡◌, ℕ, ◌+◌, ◌*◌, ◌^◌, ◌<◌, List, [], ◌∷◌, get_or, pos, Option, Some, None, Result, Ok, slice_get, refl, sym, ap, subst, ◌∙◌, arith, IfSome, Question, Pool, Instr, FaultKind, read, instruction_at, function_at, operation_at, result_place, FlatFrame, FlatWaiting, Op, fact_at, begin, size, result_size, kind_of, row, setting, AreGlobals, Frame, return_word, FramesAt, TpIsFront, sp, tp, Checked, Place, InOperation, IsAt, Row, Whole, row_at, size_in, IsResting, AtCall, PastCall, IsAtCall, IsPastCall, AreFlatFrames, AreFlatPast, IsCore-passed, IsPassed, RestsBehind, FollowsAsks, MayRun, WaitsAlike}
 use Rattle.machine_world.specs.Local as local
-use Rattle.stack_certificate.specs.Registers.{sp, tp}
 use Rattle.machine_world.specs.Local.{Core, Local, with_result, passed}
-use Rattle.machine_world.specs.Places.{Checked, Place, InOperation, IsAt, Row, Whole, row_at, size_in}
-use Rattle.machine_world.specs.Rests.{IsResting, AtCall, PastCall, IsAtCall, IsPastCall, AreFlatFrames, AreFlatPast}
-use Rattle.machine_world.proofs.FormLaws.{IsCore-passed}
-use Rattle.segment_laws.specs.Around.{IsPassed, RestsBehind}
 use Rattle.segment_laws.proofs.FirstWords.{HasOther, has_other, first_other, ask_words}
 use Rattle.segment_laws.proofs.Facts.{CodeFacts}
 use Rattle.segment_laws.proofs.Finish.{frame_at}
@@ -28,7 +9,6 @@ use Rattle.segment_laws.proofs.Registers.{add-small, read-write_other}
 use Rattle.segment_laws.proofs.Stacks.{IsStack-operation}
 use Rattle.segment_laws.proofs.Ways.{HasForm}
 use Rattle.segment_laws.proofs.Past.{row_first, size_some, function_of_op}
-use Rattle.segment_laws.specs.Alike.{FollowsAsks, MayRun, WaitsAlike}
 use Rattle.segment_laws.proofs.FromRest.{ask_shape, some_at}
 
 -- ---- at the ECALL

@@ -1,30 +1,6 @@
 -- A thread just behind the ECALL at which a flat thread waits stands within that operation.
-use Rattle.std.proofs.Common.{◌≡◌, ℕ, ◌+◌, ◌*◌, ◌<◌, ◌≤◌, Bool, false, List, [], ◌∷◌, length, get_or, Option, Some, None, refl, sym, ap, subst, ◌∙◌, arith, cond, slice_get, ⊎_elim}
-use Rattle.std.specs.Prelude.{◌||◌}
-use Rattle.std.proofs.lemmas.Bool.{ne_eqb, cases_lt}
-use Rattle.std.proofs.lemmas.List.{get_or_past}
-use Rattle.flat_code.specs.declared.functions.FlatFunction.{FlatFunction}
-use Rattle.chunk_pool.specs.Pool.{Pool, payload_place_of}
-use Rattle.rv_machine.specs.Registers.{read}
-use Rattle.flat_code.specs.Codes.{FlatCode, function_at, operation_at, result_place}
-use Rattle.flat_code.specs.Frames.{FlatThread, standing, with_result}
-use Rattle.flat_code.specs.declared.operations.Op.{Op}
-use Rattle.flat_code.specs.declared.operators.BinOp.{BinOp}
-use Rattle.stack_image.specs.declared.images.Image.{Image}
-use Rattle.stack_certificate.specs.Templates.{begin, size, transfer_size, result_size, kind_of}
-use Rattle.stack_certificate.specs.declared.certificates.Certificate.{Certificate}
-use Rattle.stack_certificate.specs.declared.sites.LinkKind.{LinkKind}
-use Rattle.certificate_rules.specs.Validity.{IsValid}
-use Rattle.machine_world.specs.Globals.{AreGlobals}
-use Rattle.machine_world.specs.InPlace.{Frame, frame_bytes, return_word, IsRunning, IsStack, FramesAt, HeadersName, TpIsFront, HasFrames}
-use Rattle.stack_certificate.specs.Registers.{sp, tp, a0}
-use Rattle.machine_world.specs.Local.{Core, Local}
-use Rattle.machine_world.specs.Places.{Checked, Place, InOperation, IsAt, Row, Whole, Linking, is_linking, row_in, row_at, size_in}
-use Rattle.machine_world.specs.Rests.{IsPastCall, AreFlatPast}
-use Rattle.segment_laws.specs.Asking.{Arrives}
-use Rattle.segment_laws.specs.Facts.{CodeFacts}
+use Rattle.segment_laws.proofs.Common.{◌≡◌, ℕ, ◌+◌, ◌*◌, ◌<◌, ◌≤◌, Bool, false, List, [], ◌∷◌, length, get_or, Option, Some, None, refl, sym, ap, subst, ◌∙◌, arith, cond, slice_get, ⊎_elim, ◌||◌, ne_eqb, cases_lt, get_or_past, FlatFunction, Pool, payload_place_of, read, FlatCode, function_at, operation_at, result_place, FlatThread, standing, with_result, Op, BinOp, Image, begin, size, transfer_size, result_size, kind_of, Certificate, LinkKind, IsValid, AreGlobals, Frame, frame_bytes, return_word, IsRunning, IsStack, FramesAt, HeadersName, TpIsFront, HasFrames, sp, tp, a0, Core, Local, Checked, Place, InOperation, IsAt, Row, Whole, Linking, is_linking, row_in, row_at, size_in, IsPastCall, AreFlatPast, Arrives, CodeFacts, HasForm}
 use Rattle.segment_laws.specs.Simulation.{IsFront, During}
-use Rattle.segment_laws.specs.Ways.{HasForm}
 use Rattle.segment_laws.proofs.AskSteps.{answered, started}
 use Rattle.segment_laws.proofs.Finish.{frame_at}
 use Rattle.segment_laws.proofs.Stacks.{IsStack-operation}

@@ -1,17 +1,5 @@
 -- A call of a function at a plain site.
-use Rattle.std.proofs.Common.{◌≡◌, ℕ, zero, suc, ◌+◌, ◌*◌, ◌<◌, ◌≤◌, false, List, [], ◌∷◌, ◌++◌, length, map, get_or, Option, Some, ap, arith}
-use Rattle.std.specs.List.{AllByRecursion}
-use Rattle.std.proofs.lemmas.List.{length-map, get_or-map}
-use Rattle.flat_code.specs.declared.functions.FlatFunction.{FlatFunction}
-use Rattle.flat_code.specs.declared.operations.Op.{Op}
-use Rattle.flat_code.specs.Codes.{FlatCode, function_at}
-use Rattle.flat_code.specs.WellFormed.{Context, signature_of, IsScalar, context_of}
-use Rattle.cap_word.specs.Signatures.{Signature, signature_at}
-use Rattle.stack_certificate.specs.declared.sites.LinkKind.{LinkKind}
-use Rattle.stack_certificate.specs.Certificates.{fact_at}
-use Rattle.stack_certificate.specs.Parts.{load, arguments, transfer, result}
-use Rattle.stack_certificate.specs.Templates.{begin, kind_of, transfer_size}
-use Rattle.machine_world.specs.Places.{Checked}
+use Rattle.segment_laws.proofs.Common.{◌≡◌, ℕ, zero, suc, ◌+◌, ◌*◌, ◌<◌, ◌≤◌, false, List, [], ◌∷◌, ◌++◌, length, map, get_or, Option, Some, ap, arith, AllByRecursion, length-map, get_or-map, FlatFunction, Op, FlatCode, function_at, Context, signature_of, IsScalar, context_of, Signature, signature_at, LinkKind, fact_at, load, arguments, transfer, result, begin, kind_of, transfer_size, Checked}
 pub use Rattle.segment_laws.specs.Calls.{CallFacts}
 use Rattle.segment_laws.proofs.Calling.{get_front, arguments_at, row_before, LoadsArguments}
 use Rattle.segment_laws.proofs.Entering.{EntryFacts}

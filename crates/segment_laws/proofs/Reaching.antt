@@ -1,17 +1,9 @@
 -- From where a machine thread stands for a flat thread: what any number of steps of the flat thread comes to, the machine
 -- comes to, or it comes to a LINK where no chunk is free.
-use Rattle.std.proofs.Common.{ℕ, zero, suc, ◌+◌, ◌≤◌, ◌⊎◌, List, refl, sym, subst, arith, inl, inr, ⊎_elim}
-use Rattle.cap_word.specs.Runs.{Goes, Asks, Stops, moves}
-use Rattle.flat_code.specs.Frames.{FlatThread, Finished, Lost}
-use Rattle.flat_code.specs.Step.{FlatMove, flat_machine}
-use Rattle.flat_code.specs.WellFormed.{IsWellFormed}
-use Rattle.machine_world.specs.Local.{Local}
-use Rattle.machine_world.specs.Places.{Checked}
-use Rattle.segment_laws.specs.Calls.{CallFacts}
+use Rattle.segment_laws.proofs.Common.{ℕ, zero, suc, ◌+◌, ◌≤◌, ◌⊎◌, List, refl, sym, subst, arith, inl, inr, ⊎_elim, Goes, Asks, Stops, moves, FlatThread, Finished, Lost, FlatMove, flat_machine, IsWellFormed, Local, Checked, CallFacts, IsNeverLost, Comes, FindsNone, ReachesAlike, RunsAlike}
 use Rattle.segment_laws.proofs.Facts.{CodeFacts}
 use Rattle.segment_laws.proofs.Simulation.{Simulates}
 use Rattle.segment_laws.proofs.Ways.{HasForm, Leads}
-use Rattle.segment_laws.specs.Alike.{IsNeverLost, Comes, FindsNone, ReachesAlike, RunsAlike}
 use Rattle.segment_laws.proofs.Along.{flat_later, never_later, flat_over, flat_asks, flat_stops, along_behind, along}
 use Rattle.segment_laws.proofs.Moves.{Comes-then, Leads-comes}
 use Rattle.segment_laws.proofs.Needs.{NeedsFit}

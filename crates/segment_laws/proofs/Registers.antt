@@ -1,27 +1,8 @@
 -- Registers read and written, small sums, and what one instruction makes of a thread.
-use Rattle.std.proofs.Common.{◌≡◌, ℕ, ◌+◌, ◌%◌, ◌^◌, ◌<◌, List, length, get_or, set, ℤ, pos, Result, Ok, Err, Option, Some, refl, ap, ◌∙◌, arith, cond, get_or-set_same, get_or-set_other, Bool, true, false}
-use Rattle.std.specs.Prelude.{nat_eq}
-use Rattle.std.proofs.lemmas.Bool.{cond_both, eq-eqb, ne_eqb}
+use Rattle.segment_laws.proofs.Common.{◌≡◌, ℕ, ◌+◌, ◌%◌, ◌^◌, ◌<◌, List, get_or, set, ℤ, pos, Result, Ok, Err, Option, Some, refl, ap, ◌∙◌, arith, cond, get_or-set_other, Bool, true, nat_eq, cond_both, eq-eqb, word_of, Goes, Instr, FaultKind, Misaligned, accessed, access_of, next_access, effect, read, write, sets, loads, found, word_loaded, stores, word_stored, instruction_at, started, outcome, Areas, byte_at, is_writable, with_byte, Local, machine_of, local_move, local_step, access_at}
 use Rattle.cap_word.specs.Word as word
-use Rattle.cap_word.specs.Word.{word_of}
-use Rattle.cap_word.specs.Runs.{Goes}
-use Rattle.rv_code.specs.declared.instructions.Instr.{Instr}
-use Rattle.cap_word.specs.declared.faults.FaultKind.{FaultKind}
-use Rattle.cap_word.specs.declared.faults.FaultKind.TheVariants.{Misaligned}
-use Rattle.rv_machine.specs.Access.{accessed, access_of, next_access}
 use Rattle.rv_machine.specs.Bytes.{word_at, word_is_writable, with_word, Word}
-use Rattle.rv_machine.specs.Effect.{effect}
-use Rattle.rv_machine.specs.Registers.{read, write}
 use Rattle.rv_machine.specs.Rows as rows
-use Rattle.rv_machine.specs.Rows.{sets, passes, loads, found, word_loaded, stores, word_stored}
-use Rattle.rv_machine.specs.Step.{instruction_at, started, outcome}
-use Rattle.machine_world.specs.Areas.{Areas, byte_at, is_writable, with_byte}
-use Rattle.machine_world.specs.Local.{Local, machine_of, local_move, local_step, access_at}
-
-pub read-write_same : (x : List ℕ) (r v : ℕ) → 0 < r → r < length x → read (write x r v) r ≡ v
-read-write_same x r v some within =
-    let apart : nat_eq r 0 ≡ false = ne_eqb r 0 (λ same. omega arith) in
-    (λ i. cond (apart i) 0 (get_or (cond (apart i) x (set x r v)) r 0)) ∙ get_or-set_same x r v 0 within
 
 pub read-write_other : (x : List ℕ) (r v s : ℕ) → (s ≡ r → ⊥) → read (write x r v) s ≡ read x s
 read-write_other x r v s apart =

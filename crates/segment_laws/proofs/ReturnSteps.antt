@@ -1,16 +1,5 @@
 -- Returns of flat code, and the machine that stands for it.
-use Rattle.std.proofs.Common.{◌≡◌, ℕ, ◌-◌, ◌<◌, Bool, true, false, List, [], ◌∷◌, length, Option, Some, None, refl, sym, ap, subst, ◌∙◌, ⊎_elim}
-use Rattle.cap_word.specs.Calls.{Finish}
-use Rattle.cap_word.specs.Runs.{Goes, Stops}
-use Rattle.flat_code.specs.declared.operations.Op.{Op}
-use Rattle.flat_code.specs.Codes.{function_at}
-use Rattle.flat_code.specs.Frames.{FlatFrame, FlatThread, Finished, standing}
-use Rattle.flat_code.specs.Step.{on, scalar, returns, answered, does, flat_step}
-use Rattle.machine_world.specs.InPlace.{Frame}
-use Rattle.machine_world.specs.Local.{Local}
-use Rattle.machine_world.specs.Places.{Checked}
-use Rattle.machine_world.specs.Rests.{AreFlatFrames}
-use Rattle.segment_laws.specs.Calls.{CallFacts, EndsAlike}
+use Rattle.segment_laws.proofs.Common.{◌≡◌, ℕ, ◌<◌, Bool, true, false, List, [], ◌∷◌, length, Option, Some, None, refl, sym, ap, subst, ◌∙◌, Finish, Goes, Stops, Op, function_at, FlatFrame, FlatThread, Finished, standing, on, scalar, returns, answered, does, flat_step, Frame, Local, Checked, AreFlatFrames, CallFacts, EndsAlike}
 use Rattle.segment_laws.proofs.EndStub.{ends_thread}
 use Rattle.segment_laws.proofs.Facts.{CodeFacts, IsOperationAt}
 use Rattle.segment_laws.proofs.FrameWords.{stack_frame}

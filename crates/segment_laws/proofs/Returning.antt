@@ -1,28 +1,5 @@
 -- A return to a caller whose frame lies in the same chunk.
-use Rattle.std.proofs.Common.{◌≡◌, ℕ, suc, ◌+◌, ◌*◌, ◌%◌, ◌<◌, Bool, true, false, List, [], ◌∷◌, length, map, pos, Option, Some, None, refl, sym, ap, subst, ◌∙◌, arith, lit<}
-use Rattle.std.specs.Prelude.{slice_get, IsTrue}
-use Rattle.std.proofs.lemmas.List.{length-map, get_or-map}
-use Rattle.chunk_pool.specs.Pool.{Pool}
-use Rattle.rv_code.specs.declared.instructions.Instr.{Instr}
-use Rattle.rv_machine.specs.Registers.{read}
-use Rattle.rv_machine.specs.Step.{instruction_at}
-use Rattle.flat_code.specs.declared.functions.FlatFunction.{FlatFunction}
-use Rattle.flat_code.specs.declared.operations.Op.{Op}
-use Rattle.flat_code.specs.Codes.{FlatCode, function_at, operation_at, result_place}
-use Rattle.flat_code.specs.Frames.{FlatFrame, FlatThread, with_result}
-use Rattle.flat_code.specs.Step.{scalar, place_in, answered}
-use Rattle.flat_code.specs.WellFormed.{signature_of, IsResultPlace, context_of}
-use Rattle.cap_word.specs.Signatures.{Signature, signature_at}
-use Rattle.stack_certificate.specs.declared.sites.LinkKind.{LinkKind}
-use Rattle.stack_certificate.specs.Certificates.{fact_at}
-use Rattle.stack_certificate.specs.Parts.{load, transfer}
-use Rattle.stack_certificate.specs.Templates.{begin, kind_of, transfer_size}
-use Rattle.machine_world.specs.Areas.{Areas}
-use Rattle.machine_world.specs.Globals.{AreGlobals}
-use Rattle.machine_world.specs.InPlace.{Frame, Calls, ReturnsInto, IsStack, words_through_call}
-use Rattle.machine_world.specs.Local.{Local, machine_of}
-use Rattle.machine_world.specs.Places.{Checked, through_call}
-use Rattle.machine_world.specs.Rests.{AreFlatFrames}
+use Rattle.segment_laws.proofs.Common.{◌≡◌, ℕ, suc, ◌+◌, ◌*◌, ◌%◌, ◌<◌, Bool, true, false, List, [], ◌∷◌, length, map, pos, Option, Some, None, refl, sym, ap, subst, ◌∙◌, arith, lit<, slice_get, IsTrue, length-map, get_or-map, Pool, Instr, read, instruction_at, FlatFunction, Op, FlatCode, function_at, operation_at, result_place, FlatFrame, FlatThread, with_result, scalar, place_in, answered, signature_of, IsResultPlace, context_of, Signature, signature_at, LinkKind, fact_at, load, transfer, begin, kind_of, transfer_size, Areas, AreGlobals, Frame, Calls, ReturnsInto, IsStack, words_through_call, Local, machine_of, Checked, through_call, AreFlatFrames}
 use Rattle.segment_laws.proofs.Calling.{row_before, no_access-jal}
 use Rattle.segment_laws.proofs.CallShapes.{CallShape, call_shape, transfer_slice, result_word, through_false}
 use Rattle.segment_laws.proofs.Coming.{comes_back, result_comes, Reaches-goes_on}

@@ -1,22 +1,7 @@
 -- A call of flat code, of a function or through a table: the machine comes to stand for the thread in the function that was
 -- called, or to a LINK for whose need nothing is taken.
-use Rattle.std.proofs.Common.{◌≡◌, ℕ, ◌+◌, ◌-◌, ◌<◌, ◌≤◌, List, [], ◌∷◌, length, get_or, Option, Some, None, refl, sym, ap, subst, ◌∙◌, arith, ⊎_elim}
-use Rattle.std.proofs.lemmas.Bool.{cases_lt}
-use Rattle.std.proofs.lemmas.List.{length-map}
-use Rattle.cap_word.specs.Runs.{Goes, Stops}
-use Rattle.chunk_pool.specs.Pool.{Taken, taken_for, payload_place_of}
-use Rattle.flat_code.specs.declared.operations.Op.{Op}
-use Rattle.flat_code.specs.Codes.{members_of}
-use Rattle.flat_code.specs.Frames.{FlatThread, pushed, standing}
-use Rattle.flat_code.specs.Step.{on, scalar, scalars, enters, enters_by, does, flat_step}
-use Rattle.flat_code.specs.WellFormed.{IsWellFormed, signature_of}
-use Rattle.stack_certificate.specs.declared.sites.LinkKind.{LinkKind}
-use Rattle.stack_certificate.specs.Templates.{kind_of}
-use Rattle.machine_world.specs.InPlace.{Frame}
-use Rattle.machine_world.specs.Local.{Local, NoRoom, linked_on}
-use Rattle.machine_world.specs.Places.{Checked, row_at}
-use Rattle.segment_laws.specs.Calls.{CallFacts, CallsAlike, Enters, FindsNoRoom}
-use Rattle.segment_laws.proofs.Calling.{values_length, arguments_loaded}
+use Rattle.segment_laws.proofs.Common.{◌≡◌, ℕ, ◌+◌, ◌-◌, ◌<◌, ◌≤◌, List, [], ◌∷◌, length, get_or, Option, Some, None, refl, sym, ap, subst, ◌∙◌, arith, ⊎_elim, cases_lt, length-map, Goes, Stops, Taken, taken_for, payload_place_of, Op, members_of, FlatThread, pushed, standing, on, scalar, scalars, enters, enters_by, does, flat_step, IsWellFormed, signature_of, LinkKind, kind_of, Frame, Local, NoRoom, linked_on, Checked, row_at, CallFacts, CallsAlike, Enters, FindsNoRoom, FindsNoChunk, IsCutOff, first_of}
+use Rattle.segment_laws.proofs.Calling.{arguments_loaded}
 use Rattle.segment_laws.proofs.CallShapes.{CallShape, call_shape}
 use Rattle.segment_laws.proofs.FarCalls.{calls_far}
 use Rattle.segment_laws.proofs.Linked.{Tested, tests_room, transfer_near, whole_word}
@@ -31,8 +16,8 @@ use Rattle.segment_laws.proofs.Ways.{Leads, Leads-then, ComesTo}
 use Rattle.segment_laws.proofs.Members.{IsMemberAt-formed}
 use Rattle.segment_laws.proofs.TableSteps.{entered, readies, first_argument, was_member, not_lost_goes}
 use Rattle.segment_laws.proofs.Firsts.{frames-first}
-use Rattle.segment_laws.specs.Alike.{FindsNoChunk, IsCutOff, first_of}
 use Rattle.segment_laws.proofs.Inside.{HasFrames-inside}
+use Rattle.segment_laws.proofs.Arguments.{scalars-length}
 
 pub data CallsOrCut (c : Checked) (code : List ℕ) (l : Local) (after : FlatThread) : Type 0 where
   Came : (reaches : Reaches c code l after) → CallsOrCut c code l after
@@ -120,7 +105,7 @@ module _ (c : Checked) (code : List ℕ) (facts : CodeFacts c code) (calls : Cal
       let entry = calls.entries g known in
       let s : CallShape c t.frame.function t.frame.next op = call_shape c code t.frame.function t.frame.next g op there refl in
       let loaded = arguments_loaded c code l t op args values n frame below facts there (call_loads c code t.frame.function t.frame.next site g d args entry there) during all (omega arith) in
-      let count = values_length t args values all in
+      let count = scalars-length t args values all in
       let none : n ≡ n + 0 = omega arith in
       cut_after c code n l loaded.after (called t g values) loaded.leads
       (by_kind loaded.after t op g values frame below there s

@@ -1,15 +1,6 @@
 -- Rows of words one after another, as one list.
-use Rattle.std.proofs.Common.{◌≡◌, ℕ, zero, suc, ◌+◌, ◌-◌, ◌*◌, ◌<◌, ◌≤◌, List, [], ◌∷◌, ◌++◌, length, get_or, set, map, take, length-append, refl, sym, ap, ◌∙◌, arith}
-use Rattle.std.specs.Prelude.{sum_by}
-use Rattle.std.specs.List.{flat_map}
-use Rattle.std.proofs.lemmas.List.{length-map, length-set, get_or-map, get_or-append_right, set-append_left, set-append_right}
-use Rattle.std.proofs.lemmas.List.Sums.{sum_by-cons}
+use Rattle.segment_laws.proofs.Common.{◌≡◌, ℕ, zero, suc, ◌+◌, ◌-◌, ◌*◌, ◌<◌, ◌≤◌, List, [], ◌∷◌, ◌++◌, length, get_or, set, map, take, length-append, refl, sym, ap, ◌∙◌, arith, sum_by, flat_map, length-map, length-set, get_or-map, get_or-append_right, set-append_left, set-append_right, sum_by-cons, FlatCode, FlatGlobal, global_address, global_words, globals_place, AreGlobals}
 use Rattle.cap_word.specs.Rows.{row, width, word_at, with_word}
-use Rattle.flat_code.specs.Codes.{FlatCode}
-use Rattle.flat_code.specs.declared.programs.FlatGlobal.{FlatGlobal}
-use Rattle.stack_certificate.specs.Certificates.{global_address, global_words}
-use Rattle.machine_world.specs.Areas.{globals_place}
-use Rattle.machine_world.specs.Globals.{AreGlobals}
 
 -- the rows as one list, and where a row begins in it
 abbrev pub joined : List (List ℕ) → List ℕ

@@ -1,22 +1,11 @@
 -- Rest, where the chunks of a chain have the words that they had.
-use Rattle.std.proofs.Common.{◌≡◌, ℕ, ◌+◌, List, [], ◌∷◌, Option, Some, refl, sym, ◌∙◌}
-use Rattle.std.specs.List.{AllByRecursion}
+use Rattle.segment_laws.proofs.Common.{◌≡◌, ℕ, ◌+◌, List, [], ◌∷◌, Option, Some, refl, sym, ◌∙◌, AllByRecursion, Pool, chunk_of, shape_of, FlatFrame, Op, a0, Frame, HasFrames, Core, Checked, InPrologue, InOperation, variable_word, HoldArguments, HoldsCall, HoldsCallIn, HoldsVariables, IsAtCall, IsPastCall, IsResting, AtStart, AtCall, PastCall, AreFlatFrames, AreFlatAtStart, AreFlatPast, SourceThread, Starts, Waits, HoldsIndex, IsWaitingFrame, AreWaitingFrames, StandAtStart, StandAtCall, StandsFor, KeepsChunks, KeepsStack, RestsOn}
 use Rattle.c_mean.specs.Frames as source
 use Rattle.c_mean.specs.Frames.{Place, Nowhere, InLocal, InGlobal, InLocalElement, InGlobalElement, Returned, WaitingFrame, Waiting}
 use Rattle.c_tree.specs.Trees.{ProgramTree}
-use Rattle.chunk_pool.specs.Pool.{Pool, chunk_of, shape_of}
-use Rattle.flat_code.specs.Frames.{FlatFrame}
-use Rattle.flat_code.specs.declared.operations.Op.{Op}
-use Rattle.stack_certificate.specs.Registers.{a0}
-use Rattle.machine_world.specs.InPlace.{Frame, HasFrames}
 use Rattle.machine_world.specs.Keys.{standing}
-use Rattle.machine_world.specs.Local.{Core}
 use Rattle.machine_world.specs.Places as places
-use Rattle.machine_world.specs.Places.{Checked, InPrologue, InOperation}
-use Rattle.machine_world.specs.Rests.{variable_word, HoldArguments, HoldsCall, HoldsCallIn, HoldsVariables, IsAtCall, IsPastCall, IsResting, AtStart, AtCall, PastCall, AreFlatFrames, AreFlatAtStart, AreFlatPast}
-use Rattle.machine_world.specs.StandsFor.{SourceThread, Starts, Waits, HoldsIndex, IsWaitingFrame, AreWaitingFrames, StandAtStart, StandAtCall, StandsFor}
 use Rattle.machine_world.specs.StandsForWorld.{IsPast}
-use Rattle.segment_laws.specs.Kept.{KeepsChunks, KeepsStack, RestsOn}
 use Rattle.segment_laws.proofs.Frames.{word_in_same, has_frames}
 
 module _ (c : Checked) (pool after : Pool) (shape : shape_of after ≡ shape_of pool) where
@@ -117,7 +106,7 @@ module _ (c : Checked) (pool after : Pool) (shape : shape_of after ≡ shape_of 
 
 -- ---- a thread
 
-keeps_self : (core : Core) → KeepsStack core core
+pub keeps_self : (core : Core) → KeepsStack core core
 keeps_self core = record { pc = refl; chain = refl; returns = refl; stack = refl; front = refl }
 
 abbrev AllStay : Pool → Pool → List Frame → Type 0

@@ -1,16 +1,10 @@
 -- What steps of the running thread make of the world.
-use Rattle.std.proofs.Common.{◌≡◌, ℕ, zero, suc, ◌+◌, ◌<◌, ◌≤◌, Bool, true, false, cond, List, [], ◌∷◌, Some, refl, sym, ap, subst, ◌∙◌, arith, ⊎_elim}
-use Rattle.std.specs.Prelude.{nat_eq}
-use Rattle.std.proofs.lemmas.Bool.{eq-eqb, ne_eqb, cases_eq}
+use Rattle.segment_laws.proofs.Common.{◌≡◌, ℕ, zero, suc, ◌+◌, ◌<◌, ◌≤◌, Bool, true, false, cond, List, [], ◌∷◌, Some, refl, sym, ap, subst, ◌∙◌, arith, ⊎_elim, nat_eq, eq-eqb, ne_eqb, cases_eq, IsCounted, Local, LocalMove, local_step, Checked, WayIn, Leads}
 use Rattle.cap_word.specs.Runs as runs
 use Rattle.cap_word.specs.declared.stops.Stop.{Stop}
-use Rattle.machine_world.specs.Counted.{IsCounted}
-use Rattle.machine_world.specs.Local.{Local, LocalMove, local_step}
 use Rattle.machine_world.specs.Numbered.{RiseBetween}
-use Rattle.machine_world.specs.Places.{Checked}
 use Rattle.machine_world.specs.Runs.{world_of, and_then, after_steps}
 use Rattle.machine_world.specs.Threads.{Thread, World, Setting, first_with, thread_of, replaced, Move, Goes, Stops, retired, moved, step_of, step_on, step, local_in}
-use Rattle.segment_laws.specs.Ways.{WayIn, Leads}
 use Rattle.segment_laws.specs.Silent.{GoesOn, after_silent}
 use Rattle.machine_world.proofs.WorldLaws.{replaced_none}
 

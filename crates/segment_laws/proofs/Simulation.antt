@@ -1,24 +1,6 @@
 -- A machine thread within an operation of a flat thread, and at its start, where it stands for it. What one instruction that
 -- sets a register or stores a scalar leaves of that.
-use Rattle.std.proofs.Common.{◌≡◌, ℕ, ◌+◌, ◌*◌, ◌%◌, ◌<◌, ◌≤◌, List, [], ◌∷◌, length, get_or, set, pos, Option, Some, None, Ok, sym, ap, subst, ◌∙◌, arith}
-use Rattle.chunk_pool.specs.Pool.{Pool}
-use Rattle.rv_code.specs.declared.instructions.Instr.{Instr}
-use Rattle.rv_machine.specs.Access.{accessed}
-use Rattle.rv_machine.specs.Effect.{effect}
-use Rattle.rv_machine.specs.Registers.{read}
-use Rattle.rv_machine.specs.Rows.{sets}
-use Rattle.rv_machine.specs.Step.{instruction_at}
-use Rattle.flat_code.specs.declared.operations.Op.{Op}
-use Rattle.flat_code.specs.Codes.{function_at}
-use Rattle.flat_code.specs.Frames.{FlatThread, variable}
-use Rattle.flat_code.specs.Step.{first, scalar}
-use Rattle.stack_certificate.specs.Certificates.{fact_at}
-use Rattle.machine_world.specs.Areas.{Areas}
-use Rattle.machine_world.specs.Globals.{AreGlobals}
-use Rattle.machine_world.specs.InPlace.{Frame, word_in, frame_bytes, IsGoodAccess}
-use Rattle.machine_world.specs.Local.{Local, machine_of}
-use Rattle.machine_world.specs.Places.{Checked}
-use Rattle.machine_world.specs.Rests.{variable_word, HoldsVariables, AreFlatFrames}
+use Rattle.segment_laws.proofs.Common.{◌≡◌, ℕ, ◌+◌, ◌*◌, ◌%◌, ◌<◌, ◌≤◌, List, [], ◌∷◌, length, get_or, set, pos, Option, Some, None, Ok, sym, ap, subst, ◌∙◌, arith, Pool, Instr, accessed, effect, read, sets, instruction_at, Op, function_at, FlatThread, variable, first, scalar, fact_at, Areas, AreGlobals, Frame, word_in, frame_bytes, IsGoodAccess, Local, machine_of, Checked, variable_word, HoldsVariables, AreFlatFrames}
 use Rattle.segment_laws.proofs.Facts.{CodeFacts, FrameFacts, IsOperationAt}
 use Rattle.segment_laws.proofs.FrameWords.{load_word}
 use Rattle.segment_laws.proofs.Inside.{IsWholeWord, IsValueRegister, IsSet, set_register}

@@ -1,12 +1,6 @@
 -- Words of the areas: what is loaded from and stored to four bytes of a payload, of the globals or of the tables is one word
 -- of a chunk or of a row.
-use Rattle.std.proofs.Common.{◌≡◌, ℕ, ◌+◌, ◌-◌, ◌*◌, ◌<◌, ◌≤◌, true, false, List, length, Some, None, ap, ◌∙◌, arith}
-use Rattle.std.specs.Prelude.{nat_le, nat_lt}
-use Rattle.std.proofs.lemmas.Bool.{cond-true, cond-false, lt-ltb, le-ltb, le-leb, and_from, and_right}
-use Rattle.chunk_pool.specs.Pool.{Pool, place_of, end_of, payload_place_of, chunk_at, IsPool}
-use Rattle.chunk_pool.proofs.AddressLaws.{chunk_at-some}
-use Rattle.machine_world.specs.Areas.{Areas, InGlobals, InTables, InPayload, globals_place, tables_place, is_within, payload_spot, spot_of}
-use Rattle.machine_world.specs.WellFormed.{AreWords}
+use Rattle.segment_laws.proofs.Common.{◌≡◌, ℕ, ◌+◌, ◌-◌, ◌*◌, ◌<◌, ◌≤◌, true, false, List, length, Some, None, ap, ◌∙◌, arith, nat_le, nat_lt, cond-true, cond-false, lt-ltb, le-ltb, le-leb, and_from, and_right, Pool, place_of, end_of, payload_place_of, chunk_at, IsPool, chunk_at-some, Areas, InGlobals, InTables, InPayload, globals_place, tables_place, is_within, payload_spot, spot_of, AreWords}
 
 -- the areas fit the map: what pools keep, and globals and tables of so few words that they meet nothing else
 pub record Fit (areas : Areas) : Type 0 where

@@ -1,18 +1,6 @@
 -- The frames of a thread where one word of a payload is written: they stay where they are, and so does what they return to.
-use Rattle.std.proofs.Common.{◌≡◌, ℕ, ◌+◌, ◌-◌, ◌*◌, ◌/◌, ◌<◌, ◌≤◌, Bool, true, false, List, [], ◌∷◌, get_or, Option, Some, None, slice_get, refl, sym, ap, subst, ◌∙◌, arith, cond, ⊎_elim}
-use Rattle.std.specs.List.{AllByRecursion}
-use Rattle.std.proofs.lemmas.Bool.{cases_eq, eq-eqb}
+use Rattle.segment_laws.proofs.Common.{◌≡◌, ℕ, ◌+◌, ◌-◌, ◌*◌, ◌/◌, ◌<◌, ◌≤◌, Bool, true, false, List, [], ◌∷◌, get_or, Option, Some, None, slice_get, refl, sym, ap, subst, ◌∙◌, arith, cond, ⊎_elim, AllByRecursion, cases_eq, eq-eqb, word_of-with_word_other, KeepsOthers-with_word, Op, operation_at, copies, Frame, word_in, IsFrame, ReturnsInto, chain_below, low_below, IsStack, HeadersName, Checked, HoldsVariables, AreFlatFrames, FlatFrame, fact_at, copies-cons}
 use Rattle.chunk_pool.specs.Pool.{Pool, word_of, with_word, place_of}
-use Rattle.chunk_pool.proofs.PoolLaws.{word_of-with_word_other, KeepsOthers-with_word}
-use Rattle.flat_code.specs.declared.operations.Op.{Op}
-use Rattle.flat_code.specs.Codes.{operation_at}
-use Rattle.machine_world.specs.Held.{copies}
-use Rattle.machine_world.specs.InPlace.{Frame, word_in, IsFrame, ReturnsInto, chain_below, low_below, IsStack, HeadersName}
-use Rattle.machine_world.specs.Places.{Checked}
-use Rattle.machine_world.specs.Rests.{HoldsVariables, AreFlatFrames}
-use Rattle.flat_code.specs.Frames.{FlatFrame}
-use Rattle.stack_certificate.specs.Certificates.{fact_at}
-use Rattle.machine_world.proofs.HeldLaws.{copies-cons}
 pub use Rattle.segment_laws.specs.Simulation.{IsFront}
 
 -- ---- one word written

@@ -1,21 +1,9 @@
 -- A thread at any place at which its running frame lies in the front chunk: at a function's first words, in its prologue,
 -- within an operation and at a return. What one instruction there needs, and what a store in the frame leaves.
-use Rattle.std.proofs.Common.{◌≡◌, ℕ, ◌+◌, ◌%◌, ◌^◌, ◌<◌, ◌≤◌, List, ◌∷◌, length, pos, Ok, refl, sym, ap, subst, ◌∙◌, arith, inl}
 use Rattle.cap_word.specs.Word as word
-use Rattle.cap_word.specs.Runs.{Goes}
+use Rattle.segment_laws.proofs.Common.{◌≡◌, ℕ, ◌+◌, ◌%◌, ◌^◌, ◌<◌, ◌≤◌, List, ◌∷◌, length, pos, Ok, refl, sym, ap, subst, ◌∙◌, arith, inl, Goes, Instr, accessed, read, instruction_at, read-below, Areas, with_byte, Frame, frame_bytes, return_word, IsStack, FramesAt, HeadersName, TpIsFront, HasFrames, IsGoodAccess, ra, sp, tp, Local, machine_of, local_step, Checked, Place, IsAt, Row, NoFrame, Empty, Fresh, Linking, Whole, row_of, function_of, operation_of, HasForm}
 use Rattle.chunk_pool.specs.Pool.{Pool, with_word as with_pool_word, payload_place_of}
-use Rattle.rv_code.specs.declared.instructions.Instr.{Instr}
-use Rattle.rv_machine.specs.Access.{accessed}
 use Rattle.rv_machine.specs.Bytes.{with_word}
-use Rattle.rv_machine.specs.Registers.{read}
-use Rattle.rv_machine.specs.Step.{instruction_at}
-use Rattle.rv_machine.proofs.WordLaws.{read-below}
-use Rattle.machine_world.specs.Areas.{Areas, with_byte}
-use Rattle.machine_world.specs.InPlace.{Frame, frame_bytes, return_word, IsStack, FramesAt, HeadersName, TpIsFront, HasFrames, IsGoodAccess}
-use Rattle.stack_certificate.specs.Registers.{ra, sp, tp}
-use Rattle.machine_world.specs.Local.{Local, machine_of, local_step}
-use Rattle.machine_world.specs.Places.{Checked, Place, IsAt, Row, NoFrame, Empty, Fresh, Linking, Whole, row_of, function_of, operation_of}
-use Rattle.segment_laws.specs.Ways.{HasForm}
 use Rattle.segment_laws.proofs.Facts.{CodeFacts, Fit-areas}
 use Rattle.segment_laws.proofs.FrameWords.{InFrame-at, InFrame}
 use Rattle.segment_laws.proofs.Registers.{step-is, access-is, with_areas, move-sw}

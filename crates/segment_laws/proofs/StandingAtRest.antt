@@ -1,13 +1,6 @@
 -- A thread that came to rest at an ECALL stands for the flat thread that asks there.
-use Rattle.std.proofs.Common.{ℕ, List, ◌∷◌}
-use Rattle.flat_code.specs.Frames.{FlatThread}
-use Rattle.flat_code.specs.declared.operations.Op.{Op}
-use Rattle.machine_world.specs.InPlace.{Frame}
+use Rattle.segment_laws.proofs.Common.{ℕ, List, ◌∷◌, FlatThread, Op, Frame, Checked, AtCall, StandsForFlatThread, AtAsk}
 use Rattle.machine_world.specs.Local.{Local, Question}
-use Rattle.machine_world.specs.Places.{Checked}
-use Rattle.machine_world.specs.Rests.{AtCall}
-use Rattle.machine_world.specs.StandsFor.{StandsForFlatThread}
-use Rattle.segment_laws.specs.Asking.{AtAsk}
 
 pub stands_asking : (c : Checked) (code : List ℕ) (l : Local) (t : FlatThread) (op : Op) (word : ℕ) (question : Question) (frame : Frame) (below : List Frame) → (at : AtAsk c code l t op word question frame below) →
     StandsForFlatThread c at.at (t.frame ∷ t.below) t.globals

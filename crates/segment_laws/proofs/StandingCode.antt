@@ -1,16 +1,7 @@
 -- An instruction that stands in the code is fetched there.
-use Rattle.std.proofs.Common.{◌≡◌, ℕ, zero, suc, ◌-◌, ◌/◌, ◌%◌, ◌<◌, ◌≤◌, List, [], ◌∷◌, length, Some, None, Ok, Err, ap, subst, ◌∙◌, slice_get}
-use Rattle.std.specs.Prelude.{◌==◌, nat_lt, slice_index_or}
-use Rattle.std.specs.List.{AllByRecursion}
-use Rattle.std.proofs.lemmas.Bool.{cond-true, cond-false, le-ltb, eq-eqb}
-use Rattle.std.proofs.lemmas.List.Elements.{All-from_recursion}
-use Rattle.cap_word.specs.declared.faults.FaultKind.TheVariants.{Misaligned}
-use Rattle.rv_code.specs.declared.instructions.Instr.{Instr}
+use Rattle.segment_laws.proofs.Common.{◌≡◌, ℕ, zero, suc, ◌-◌, ◌/◌, ◌%◌, ◌<◌, ◌≤◌, List, [], ◌∷◌, length, Some, None, Ok, Err, ap, subst, ◌∙◌, slice_get, ◌==◌, nat_lt, slice_index_or, AllByRecursion, cond-true, cond-false, le-ltb, eq-eqb, All-from_recursion, Misaligned, Instr, code_word, decoded, fetched, instruction_at, Image, Stands}
 use Rattle.rv_code.proofs.Inverse.{decoding-encoding}
 use Rattle.stack_image.specs.Addresses.{code_start}
-use Rattle.rv_machine.specs.Step.{code_word, decoded, fetched, instruction_at}
-use Rattle.stack_image.specs.declared.images.Image.{Image}
-use Rattle.certificate_rules.specs.Ranges.{Stands}
 
 pub fetched_there : (image : Image) (address : ℕ) (instr : Instr) → Stands image address instr → address % 4 ≡ 0 → 4096 ≤ address → instruction_at image.code address ≡ Ok instr
 unfolding instruction_at

@@ -1,32 +1,8 @@
 -- A new thread rests at its function's first word.
-use Rattle.std.proofs.Common.{◌≡◌, ℕ, zero, suc, ◌+◌, ◌*◌, ◌^◌, ◌<◌, ◌≤◌, Bool, true, cond, List, [], ◌∷◌, length, replicate, Some, refl, sym, ap, arith, lit<, ⊎_elim}
-use Rattle.std.specs.Prelude.{nat_lt, slice_index}
-use Rattle.std.specs.List.{AllByRecursion}
-use Rattle.std.proofs.lemmas.Bool.{eq-eqb, lt-ltb, leb-true}
-use Rattle.std.proofs.lemmas.List.Elements.{All-from_recursion}
-use Rattle.chunk_pool.specs.Pool.{Pool, Taken, taken_for, end_of, payload_place_of, IsFree, IsPool, all_free, payload_bytes_of}
+use Rattle.segment_laws.proofs.Common.{◌≡◌, ℕ, zero, suc, ◌+◌, ◌*◌, ◌^◌, ◌<◌, ◌≤◌, Bool, true, cond, List, [], ◌∷◌, length, replicate, Some, refl, sym, ap, arith, lit<, ⊎_elim, nat_lt, slice_index, AllByRecursion, eq-eqb, lt-ltb, leb-true, All-from_recursion, Pool, Taken, taken_for, end_of, payload_place_of, IsFree, IsPool, all_free, payload_bytes_of, taken_for-leaves, taken_for-sound, taken_for-count, taken_for-fits, taken_for-shape, Contains-cases, read, function_at, fact_at, Areas, AreGlobals, copies, copies_in, Frame, IsFrame, HasFrames, a0, Checked, InPrologue, AtStart, start_registers, AreWellFormed, AreWords, AreWellFormed-taken, AreAddresses-taken, copies-cons, new_thread, RestsAtStart, CallFacts, words_of-payload, words_of-same, saved_tp-with_header}
 use Rattle.chunk_pool.proofs.FreeLaws.{copies-free, copies-held, free_below_count}
-use Rattle.chunk_pool.proofs.NeedLaws.{taken_for-leaves, taken_for-sound, taken_for-count, taken_for-fits, taken_for-shape}
-use Rattle.chunk_pool.proofs.PoolLaws.{Contains-cases}
-use Rattle.rv_machine.specs.Registers.{read}
-use Rattle.flat_code.specs.Codes.{function_at}
-use Rattle.stack_certificate.specs.Certificates.{fact_at}
-use Rattle.machine_world.specs.Areas.{Areas}
-use Rattle.machine_world.specs.Globals.{AreGlobals}
-use Rattle.machine_world.specs.Held.{copies, copies_in}
-use Rattle.machine_world.specs.InPlace.{Frame, IsFrame, HasFrames}
-use Rattle.stack_certificate.specs.Registers.{a0}
-use Rattle.machine_world.specs.Places.{Checked, InPrologue}
-use Rattle.machine_world.specs.Rests.{AtStart}
-use Rattle.machine_world.specs.Threads.{start_registers}
-use Rattle.machine_world.specs.WellFormed.{AreWellFormed, AreWords}
-use Rattle.machine_world.proofs.FormLaws.{AreWellFormed-taken, AreAddresses-taken}
-use Rattle.machine_world.proofs.HeldLaws.{copies-cons}
-use Rattle.segment_laws.specs.Around.{new_thread, RestsAtStart}
-use Rattle.segment_laws.specs.Calls.{CallFacts}
-use Rattle.segment_laws.proofs.Linking.{header_tp, header_sp}
+use Rattle.segment_laws.proofs.Linking.{header_sp}
 use Rattle.segment_laws.proofs.Needs.{NeedsFit}
-use Rattle.chunk_pool.proofs.ShapeLaws.{words_of-payload, words_of-same}
 
 -- ---- chunks
 
@@ -93,7 +69,7 @@ starts c code areas taken need f argument arguments globals calls needs form e e
       at = (there, omega arith, (let pc : (fact_at c.certificate f).entry ≡ (fact_at c.certificate f).entry + 4 * 0 = omega arith in pc));
       frames_are = (record { function = refl; operation = refl; chunk_is = refl; low_is = refl; bytes_are = refl; returns_are = refl }, (frame_is, refl, refl, refl));
       front = refl;
-      headers = (header_tp taken.pool taken.chunk 0 0 sound.0 sound.1.0, header_sp taken.pool taken.chunk 0 0 sound.0 sound.1.0);
+      headers = (saved_tp-with_header taken.pool taken.chunk 0 0 sound.0 sound.1.0, header_sp taken.pool taken.chunk 0 0 sound.0 sound.1.0);
     } in
     record {
       form = record {

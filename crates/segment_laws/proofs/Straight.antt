@@ -1,26 +1,8 @@
 -- Operations without a jump, a call or an array: their words lead to the thread that stands for the flat thread after its
 -- step.
-use Rattle.std.proofs.Common.{◌≡◌, ℕ, ◌-◌, ◌^◌, List, get_or, pos, negsuc, Bool, Some, None, refl, ap, ◌∙◌, arith}
-use Rattle.std.specs.Prelude.{slice_get, bit_xor, nat_eq, nat_lt}
+use Rattle.segment_laws.proofs.Common.{◌≡◌, ℕ, ◌-◌, ◌^◌, List, get_or, pos, negsuc, Bool, Some, None, refl, ap, ◌∙◌, arith, slice_get, bit_xor, nat_eq, nat_lt, word_of, Instr, accessed, effect, read, sets, Op, BinOp, function_at, FlatThread, with_scalar, scalar, IsScalar, context_of, fact_at, size, kind_of, Frame, Local, machine_of, Checked}
 use Rattle.cap_word.specs.Word as word
-use Rattle.cap_word.specs.Word.{word_of, signed}
-use Rattle.rv_code.specs.declared.instructions.Instr.{Instr}
-use Rattle.rv_machine.specs.Access.{accessed}
-use Rattle.rv_machine.specs.Effect.{effect}
-use Rattle.rv_machine.specs.Registers.{read}
 use Rattle.rv_machine.specs.Rows as rows
-use Rattle.rv_machine.specs.Rows.{sets}
-use Rattle.flat_code.specs.declared.operations.Op.{Op}
-use Rattle.flat_code.specs.declared.operators.BinOp.{BinOp}
-use Rattle.flat_code.specs.Codes.{function_at}
-use Rattle.flat_code.specs.Frames.{FlatThread, with_scalar}
-use Rattle.flat_code.specs.Step.{scalar}
-use Rattle.flat_code.specs.WellFormed.{IsScalar, context_of}
-use Rattle.stack_certificate.specs.Certificates.{fact_at}
-use Rattle.stack_certificate.specs.Templates.{size, kind_of}
-use Rattle.machine_world.specs.InPlace.{Frame}
-use Rattle.machine_world.specs.Local.{Local, machine_of}
-use Rattle.machine_world.specs.Places.{Checked}
 use Rattle.segment_laws.proofs.Facts.{CodeFacts, IsOperationAt}
 use Rattle.segment_laws.proofs.Finish.{store_scalar, Reaches-after}
 use Rattle.segment_laws.proofs.Immediate.{words_of, fetch_at, is_t0, is_t1, load_immediate}

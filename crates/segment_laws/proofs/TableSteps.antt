@@ -1,20 +1,6 @@
 -- Calls through a table of flat code, and the machine that stands for it.
-use Rattle.std.proofs.Common.{◌≡◌, ℕ, zero, suc, ◌+◌, ◌*◌, ◌^◌, ◌<◌, ◌≤◌, Bool, List, [], ◌∷◌, length, get_or, pos, Option, Some, refl, sym, ap, ◌∙◌, arith, ⊎_elim}
-use Rattle.std.proofs.lemmas.Bool.{cases_lt, lt-ltb, le-ltb}
+use Rattle.segment_laws.proofs.Common.{◌≡◌, ℕ, zero, suc, ◌+◌, ◌*◌, ◌^◌, ◌<◌, ◌≤◌, Bool, List, [], ◌∷◌, length, get_or, pos, Option, Some, refl, sym, ap, ◌∙◌, arith, ⊎_elim, cases_lt, lt-ltb, le-ltb, Finish, Goes, Stops, TrapKind, read, Op, members_of, FlatThread, Finished, Lost, pushed, standing, FlatMove, on, scalar, where_in, trapped, enters, enters_by, does, flat_step, fact_at, table_address, member_count, kind_of, Frame, Local, Checked}
 use Rattle.cap_word.specs.Word as word
-use Rattle.cap_word.specs.Calls.{Finish}
-use Rattle.cap_word.specs.Runs.{Goes, Stops}
-use Rattle.cap_word.specs.declared.traps.TrapKind.{TrapKind}
-use Rattle.rv_machine.specs.Registers.{read}
-use Rattle.flat_code.specs.declared.operations.Op.{Op}
-use Rattle.flat_code.specs.Codes.{members_of}
-use Rattle.flat_code.specs.Frames.{FlatThread, Finished, Lost, pushed, standing}
-use Rattle.flat_code.specs.Step.{FlatMove, on, scalar, where_in, trapped, enters, enters_by, does, flat_step}
-use Rattle.stack_certificate.specs.Certificates.{fact_at, table_address, member_count}
-use Rattle.stack_certificate.specs.Templates.{kind_of}
-use Rattle.machine_world.specs.InPlace.{Frame}
-use Rattle.machine_world.specs.Local.{Local}
-use Rattle.machine_world.specs.Places.{Checked}
 use Rattle.segment_laws.proofs.Calling.{row_before}
 use Rattle.segment_laws.proofs.Facts.{CodeFacts, IsOperationAt}
 use Rattle.segment_laws.proofs.FlatSteps.{function_there, was_there, goes_same}

@@ -1,27 +1,8 @@
 -- The transfer of a call, from its first word on, where the call stays in the caller's chunk: at a plain site, and at a
 -- linked one where there is room.
-use Rattle.std.proofs.Common.{◌≡◌, ℕ, ◌+◌, ◌-◌, ◌*◌, ◌%◌, ◌^◌, ◌<◌, ◌≤◌, false, List, ◌∷◌, length, pos, ◌-ℤ◌, Option, Some, None, Ok, refl, ap, ◌∙◌, arith}
-use Rattle.std.specs.Prelude.{slice_get}
+use Rattle.segment_laws.proofs.Common.{◌≡◌, ℕ, ◌+◌, ◌-◌, ◌*◌, ◌%◌, ◌^◌, ◌<◌, ◌≤◌, false, List, ◌∷◌, length, pos, ◌-ℤ◌, Option, Some, None, Ok, refl, ap, ◌∙◌, arith, slice_get, word_of, Goes, payload_place_of, Instr, accessed, effect, read, instruction_at, Op, function_at, FlatThread, pushed, LinkKind, fact_at, transfer, call_instruction, begin, kind_of, transfer_size, Frame, Calls, words_through_call, joined, Local, machine_of, local_move, local_step, Checked, through_call}
 use Rattle.cap_word.specs.Word as word
-use Rattle.cap_word.specs.Word.{word_of}
-use Rattle.cap_word.specs.Runs.{Goes}
-use Rattle.chunk_pool.specs.Pool.{payload_place_of}
-use Rattle.rv_code.specs.declared.instructions.Instr.{Instr}
-use Rattle.rv_machine.specs.Access.{accessed}
-use Rattle.rv_machine.specs.Effect.{effect}
-use Rattle.rv_machine.specs.Registers.{read}
 use Rattle.rv_machine.specs.Rows.{jumps}
-use Rattle.rv_machine.specs.Step.{instruction_at}
-use Rattle.flat_code.specs.declared.operations.Op.{Op}
-use Rattle.flat_code.specs.Codes.{function_at}
-use Rattle.flat_code.specs.Frames.{FlatThread, pushed}
-use Rattle.stack_certificate.specs.declared.sites.LinkKind.{LinkKind}
-use Rattle.stack_certificate.specs.Certificates.{fact_at}
-use Rattle.stack_certificate.specs.Parts.{transfer, call_instruction}
-use Rattle.stack_certificate.specs.Templates.{begin, kind_of, transfer_size}
-use Rattle.machine_world.specs.InPlace.{Frame, Calls, words_through_call, joined}
-use Rattle.machine_world.specs.Local.{Local, machine_of, local_move, local_step}
-use Rattle.machine_world.specs.Places.{Checked, through_call}
 use Rattle.segment_laws.proofs.Calling.{row_before, jumped, move-jumps, step-jal, no_access-jal, call_enters}
 use Rattle.segment_laws.proofs.CallShapes.{CallShape, transfer_word}
 use Rattle.segment_laws.proofs.Entering.{ArgumentsIn}

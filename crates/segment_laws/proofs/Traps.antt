@@ -1,26 +1,7 @@
 -- Traps: the machine comes to the ECALL of the trap with the globals as they were.
-use Rattle.std.proofs.Common.{◌≡◌, ℕ, ◌+◌, ◌<◌, ◌≤◌, List, [], length, get_or, set, pos, false, Option, Some, refl, ap, ◌∙◌, arith}
-use Rattle.std.specs.Prelude.{nat_lt}
-use Rattle.std.proofs.lemmas.Bool.{le-ltb}
-use Rattle.std.proofs.lemmas.List.{length-map}
-use Rattle.std.proofs.lemmas.List.Sums.{get_or-le-sum_by}
-use Rattle.cap_word.specs.Calls.{Finish}
-use Rattle.cap_word.specs.Rows.{width, word_at, with_word}
-use Rattle.cap_word.specs.Runs.{Goes, Stops}
+use Rattle.segment_laws.proofs.Common.{◌≡◌, ℕ, ◌+◌, ◌<◌, ◌≤◌, List, [], length, get_or, set, pos, false, Option, Some, refl, ap, ◌∙◌, arith, nat_lt, le-ltb, length-map, get_or-le-sum_by, Finish, width, word_at, with_word, Goes, Stops, TrapKind, Instr, read, Op, FlatGlobal, function_at, members_of, FlatThread, Finished, variable, passed, set_to, on, scalar, puts, within, enters_by, does, global_words, member_count, AreGlobals, global_widths, Frame, Checked}
 use Rattle.cap_word.specs.Word as word
-use Rattle.cap_word.specs.declared.traps.TrapKind.{TrapKind}
-use Rattle.rv_code.specs.declared.instructions.Instr.{Instr}
-use Rattle.rv_machine.specs.Registers.{read}
-use Rattle.flat_code.specs.declared.operations.Op.{Op}
-use Rattle.flat_code.specs.declared.programs.FlatGlobal.{FlatGlobal}
-use Rattle.flat_code.specs.Codes.{function_at, members_of}
-use Rattle.flat_code.specs.Frames.{FlatThread, Finished, variable, passed, set_to}
-use Rattle.flat_code.specs.Step.{on, scalar, puts, within, enters_by, does}
-use Rattle.stack_certificate.specs.Certificates.{global_words, member_count}
-use Rattle.machine_world.specs.Globals.{AreGlobals, global_widths}
-use Rattle.machine_world.specs.InPlace.{Frame}
 use Rattle.machine_world.specs.Local.{Local, Trapped, machine_of, local_step, trapped}
-use Rattle.machine_world.specs.Places.{Checked}
 use Rattle.segment_laws.proofs.Facts.{CodeFacts, IsOperationAt}
 use Rattle.segment_laws.proofs.FlatSteps.{was_there}
 use Rattle.segment_laws.proofs.Guards.{IsGuarded, ecall_is, does_bltu, none_bltu}

@@ -1,49 +1,17 @@
 -- A return from the first frame of a chunk: UNLINK gives the chunk back, and the caller goes on in the chunk below.
-use Rattle.std.proofs.Common.{◌≡◌, ℕ, suc, ◌+◌, ◌*◌, ◌<◌, Bool, true, cond, List, ◌∷◌, length, get_or, pos, Option, Some, None, Ok, slice_get, refl, sym, ap, subst, ◌∙◌, arith, lit<}
-use Rattle.std.specs.Prelude.{nat_eq, ◌||◌}
-use Rattle.std.proofs.lemmas.Bool.{eq-eqb, ne_eqb, eqb-true}
-use Rattle.std.proofs.lemmas.List.{length-set}
+use Rattle.segment_laws.proofs.Common.{◌≡◌, ℕ, suc, ◌+◌, ◌*◌, ◌<◌, Bool, true, cond, List, ◌∷◌, length, get_or, pos, Option, Some, None, Ok, slice_get, refl, sym, ap, subst, ◌∙◌, arith, lit<, nat_eq, ◌||◌, eq-eqb, ne_eqb, eqb-true, length-set, Goes, Stops, Pool, after_give, end_of, payload_place_of, chunk_at-some, Instr, accessed, effect, read, write, sets, instruction_at, Op, function_at, operation_at, FlatFrame, FlatThread, with_result, place_in, answered, LinkKind, fact_at, transfer, begin, size, kind_of, transfer_size, Areas, AreGlobals, copies, Frame, frame_bytes, return_word, IsStack, chain_below, low_below, FramesAt, HeadersName, TpIsFront, IsGoodAccess, words_through_call, joined, Local, machine_of, local_move, local_step, unlinked, unlinked_on, unlinked_front, begins_at, chunk_with_payload, saved_tp, saved_sp, system_call, after_call, Checked, InOperation, Row, Linking, Whole, row_at, size_in, through_call, transfer_row, AreFlatFrames, HasForm, copies-cons, words_of-payload, KeepsOthers-after_give, read-write_same}
 use Rattle.cap_word.specs.Word as word
-use Rattle.cap_word.specs.Word.{word_of}
-use Rattle.cap_word.specs.Runs.{Goes, Stops}
-use Rattle.chunk_pool.specs.Pool.{Pool, after_give, end_of, payload_place_of}
-use Rattle.chunk_pool.proofs.AddressLaws.{chunk_at-some}
-use Rattle.rv_code.specs.declared.instructions.Instr.{Instr}
-use Rattle.rv_machine.specs.Access.{accessed}
-use Rattle.rv_machine.specs.Effect.{effect}
-use Rattle.rv_machine.specs.Registers.{read, write}
-use Rattle.rv_machine.specs.Rows.{sets}
-use Rattle.rv_machine.specs.Step.{instruction_at}
-use Rattle.flat_code.specs.declared.operations.Op.{Op}
-use Rattle.flat_code.specs.Codes.{function_at, operation_at}
-use Rattle.flat_code.specs.Frames.{FlatFrame, FlatThread, with_result}
-use Rattle.flat_code.specs.Step.{place_in, answered}
-use Rattle.stack_certificate.specs.declared.sites.LinkKind.{LinkKind}
-use Rattle.stack_certificate.specs.Certificates.{fact_at}
-use Rattle.stack_certificate.specs.Parts.{transfer}
-use Rattle.stack_certificate.specs.Templates.{begin, size, kind_of, transfer_size}
-use Rattle.machine_world.specs.Areas.{Areas}
-use Rattle.machine_world.specs.Globals.{AreGlobals}
-use Rattle.machine_world.specs.Held.{copies}
-use Rattle.machine_world.specs.InPlace.{Frame, frame_bytes, return_word, IsStack, chain_below, low_below, FramesAt, HeadersName, TpIsFront, IsGoodAccess, words_through_call, joined}
-use Rattle.machine_world.specs.Local.{Core, Local, LocalMove, machine_of, local_move, local_step, unlinked, unlinked_on, unlinked_front, begins_at, chunk_with_payload, saved_tp, saved_sp, system_call, after_call}
-use Rattle.machine_world.specs.Places.{Checked, Place, InOperation, Row, Linking, Whole, row_at, size_in, through_call, transfer_row}
-use Rattle.machine_world.specs.Rests.{AreFlatFrames}
-use Rattle.segment_laws.specs.Ways.{HasForm}
-use Rattle.machine_world.proofs.HeldLaws.{copies-cons}
 use Rattle.segment_laws.proofs.Agreeing.{Agrees, stack_agrees, headers_agree, word_in_same, in_front, front_at, stack_in, flats_agree, variables_agree}
 use Rattle.segment_laws.proofs.CallShapes.{CallShape, call_shape, transfer_word, result_word}
 use Rattle.segment_laws.proofs.Coming.{result_comes, Reaches-goes_on}
 use Rattle.segment_laws.proofs.Facts.{CodeFacts, IsOperationAt}
 use Rattle.segment_laws.proofs.PlainCalls.{CallFacts}
-use Rattle.segment_laws.proofs.Registers.{read-write_same, read-write_other, add-small, word_of-small, step-is, access-is, with_register, move-sets}
+use Rattle.segment_laws.proofs.Registers.{read-write_other, add-small, word_of-small, step-is, access-is, with_register, move-sets}
 use Rattle.segment_laws.proofs.Returning.{caller_of, at_flat, HasReturned, gives_result}
 use Rattle.segment_laws.proofs.Simulation.{During, Reaches}
 use Rattle.segment_laws.proofs.Stacks.{IsFront}
 use Rattle.segment_laws.proofs.Standing.{once_standing}
 use Rattle.segment_laws.proofs.Ways.{IsGoodState, Leads, Leads-one, Leads-then, HasForm-next}
-use Rattle.chunk_pool.proofs.ShapeLaws.{words_of-payload}
-use Rattle.chunk_pool.proofs.PoolLaws.{KeepsOthers-after_give}
 
 -- ---- the thread between the second call instruction and UNLINK
 
@@ -255,7 +223,7 @@ unlinks c code l op need chunk rest b bs tb tbs globals facts there s is_linked 
       others = λ r not_sp not_tp not_a7. read-write_other x2 2 (saved_sp p chunk) r not_sp ∙ read-write_other l2.core.x 4 (saved_tp p chunk) r not_tp ∙ read-write_other l.core.x 17 2 r not_a7;
     }
 
-rest_is : (rest : List ℕ) (chunk : ℕ) → slice_get rest 0 ≡ Some chunk → (later : List ℕ) × (rest ≡ chunk ∷ later)
+pub rest_is : (rest : List ℕ) (chunk : ℕ) → slice_get rest 0 ≡ Some chunk → (later : List ℕ) × (rest ≡ chunk ∷ later)
 rest_is rest chunk e = let front = front_at rest chunk e in (front.rest, front.is)
 
 -- the caller goes on with the result, in the chunk below

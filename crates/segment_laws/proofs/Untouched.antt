@@ -1,29 +1,10 @@
 -- A step from a good state accesses no chunk but those in the thread's chain.
-use Rattle.std.proofs.Common.{◌≡◌, ℕ, zero, suc, ◌+◌, ◌-◌, ◌*◌, ◌<◌, ◌≤◌, List, [], ◌∷◌, length, map, Option, Some, None, refl, sym, ap, subst, ◌∙◌, arith, cond, Bool, ⊎_elim}
-use Rattle.std.specs.Prelude.{sum, sum_by, ◌⊎◌}
-use Rattle.std.proofs.lemmas.Bool.{eq-eqb}
-use Rattle.std.proofs.lemmas.List.{length-map, get_or-map}
-use Rattle.std.proofs.lemmas.List.Concat.{length-flat_map}
-use Rattle.std.proofs.lemmas.List.Sums.{sum_by-cons, sum_by_more_le}
-use Rattle.chunk_pool.specs.Pool.{Pool, chunk_of, place_of}
-use Rattle.rv_machine.specs.Access.{Access, IsAccessed}
-use Rattle.flat_code.specs.WellFormed.{IsWellFormed}
-use Rattle.flat_code.specs.declared.programs.FlatGlobal.{FlatGlobal}
-use Rattle.stack_certificate.specs.Certificates.{fact_at}
+use Rattle.segment_laws.proofs.Common.{◌≡◌, ℕ, zero, suc, ◌+◌, ◌-◌, ◌*◌, ◌<◌, ◌≤◌, List, [], ◌∷◌, length, map, Option, Some, None, refl, sym, ap, subst, ◌∙◌, arith, cond, Bool, ⊎_elim, sum, sum_by, ◌⊎◌, eq-eqb, length-map, get_or-map, length-flat_map, sum_by-cons, sum_by_more_le, Pool, chunk_of, place_of, Access, IsAccessed, IsWellFormed, FlatGlobal, fact_at, Areas, Spot, InGlobals, InTables, InPayload, globals_place, tables_place, spot_of, global_widths, copies, copies_in, KeepsCopies, Frame, IsFrame, FramesAt, IsGoodAccess, IsFramed, IsInGlobal, IsInTable, Core, Local, access_at, local_step, Checked, Place, Row, NoFrame, Empty, Fresh, Linking, Whole, row_of, KeepsChunk-step, copies-cons, KeepsCopies-step, Comes}
 use Rattle.machine_world.specs.Alone.{KeepsChunk}
-use Rattle.machine_world.specs.Areas.{Areas, Spot, InGlobals, InTables, InPayload, globals_place, tables_place, spot_of}
-use Rattle.machine_world.specs.Globals.{global_widths}
-use Rattle.machine_world.specs.Held.{copies, copies_in, KeepsCopies}
-use Rattle.machine_world.specs.InPlace.{Frame, IsFrame, FramesAt, IsGoodAccess, IsFramed, IsInGlobal, IsInTable}
-use Rattle.machine_world.specs.Local.{Core, Local, access_at, local_step}
-use Rattle.machine_world.specs.Places.{Checked, Place, Row, NoFrame, Empty, Fresh, Linking, Whole, row_of}
-use Rattle.machine_world.proofs.AloneLaws.{KeepsChunk-step}
-use Rattle.machine_world.proofs.HeldLaws.{copies-cons, KeepsCopies-step}
 use Rattle.segment_laws.proofs.FrameWords.{stack_frame}
 use Rattle.segment_laws.proofs.Spots.{Fit, InsidePayload, spot_of-payload, spot_of-global, spot_of-table}
 use Rattle.segment_laws.proofs.Ways.{HasForm, IsGoodState}
 use Rattle.segment_laws.proofs.Moves.{Comes-suc, Comes-first}
-use Rattle.segment_laws.specs.Alike.{Comes}
 use Rattle.segment_laws.proofs.Entries.{entries_of, count_is}
 
 -- ---- the running frame's chunk is in the chain

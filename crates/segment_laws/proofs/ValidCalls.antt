@@ -1,24 +1,5 @@
 -- The rules of a certificate give what the laws of calls take.
-use Rattle.std.proofs.Common.{◌≡◌, ℕ, zero, suc, ◌<◌, ◌≤◌, true, false, List, [], ◌∷◌, length, map, take, replicate, get_or, Some, refl, sym, ap, subst, ◌∙◌, arith, ⊎_elim}
-use Rattle.std.specs.Prelude.{Contains, slice_index_or}
-use Rattle.std.specs.List.{AllByRecursion}
-use Rattle.std.proofs.lemmas.Bool.{cases_lt}
-use Rattle.std.proofs.lemmas.List.{length-map, get_or-map}
-use Rattle.flat_code.specs.declared.functions.FlatFunction.{FlatFunction}
-use Rattle.flat_code.specs.declared.operations.Op.{Op}
-use Rattle.flat_code.specs.Codes.{FlatCode, function_at, operation_at, members_of}
-use Rattle.flat_code.specs.WellFormed.{signature_of, IsOperation, IsFunction, IsWellFormed, context_of}
-use Rattle.cap_word.specs.Signatures.{Signature, signature_at, IsMember, IsTable}
-use Rattle.stack_image.specs.declared.images.Image.{Image}
-use Rattle.stack_certificate.specs.declared.certificates.Certificate.{Certificate}
-use Rattle.stack_certificate.specs.declared.sites.LinkKind.{LinkKind}
-use Rattle.stack_certificate.specs.Certificates.{fact_at}
-use Rattle.stack_certificate.specs.Templates.{kind_of}
-use Rattle.certificate_rules.specs.Rules.{IsNeed}
-use Rattle.certificate_rules.specs.Sites.{certified_site, greatest_bound, callee_bound, is_spawned, starts_thread}
-use Rattle.certificate_rules.specs.Validity.{IsValid}
-use Rattle.machine_world.specs.InPlace.{Calls}
-use Rattle.segment_laws.specs.Calls.{EntryFacts, CallFacts}
+use Rattle.segment_laws.proofs.Common.{◌≡◌, ℕ, zero, suc, ◌<◌, ◌≤◌, true, false, List, [], ◌∷◌, length, map, take, replicate, get_or, Some, refl, sym, ap, subst, ◌∙◌, arith, ⊎_elim, Contains, slice_index_or, AllByRecursion, cases_lt, length-map, get_or-map, FlatFunction, Op, FlatCode, function_at, operation_at, members_of, signature_of, IsOperation, IsFunction, IsWellFormed, context_of, Signature, signature_at, IsMember, IsTable, Image, Certificate, LinkKind, fact_at, kind_of, IsNeed, certified_site, greatest_bound, callee_bound, is_spawned, starts_thread, IsValid, Calls, EntryFacts, CallFacts}
 use Rattle.segment_laws.proofs.StandingCode.{all_at, all_index}
 
 take_ones : (n : ℕ) (sizes : List ℕ) (x : ℕ) → take n sizes ≡ replicate n 1 → x < n → (x < length sizes) × (get_or sizes x 0 ≡ 1)

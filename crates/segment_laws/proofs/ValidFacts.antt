@@ -1,29 +1,8 @@
 -- The rules of a certificate give what the laws of one thread take of the code.
-use Rattle.std.proofs.Common.{◌≡◌, ℕ, zero, suc, ◌+◌, ◌*◌, ◌%◌, ◌<◌, ◌≤◌, List, [], ◌∷◌, length, map, Option, Some, slice_get, refl, sym, ap, ◌∙◌, arith}
-use Rattle.std.specs.Prelude.{sum, sum_by}
-use Rattle.std.specs.List.{flat_map}
-use Rattle.std.proofs.lemmas.List.{length-map}
-use Rattle.std.proofs.lemmas.List.Concat.{length-flat_map}
-use Rattle.std.proofs.lemmas.List.Sums.{sum-map, sum_by-cons}
-use Rattle.rv_code.specs.declared.instructions.Instr.{Instr}
-use Rattle.flat_code.specs.declared.operations.Op.{Op}
-use Rattle.flat_code.specs.Codes.{FlatCode, function_at, operation_at}
-use Rattle.flat_code.specs.WellFormed.{IsOperation, IsFunction, IsWellFormed, context_of}
-use Rattle.stack_image.specs.declared.images.Image.{Image}
-use Rattle.stack_certificate.specs.declared.certificates.Certificate.{Certificate}
-use Rattle.stack_certificate.specs.Certificates.{fact_at}
+use Rattle.segment_laws.proofs.Common.{◌≡◌, ℕ, ◌+◌, ◌*◌, ◌%◌, ◌<◌, ◌≤◌, List, [], ◌∷◌, length, map, Option, Some, slice_get, refl, sym, ap, ◌∙◌, arith, sum, sum_by, flat_map, length-map, length-flat_map, sum-map, sum_by-cons, Instr, Op, FlatCode, function_at, operation_at, IsOperation, IsFunction, IsWellFormed, context_of, Image, Certificate, fact_at, words_step, IsValid, ZeroesSome, IsOperationAt, CodeFacts, slice_get_within}
 use Rattle.stack_certificate.specs.Templates.{row, row_at, setting, setting_at, template, words_before, begin, size, size_at, kind_of}
-use Rattle.stack_certificate.proofs.AddressLemmas.{words_step}
-use Rattle.certificate_rules.specs.Validity.{IsValid}
-use Rattle.segment_laws.specs.Zeroes.{ZeroesSome}
 use Rattle.segment_laws.proofs.FramePlaces.{FrameFacts-valid}
 use Rattle.segment_laws.proofs.StandingCode.{fetched_there, all_at, all_index}
-use Rattle.segment_laws.specs.Facts.{IsOperationAt, CodeFacts}
-
-pub within : {X : Type 0} (xs : List X) (i : ℕ) (x : X) → slice_get xs i ≡ Some x → i < length xs
-within [] i x e = absurd (cc)
-within (y ∷ ys) zero x e = omega arith
-within (y ∷ ys) (suc i) x e = (let rest = within ys i x e in omega (arith, rest))
 
 -- the words before the next operation are those before this one and its own
 pub before_next : (code : FlatCode) (certificate : Certificate) (f i : ℕ) (op : Op) → operation_at code f i ≡ Some op → words_before code certificate f i + size (function_at code f).sizes (kind_of certificate op) op ≡ words_before code certificate f (i + 1)
@@ -47,7 +26,7 @@ IsOperationAt-valid : (code : FlatCode) (image : Image) (certificate : Certifica
 IsOperationAt-valid code image certificate formed valid f i op there is =
     let room = has_room code image certificate f valid there in
     let next = before_next code certificate f i op is in
-    let inside : words_before code certificate f (i + 1) ≤ (fact_at certificate f).words = ((valid.holds 6 f i).v6 refl).inside there (within (function_at code f).ops i op is) in
+    let inside : words_before code certificate f (i + 1) ≤ (fact_at certificate f).words = ((valid.holds 6 f i).v6 refl).inside there (slice_get_within (function_at code f).ops i op is) in
     let high = room.high in
     let entry_aligned = room.aligned in
     let low = room.low in

@@ -1,16 +1,6 @@
 -- The variables of the running frame after one word of one of them is written.
-use Rattle.std.proofs.Common.{◌≡◌, ℕ, ◌+◌, ◌*◌, ◌<◌, ◌≤◌, List, length, get_or, set, Some, None, sym, ap, subst, ◌∙◌, arith, ⊎_elim, get_or-set_same, get_or-set_other}
-use Rattle.std.proofs.lemmas.Bool.{cases_eq, cases_lt}
-use Rattle.std.proofs.lemmas.List.{length-set, get_or_past}
+use Rattle.segment_laws.proofs.Common.{◌≡◌, ℕ, ◌+◌, ◌*◌, ◌<◌, ◌≤◌, List, length, get_or, set, Some, None, sym, ap, subst, ◌∙◌, arith, ⊎_elim, get_or-set_same, get_or-set_other, cases_eq, cases_lt, length-set, get_or_past, word_of-with_word_same, function_at, FlatFrame, variable, set_to, fact_at, Frame, Local, Checked, variable_word, HoldsVariables, IsShaped}
 use Rattle.chunk_pool.specs.Pool.{Pool, word_of as pool_word, with_word as with_pool_word, IsPool, end_of}
-use Rattle.chunk_pool.proofs.PoolLaws.{word_of-with_word_same}
-use Rattle.flat_code.specs.Codes.{function_at}
-use Rattle.flat_code.specs.Frames.{FlatFrame, variable, set_to}
-use Rattle.stack_certificate.specs.Certificates.{fact_at}
-use Rattle.machine_world.specs.InPlace.{Frame}
-use Rattle.machine_world.specs.Local.{Local}
-use Rattle.machine_world.specs.Places.{Checked}
-use Rattle.machine_world.specs.Rests.{variable_word, HoldsVariables, IsShaped}
 use Rattle.segment_laws.proofs.Facts.{FrameFacts}
 use Rattle.segment_laws.proofs.FrameWords.{InFrame}
 use Rattle.segment_laws.proofs.Stacks.{word_of-other}

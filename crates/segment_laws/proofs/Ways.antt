@@ -1,14 +1,6 @@
 -- Good steps of one thread, one after another: from states that are in place, each with a good access.
-use Rattle.std.proofs.Common.{◌≡◌, ℕ, zero, suc, ◌+◌, List, refl, sym, ap, subst, arith, cond}
-use Rattle.std.specs.Prelude.{nat_lt}
-use Rattle.cap_word.specs.Runs.{Goes}
-use Rattle.machine_world.specs.Held.{copies_in, KeepsCopies, KeepsShape}
-use Rattle.machine_world.specs.Local.{Local, local_step}
-use Rattle.machine_world.specs.Places.{Checked}
+use Rattle.segment_laws.proofs.Common.{◌≡◌, ℕ, zero, suc, ◌+◌, List, refl, sym, ap, subst, arith, cond, nat_lt, Goes, copies_in, KeepsCopies, KeepsShape, Local, local_step, Checked, KeepsForm, KeepsForm-step, KeepsCopies-step, KeepsShape-step, shape_of}
 use Rattle.machine_world.proofs.FormLaws as forms
-use Rattle.machine_world.proofs.FormLaws.{KeepsForm, KeepsForm-step}
-use Rattle.machine_world.proofs.HeldLaws.{KeepsCopies-step, KeepsShape-step}
-use Rattle.chunk_pool.specs.Pool.{shape_of}
 use Rattle.chunk_pool.specs.declared.shape.Shape.{Shape}
 pub use Rattle.segment_laws.specs.Ways.{Owns, HasForm, IsGoodState, WayIn, Leads, ComesTo}
 

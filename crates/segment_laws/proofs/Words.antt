@@ -1,19 +1,12 @@
 -- What is loaded from and stored to four bytes of a payload, of the globals or of the tables is one word of a chunk or of a
 -- row.
-use Rattle.std.proofs.Common.{◌≡◌, ℕ, ◌+◌, ◌-◌, ◌*◌, ◌/◌, ◌%◌, ◌^◌, ◌<◌, ◌≤◌, true, List, [], length, get_or, set, Option, Some, refl, sym, ap, subst, ◌∙◌, arith, cond, lit<, get_or-set_same}
-use Rattle.std.specs.Prelude.{◌&&◌, nat_le, nat_lt}
-use Rattle.std.proofs.lemmas.Bool.{and_from}
-use Rattle.std.proofs.lemmas.List.{length-set, set-set, set-get_or}
-use Rattle.chunk_pool.specs.Pool.{Pool, chunk_of, word_of, contents_with, place_of, end_of, payload_place_of, chunk_at, IsPool}
+use Rattle.segment_laws.proofs.Common.{◌≡◌, ℕ, ◌+◌, ◌-◌, ◌*◌, ◌/◌, ◌%◌, ◌^◌, ◌<◌, ◌≤◌, true, List, [], length, get_or, set, Option, Some, refl, sym, ap, subst, ◌∙◌, arith, cond, lit<, get_or-set_same, ◌&&◌, nat_le, nat_lt, and_from, length-set, set-set, set-get_or, place_of-aligned, Areas, Spot, InGlobals, InTables, InPayload, globals_place, tables_place, is_within, payload_spot, spot_of, byte_on, byte_at, is_writable_on, is_writable, with_byte_on, with_byte, word-below, IsChunk-chunk_of}
+use Rattle.chunk_pool.specs.Pool.{Pool, chunk_of, word_of, place_of, end_of, payload_place_of, chunk_at, IsPool}
 use Rattle.chunk_pool.specs.Pool as pools
-use Rattle.chunk_pool.proofs.AddressLaws.{place_of-aligned}
 use Rattle.rv_machine.specs.Bytes.{word_at, with_half, with_word, half_is_writable, word_is_writable}
 use Rattle.rv_machine.specs.WordBytes.{byte_of, byte_in, words_with}
 use Rattle.rv_machine.proofs.WordBytes.{word_at-held, with_word-row}
-use Rattle.machine_world.specs.Areas.{Areas, Spot, InGlobals, InTables, InPayload, globals_place, tables_place, is_within, payload_spot, spot_of, byte_on, byte_at, is_writable_on, is_writable, with_byte_on, with_byte}
-use Rattle.machine_world.proofs.FormLaws.{word-below}
 use Rattle.segment_laws.proofs.Spots.{Fit, spot_of-payload, spot_of-global, spot_of-table}
-use Rattle.chunk_pool.proofs.ShapeLaws.{IsChunk-chunk_of}
 
 -- ---- four bytes of a row of words
 

@@ -14,8 +14,8 @@
 //   afterwards, in its caller's chunk or in one that it linked, or finds no chunk; if the flat thread ends, so does the
 //   machine thread (specs/Calls). Lemmas: Standing (a thread at any place), Entering (the prologue), Calling
 //   (arguments, call instructions), Transfers and Linked (in the caller's chunk), Agreeing, Linking and FarCalls
-//   (LINK), Leaving, Coming, Returning and EndStub (returns), Unlinking (UNLINK), ReturnSteps (step by step). The linked
-//   stacks are those of Capriccio (SOSP 2003).
+//   (LINK), Leaving, Coming, Returning and EndStub (returns), Unlinking (UNLINK), ReturnSteps (step by step). The
+//   linked stacks are those of Capriccio (SOSP 2003).
 // - `tables`: calls through a table: the guard of the index, the entry of the member, and the transfer, as for a call
 //   of a function; or the trap if the index is out of range (specs/Tables).
 // - `code_facts`, `call_facts`: what follows from a valid certificate for these laws. If a program is well formed, and

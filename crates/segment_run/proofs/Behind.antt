@@ -1,32 +1,8 @@
 -- A thread just behind the ECALL of a call: where it stands, and that no other ECALL stands there.
-use Rattle.std.proofs.Common.{◌≡◌, ℕ, ◌+◌, ◌*◌, ◌%◌, ◌<◌, ◌≤◌, List, get_or, pos, Option, Some, None, Ok, slice_get, refl, sym, ap, subst, ◌∙◌, arith}
-use Rattle.chunk_pool.specs.Pool.{Pool}
-use Rattle.rv_code.specs.declared.instructions.Instr.{Instr}
-use Rattle.rv_machine.specs.Step.{instruction_at}
-use Rattle.flat_code.specs.Codes.{function_at, operation_at, result_place}
-use Rattle.flat_code.specs.declared.operations.Op.{Op}
-use Rattle.stack_certificate.specs.Certificates.{fact_at}
-use Rattle.stack_certificate.specs.Templates.{begin, size, result_size, kind_of, row, setting}
-use Rattle.machine_world.specs.InPlace.{Frame}
-use Rattle.machine_world.specs.Local.{Core}
-use Rattle.machine_world.specs.Places.{Checked, Place, InOperation, IsAt, Whole, row_at, size_in}
-use Rattle.c_lower.specs.ProgramCode.{lowered}
-use Rattle.c_tree.specs.Trees.{ProgramTree}
-use Rattle.c_tree.specs.WellScoped.{IsWellScoped}
-use Rattle.certificate_rules.specs.Validity.{IsValid}
-use Rattle.machine_meaning.proofs.Formed.{formed, follows}
-use Rattle.machine_meaning.proofs.Zeroes.{program_zeroes}
-use Rattle.machine_world.specs.Rests.{IsResting, AtStart, AtCall, PastCall, IsAtCall, IsPastCall, ecall_word}
+use Rattle.segment_run.proofs.Common.{◌≡◌, ℕ, ◌+◌, ◌*◌, ◌%◌, ◌<◌, ◌≤◌, List, get_or, pos, Option, Some, None, Ok, slice_get, refl, sym, ap, subst, ◌∙◌, arith, Pool, Instr, instruction_at, function_at, operation_at, result_place, Op, fact_at, begin, size, result_size, kind_of, row, setting, Frame, Core, Checked, Place, InOperation, IsAt, Whole, row_at, size_in, lowered, ProgramTree, IsWellScoped, IsValid, formed, follows, program_zeroes, IsResting, AtStart, AtCall, PastCall, IsAtCall, IsPastCall, ecall_word, CodeFacts-valid, Certificate, Image, CodeFacts, row_first, size_some, function_of_op, FollowsAsks, ask_shape, some_at}
 use Rattle.segment_laws.proofs.Passing.{call_is_ecall, no_other}
-use Rattle.segment_laws.proofs.ValidFacts.{CodeFacts-valid}
 use Rattle.segment_run.specs.Passing as passing
-use Rattle.stack_certificate.specs.declared.certificates.Certificate.{Certificate}
-use Rattle.stack_image.specs.declared.images.Image.{Image}
 use Rattle.segment_laws.proofs.FirstWords.{HasOther, has_other, first_other, ask_words}
-use Rattle.segment_laws.specs.Facts.{CodeFacts}
-use Rattle.segment_laws.proofs.Past.{row_first, size_some, function_of_op}
-use Rattle.segment_laws.specs.Alike.{FollowsAsks}
-use Rattle.segment_laws.proofs.FromRest.{ask_shape, some_at}
 
 -- behind an ECALL pc stands among the words of an operation, where the frame is whole, and not at an ECALL
 pub record IsBehindCall (c : Checked) (code : List ℕ) (core : Core) (f : ℕ) : Type 0 where

@@ -1,23 +1,5 @@
 -- The calls of the run time at which a thread of an accepted program may stand.
-use Rattle.std.proofs.Common.{◌≡◌, ℕ, zero, suc, ◌<◌, length, refl, sym, subst, ◌∙◌}
-use Rattle.cap_word.specs.Runs.{Asks}
-use Rattle.certificate_rules.specs.Validity.{IsValid}
-use Rattle.flat_code.specs.Codes.{FlatCode}
-use Rattle.machine_meaning.proofs.Formed.{entries}
-use Rattle.stack_certificate.specs.declared.certificates.Certificate.{Certificate}
-use Rattle.stack_image.specs.declared.images.Image.{Image}
-use Rattle.machine_world.specs.Areas.{Areas}
-use Rattle.machine_world.specs.Local.{Local, Starts, ended, local_step}
-use Rattle.machine_world.specs.Places.{Checked}
-use Rattle.segment_run.specs.Contexts.{chain_from}
-use Rattle.segment_run.specs.Lookups.{HasEntry}
-use Rattle.segment_run.specs.Safe.{AsksAt, IsSafeMove}
-use Rattle.segment_run.specs.Segments.{IsAtSpawn}
-use Rattle.segment_run.specs.Turns.{thread_of}
-use Rattle.segment_run.specs.declared.running.Thread.{Thread}
-
-pub as_many : (code : FlatCode) (image : Image) (certificate : Certificate) → IsValid code image certificate → length certificate.functions ≡ length code.functions
-as_many code image certificate valid = (((valid.holds 1 0 3).v1 refl).functions refl).0
+use Rattle.segment_run.proofs.Common.{◌≡◌, ℕ, zero, suc, ◌<◌, length, sym, subst, ◌∙◌, Asks, IsValid, FlatCode, entries, Certificate, Image, Areas, Local, Starts, ended, local_step, Checked, chain_from, HasEntry, AsksAt, IsSafeMove, IsAtSpawn, thread_of, Thread, as_many}
 
 pub spawned_entry : (code : FlatCode) (image : Image) (certificate : Certificate) (l : Local) (entry argument need : ℕ) → IsValid code image certificate →
     AsksAt (record { flat = code; certificate = certificate }) l (Starts entry argument need) → (f : ℕ) × HasEntry certificate entry f

@@ -1,20 +1,6 @@
 -- The chain that the headers of chunks name, and what keeps it.
-use Rattle.std.proofs.Common.{◌≡◌, ℕ, zero, suc, ◌+◌, ◌/◌, ◌%◌, ◌^◌, ◌<◌, ◌≤◌, List, ◌∷◌, length, Option, Some, refl, ap, ◌∙◌, arith, cond}
-use Rattle.std.specs.Prelude.{Bool, nat_eq}
-use Rattle.std.proofs.lemmas.Bool.{eq-eqb}
-use Rattle.chunk_pool.specs.Pool.{Pool, payload_place_of, IsPool, shape_of, words_of, chunk_at}
-use Rattle.rv_machine.specs.Bytes.{Stored, Nothing, Byte, Half, Word, with_half, with_word, with_stored}
+use Rattle.segment_run.proofs.Common.{◌≡◌, ℕ, zero, suc, ◌+◌, ◌/◌, ◌%◌, ◌^◌, ◌<◌, ◌≤◌, List, ◌∷◌, length, Option, Some, refl, ap, ◌∙◌, arith, cond, Bool, nat_eq, eq-eqb, Pool, payload_place_of, IsPool, shape_of, words_of, chunk_at, Stored, Nothing, Byte, Half, Word, with_half, with_word, with_stored, TellsWords, Areas, Spot, InPayload, spot_of, with_byte_on, with_byte, copies, saved_tp, IsSpot, IsSpot-spot_of, IsPool-with_byte, copies-cons, word_of-other, chunk_below, chain_from, chunk_at-same, chunk_at-some}
 use Rattle.rv_machine.specs.Rows as rows
-use Rattle.rv_machine.specs.Words.{TellsWords}
-use Rattle.machine_world.specs.Areas.{Areas, Spot, InPayload, spot_of, with_byte_on, with_byte}
-use Rattle.machine_world.specs.Held.{copies}
-use Rattle.machine_world.specs.Local.{saved_tp}
-use Rattle.machine_world.proofs.AreaLaws.{IsSpot, IsSpot-spot_of, IsPool-with_byte}
-use Rattle.machine_world.proofs.HeldLaws.{copies-cons}
-use Rattle.segment_laws.proofs.Stacks.{word_of-other}
-use Rattle.segment_run.specs.Contexts.{chunk_below, chain_from}
-use Rattle.chunk_pool.proofs.ShapeLaws.{chunk_at-same}
-use Rattle.chunk_pool.proofs.AddressLaws.{chunk_at-some}
 use Rattle.std.specs.Option.{unwrap_or}
 
 -- ---- what headers name

@@ -1,12 +1,6 @@
 -- What is fetched at a place of the code.
-use Rattle.std.proofs.Common.{◌≡◌, ℕ, zero, suc, ◌-◌, ◌/◌, ◌%◌, ◌≤◌, List, [], ◌∷◌, length, refl, arith, Option, Some, None, Ok, Err, ap, sym, ◌∙◌, slice_get}
-use Rattle.std.specs.Prelude.{◌==◌, nat_lt}
-use Rattle.std.proofs.lemmas.Bool.{cond-true, cond-false, le-ltb, eq-eqb}
+use Rattle.segment_run.proofs.Common.{◌≡◌, ℕ, zero, suc, ◌-◌, ◌/◌, ◌%◌, ◌≤◌, List, [], ◌∷◌, length, refl, arith, Option, Some, None, Ok, Err, ap, sym, ◌∙◌, slice_get, ◌==◌, nat_lt, cond-true, cond-false, le-ltb, eq-eqb, Instr, decoding, code_start, code_word, decoded, fetched, instruction_at}
 use Rattle.cap_word.specs.declared.faults.FaultKind.TheVariants.{Misaligned}
-use Rattle.rv_code.specs.declared.instructions.Instr.{Instr}
-use Rattle.rv_code.specs.Decoding.{decoding}
-use Rattle.stack_image.specs.Addresses.{code_start}
-use Rattle.rv_machine.specs.Step.{code_word, decoded, fetched, instruction_at}
 
 pub fetched_at : (code : List ℕ) (pc : ℕ) (found : Option ℕ) → pc % 4 ≡ 0 → 4096 ≤ pc → slice_get code ((pc - 4096) / 4) ≡ found → instruction_at code pc ≡ fetched found
 unfolding instruction_at

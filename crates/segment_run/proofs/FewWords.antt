@@ -1,18 +1,6 @@
 -- The sizes of an accepted program's areas.
-use Rattle.std.proofs.Common.{◌≡◌, ℕ, ◌+◌, ◌≤◌, List, [], ◌∷◌, length, map, replicate, refl, sym, ap, ◌∙◌, arith}
-use Rattle.std.specs.Prelude.{sum, sum_by}
-use Rattle.std.proofs.lemmas.List.{length-map}
-use Rattle.std.proofs.lemmas.List.Concat.{length-flat_map}
-use Rattle.std.proofs.lemmas.List.Sums.{sum_by-cons}
-use Rattle.certificate_rules.specs.Rules.{member_entries, starting_words}
-use Rattle.certificate_rules.specs.Validity.{IsValid}
-use Rattle.flat_code.specs.Codes.{FlatCode}
-use Rattle.flat_code.specs.declared.programs.FlatGlobal.{FlatGlobal}
-use Rattle.flat_code.specs.WellFormed.{IsWellFormed}
-use Rattle.stack_certificate.specs.Certificates.{fact_at}
-use Rattle.stack_certificate.specs.declared.certificates.Certificate.{Certificate}
-use Rattle.stack_image.specs.declared.images.Image.{Image}
-use Rattle.segment_run.proofs.Forming.{same_lists, sum_widths}
+use Rattle.segment_run.proofs.Common.{◌≡◌, ℕ, ◌+◌, ◌≤◌, List, [], ◌∷◌, length, map, replicate, refl, sym, ap, ◌∙◌, arith, sum, sum_by, length-map, length-flat_map, sum_by-cons, member_entries, starting_words, IsValid, FlatCode, FlatGlobal, IsWellFormed, fact_at, Certificate, Image, same_words}
+use Rattle.segment_run.proofs.Forming.{sum_widths}
 
 sum_lengths : (f : ℕ → ℕ) (rows : List (List ℕ)) → sum_by (λ (row : List ℕ). length (map f row)) rows ≡ sum (map length rows)
 sum_lengths f [] = refl
@@ -23,13 +11,13 @@ sum_lengths f (row ∷ rows) =
 
 pub few_globals : (flat : FlatCode) (image : Image) (certificate : Certificate) → IsWellFormed flat → IsValid flat image certificate → length image.globals ≤ 65536
 few_globals flat image certificate formed valid =
-    let same = ap length (same_lists image.globals (starting_words flat) (λ i. ((valid.holds 12 0 i).v12 refl).word))
+    let same = ap length (same_words image.globals (starting_words flat) (λ i. ((valid.holds 12 0 i).v12 refl).word))
     ∙ length-flat_map (λ (g : FlatGlobal). replicate {A = ℕ} g.words g.start) flat.globals ∙ sum_widths flat.globals in
     omega (arith, same, formed.global_words)
 
 pub few_tables : (flat : FlatCode) (image : Image) (certificate : Certificate) → IsWellFormed flat → IsValid flat image certificate → length image.tables ≤ 65536
 few_tables flat image certificate formed valid =
     let entry : ℕ → ℕ = λ g. (fact_at certificate g).entry in
-    let same = ap length (same_lists image.tables (member_entries flat certificate) (λ i. ((valid.holds 8 0 i).v8 refl).word))
+    let same = ap length (same_words image.tables (member_entries flat certificate) (λ i. ((valid.holds 8 0 i).v8 refl).word))
     ∙ length-flat_map (λ (members : List ℕ). map entry members) flat.tables ∙ sum_lengths entry flat.tables in
     omega (arith, same, formed.table_members)

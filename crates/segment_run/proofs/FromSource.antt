@@ -1,53 +1,14 @@
 -- What the law of the source gives a segment: no step is wrong, and its answer is what the source thread comes to next.
-use Rattle.std.proofs.Common.{◌≡◌, ℕ, zero, suc, ◌<◌, List, length, Option, Some, None, Ok, refl, sym, ap, ◌∙◌, subst, arith}
-use Rattle.std.proofs.lemmas.List.{length-map}
+use Rattle.segment_run.proofs.Common.{◌≡◌, ℕ, ◌<◌, List, length, Option, Some, None, Ok, refl, sym, ap, ◌∙◌, subst, arith, length-map, Asks, Stops, moves, lowered, ProgramTree, IsWellScoped, IsValid, signature_of, Op, formed, entries, program_zeroes, AreGlobals, Frame, Local, LocalMove, Calls, Starts, NoRoom, Wrong, local_step, Checked, IsAtCall, IsResting, AtCall, Instr, instruction_at, CodeFacts-valid, CodeFacts, HasForm, AsksAt, IsSafeMove, StaysSafe, IsAtSpawn, IsAtAsk, IsEnd, IsSegment, WaitsBefore, Segment, AsksCall, WaitsAsSource, IsStepAsSource, RunsAsSource, fact_at, need_of, kind_of, Certificate, Image, Leads-comes}
 use Rattle.cap_word.specs.Calls.{Call, Blocking, Immediate, Question, Finish, spawn_of}
-use Rattle.cap_word.specs.Runs.{Goes, Asks, Stops, and_then, moves}
 use Rattle.cap_word.specs.declared.calls.Ask.{Ask}
 use Rattle.cap_word.specs.declared.traps.TrapKind.{TrapKind}
-use Rattle.c_lower.specs.ProgramCode.{lowered}
 use Rattle.c_mean.specs.Frames.{Running, Waiting}
 use Rattle.c_mean.specs.Steps.{source_machine}
-use Rattle.c_tree.specs.Trees.{ProgramTree}
-use Rattle.c_tree.specs.WellScoped.{IsWellScoped}
-use Rattle.certificate_rules.specs.Validity.{IsValid}
-use Rattle.flat_code.specs.WellFormed.{signature_of}
-use Rattle.flat_code.specs.declared.operations.Op.{Op}
-use Rattle.machine_meaning.proofs.Formed.{formed, entries}
-use Rattle.machine_meaning.proofs.Zeroes.{program_zeroes}
-use Rattle.machine_world.specs.Globals.{AreGlobals}
-use Rattle.machine_world.specs.InPlace.{Frame}
 use Rattle.machine_world.specs.Local as local
-use Rattle.machine_world.specs.Local.{Local, LocalMove, Calls, Starts, NoRoom, Wrong, local_step, local_machine}
-use Rattle.machine_world.specs.Places.{Checked}
-use Rattle.machine_world.specs.Rests.{IsAtCall, IsResting, AtCall}
-use Rattle.rv_code.specs.declared.instructions.Instr.{Instr}
-use Rattle.rv_machine.specs.Step.{instruction_at}
-use Rattle.segment_laws.proofs.ValidFacts.{CodeFacts-valid}
-use Rattle.segment_laws.specs.Facts.{CodeFacts}
-use Rattle.segment_laws.specs.Ways.{HasForm, WayIn, Leads}
-use Rattle.segment_run.specs.Safe.{AsksAt, IsSafeMove, StaysSafe}
-use Rattle.segment_run.specs.Segments.{IsAtSpawn, IsAtAsk, IsEnd, IsSegment}
 use Rattle.segment_run.specs.Sources.{CallsNext, StopsNext, IsSourceAnswer}
-use Rattle.segment_run.specs.Passing.{WaitsBefore}
-use Rattle.segment_run.specs.declared.segments.Segment.{Segment}
 use Rattle.segment_run.specs.declared.segments.Segment.TheVariants as answer
 use Rattle.machine_meaning.proofs.SourceLaws as source
-use Rattle.machine_meaning.specs.AsSource.{AsksCall, WaitsAsSource, IsStepAsSource, RunsAsSource}
-use Rattle.segment_laws.specs.Alike.{Comes}
-use Rattle.stack_certificate.specs.Certificates.{fact_at, need_of}
-use Rattle.stack_certificate.specs.Templates.{kind_of}
-use Rattle.stack_certificate.specs.declared.certificates.Certificate.{Certificate}
-use Rattle.stack_image.specs.declared.images.Image.{Image}
-
--- ---- steps
-
-way_comes : (c : Checked) (code : List ℕ) (n : ℕ) (l after : Local) → WayIn c code n l after → Comes code n l after
-way_comes c code zero l after h = ap (λ (m : Local). Goes m) h
-way_comes c code (suc n) l after h = ap (λ (move : LocalMove). and_then move (moves (local_machine code) n)) h.1.1 ∙ way_comes c code n h.1.0 after h.1.2
-
-pub leads_comes : (c : Checked) (code : List ℕ) (n : ℕ) (l after : Local) → Leads c code n l after → Comes code n l after
-leads_comes c code n l after h = way_comes c code n l after h.way
 
 -- ---- safe steps
 
@@ -152,4 +113,4 @@ module _ (program : ProgramTree) (image : Image) (certificate : Certificate) (sc
   -- the answer of a segment is what the source thread comes to next
   pub source_answer : (segment : Segment) (before after : Local) (left left_after : ℕ) → RunsAsSource checked image.code program before running → IsSegment checked image.code segment before left after left_after → IsSourceAnswer checked program running segment after
   source_answer segment before after left left_after runs h =
-      answered segment h.at after h.spare left_after (runs.along h.steps h.at (leads_comes checked image.code h.steps before h.at h.leads)).step h.end
+      answered segment h.at after h.spare left_after (runs.along h.steps h.at (Leads-comes checked image.code h.steps before h.at h.leads)).step h.end

@@ -1,35 +1,10 @@
 -- One instruction of the machine over the areas is one step of the thread.
-use Rattle.std.proofs.Common.{◌≡◌, ℕ, ◌^◌, ◌<◌, List, Option, Some, None, Result, Ok, Err, refl, sym, ap, subst, ◌∙◌, arith}
-use Rattle.std.specs.Prelude.{IfSome}
+use Rattle.segment_run.proofs.Common.{◌≡◌, ℕ, ◌^◌, ◌<◌, List, Result, Ok, Err, refl, sym, ap, subst, ◌∙◌, Stops, IsPool, shape_of, with_stored, Outcome, instruction_at, started, outcome, answer, regs_after, memory_after, TellsWords, Regs, Areas, spot_of, with_byte, KeepsShape, Local, Wrong, machine_of, local_move, local_step, system_call, IsCore, KeepsShape-step, Checked, Instr, IsSafe, IsSafeMove, thread_of, Thread, FaultKind, bytes_on}
 use Rattle.cap_word.specs.Runs as runs
-use Rattle.cap_word.specs.Runs.{Stops}
-use Rattle.chunk_pool.specs.Pool.{IsPool, shape_of}
-use Rattle.rv_machine.specs.Bytes.{with_stored}
 use Rattle.rv_machine.specs.Rows as rows
-use Rattle.rv_machine.specs.Rows.{Outcome}
-use Rattle.rv_machine.specs.Step.{instruction_at, started, outcome, answer, regs_after, memory_after}
-use Rattle.rv_machine.specs.Words.{TellsWords}
-use Rattle.rv_machine.specs.declared.registers.Regs.{Regs}
 use Rattle.rv_machine.specs.declared.results.StepResult.TheVariants as results
 use Rattle.rv_machine.proofs.WordLaws.{TellsWords-outcome}
-use Rattle.machine_world.specs.Areas.{Areas, Spot, InGlobals, InTables, InPayload, spot_of, byte_on, with_byte}
-use Rattle.machine_world.specs.Held.{KeepsShape}
-use Rattle.machine_world.specs.Local.{Local, Wrong, machine_of, local_move, local_step, system_call}
-use Rattle.machine_world.specs.WellFormed.{IsCore}
-use Rattle.machine_world.proofs.HeldLaws.{KeepsShape-step}
-use Rattle.machine_world.specs.Places.{Checked}
-use Rattle.rv_code.specs.declared.instructions.Instr.{Instr}
-use Rattle.segment_run.specs.Safe.{IsSafe, IsSafeMove}
-use Rattle.segment_run.specs.Turns.{thread_of}
-use Rattle.segment_run.specs.declared.running.Thread.{Thread}
 use Rattle.segment_run.proofs.Chains.{chain_from-stored}
-use Rattle.cap_word.specs.declared.faults.FaultKind.{FaultKind}
-
-bytes_on : (areas : Areas) (spot : Option Spot) → IfSome (byte_on areas spot) (λ byte. byte < 2 ^ 8)
-bytes_on areas None = tt
-bytes_on areas (Some (InGlobals offset)) = omega arith
-bytes_on areas (Some (InTables offset)) = omega arith
-bytes_on areas (Some (InPayload chunk offset)) = omega arith
 
 told : (code : List ℕ) (l : Local) → IsCore l.core → TellsWords (outcome code (machine_of l))
 told code l is = TellsWords-outcome code (machine_of l) (record {

@@ -1,3 +1,4 @@
+mod Common
 pub mod Behind
 pub mod Calls
 pub mod Chains

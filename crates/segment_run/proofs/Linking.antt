@@ -1,27 +1,9 @@
 -- LINK, UNLINK and END as the code does them.
-use Rattle.std.proofs.Common.{◌≡◌, ◌≢◌, ℕ, zero, suc, ◌+◌, ◌-◌, ◌<◌, ◌≤◌, Bool, List, ◌∷◌, set, Some, None, refl, sym, ap, subst, ◌∙◌, arith, cond}
-use Rattle.std.proofs.lemmas.Bool.{eq-eqb}
+use Rattle.segment_run.proofs.Common.{◌≡◌, ◌≢◌, ℕ, zero, suc, ◌+◌, ◌-◌, ◌<◌, ◌≤◌, Bool, List, ◌∷◌, set, Some, None, refl, sym, ap, subst, ◌∙◌, arith, cond, eq-eqb, Goes, Stops, Pool, Taken, taken_for, after_give, shape_of, word_of, end_of, payload_place_of, chunk_at, IsPool, IsFree, IsHeld, chunk_at-some, KeepsOthers-after_give, read, Areas, copies, HeadersName, TpIsFront, tp, t1, Local, Wrong, with_header, saved_tp, linked, linked_on, unlinked, unlinked_on, begins_at, chunk_with_payload, Owns, word_of-other, chunk_below, chain_from, thread_of, Thread, words_of-payload, payload_place_of-same, taken_for-sound, taken_for-fits, taken_for-keeps, taken_for-shape, taken_for-count, copies-front}
 use Rattle.cap_word.specs.Word as word
-use Rattle.cap_word.specs.Runs.{Goes, Stops}
-use Rattle.chunk_pool.specs.Pool.{Pool, Taken, taken_for, after_give, shape_of, word_of, end_of, payload_place_of, chunk_at, IsPool, IsFree, IsHeld}
-use Rattle.chunk_pool.proofs.AddressLaws.{chunk_at-some}
-use Rattle.chunk_pool.proofs.PoolLaws.{KeepsOthers-after_give}
-use Rattle.rv_machine.specs.Registers.{read}
-use Rattle.machine_world.specs.Areas.{Areas}
-use Rattle.machine_world.specs.Held.{copies}
-use Rattle.machine_world.specs.InPlace.{HeadersName, TpIsFront}
-use Rattle.stack_certificate.specs.Registers.{tp, t1}
-use Rattle.machine_world.specs.Local.{Local, Wrong, with_header, saved_tp, linked, linked_on, unlinked, unlinked_on, begins_at, chunk_with_payload}
 use Rattle.machine_world.proofs.LinkLaws.{saved_tp-with_header}
-use Rattle.segment_laws.specs.Ways.{Owns}
-use Rattle.segment_laws.proofs.Stacks.{word_of-other}
-use Rattle.segment_run.specs.Contexts.{chunk_below, chain_from}
-use Rattle.segment_run.specs.Turns.{thread_of}
-use Rattle.segment_run.specs.declared.running.Thread.{Thread}
 use Rattle.segment_run.proofs.Chains.{chunk_below-of, chain_from-kept, length-chain_from}
-use Rattle.segment_run.proofs.Owning.{copies-here, IsHeld-owned, few_chunks}
-use Rattle.chunk_pool.proofs.ShapeLaws.{words_of-payload, payload_place_of-same}
-use Rattle.chunk_pool.proofs.NeedLaws.{taken_for-sound, taken_for-fits, taken_for-keeps, taken_for-shape, taken_for-count}
+use Rattle.segment_run.proofs.Owning.{IsHeld-owned, few_chunks}
 
 -- ---- the front chunk
 
@@ -44,7 +26,7 @@ chain_is p thread below depth = ap (chain_from p thread.chunk) depth
 pub front_held : (areas : Areas) (thread : Thread) (below : ℕ) → Owns (thread_of areas thread) → thread.depth ≡ suc below → IsHeld areas.pool thread.chunk
 front_held areas thread below owns depth =
     let chain = chain_is areas.pool thread below depth in
-    let here = ap (copies thread.chunk) chain ∙ copies-here thread.chunk (chain_from areas.pool (chunk_below areas.pool thread.chunk) below) in
+    let here = ap (copies thread.chunk) chain ∙ copies-front thread.chunk (chain_from areas.pool (chunk_below areas.pool thread.chunk) below) in
     IsHeld-owned (thread_of areas thread) thread.chunk owns (omega (arith, here))
 
 -- the innermost chunk is held, and has a header
@@ -155,7 +137,7 @@ unlink_goes areas thread below sound owns front next =
     twice k there same =
         let c = thread.chunk in
         let rest = chain_from areas.pool (chunk_below areas.pool c) front.below in
-        let here = ap (copies c) (chain_is areas.pool thread front.below front.depth) ∙ copies-here c rest in
+        let here = ap (copies c) (chain_is areas.pool thread front.below front.depth) ∙ copies-front c rest in
         let other : 1 ≤ copies c rest = subst (λ (n : ℕ). 1 ≤ copies n rest) same there in
         let most = owns.once c in
         let one = Rattle.segment_run.proofs.Owning.at_most_one c areas.pool.count in
@@ -179,5 +161,5 @@ next_found areas thread sound owns front names more = through front.below refl w
       let named : saved_tp p c ≡ payload_place_of p next = (subst (HeadersName p) chain names).0 in
       let here = ap (copies next) chain in
       let behind = Rattle.machine_world.proofs.HeldLaws.copies-cons next c (next ∷ chain_from p (chunk_below p next) n) in
-      let held = IsHeld-owned (thread_of areas thread) next owns (omega (arith, here, behind, copies-here next (chain_from p (chunk_below p next) n))) in
+      let held = IsHeld-owned (thread_of areas thread) next owns (omega (arith, here, behind, copies-front next (chain_from p (chunk_below p next) n))) in
       ap (chunk_at (after_give p c)) named ∙ payload_found p next sound held.0

@@ -1,46 +1,14 @@
 -- A new thread of an accepted program is ready to run, and stands for the new source thread.
-use Rattle.std.proofs.Common.{◌≡◌, ℕ, zero, suc, ◌+◌, ◌*◌, ◌^◌, ◌<◌, ◌≤◌, List, [], ◌∷◌, length, take, replicate, get_or, pos, ◌-ℤ◌, Some, Ok, refl, sym, ap, ◌∙◌, arith}
-use Rattle.std.specs.Prelude.{slice_index}
-use Rattle.std.specs.List.{IsDistinct}
-use Rattle.std.proofs.lemmas.List.{length-map, length-take, get_or-map}
-use Rattle.std.proofs.lemmas.List.Elements.{All-from_recursion}
-use Rattle.c_lower.specs.ProgramCode.{lowered, lowered_function}
+use Rattle.segment_run.proofs.Common.{◌≡◌, ℕ, zero, suc, ◌+◌, ◌*◌, ◌^◌, ◌<◌, ◌≤◌, List, [], ◌∷◌, length, take, replicate, get_or, pos, ◌-ℤ◌, Some, Ok, refl, sym, ap, ◌∙◌, arith, slice_index, IsDistinct, length-map, length-take, get_or-map, All-from_recursion, lowered, lowered_function, ProgramTree, IsWellScoped, IsValid, Pool, Taken, taken_for, IsHeld, place_of, bytes_of, taken_for-sound, function_at, formed, program_zeroes, Areas, AreGlobals, a0, Core, Local, with_header, Checked, IsResting, AtStart, AreWellFormed, Instr, read, instruction_at, CodeFacts-valid, AreOf, IsOwned, IsReady, AreKept, accepted_tree, Accepted, first_arguments, fact_at, Certificate, Image}
 use Rattle.c_mean.specs.Frames as source
-use Rattle.c_tree.specs.Trees.{ProgramTree}
-use Rattle.c_tree.specs.WellScoped.{IsWellScoped}
-use Rattle.certificate_rules.specs.Validity.{IsValid}
-use Rattle.chunk_pool.specs.Pool.{Pool, Taken, taken_for, IsHeld, place_of, bytes_of}
-use Rattle.chunk_pool.proofs.NeedLaws.{taken_for-sound}
-use Rattle.flat_code.specs.Codes.{function_at}
 use Rattle.flat_code.specs.Frames as flat
-use Rattle.machine_meaning.proofs.Formed.{formed}
-use Rattle.machine_meaning.proofs.Zeroes.{program_zeroes}
-use Rattle.machine_world.specs.Areas.{Areas}
-use Rattle.machine_world.specs.Globals.{AreGlobals}
-use Rattle.stack_certificate.specs.Registers.{a0}
-use Rattle.machine_world.specs.Local.{Core, Local, with_header}
-use Rattle.machine_world.specs.Places.{Checked}
-use Rattle.machine_world.specs.Rests.{IsResting, AtStart}
 use Rattle.machine_world.specs.StandsFor.{Starts, StandsForThread}
-use Rattle.machine_world.specs.WellFormed.{AreWellFormed}
-use Rattle.rv_code.specs.declared.instructions.Instr.{Instr}
-use Rattle.rv_machine.specs.Registers.{read}
-use Rattle.rv_machine.specs.Step.{instruction_at}
 use Rattle.segment_laws.specs.Around.{IsAtStart, new_thread, RestsAtStart}
 use Rattle.segment_laws.proofs.Starting.{starts}
 use Rattle.segment_laws.proofs.ValidCalls.{CallFacts-valid}
-use Rattle.segment_laws.proofs.ValidFacts.{CodeFacts-valid}
 use Rattle.segment_laws.proofs.Facts.{CodeFacts}
 use Rattle.segment_laws.proofs.Needs.{NeedsFit-valid}
-use Rattle.segment_run.specs.Contexts.{AreOf, IsOwned, IsReady}
-use Rattle.segment_run.specs.Kept.{AreKept}
 use Rattle.segment_run.proofs.Forming.{areas_formed}
-use Rattle.accepted_pairs.specs.Accepting.{accepted_tree}
-use Rattle.accepted_pairs.specs.declared.accepted.Accepted.{Accepted}
-use Rattle.segment_run.specs.Starting.{first_arguments}
-use Rattle.stack_certificate.specs.Certificates.{fact_at}
-use Rattle.stack_certificate.specs.declared.certificates.Certificate.{Certificate}
-use Rattle.stack_image.specs.declared.images.Image.{Image}
 use Rattle.machine_meaning.specs.Between.{RestAlike}
 use Rattle.machine_meaning.proofs.Going as going
 use Rattle.machine_meaning.proofs.BetweenLaws as between

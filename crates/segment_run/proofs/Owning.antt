@@ -1,27 +1,13 @@
 -- Chunks of a thread's own, told by counts and one by one.
-use Rattle.std.proofs.Common.{◌≡◌, ◌≢◌, ℕ, ◌+◌, ◌<◌, ◌≤◌, Bool, true, false, List, [], ◌∷◌, length, refl, sym, ap, subst, ◌∙◌, arith, cond, inl, inr, ⊎_elim, All, Contains}
-use Rattle.std.specs.Prelude.{nat_eq, nat_lt}
-use Rattle.std.specs.List.{IsDistinct, AllByRecursion}
-use Rattle.std.proofs.lemmas.Bool.{cases_eq, cases_lt, eq-eqb, eqb-true, eqb-false, ne_eqb, lt-ltb, le-ltb}
-use Rattle.std.proofs.lemmas.List.Elements.{All-cons, All-head, All-tail}
+use Rattle.segment_run.proofs.Common.{◌≡◌, ◌≢◌, ℕ, ◌+◌, ◌<◌, ◌≤◌, Bool, true, false, List, [], ◌∷◌, length, refl, sym, ap, subst, ◌∙◌, arith, cond, inl, inr, ⊎_elim, All, Contains, nat_eq, nat_lt, IsDistinct, AllByRecursion, cases_eq, cases_lt, eq-eqb, eqb-true, eqb-false, ne_eqb, lt-ltb, le-ltb, All-cons, All-head, All-tail, IsPool, IsHeld, all_free, Contains-cases, copies, Local, copies-cons, Owns, IsOwned, copies-front}
 use Rattle.std.proofs.lemmas.Map.Steps.{length-le_from_distinct_below}
 use Rattle.std.proofs.lemmas.Map.Views.{Contains-from_any}
-use Rattle.chunk_pool.specs.Pool.{IsPool, IsHeld, all_free}
 use Rattle.chunk_pool.proofs.FreeLaws.{copies-free, copies-held, absent_from_copies, free_below_count}
-use Rattle.chunk_pool.proofs.PoolLaws.{Contains-cases}
-use Rattle.machine_world.specs.Held.{copies}
-use Rattle.machine_world.specs.Local.{Local}
-use Rattle.machine_world.proofs.HeldLaws.{copies-cons}
-use Rattle.segment_laws.specs.Ways.{Owns}
-use Rattle.segment_run.specs.Contexts.{IsOwned}
 
 abbrev pub one_if : Bool → ℕ
 one_if b = cond b 1 0
 
 -- ---- counts of a list
-
-pub copies-here : (k : ℕ) (xs : List ℕ) → copies k (k ∷ xs) ≡ 1 + copies k xs
-copies-here k xs = copies-cons k k xs ∙ ap (λ (b : Bool). cond b 1 0 + copies k xs) (eq-eqb k k refl)
 
 copies-there : (k x : ℕ) (xs : List ℕ) → x ≢ k → copies k (x ∷ xs) ≡ 0 + copies k xs
 copies-there k x xs apart = copies-cons k x xs ∙ ap (λ (b : Bool). cond b 1 0 + copies k xs) (ne_eqb x k apart)
@@ -39,7 +25,7 @@ counted P k (x ∷ xs) all some =
 pub all_counted : (P : ℕ → Type 0) (xs : List ℕ) → ((k : ℕ) → 1 ≤ copies k xs → P k) → All P xs
 all_counted P [] each = λ k d within. absurd (omega (arith, within))
 all_counted P (x ∷ xs) each =
-    All-cons P x xs (each x (omega (arith, copies-here x xs))) (all_counted P xs (λ k some. each k (omega (arith, copies-cons k x xs, some))))
+    All-cons P x xs (each x (omega (arith, copies-front x xs))) (all_counted P xs (λ k some. each k (omega (arith, copies-cons k x xs, some))))
 
 none_differs : (x : ℕ) (ys : List ℕ) → copies x ys ≡ 0 → AllByRecursion (λ y. nat_eq x y ≡ false) ys
 none_differs x [] none = tt
@@ -56,7 +42,7 @@ differs_none x (y ∷ ys) apart = copies-there x y ys (λ same. eqb-false x y ap
 pub distinct : (xs : List ℕ) → ((k : ℕ) → copies k xs ≤ 1) → IsDistinct nat_eq xs
 unfolding IsDistinct
 distinct [] once = tt
-distinct (x ∷ xs) once = (none_differs x xs (omega (arith, once x, copies-here x xs)), distinct xs (λ k. omega (arith, once k, copies-cons k x xs)))
+distinct (x ∷ xs) once = (none_differs x xs (omega (arith, once x, copies-front x xs)), distinct xs (λ k. omega (arith, once k, copies-cons k x xs)))
 
 once_each : (k : ℕ) (xs : List ℕ) → IsDistinct nat_eq xs → copies k xs ≤ 1
 unfolding IsDistinct

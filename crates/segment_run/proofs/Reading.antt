@@ -1,31 +1,6 @@
 -- Frames as they are read from the chunks of a thread.
-use Rattle.std.proofs.Common.{◌≡◌, ℕ, ◌+◌, ◌-◌, ◌/◌, ◌<◌, ◌≤◌, Bool, true, false, List, [], ◌∷◌, length, get_or, Some, sym, ap, subst, ◌∙◌, arith}
-use Rattle.std.specs.Prelude.{nat_eq, slice_get}
-use Rattle.std.proofs.lemmas.Bool.{eq-eqb, ne_eqb}
-use Rattle.std.proofs.lemmas.List.{get_or-drop, length-drop}
-use Rattle.c_lower.specs.ProgramCode.{lowered}
-use Rattle.c_tree.specs.Trees.{ProgramTree}
-use Rattle.c_tree.specs.WellScoped.{IsWellScoped}
-use Rattle.certificate_rules.specs.Validity.{IsValid}
-use Rattle.chunk_pool.specs.Pool.{Pool, chunk_of, payload_of, place_of, end_of, payload_place_of, chunk_at, IsPool, words_of}
-use Rattle.chunk_pool.proofs.AddressLaws.{chunk_at-some}
-use Rattle.machine_meaning.proofs.Formed.{formed}
-use Rattle.machine_meaning.proofs.Zeroes.{program_zeroes}
-use Rattle.machine_world.specs.InPlace.{Frame, IsFrame, IsAbove, IsStack, HeadersName, chain_below, low_below, frame_bytes, return_word}
-use Rattle.machine_world.specs.Local.{saved_tp, saved_sp}
-use Rattle.machine_world.specs.Places.{Checked}
-use Rattle.segment_laws.proofs.ValidFacts.{CodeFacts-valid}
-use Rattle.stack_certificate.specs.Certificates.{fact_at}
-use Rattle.stack_certificate.specs.declared.certificates.Certificate.{Certificate}
-use Rattle.stack_image.specs.declared.images.Image.{Image}
-use Rattle.segment_run.specs.Walking.{IsReadOf}
+use Rattle.segment_run.proofs.Common.{◌≡◌, ℕ, ◌+◌, ◌-◌, ◌/◌, ◌<◌, ◌≤◌, Bool, true, false, List, [], ◌∷◌, length, get_or, Some, sym, ap, subst, ◌∙◌, arith, nat_eq, slice_get, eq-eqb, ne_eqb, get_or-drop, length-drop, lowered, ProgramTree, IsWellScoped, IsValid, Pool, chunk_of, payload_of, place_of, end_of, payload_place_of, chunk_at, IsPool, words_of, chunk_at-some, formed, program_zeroes, Frame, IsAbove, HeadersName, chain_below, low_below, frame_bytes, return_word, saved_tp, saved_sp, Checked, CodeFacts-valid, fact_at, Certificate, Image, IsReadOf, IsChunk-chunk_of, words_of-payload, as_many, stack_frame, rest_is}
 use Rattle.segment_run.specs.declared.walking.Frame.{Frame as ReadFrame}
-use Rattle.segment_run.proofs.Calls.{as_many}
-use Rattle.chunk_pool.proofs.ShapeLaws.{IsChunk-chunk_of, words_of-payload}
-
-pub frame_in : (c : Checked) (pool : Pool) (chain : List ℕ) (at : Frame) (below : List Frame) → IsStack c pool chain at below → IsFrame c pool at
-frame_in c pool chain at [] stack = stack.0
-frame_in c pool chain at (next ∷ below) stack = stack.0
 
 -- where a frame that is read lies
 pub record Lies (certificate : Certificate) (pool : Pool) (frame : ReadFrame) : Type 0 where
@@ -40,7 +15,7 @@ pub lies : (program : ProgramTree) (image : Image) (certificate : Certificate) (
 lies program image certificate pool frame chain at below scoped valid is =
     let c : Checked = record { flat = lowered program; certificate = certificate } in
     let facts = CodeFacts-valid (lowered program) image certificate (formed program image certificate scoped valid) (program_zeroes program scoped) valid in
-    let whole = frame_in c pool chain at below is.stack in
+    let whole = stack_frame c pool chain at below is.stack in
     let function : frame.function < length (lowered program).functions = subst (λ (f : ℕ). f < length (lowered program).functions) is.function whole.function in
     let high : at.low + frame_bytes c at.function ≤ end_of pool at.chunk = subst (λ (n : ℕ). at.low + n ≤ end_of pool at.chunk) is.bytes whole.highest in
     record {
@@ -73,7 +48,7 @@ returns_is c pool frame chain at below offset is offset_is behind =
 is_first : (c : Checked) (pool : Pool) (frame : ReadFrame) (chain : List ℕ) (at : Frame) (below : List Frame) → IsReadOf c pool frame chain at below →
     at.is_first ≡ nat_eq (frame.low + (fact_at c.certificate frame.function).frame) (end_of pool frame.chunk)
 is_first c pool frame chain at below is =
-    (frame_in c pool chain at below is.stack).first
+    (stack_frame c pool chain at below is.stack).first
     ∙ (λ i. nat_eq (is.low i + is.bytes i) (end_of pool (is.chunk i)))
     ∙ (λ i. nat_eq (frame.low + frame_bytes c (is.function i)) (end_of pool frame.chunk))
 
@@ -85,10 +60,6 @@ pub ends_before : (c : Checked) (pool : Pool) (frame : ReadFrame) (chain : List 
     (frame.low + (fact_at c.certificate frame.function).frame ≡ end_of pool frame.chunk → ⊥) → at.is_first ≡ false
 ends_before c pool frame chain at below is apart = is_first c pool frame chain at below is ∙ ne_eqb _ _ apart
 
-front_rest : (chain : List ℕ) (chunk : ℕ) → slice_get chain 0 ≡ Some chunk → (rest : List ℕ) × (chain ≡ chunk ∷ rest)
-front_rest [] chunk e = absurd (cc)
-front_rest (k ∷ rest) chunk e = (rest, (let same : k ≡ chunk = cc in ap (λ (n : ℕ). n ∷ rest) same))
-
 -- below the first of a chunk
 pub record NextChunk (c : Checked) (pool : Pool) (frame : ReadFrame) (chain : List ℕ) (at next : Frame) (below : List Frame) : Type 0 where
   pub low : next.low ≡ saved_sp pool frame.chunk
@@ -98,11 +69,11 @@ pub record NextChunk (c : Checked) (pool : Pool) (frame : ReadFrame) (chain : Li
 pub next_chunk : (c : Checked) (pool : Pool) (frame : ReadFrame) (chain : List ℕ) (at next : Frame) (below : List Frame) → IsPool pool → IsReadOf c pool frame chain at (next ∷ below) → at.is_first ≡ true → NextChunk c pool frame chain at next below
 next_chunk c pool frame chain at next below sound is first =
     let above : IsAbove c pool chain at next = is.stack.1 in
-    let rest = front_rest chain at.chunk is.front in
+    let rest = rest_is chain at.chunk is.front in
     let chain_is : chain_below at.is_first chain ≡ rest.0 = (λ i. chain_below (first i) (rest.1 i)) in
-    let second = front_rest rest.0 next.chunk (ap (λ (cs : List ℕ). slice_get cs 0) (sym chain_is) ∙ above.chunk) in
+    let second = rest_is rest.0 next.chunk (ap (λ (cs : List ℕ). slice_get cs 0) (sym chain_is) ∙ above.chunk) in
     let names : HeadersName pool (at.chunk ∷ next.chunk ∷ second.0) = subst (HeadersName pool) (rest.1 ∙ ap (λ (cs : List ℕ). at.chunk ∷ cs) second.1) is.headers in
-    let within : next.chunk < pool.count = (frame_in c pool (chain_below at.is_first chain) next below is.stack.2).chunk in
+    let within : next.chunk < pool.count = (stack_frame c pool (chain_below at.is_first chain) next below is.stack.2).chunk in
     record {
       low = above.low ∙ (λ i. low_below pool (first i) at) ∙ ap (saved_sp pool) is.chunk;
       found = ap (λ (k : ℕ). chunk_at pool (saved_tp pool k)) (sym is.chunk) ∙ ap (chunk_at pool) names.0 ∙ chunk_at-some pool next.chunk (payload_place_of pool next.chunk) (within, omega arith, omega (arith, words_of-payload pool next.chunk sound within));

@@ -1,21 +1,5 @@
 -- A run by ready operations goes on by one operation.
-use Rattle.std.proofs.Common.{◌≡◌, ℕ, zero, suc, ◌+◌, ◌-◌, ◌<◌, List, [], ◌∷◌, length, Option, Some, None, Ok, refl, sym, ap, subst, ◌∙◌, arith}
-use Rattle.std.specs.Prelude.{slice_get, IfSome}
-use Rattle.decoded_code.specs.Ready.{place_at, ready_effect, second, third, DoesAs, AreReady}
-use Rattle.decoded_code.specs.declared.ready.Kind.{Kind}
-use Rattle.decoded_code.specs.declared.ready.Ready.{Ready}
-use Rattle.machine_world.specs.Areas.{Areas}
-use Rattle.flat_code.specs.WellFormed.{IsWellFormed}
-use Rattle.machine_world.specs.Places.{Checked}
-use Rattle.rv_machine.specs.declared.registers.Regs.{Regs}
-use Rattle.segment_laws.specs.Ways.{HasForm}
-use Rattle.segment_run.specs.Safe.{StaysSafe}
-use Rattle.segment_run.specs.declared.running.Thread.{Thread}
-use Rattle.rv_code.specs.declared.instructions.Instr.{Instr}
-use Rattle.rv_machine.specs.Step.{instruction_at}
-use Rattle.segment_run.specs.ReadyRuns.{Run, IsIn}
-use Rattle.segment_run.specs.ReadyTurns.{machine_at, IsReadyIn, IsKindAt, GoesOn, WentOn}
-use Rattle.segment_run.specs.Turns.{thread_of, IsUnderWay}
+use Rattle.segment_run.proofs.Common.{◌≡◌, ℕ, zero, suc, ◌+◌, ◌-◌, ◌<◌, List, [], ◌∷◌, length, Option, Some, None, Ok, refl, sym, ap, subst, ◌∙◌, arith, slice_get, IfSome, place_at, ready_effect, second, third, DoesAs, AreReady, Kind, Ready, Areas, IsWellFormed, Checked, Regs, HasForm, StaysSafe, Thread, Instr, instruction_at, Run, IsIn, machine_at, IsReadyIn, IsKindAt, GoesOn, WentOn, thread_of, IsUnderWay}
 use Rattle.segment_run.proofs.Instructions.{stands_at}
 use Rattle.segment_run.proofs.ReadyTurns.{is_ready, goes, step_of_turn}
 use Rattle.segment_run.proofs.UnderWay.{safe_now, begun}

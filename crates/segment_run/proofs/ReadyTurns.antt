@@ -1,30 +1,9 @@
 -- A ready operation of a thread that never comes to a fault is a step of the machine.
-use Rattle.std.proofs.Common.{◌≡◌, ◌≢◌, inl, inr, ℕ, zero, suc, ◌+◌, ◌-◌, ◌/◌, ◌%◌, ◌^◌, ◌<◌, ◌≤◌, Bool, true, false, List, [], ◌∷◌, length, Option, Some, None, Result, Ok, Err, refl, sym, ap, subst, ◌∙◌, arith}
-use Rattle.std.specs.Prelude.{◌==◌, nat_lt, slice_get, if◌then◌else◌, IfSome}
-use Rattle.std.proofs.lemmas.Bool.{cond-true, cond-false, cases_eq, cases_lt, eq-eqb, ne_eqb, lt-ltb}
+use Rattle.segment_run.proofs.Common.{◌≡◌, ◌≢◌, inl, inr, ℕ, zero, suc, ◌+◌, ◌-◌, ◌/◌, ◌%◌, ◌^◌, ◌<◌, ◌≤◌, Bool, true, false, List, [], ◌∷◌, length, Option, Some, None, Result, Ok, Err, refl, sym, ap, subst, ◌∙◌, arith, ◌==◌, nat_lt, slice_get, if◌then◌else◌, IfSome, cond-true, cond-false, cases_eq, cases_lt, eq-eqb, ne_eqb, lt-ltb, FaultKind, place_at, done, done_as, ready_effect, branches_to, AreReady, DoesAs, IsReadyAt, Kind, Ready, IsWellFormed, Areas, with_byte, Local, machine_of, local_move, local_step, Checked, decoding, Instr, Nothing, Word, word_at, word_is_writable, with_word, with_stored, read, write, Machine, Outcome, next, passes, sets, jumps, loads, found, word_loaded, word_stored, stores, code_start, code_word, decoded, fetched, instruction_at, started, outcome, IsReadyIn, machine_at, GoesOn, WentOn, IsSafeMove, StaysSafe, thread_of, IsUnderWay, Thread}
 use Rattle.cap_word.specs.Runs as runs
 use Rattle.cap_word.specs.Word.{add}
-use Rattle.cap_word.specs.declared.faults.FaultKind.{FaultKind}
 use Rattle.cap_word.specs.declared.faults.FaultKind.TheVariants as faults
-use Rattle.decoded_code.specs.Ready.{place_at, done, done_as, ready_effect, branches_to, AreReady, DoesAs, IsReadyAt}
-use Rattle.decoded_code.specs.declared.ready.Kind.{Kind}
-use Rattle.decoded_code.specs.declared.ready.Ready.{Ready}
-use Rattle.flat_code.specs.WellFormed.{IsWellFormed}
-use Rattle.machine_world.specs.Areas.{Areas, with_byte}
-use Rattle.machine_world.specs.Local.{Local, machine_of, local_move, local_step}
-use Rattle.machine_world.specs.Places.{Checked}
-use Rattle.rv_code.specs.Decoding.{decoding}
-use Rattle.rv_code.specs.declared.instructions.Instr.{Instr}
-use Rattle.rv_machine.specs.Bytes.{Nothing, Word, word_at, word_is_writable, with_word, with_stored}
-use Rattle.rv_machine.specs.Registers.{read, write}
 use Rattle.rv_machine.specs.Rows as rows
-use Rattle.rv_machine.specs.Rows.{Machine, Outcome, next, passes, sets, jumps, loads, found, word_loaded, word_stored, stores}
-use Rattle.stack_image.specs.Addresses.{code_start}
-use Rattle.rv_machine.specs.Step.{code_word, decoded, fetched, instruction_at, started, outcome}
-use Rattle.segment_run.specs.ReadyTurns.{IsReadyIn, machine_at, GoesOn, WentOn}
-use Rattle.segment_run.specs.Safe.{IsSafeMove, StaysSafe}
-use Rattle.segment_run.specs.Turns.{thread_of, IsUnderWay}
-use Rattle.segment_run.specs.declared.running.Thread.{Thread}
 use Rattle.segment_run.proofs.Fetching.{fetched_at}
 use Rattle.segment_run.proofs.Instructions.{went, stands_at}
 use Rattle.segment_run.proofs.UnderWay.{safe_now, goes_on}

@@ -1,8 +1,5 @@
 -- A list of registers, and the same with another value at 0, where registers are read and written.
-use Rattle.std.proofs.Common.{◌≡◌, ℕ, zero, suc, ◌<◌, List, [], ◌∷◌, eqb, false, refl, sym, arith}
-use Rattle.std.proofs.lemmas.Bool.{cond-false, ne_eqb}
-use Rattle.std.specs.Prelude.{slice_index, slice_set}
-use Rattle.rv_machine.specs.Registers.{read, write}
+use Rattle.segment_run.proofs.Common.{◌≡◌, ℕ, zero, suc, ◌<◌, List, [], ◌∷◌, eqb, false, refl, sym, arith, cond-false, ne_eqb, slice_index, slice_set, read, write}
 
 pub restored : (x : List ℕ) → slice_set (slice_set x 0 0) 0 (slice_index x 0) ≡ x
 restored [] = refl

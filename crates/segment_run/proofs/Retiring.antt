@@ -1,33 +1,11 @@
 -- A call that retires, and its result: the thread rests behind the ECALL, for the same source thread.
-use Rattle.std.proofs.Common.{◌≡◌, ℕ, ◌+◌, ◌-◌, ◌^◌, ◌<◌, List, [], ◌∷◌, None, refl, ap, subst, arith}
-use Rattle.std.specs.List.{AllByRecursion}
-use Rattle.c_lower.specs.ProgramCode.{lowered}
+use Rattle.segment_run.proofs.Common.{◌≡◌, ℕ, ◌+◌, ◌-◌, ◌^◌, ◌<◌, List, [], ◌∷◌, None, refl, ap, subst, arith, AllByRecursion, lowered, ProgramTree, IsWellScoped, IsValid, Pool, chunk_of, result_place, Op, formed, follows, program_zeroes, Areas, AreGlobals, Frame, Core, passed, Checked, IsResting, AtCall, PastCall, IsAtCall, Waits, HoldsIndex, StandAtCall, StandsFor, write, CodeFacts-valid, IsBefore, RestsBefore, RestsBehind, WaitsBefore, WaitsBehind, Certificate, Image, kept_pool}
 use Rattle.c_mean.specs.Frames.{Place, InLocalElement, InGlobalElement, Waiting}
-use Rattle.c_tree.specs.Trees.{ProgramTree}
-use Rattle.c_tree.specs.WellScoped.{IsWellScoped}
-use Rattle.certificate_rules.specs.Validity.{IsValid}
-use Rattle.chunk_pool.specs.Pool.{Pool, chunk_of}
-use Rattle.flat_code.specs.Codes.{result_place}
-use Rattle.flat_code.specs.declared.operations.Op.{Op}
-use Rattle.machine_meaning.proofs.Formed.{formed, follows}
-use Rattle.machine_meaning.proofs.Zeroes.{program_zeroes}
-use Rattle.machine_world.specs.Areas.{Areas}
-use Rattle.machine_world.specs.Globals.{AreGlobals}
-use Rattle.machine_world.specs.InPlace.{Frame}
-use Rattle.machine_world.specs.Local.{Core, passed}
-use Rattle.machine_world.specs.Places.{Checked}
-use Rattle.machine_world.specs.Rests.{IsResting, AtCall, PastCall, IsAtCall}
-use Rattle.machine_world.specs.StandsFor.{Waits, HoldsIndex, StandAtCall, StandsFor}
-use Rattle.rv_machine.specs.Registers.{write}
 use Rattle.segment_laws.proofs.Passing.{passes, behind_by}
-use Rattle.segment_laws.proofs.ValidFacts.{CodeFacts-valid}
 use Rattle.segment_laws.proofs.Facts.{CodeFacts}
 use Rattle.segment_laws.proofs.Finish.{frame_at}
 use Rattle.segment_laws.proofs.Registers.{add-small, read-write_other}
-use Rattle.segment_run.specs.Passing.{IsBefore, RestsBefore, RestsBehind, WaitsBefore, WaitsBehind}
-use Rattle.stack_certificate.specs.declared.certificates.Certificate.{Certificate}
-use Rattle.stack_image.specs.declared.images.Image.{Image}
-use Rattle.segment_laws.specs.Kept.{KeepsChunks, KeepsStack}
+use Rattle.segment_laws.specs.Kept.{KeepsStack}
 use Rattle.segment_laws.proofs.SameRest.{answered_law}
 
 -- the thread at the next instruction
@@ -109,9 +87,6 @@ all_same : (pool : Pool) (chain : List ℕ) → AllByRecursion (λ (chunk : ℕ)
 all_same pool [] = tt
 all_same pool (chunk ∷ chain) = (refl, all_same pool chain)
 
-chunks_kept : (pool : Pool) (chain : List ℕ) → KeepsChunks pool pool chain
-chunks_kept pool chain = record { shape = refl; words = all_same pool chain }
-
 stack_kept : (core : Core) (value : ℕ) → KeepsStack core (replied core value)
 stack_kept core value = record {
   pc = refl;
@@ -123,12 +98,12 @@ stack_kept core value = record {
 
 pub reply_rests : (c : Checked) (code : List ℕ) (areas : Areas) (core : Core) (value : ℕ) → RestsBehind c code (record { areas = areas; core = core }) → RestsBehind c code (record { areas = areas; core = replied core value })
 reply_rests c code areas core value is =
-    let on = answered_law c areas.pool areas.pool core (replied core value) is.rests (chunks_kept areas.pool core.chain) (stack_kept core value) is.behind in
+    let on = answered_law c areas.pool areas.pool core (replied core value) is.rests (kept_pool areas.pool core.chain) (stack_kept core value) is.behind in
     record { rests = on.rests; behind = on.past is.behind; no_ecall = is.no_ecall }
 
 pub reply_waits : (c : Checked) (program : ProgramTree) (areas : Areas) (core : Core) (value : ℕ) (waiting : Waiting) (globals : List (List ℕ)) → WaitsBehind c program (record { areas = areas; core = core }) waiting globals → WaitsBehind c program (record { areas = areas; core = replied core value }) waiting globals
 reply_waits c program areas core value waiting globals is =
-    let on = answered_law c areas.pool areas.pool core (replied core value) is.stands.rests (chunks_kept areas.pool core.chain) (stack_kept core value) is.behind in
+    let on = answered_law c areas.pool areas.pool core (replied core value) is.stands.rests (kept_pool areas.pool core.chain) (stack_kept core value) is.behind in
     record {
       stands = record { rests = on.rests; stands = on.stands program (Waits waiting) is.stands.stands; globals_are = is.stands.globals_are };
       behind = on.past is.behind;

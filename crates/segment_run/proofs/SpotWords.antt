@@ -1,21 +1,11 @@
 -- Words and bytes at a spot, as memory by bytes has them.
-use Rattle.std.proofs.Common.{◌≡◌, ℕ, ◌+◌, ◌-◌, ◌*◌, ◌/◌, ◌%◌, ◌^◌, ◌<◌, ◌≤◌, Bool, true, false, length, get_or, set, Option, Some, None, refl, sym, ap, ◌∙◌, arith}
-use Rattle.std.specs.Prelude.{◌&&◌}
-use Rattle.chunk_pool.specs.Pool.{Pool, place_of, IsPool, bytes_of}
-use Rattle.chunk_pool.proofs.AddressLaws.{place_of-aligned}
+use Rattle.segment_run.proofs.Common.{◌≡◌, ℕ, ◌+◌, ◌-◌, ◌*◌, ◌/◌, ◌%◌, ◌^◌, ◌<◌, ◌≤◌, Bool, true, false, length, get_or, set, Option, Some, None, refl, sym, ap, ◌∙◌, arith, ◌&&◌, Pool, place_of, IsPool, bytes_of, place_of-aligned, word_with, Areas, globals_place, tables_place, spot_of, byte_on, is_writable_on, with_byte_on, byte_at, is_writable, with_byte, AreWords, IsMemory-areas, word-below, Fit, world_spot, IsOn, word_on, with_word_on}
 use Rattle.rv_machine.specs.Bytes.{half_at, word_at, joined, with_word, half_is_writable, word_is_writable, put_byte}
-use Rattle.rv_machine.specs.WordBytes.{word_with}
 use Rattle.rv_machine.proofs.Memories.{IsWritten, IsWritten-word}
 use Rattle.machine_world.specs.Areas as world
-use Rattle.machine_world.specs.Areas.{Areas, globals_place, tables_place, spot_of, byte_on, is_writable_on, with_byte_on, byte_at, is_writable, with_byte}
-use Rattle.machine_world.specs.WellFormed.{AreWords}
-use Rattle.machine_world.proofs.AreaLaws.{IsMemory-areas}
-use Rattle.machine_world.proofs.FormLaws.{word-below}
-use Rattle.segment_laws.proofs.Spots.{Fit}
 use Rattle.segment_laws.proofs.Words.{PayloadWord, loaded-payload, stored-payload, writable-payload, GlobalWord, loaded-global, stored-global, writable-global, TableWord, loaded-table}
 use Rattle.segment_run.specs.declared.areas.Spot.{Spot}
 use Rattle.segment_run.specs.declared.areas.Spot.TheVariants.{InGlobals, InTables, InPayload}
-use Rattle.segment_run.specs.Spots.{world_spot, IsOn, word_on, with_word_on}
 
 -- ---- the word of a spot lies at the address
 

@@ -1,15 +1,8 @@
 -- The map of the areas, address by address, as the code tests it.
-use Rattle.std.proofs.Common.{◌≡◌, inl, inr, ℕ, ◌+◌, ◌-◌, ◌*◌, ◌<◌, ◌≤◌, false, List, length, Option, Some, None, refl, sym, ap, ◌∙◌, arith}
-use Rattle.std.specs.Prelude.{nat_le, nat_lt}
-use Rattle.std.proofs.lemmas.Bool.{cases_lt, cond-true, cond-false, le-leb, lt-leb, and_left}
-use Rattle.chunk_pool.specs.Pool.{Pool, HasAddress, shape_of, place_of, payload_place_of, chunk_at, first_place}
-use Rattle.chunk_pool.proofs.AddressLaws.{chunk_at-some, chunk_in-below}
+use Rattle.segment_run.proofs.Common.{◌≡◌, inl, inr, ℕ, ◌+◌, ◌-◌, ◌*◌, ◌<◌, ◌≤◌, false, List, length, Option, Some, None, refl, sym, ap, ◌∙◌, arith, nat_le, nat_lt, cases_lt, cond-true, cond-false, le-leb, lt-leb, and_left, Pool, HasAddress, shape_of, place_of, payload_place_of, chunk_at, first_place, chunk_at-some, chunk_in-below, Areas, InGlobals, InTables, InPayload, globals_place, tables_place, is_within, payload_spot, spot_of, world_spot, IsOn, outside, inside}
 use Rattle.machine_world.specs.Areas as world
-use Rattle.machine_world.specs.Areas.{Areas, InGlobals, InTables, InPayload, globals_place, tables_place, is_within, payload_spot, spot_of}
-use Rattle.segment_run.specs.Spots.{world_spot, IsOn}
 use Rattle.segment_run.specs.declared.areas.Spot.{Spot}
 use Rattle.segment_run.specs.declared.areas.Spot.TheVariants as spot
-use Rattle.segment_laws.proofs.Spots.{outside, inside}
 
 before : (place : ℕ) (words : List ℕ) (address : ℕ) → address < place → is_within place words address ≡ false
 before place words address low = and_left (nat_le place address) (nat_lt address (place + 4 * length words)) (lt-leb place address low)

@@ -1,21 +1,6 @@
 -- Where an address stands in the code of a valid pair: in one function, and there in one operation.
-use Rattle.std.proofs.Common.{◌≡◌, ℕ, zero, suc, ◌+◌, ◌-◌, ◌<◌, ◌≤◌, List, [], ◌∷◌, length, get_or, Option, Some, None, slice_get, refl, sym, ap, subst, ◌∙◌, arith, ⊎_elim}
-use Rattle.std.proofs.lemmas.Bool.{cases_eq, cases_lt}
-use Rattle.flat_code.specs.Codes.{FlatCode, function_at, operation_at, site_of}
-use Rattle.flat_code.specs.declared.operations.Op.{Op}
-use Rattle.stack_image.specs.declared.images.Image.{Image}
-use Rattle.stack_certificate.specs.Certificates.{fact_at}
-use Rattle.stack_certificate.specs.Templates.{words_before, size, size_at, kind_of}
-use Rattle.stack_certificate.specs.declared.certificates.Certificate.{Certificate}
+use Rattle.segment_run.proofs.Common.{◌≡◌, ℕ, zero, suc, ◌+◌, ◌-◌, ◌<◌, ◌≤◌, List, [], ◌∷◌, length, get_or, Option, Some, None, slice_get, refl, sym, ap, subst, ◌∙◌, arith, ⊎_elim, cases_eq, cases_lt, FlatCode, function_at, operation_at, site_of, Op, Image, fact_at, words_before, size, size_at, kind_of, Certificate, IsValid, site_in, Checked, InOperation, IsAt, size_in, one_place, StandsIn, HasEntry, IsInCall, slice_get_within}
 use Rattle.stack_certificate.proofs.AddressLemmas.{words_step}
-use Rattle.certificate_rules.specs.Validity.{IsValid}
-use Rattle.flat_code.specs.Frames.{site_in}
-use Rattle.machine_world.specs.Places.{Checked, InOperation, IsAt, size_in}
-use Rattle.segment_laws.proofs.OnePlace.{one_place}
-use Rattle.accepted_pairs.specs.CodeLists.{StandsIn}
-use Rattle.segment_run.specs.Lookups.{HasEntry}
-use Rattle.segment_run.specs.Walking.{IsInCall}
-use Rattle.segment_laws.proofs.ValidFacts.{within}
 
 -- an operation of a function, and the words before it and behind it
 pub record HasWord (c : Checked) (address f i word : ℕ) : Type 0 where
@@ -33,7 +18,7 @@ next_words c f i op is =
 has_word_of : (c : Checked) (address f i word : ℕ) (found : Option Op) → operation_at c.flat f i ≡ found → word < size_in c f found → HasWord c address f i word
 has_word_of c address f i word None is small = absurd (omega arith)
 has_word_of c address f i word (Some op) is small =
-    record { op = op; there = is; inside = within (function_at c.flat f).ops i op is; next = next_words c f i op is; small = small }
+    record { op = op; there = is; inside = slice_get_within (function_at c.flat f).ops i op is; next = next_words c f i op is; small = small }
 
 pub has_word : (c : Checked) (address f i word : ℕ) → IsAt c address (InOperation f i word) → HasWord c address f i word
 has_word c address f i word at = has_word_of c address f i word (operation_at c.flat f i) refl at.1
@@ -90,12 +75,6 @@ module _ (flat : FlatCode) (image : Image) (certificate : Certificate) (valid : 
       let inside : words_before flat certificate f (i + 1) ≤ (fact_at certificate f).words = ((valid.holds 6 f i).v6 refl).inside at.0 has.inside in
       let over : words_before flat certificate f (length (function_at flat f).ops) ≡ (fact_at certificate f).words = ((valid.holds 6 f (length (function_at flat f).ops)).v6 refl).over at.0 refl in
       omega (arith, has.next, has.small, inside, over)
-
--- an element stands at each index
-pub some_at : {X : Type 0} (xs : List X) (k : ℕ) → k < length xs → (x : X) × (slice_get xs k ≡ Some x)
-some_at [] k small = absurd (omega arith)
-some_at (x ∷ xs) zero small = (x, refl)
-some_at (x ∷ xs) (suc k) small = some_at xs k (omega arith)
 
 -- what is read of an operation
 pub at_index : {X : Type 0} (xs : List X) (j : ℕ) (x : X) → j < length xs → x ≡ get_or xs j x → slice_get xs j ≡ Some x

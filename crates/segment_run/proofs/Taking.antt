@@ -1,11 +1,5 @@
 -- What a take leaves of the pool and of the areas around it.
-use Rattle.std.proofs.Common.{◌≡◌, ℕ, Option, Some, None, refl, ap, ◌∙◌}
-use Rattle.chunk_pool.specs.Pool.{Pool, Taken, taken_for, IsTaken, shape_of}
-use Rattle.chunk_pool.proofs.NeedLaws.{taken_for-shape}
-use Rattle.chunk_pool.proofs.ShapeLaws.{first_bytes-same}
-use Rattle.machine_world.specs.Areas.{Areas}
-use Rattle.accepted_pairs.specs.declared.accepted.Accepted.{Accepted}
-use Rattle.segment_run.specs.Contexts.{AreOf}
+use Rattle.segment_run.proofs.Common.{◌≡◌, ℕ, Option, Some, None, refl, ap, ◌∙◌, Pool, Taken, taken_for, IsTaken, shape_of, taken_for-shape, first_bytes-same, Areas, Accepted, AreOf}
 
 -- the chunk that was taken for a need
 pub record TakesOne (p : Pool) (need id : ℕ) (new : Pool) : Type 0 where

@@ -1,23 +1,10 @@
 -- A thread under way: from its start so many good steps, each of which keeps its form and its chunks.
-use Rattle.std.proofs.Common.{◌≡◌, ℕ, zero, suc, ◌+◌, List, [], refl, ap, subst, ◌∙◌, arith}
 use Rattle.cap_word.specs.Runs as runs
-use Rattle.cap_word.specs.Runs.{Goes, Stops, moves}
+use Rattle.segment_run.proofs.Common.{◌≡◌, ℕ, zero, suc, ◌+◌, List, [], refl, ap, subst, ◌∙◌, arith, Goes, Stops, moves, KeepsCopies, KeepsShape, Local, Ended, local_step, local_machine, Checked, KeepsForm, KeepsForm-step, KeepsCopies-step, KeepsShape-step, HasForm, IsGoodState, WayIn, IsWellFormed, IsSafe, StaysSafe, IsEnd, IsSegment, Segment, KeepsCounts, IsUnderWay, all_free}
 use Rattle.machine_world.specs.Alone.{KeepsChunk}
-use Rattle.machine_world.specs.Held.{copies_in, KeepsCopies, KeepsShape}
-use Rattle.machine_world.specs.Local.{Local, Ended, local_step, local_machine}
-use Rattle.machine_world.specs.Places.{Checked}
 use Rattle.machine_world.proofs.FormLaws as forms
-use Rattle.machine_world.proofs.FormLaws.{KeepsForm, KeepsForm-step}
-use Rattle.machine_world.proofs.HeldLaws.{KeepsCopies-step, KeepsShape-step}
-use Rattle.segment_laws.specs.Ways.{HasForm, IsGoodState, WayIn}
 use Rattle.segment_laws.proofs.Ways.{Leads-none, Leads-one, Leads-then, HasForm-next}
-use Rattle.flat_code.specs.WellFormed.{IsWellFormed}
 use Rattle.segment_laws.proofs.Untouched.{keeps_step}
-use Rattle.segment_run.specs.Safe.{IsSafe, StaysSafe}
-use Rattle.segment_run.specs.Segments.{IsEnd, IsSegment}
-use Rattle.segment_run.specs.declared.segments.Segment.{Segment}
-use Rattle.segment_run.specs.Turns.{KeepsCounts, IsUnderWay}
-use Rattle.chunk_pool.specs.Pool.{all_free}
 
 -- good steps are silent steps
 moves_way : (c : Checked) (code : List ℕ) (n : ℕ) (l after : Local) → WayIn c code n l after → moves (local_machine code) n l ≡ Goes after

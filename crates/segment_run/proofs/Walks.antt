@@ -1,45 +1,11 @@
 -- The sites of a thread's frames, read one after another.
-use Rattle.std.proofs.Common.{◌≡◌, ℕ, zero, suc, ◌+◌, ◌-◌, ◌*◌, ◌<◌, ◌≤◌, Bool, true, false, List, [], ◌∷◌, ◌++◌, length, take, set, replicate, Option, Some, None, refl, sym, ap, subst, ◌∙◌, arith, inl, inr}
-use Rattle.std.specs.Prelude.{slice_get, slice_index}
-use Rattle.std.proofs.lemmas.List.{take_more_set, append_assoc, append-nil, take_all}
-use Rattle.c_lower.specs.ProgramCode.{lowered}
+use Rattle.segment_run.proofs.Common.{◌≡◌, ℕ, zero, suc, ◌+◌, ◌-◌, ◌*◌, ◌<◌, ◌≤◌, Bool, true, false, List, [], ◌∷◌, ◌++◌, length, take, set, replicate, Option, Some, None, refl, sym, ap, subst, ◌∙◌, arith, inl, inr, slice_get, slice_index, take_more_set, append_assoc, append-nil, take_all, lowered, ProgramTree, IsWellScoped, IsValid, Pool, read, Op, FlatCode, function_at, operation_at, result_place, site_of, formed, follows, program_zeroes, Frame, IsRunning, HeadersName, FramesAt, HasFrames, ReturnsInto, joined, words_through_call, frame_bytes, return_word, standing, with_site, sites_of, key_of, site_in, sp, Core, Checked, Place, InOperation, IsAt, Row, Whole, row_at, size_in, before_transfer, through_call, IsResting, AtStart, AtCall, PastCall, IsAtCall, IsPastCall, ecall_word, CodeFacts-valid, CodeFacts, one_place, row_first, size_some, function_of_op, ask_shape, FollowsAsks, StandsFor, Waits, begin, size, kind_of, transfer_size, result_size, Certificate, Image, chain_from, core_of, RestsAround, IsInCall, IsReadOf, IsAround, IsWalked, Context, stack_frame}
 use Rattle.c_mean.specs.Frames as source
-use Rattle.c_tree.specs.Trees.{ProgramTree}
-use Rattle.c_tree.specs.WellScoped.{IsWellScoped}
-use Rattle.certificate_rules.specs.Validity.{IsValid}
-use Rattle.chunk_pool.specs.Pool.{Pool}
-use Rattle.rv_machine.specs.Registers.{read}
-use Rattle.flat_code.specs.declared.operations.Op.{Op}
-use Rattle.flat_code.specs.Codes.{FlatCode, function_at, operation_at, result_place, site_of}
-use Rattle.machine_meaning.proofs.Formed.{formed, follows}
-use Rattle.machine_meaning.proofs.Zeroes.{program_zeroes}
-use Rattle.machine_world.specs.InPlace.{Frame, IsRunning, HeadersName, FramesAt, HasFrames, ReturnsInto, joined, words_through_call, frame_bytes, return_word}
-use Rattle.machine_world.specs.Keys.{standing, with_site, sites_of, key_of}
-use Rattle.flat_code.specs.Frames.{site_in}
-use Rattle.stack_certificate.specs.Registers.{sp}
-use Rattle.machine_world.specs.Local.{Core}
-use Rattle.machine_world.specs.Places.{Checked, Place, InOperation, IsAt, Row, Whole, row_at, size_in, before_transfer, through_call}
-use Rattle.machine_world.specs.Rests.{IsResting, AtStart, AtCall, PastCall, IsAtCall, IsPastCall, ecall_word}
-use Rattle.segment_laws.proofs.ValidFacts.{CodeFacts-valid}
-use Rattle.segment_laws.specs.Facts.{CodeFacts}
-use Rattle.segment_laws.proofs.OnePlace.{one_place}
-use Rattle.segment_laws.proofs.Past.{row_first, size_some, function_of_op}
-use Rattle.segment_laws.proofs.FromRest.{ask_shape}
-use Rattle.segment_laws.specs.Alike.{FollowsAsks}
-use Rattle.machine_world.specs.StandsFor.{StandsFor, Waits}
 use Rattle.machine_meaning.proofs.Past.{ecall_site}
 use Rattle.machine_meaning.proofs.SiteKeys.{key_is}
-use Rattle.stack_certificate.specs.Templates.{begin, size, kind_of, transfer_size, result_size}
-use Rattle.stack_certificate.specs.declared.certificates.Certificate.{Certificate}
 use Rattle.stack_certificate.specs.declared.sites.LinkKind.{LinkKind}
-use Rattle.stack_image.specs.declared.images.Image.{Image}
-use Rattle.segment_run.specs.Contexts.{chain_from, core_of}
 use Rattle.segment_run.specs.Passing as passing
-use Rattle.segment_run.specs.Passing.{RestsAround}
-use Rattle.segment_run.specs.Walking.{IsInCall, IsReadOf, IsAround, IsWalked}
-use Rattle.segment_run.specs.declared.contexts.Context.{Context}
 use Rattle.segment_run.specs.declared.walking.Frame.{Frame as ReadFrame}
-use Rattle.segment_run.proofs.Reading.{frame_in}
 use Rattle.segment_laws.proofs.Jumping.{there_at}
 
 -- ---- the frames of a thread at rest
@@ -227,14 +193,14 @@ module _ (program : ProgramTree) (image : Image) (certificate : Certificate) (sc
 
   pub next_call : (pool : Pool) (frame : ReadFrame) (chain : List ℕ) (at next : Frame) (below : List Frame) → IsReadOf checked pool frame chain at (next ∷ below) → Comes (at.returns - 4) next
   next_call pool frame chain at next below is =
-      comes_from at next (operation_at (lowered program) next.function next.operation) refl (frame_in checked pool _ next below is.stack.2).function is.stack.1.called
+      comes_from at next (operation_at (lowered program) next.function next.operation) refl (stack_frame checked pool _ next below is.stack.2).function is.stack.1.called
 
   -- the last frame returns to the end stub, and no other does
   pub last_returns : (pool : Pool) (frame : ReadFrame) (chain : List ℕ) (at : Frame) (below : List Frame) → IsReadOf checked pool frame chain at below → at.returns ≡ 4096 → below ≡ []
   last_returns pool frame chain at [] is stub = refl
   last_returns pool frame chain at (next ∷ below) is stub =
       let comes = next_call pool frame chain at next below is in
-      let low = low_begin next.function comes.call.operation (frame_in checked pool _ next below is.stack.2).function in
+      let low = low_begin next.function comes.call.operation (stack_frame checked pool _ next below is.stack.2).function in
       absurd (omega (arith, comes.call.at.2, low, stub))
 
   pub not_last : (pool : Pool) (frame : ReadFrame) (chain : List ℕ) (at : Frame) (below : List Frame) → IsReadOf checked pool frame chain at below → (at.returns ≡ 4096 → ⊥) → (next : Frame) × (rest : List Frame) × (below ≡ next ∷ rest)

@@ -1,34 +1,7 @@
 -- A segment as a whole: what its condition gives, and what follows of its steps.
-use Rattle.std.proofs.Common.{◌≡◌, ℕ, ◌^◌, ◌<◌, List, length, Option, Some, None, Ok, refl, sym, ap, ◌∙◌, arith}
-use Rattle.std.specs.Prelude.{nat_lt}
-use Rattle.c_lower.specs.ProgramCode.{lowered}
-use Rattle.c_tree.specs.Trees.{ProgramTree}
-use Rattle.c_tree.specs.WellScoped.{IsWellScoped}
-use Rattle.accepted_pairs.specs.declared.accepted.Accepted.{Accepted}
-use Rattle.certificate_rules.specs.Validity.{IsValid}
-use Rattle.flat_code.specs.Codes.{result_place}
-use Rattle.stack_certificate.specs.declared.certificates.Certificate.{Certificate}
-use Rattle.stack_image.specs.declared.images.Image.{Image}
-use Rattle.chunk_pool.specs.Pool.{Pool}
+use Rattle.segment_run.proofs.Common.{◌≡◌, ℕ, ◌^◌, ◌<◌, List, length, Option, Some, None, Ok, refl, sym, ap, ◌∙◌, arith, nat_lt, lowered, ProgramTree, IsWellScoped, Accepted, IsValid, result_place, Certificate, Image, Pool, Instr, read, instruction_at, Areas, a0, Core, Local, Checked, IsResting, PastCall, SourceThread, StandsForThread, going_on, AreWellFormed, AreWords, HasForm, Owns, HoldsWanted, HoldsResult, RunsAsSource, checked_of, local_of, AreOf, IsOwned, AreKept, KeepsChunks, KeepsCounts, Context}
 use Rattle.chunk_pool.specs.declared.shape.Shape.{Shape}
-use Rattle.rv_code.specs.declared.instructions.Instr.{Instr}
-use Rattle.rv_machine.specs.Registers.{read}
-use Rattle.rv_machine.specs.Step.{instruction_at}
-use Rattle.machine_world.specs.Areas.{Areas}
-use Rattle.stack_certificate.specs.Registers.{a0}
-use Rattle.machine_world.specs.Local.{Core, Local}
-use Rattle.machine_world.specs.Places.{Checked}
-use Rattle.machine_world.specs.Rests.{IsResting, PastCall}
-use Rattle.machine_world.specs.StandsFor.{SourceThread, StandsForThread, going_on}
-use Rattle.machine_world.specs.WellFormed.{AreWellFormed, AreWords}
-use Rattle.segment_laws.specs.Ways.{HasForm, Owns}
 use Rattle.machine_meaning.proofs.SourceLaws as source
-use Rattle.machine_meaning.specs.AsSource.{HoldsWanted, HoldsResult, RunsAsSource}
-use Rattle.segment_run.specs.Contexts.{checked_of, local_of, AreOf, IsOwned}
-use Rattle.segment_run.specs.Kept.{AreKept}
-use Rattle.segment_run.specs.Segments.{KeepsChunks}
-use Rattle.segment_run.specs.Turns.{KeepsCounts}
-use Rattle.segment_run.specs.declared.contexts.Context.{Context}
 use Rattle.segment_run.proofs.Forming.{areas_formed}
 use Rattle.segment_run.proofs.Owning.{one_if, IsOwned-owns, Owns-owned}
 

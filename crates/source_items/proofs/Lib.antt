@@ -1,3 +1,4 @@
+mod Common
 pub mod Stacks
 pub mod Loops
 pub mod Pairs

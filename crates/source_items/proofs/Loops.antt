@@ -1,15 +1,7 @@
 -- The turns of loops, by the statement that a loop is.
-use Rattle.std.proofs.Common.{◌≡◌, List, ◌∷◌, ◌++◌, refl, subst, sym}
-use Rattle.std.specs.Prelude.{Bool, true, false, IfSome, Option, Some, None, Result, Ok, Err, OnOk}
-use Rattle.c_tree.specs.Trees.{StmtTree, Do, Empty, Block, While, For}
-use Rattle.c_tree.specs.WellScoped.{Context, scope_after_all}
+use Rattle.source_items.proofs.Common.{◌≡◌, List, ◌∷◌, ◌++◌, refl, subst, sym, Bool, true, false, IfSome, Option, Some, None, Result, Ok, Err, OnOk, StmtTree, Do, Empty, Block, While, For, Context, scope_after_all, loop_of, condition_of, step_of, body_of, is_for, part_item, IsLoop, IsGiven, IsScoped, IsWhole}
 use Rattle.c_mean.specs.ToDo as todo
-use Rattle.source_items.specs.Items.{loop_of, condition_of, step_of, body_of, is_for, part_item, IsLoop, IsGiven, IsScoped, IsWhole}
 use Rattle.source_items.specs.declared.items.Part.TheVariants as part
-
-pub on_ok : {T E P Q : Type 0} (r : Result T E) → (P → Q) → OnOk r P → OnOk r Q
-on_ok (Ok v) f h = f h
-on_ok (Err e) f h = h
 
 pub on_ok-both : {T E : Type 0} (P Q : Type 0) (r : Result T E) → OnOk r P → OnOk r Q → OnOk r (P × Q)
 on_ok-both P Q (Ok v) p q = (p, q)

@@ -1,13 +1,5 @@
 -- Chains of one operator.
-use Rattle.std.proofs.Common.{◌≡◌, ℕ, List, [], ◌∷◌, length, arith, sym, ap, ◌∙◌}
-use Rattle.std.specs.Prelude.{Ok, slice_index_or}
-use Rattle.c_tree.specs.Trees.{ExprTree}
-use Rattle.c_tree.specs.Views.{chained}
-use Rattle.c_tree.specs.declared.operators.Infix.{Infix}
-use Rattle.c_mean.specs.Chains.{joined_value}
-use Rattle.c_mean.specs.Layout.{IsInRange}
-use Rattle.c_mean.specs.Values.{value}
-use Rattle.c_mean.proofs.ChainLemmas.{chained_is, chain_in_range}
+use Rattle.source_items.proofs.Common.{◌≡◌, ℕ, List, [], ◌∷◌, length, arith, sym, ap, ◌∙◌, Ok, slice_index_or, ExprTree, chained, Infix, joined_value, IsInRange, value, chained_is, chain_in_range}
 
 -- a list of one element is that element
 pub one-element : {A : Type 0} (xs : List A) (x : A) → length xs ≡ 1 → x ≡ slice_index_or xs 0 x → xs ≡ x ∷ []

@@ -1,18 +1,8 @@
 -- Stacks of items.
-use Rattle.std.proofs.Common.{◌≡◌, ℕ, suc, zero, ◌+◌, ◌<◌, ◌≤◌, List, [], ◌∷◌, ◌++◌, length, refl, drop, map, arith, sym, ap, ◌∙◌, subst, get_or, add-one, Bor}
-use Rattle.std.specs.Prelude.{slice_index_or, slice_get, option_map, Bool, IfSome, MatchOption, Option, Some, None}
-use Rattle.std.proofs.lemmas.List.{length-map, get_or-map}
-use Rattle.c_tree.specs.Trees.{ExprTree, SimpleTree, DeclareScalar, StmtTree, Do, Empty, Block, If, IfElse, While, For, Break, Continue, Return}
-use Rattle.c_tree.specs.Views.{in_order, simple_tree, stmt_tree, stmt_trees}
-use Rattle.c_tree.specs.WellScoped.{Context, AreStmtsScoped, scope_after}
+use Rattle.source_items.proofs.Common.{◌≡◌, ℕ, suc, zero, ◌+◌, ◌<◌, ◌≤◌, List, [], ◌∷◌, ◌++◌, length, refl, drop, map, arith, sym, ap, ◌∙◌, subst, get_or, add-one, Bor, slice_index_or, slice_get, option_map, Bool, IfSome, MatchOption, Option, Some, None, length-map, get_or-map, ExprTree, SimpleTree, DeclareScalar, StmtTree, Do, Empty, Block, If, IfElse, While, For, Break, Continue, Return, in_order, simple_tree, stmt_tree, stmt_trees, Context, AreStmtsScoped, scope_after, Stmt, drop_at, item_of, part_item, whole_item, test_item, step_item, loop_of, condition_of, step_of, stacked, to_do, HasPart, IsWhole, IsGiven, IsItem, AreItems, IsScoped, IsTaken, IsPassing, entered, Item, Part}
 use Rattle.c_tree.specs.declared.statements.Simple.{Simple}
-use Rattle.c_tree.specs.declared.statements.Stmt.{Stmt}
-use Rattle.c_tree.proofs.Cuts.{drop_at}
 use Rattle.c_mean.specs.ToDo as todo
 use Rattle.c_mean.specs.ToDo.{Loop}
-use Rattle.source_items.specs.Items.{item_of, part_item, whole_item, test_item, step_item, loop_of, condition_of, step_of, stacked, to_do, HasPart, IsWhole, IsGiven, IsItem, AreItems, IsScoped, IsTaken, IsPassing, entered}
-use Rattle.source_items.specs.declared.items.Item.{Item}
-use Rattle.source_items.specs.declared.items.Part.{Part}
 use Rattle.source_items.specs.declared.items.Part.TheVariants as part
 
 -- one item more is the next one

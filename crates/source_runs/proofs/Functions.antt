@@ -1,20 +1,6 @@
 -- Functions, layouts, tables and their members by their numbers.
-use Rattle.std.proofs.Common.{◌≡◌, ℕ, zero, suc, ◌+◌, ◌<◌, ◌≤◌, ◌^◌, List, [], ◌∷◌, ◌++◌, length, map, sym, ap, ◌∙◌, arith, refl, subst, get_or, take, ⊎_elim}
-use Rattle.std.specs.Prelude.{false, sum, slice_index, slice_index_or}
-use Rattle.std.specs.List.{AllByRecursion}
-use Rattle.std.proofs.lemmas.Bool.{cases_lt}
-use Rattle.std.proofs.lemmas.List.{length-map, get_or-map, get_or_append_left, get_or_push, map_more}
-use Rattle.std.proofs.lemmas.List.Sums.{sum_by-cons}
-use Rattle.c_tree.specs.Sizes.{scalars, declared_words}
-use Rattle.c_tree.specs.Trees.{FunctionTree, ProgramTree, NoStmts}
-use Rattle.c_tree.specs.Views.{function_tree}
-use Rattle.c_tree.specs.WellScoped.{AreFunctionsScoped, IsFunctionScoped, IsWellScoped, signature_of}
-use Rattle.cap_word.specs.Signatures.{IsMember, IsTable, Signature}
+use Rattle.source_runs.proofs.Common.{◌≡◌, ℕ, zero, suc, ◌+◌, ◌<◌, ◌≤◌, ◌^◌, List, [], ◌∷◌, ◌++◌, length, map, sym, ap, ◌∙◌, arith, refl, subst, get_or, take, ⊎_elim, false, sum, slice_index, slice_index_or, AllByRecursion, cases_lt, length-map, get_or-map, get_or_append_left, get_or_push, map_more, sum_by-cons, scalars, declared_words, FunctionTree, ProgramTree, NoStmts, function_tree, AreFunctionsScoped, IsFunctionScoped, IsWellScoped, signature_of, IsMember, IsTable, Signature, widths_length, function_at, widths_of, AreLayouts, AreSmall, IsLayout, params_at, sizes_at}
 use Rattle.c_tree.specs.declared.facts.Function.{Function}
-use Rattle.c_mean.proofs.LayoutLemmas.{widths_length}
-use Rattle.c_mean.specs.Frames.{function_at}
-use Rattle.c_mean.specs.Layout.{widths_of}
-use Rattle.source_runs.specs.Layouts.{AreLayouts, AreSmall, IsLayout, params_at, sizes_at}
 use Rattle.source_runs.specs.declared.layout.Layout.{Layout}
 
 abbrev no_function : FunctionTree

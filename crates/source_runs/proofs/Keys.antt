@@ -1,11 +1,6 @@
 -- The key of a thread: its site and those of the innermost calls.
-use Rattle.std.proofs.Common.{◌≡◌, ℕ, ◌+◌, ◌-◌, ◌<◌, ◌≤◌, List, [], ◌∷◌, ◌++◌, length, take, map, sym, ap, ◌∙◌, arith, refl, get_or, set}
-use Rattle.std.specs.Prelude.{reverse}
-use Rattle.std.proofs.lemmas.List.{length-map, length-reverse, get_or-map, get_or-reverse, map_push, reverse-append, take_all, take_more, take_more_set}
-use Rattle.c_tree.specs.Trees.{ProgramTree}
+use Rattle.source_runs.proofs.Common.{◌≡◌, ℕ, ◌+◌, ◌-◌, ◌<◌, ◌≤◌, List, [], ◌∷◌, ◌++◌, length, take, map, sym, ap, ◌∙◌, arith, refl, get_or, set, reverse, length-map, length-reverse, get_or-map, get_or-reverse, map_push, reverse-append, take_all, take_more, take_more_set, ProgramTree, waiting_frame_of, WaitingFrame}
 use Rattle.c_mean.specs.Frames as source
-use Rattle.source_runs.specs.Threads.{waiting_frame_of}
-use Rattle.source_runs.specs.declared.frames.WaitingFrame.{WaitingFrame}
 
 -- the sites of the frames below, innermost first
 abbrev pub sites_of : List WaitingFrame → List ℕ

@@ -1,40 +1,16 @@
 -- What steps lead to: values that are used, items that are taken, and silent steps one after another.
-use Rattle.std.proofs.Common.{◌≡◌, ◌≢◌, ℕ, zero, suc, ◌+◌, ◌-◌, ◌<◌, ◌≤◌, List, [], ◌∷◌, ◌++◌, length, map, sym, ap, ◌∙◌, arith, refl, subst}
-use Rattle.std.specs.Prelude.{Bool, Result, Ok, Err, MatchResult, OnOk, Option, Some, None, Vec, reverse, slice_index}
-use Rattle.std.specs.List.{AllByRecursion}
+use Rattle.source_runs.proofs.Common.{◌≡◌, ◌≢◌, ℕ, zero, suc, ◌+◌, ◌-◌, ◌<◌, ◌≤◌, List, [], ◌∷◌, ◌++◌, length, map, sym, ap, ◌∙◌, arith, refl, subst, Bool, Result, Ok, Err, MatchResult, OnOk, Option, Some, None, Vec, reverse, slice_index, AllByRecursion, lt-ltb, le-ltb, reverse-append, map_push, Call, Immediate, Blocking, call_of, call_with, each_made, Goes, Asks, Stops, and_then, moves, TrapKind, ProgramTree, Running, pushed, SourceMove, asks_if, branched, entered_by, entered_where, on_value, performs, performs_first, returned, source_machine, source_step, waits_at, Item, context_at, HasHalted, HasStepped, IsAskThere, IsCalling, LeadsTo, IsThread, IsWaitingFrame, below_of, globals_of, running_of, to_do_by, waiting_frame_of, waiting_of, Thread, WaitingFrame, Halt, Move}
 use Rattle.std.specs.declared.alloc.Global.{Global}
-use Rattle.std.proofs.lemmas.Bool.{lt-ltb, le-ltb}
-use Rattle.std.proofs.lemmas.List.{reverse-append, map_push}
-use Rattle.cap_word.specs.Calls.{Call, Immediate, Blocking, call_of, call_with}
 use Rattle.cap_word.specs.declared.modelled_calls.ModelledCall.{ModelledCall}
-use Rattle.c_mean.proofs.CallLemmas.{each_made}
-use Rattle.cap_word.specs.Runs.{Goes, Asks, Stops, and_then, moves}
 use Rattle.cap_word.proofs.RunLemmas.{goes_on}
-use Rattle.cap_word.specs.declared.traps.TrapKind.{TrapKind}
-use Rattle.c_tree.specs.Trees.{ProgramTree}
 use Rattle.c_mean.specs.Frames as source
-use Rattle.c_mean.specs.Frames.{Running, pushed}
 use Rattle.c_mean.specs.Steps as steps
-use Rattle.c_mean.specs.Steps.{SourceMove, asks_if, branched, entered_by, entered_where, on_value, performs, performs_first, returned, source_machine, source_step, waits_at}
 use Rattle.c_mean.specs.ToDo as todo
 use Rattle.source_items.specs.Items.{AreItems, entered, to_do}
-use Rattle.source_items.specs.declared.items.Item.{Item}
-use Rattle.source_runs.specs.Layouts.{context_at}
-use Rattle.source_runs.specs.Steps.{HasHalted, HasStepped, IsAskThere, IsCalling, LeadsTo}
-use Rattle.source_runs.specs.Threads.{IsThread, IsWaitingFrame, below_of, globals_of, running_of, to_do_by, waiting_frame_of, waiting_of}
 use Rattle.source_runs.specs.declared.frames.Next.{Next}
 use Rattle.source_runs.specs.declared.frames.Next.TheVariants as next
-use Rattle.source_runs.specs.declared.frames.Thread.{Thread}
-use Rattle.source_runs.specs.declared.frames.WaitingFrame.{WaitingFrame}
-use Rattle.source_runs.specs.declared.halts.Halt.{Halt}
 use Rattle.source_runs.specs.declared.halts.Halt.TheVariants as halt
-use Rattle.source_runs.specs.declared.interpreter.Move.{Move}
 use Rattle.source_runs.specs.declared.interpreter.Move.TheVariants as move
-
--- what holds of success
-pub on-ok : {A E P Q : Type 0} (r : Result A E) → (P → Q) → OnOk r P → OnOk r Q
-on-ok (Ok a) f h = f h
-on-ok (Err e) f h = tt {0}
 
 module _ (tree : ProgramTree) where
   -- ---- values

@@ -1,17 +1,7 @@
 -- A part of a statement is done: the step of its item, by what the statement is.
-use Rattle.std.proofs.Common.{◌≡◌, ℕ, List, sym, subst}
-use Rattle.std.specs.Prelude.{Option, Some, Result, slice_get}
-use Rattle.c_tree.specs.Trees.{ExprTree, SimpleTree, DeclareScalar, ProgramTree, StmtTree, While}
-use Rattle.c_mean.specs.Frames.{Running}
-use Rattle.c_mean.specs.Steps.{branched, does, on_value, performs, valued}
+use Rattle.source_runs.proofs.Common.{◌≡◌, ℕ, List, sym, subst, Option, Some, Result, slice_get, ExprTree, SimpleTree, DeclareScalar, ProgramTree, StmtTree, While, Running, branched, does, on_value, performs, valued, condition_of, loop_of, part_item, start_of, step_item, step_of, test_item, whole_item, Part, HasStepped, Thread, Halt, Move}
 use Rattle.c_mean.specs.ToDo as todo
-use Rattle.source_items.specs.Items.{condition_of, loop_of, part_item, start_of, step_item, step_of, test_item, whole_item}
-use Rattle.source_items.specs.declared.items.Part.{Part}
 use Rattle.source_items.specs.declared.items.Part.TheVariants as part
-use Rattle.source_runs.specs.Steps.{HasStepped}
-use Rattle.source_runs.specs.declared.frames.Thread.{Thread}
-use Rattle.source_runs.specs.declared.halts.Halt.{Halt}
-use Rattle.source_runs.specs.declared.interpreter.Move.{Move}
 use Rattle.source_runs.proofs.Scopes.{at-there}
 
 module _ (tree : ProgramTree) (running : Running) (rest : List todo.Item) (thread : Thread) (words : List ℕ) (r : Result Move Halt) where

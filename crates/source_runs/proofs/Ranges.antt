@@ -1,17 +1,6 @@
 -- What is well scoped is in range, and its values one after another.
-use Rattle.std.proofs.Common.{◌≡◌, ℕ, zero, suc, ◌+◌, ◌<◌, ◌≤◌, List, [], ◌∷◌, ◌++◌, length, map, drop, sym, ap, ◌∙◌, arith, refl, subst, get_or, append_assoc}
-use Rattle.std.specs.Prelude.{Result, Ok, Err, MatchResult}
-use Rattle.std.specs.List.{AllByRecursion}
-use Rattle.std.proofs.lemmas.List.{drop_all}
-use Rattle.cap_word.specs.declared.traps.TrapKind.{TrapKind}
+use Rattle.source_runs.proofs.Common.{◌≡◌, ℕ, zero, suc, ◌+◌, ◌<◌, ◌≤◌, List, [], ◌∷◌, ◌++◌, length, map, drop, sym, ap, ◌∙◌, arith, refl, subst, get_or, append_assoc, Result, Ok, Err, MatchResult, AllByRecursion, drop_all, TrapKind, ExprTree, expr_tree, Context, AreExprsScoped, Expr, IsInRange, Value, value, values, with_first, scoped_in_range}
 use Rattle.c_tree.proofs.Cuts.{drop_at}
-use Rattle.c_tree.specs.Trees.{ExprTree}
-use Rattle.c_tree.specs.Views.{expr_tree}
-use Rattle.c_tree.specs.WellScoped.{Context, AreExprsScoped}
-use Rattle.c_tree.specs.declared.expressions.Expr.{Expr}
-use Rattle.c_mean.specs.Layout.{IsInRange}
-use Rattle.c_mean.specs.Values.{Value, value, values, with_first}
-use Rattle.c_mean.proofs.WorldLemmas.{scoped_in_range}
 
 pub all-in-range : (c : Context) (scope : List ℕ) (es : List ExprTree) → AreExprsScoped c scope es → AllByRecursion (IsInRange c.sizes c.globals) es
 all-in-range c scope [] h = tt {0}
@@ -37,7 +26,7 @@ after-first : (words : List ℕ) (a : ℕ) (rest : Result (List ℕ) TrapKind) �
 after-first words a (Ok rest) = ap Ok (sym (append_assoc words (a ∷ []) rest))
 after-first words a (Err trap) = refl
 
-append-none : (xs : List ℕ) → xs ++ [] ≡ xs
+pub append-none : (xs : List ℕ) → xs ++ [] ≡ xs
 append-none [] = refl
 append-none (x ∷ xs) = ap (λ (ys : List ℕ). x ∷ ys) (append-none xs)
 

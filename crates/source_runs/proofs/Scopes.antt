@@ -1,11 +1,7 @@
 -- The parts of a statement that is well scoped are so.
-use Rattle.std.proofs.Common.{◌≡◌, ℕ, zero, suc, List, [], ◌∷◌, sym, subst}
-use Rattle.std.specs.Prelude.{false, Option, Some, slice_get, slice_index_or}
+use Rattle.source_runs.proofs.Common.{◌≡◌, ℕ, zero, suc, List, [], ◌∷◌, sym, subst, false, Option, Some, slice_get, slice_index_or, ExprTree, RightTree, SimpleTree, StmtTree, Do, Empty, Block, If, IfElse, While, For, Break, Continue, Return, IsLoop, IsScoped, condition_of, start_of, step_of, InSomeScope}
 use Rattle.c_tree.specs.TextOrder.{simple_names}
-use Rattle.c_tree.specs.Trees.{ExprTree, RightTree, SimpleTree, StmtTree, Do, Empty, Block, If, IfElse, While, For, Break, Continue, Return}
 use Rattle.c_tree.specs.WellScoped.{AreSimplesScoped, Context, IsExprScoped, IsReturnScoped, IsSimpleScoped, scope_after_all, with_names}
-use Rattle.source_items.specs.Items.{IsLoop, IsScoped, condition_of, start_of, step_of}
-use Rattle.source_runs.specs.Layouts.{InSomeScope}
 
 module _ (c : Context) where
   pub do-scoped : (s : SimpleTree) → IsScoped c (Do s) → InSomeScope (λ scope. IsSimpleScoped c scope s)

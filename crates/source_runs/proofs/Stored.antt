@@ -1,18 +1,6 @@
 -- Words that go to a place.
-use Rattle.std.proofs.Common.{◌≡◌, ℕ, ◌+◌, ◌<◌, ◌≤◌, List, length, take, sym, ap, ◌∙◌, arith}
-use Rattle.std.specs.Prelude.{true, false, Bool, Ok, nat_lt, sum, slice_index, slice_set}
-use Rattle.std.proofs.lemmas.Bool.{lt-ltb, le-ltb}
-use Rattle.cap_word.specs.Rows.{width, with_word}
-use Rattle.c_tree.specs.Trees.{ProgramTree}
-use Rattle.c_mean.specs.Frames.{Running}
-use Rattle.c_mean.specs.Layout.{rows_of, widths_of}
-use Rattle.c_mean.specs.Steps.{stored, stored_where, with_names, with_globals}
-use Rattle.c_mean.proofs.LayoutLemmas.{width_is}
-use Rattle.source_runs.specs.Layouts.{sizes_at}
-use Rattle.source_runs.specs.Threads.{IsThread, place_of, running_of}
-use Rattle.source_runs.specs.declared.frames.Place.{Place}
+use Rattle.source_runs.proofs.Common.{◌≡◌, ℕ, ◌+◌, ◌<◌, ◌≤◌, List, length, take, sym, ap, ◌∙◌, arith, true, false, Bool, Ok, nat_lt, sum, slice_index, slice_set, lt-ltb, le-ltb, width, with_word, ProgramTree, Running, rows_of, widths_of, stored, stored_where, with_names, with_globals, width_is, sizes_at, IsThread, place_of, running_of, Place, Thread}
 use Rattle.source_runs.specs.declared.frames.Place.TheVariants as place
-use Rattle.source_runs.specs.declared.frames.Thread.{Thread}
 use Rattle.source_runs.proofs.Words.{row-set}
 
 within : (ns words : List ℕ) (a i : ℕ) → length words ≡ sum ns → a < length ns → i < slice_index ns a → nat_lt i (width (rows_of ns words) a) ≡ true

@@ -1,20 +1,9 @@
 -- Rows that are cut from words, where a word or a row of them is written, and where a frame or a run starts.
-use Rattle.std.proofs.Common.{◌≡◌, ℕ, zero, suc, ◌+◌, ◌-◌, ◌<◌, ◌≤◌, List, [], ◌∷◌, ◌++◌, length, take, drop, map, sym, ap, ◌∙◌, arith, refl, set, get_or, append_assoc}
-use Rattle.std.specs.Prelude.{replicate, sum, slice_index, slice_set}
-use Rattle.std.proofs.lemmas.List.{length-append, length-replicate, get_or-set_same, set-set, take-set-le, drop-set-lt, drop-set-add, take-replicate, drop-replicate, take_at, drop_at, drop_all, take_all, take_more}
+use Rattle.source_runs.proofs.Common.{◌≡◌, ℕ, zero, suc, ◌+◌, ◌-◌, ◌<◌, ◌≤◌, List, [], ◌∷◌, ◌++◌, length, take, drop, map, sym, ap, ◌∙◌, arith, refl, set, get_or, append_assoc, replicate, sum, slice_index, slice_set, length-append, length-replicate, get_or-set_same, set-set, take-set-le, drop-set-lt, drop-set-add, take-replicate, drop-replicate, take_at, drop_at, drop_all, take_all, take_more, GlobalFact, rows_of, widths_of, sum-cons}
 use Rattle.std.proofs.lemmas.List.Edits.{fill_more}
-use Rattle.std.proofs.lemmas.List.Sums.{sum_by-cons}
 use Rattle.cap_word.specs.Rows.{row, width, with_word, with_zeros, zeros, scalars}
 use Rattle.c_tree.specs.Sizes as sizes
-use Rattle.c_tree.specs.declared.facts.GlobalFact.{GlobalFact}
-use Rattle.c_mean.specs.Layout.{rows_of, widths_of}
-
-sum-cons : (n : ℕ) (ns : List ℕ) → sum (n ∷ ns) ≡ n + sum ns
-sum-cons n ns = sum_by-cons (λ x. x) n ns
-
-append-none : (xs : List ℕ) → xs ++ [] ≡ xs
-append-none [] = refl
-append-none (x ∷ xs) = ap (λ (ys : List ℕ). x ∷ ys) (append-none xs)
+use Rattle.source_runs.proofs.Ranges.{append-none}
 
 pub rows_length : (ns words : List ℕ) → length (rows_of ns words) ≡ length ns
 rows_length [] words = refl

@@ -1,14 +1,7 @@
 -- A plan that code may rely on is of a program whose frames all fit.
-use Rattle.std.proofs.Common.{◌≡◌, ℕ, suc, ◌+◌, ◌<◌, ◌≤◌, false, List, [], ◌∷◌, length, map, refl, ap, arith}
-use Rattle.std.specs.Prelude.{None, option_map, slice_index}
+use Rattle.stack_build.proofs.Common.{◌≡◌, ℕ, suc, ◌+◌, ◌<◌, ◌≤◌, false, List, [], ◌∷◌, length, refl, ap, arith, None, option_map, slice_index, FlatCode, Plan, IsEnough, weights_of, frame_refusal, weights-count}
 use Rattle.std.proofs.lemmas.Bool.Decides.{nat_tests}
-use Rattle.flat_code.specs.declared.functions.FlatFunction.{FlatFunction}
-use Rattle.flat_code.specs.Codes.{FlatCode}
-use Rattle.flat_code.specs.Weight.{weight_of}
-use Rattle.checkpoint_place.specs.declared.plans.Plan.{Plan}
 use Rattle.checkpoint_place.specs.Refusal.{is_too_large, refusal_from}
-use Rattle.stack_plan.specs.Plans.{IsEnough, weights_of}
-use Rattle.stack_build.specs.Builds.{frame_refusal}
 use Rattle.stack_build.specs.Refusals.{of_place}
 use Rattle.stack_plan.proofs.Enough.{weight-at}
 
@@ -21,10 +14,6 @@ none-refused max_path base (w ∷ ws) h =
     let here = h 0 (omega arith) in
     let e = fit-tests max_path w here.0 here.1 in
     rw e (none-refused max_path (base + 1) ws (λ k lt. h (suc k) (omega arith)))
-
-pub weights-count : (fs : List FlatFunction) → length (map (λ g. weight_of g.sizes) fs) ≡ length fs
-weights-count [] = refl
-weights-count (f ∷ fs) = omega (arith, weights-count fs)
 
 pub none-too-large : (code : FlatCode) (max_path : ℕ) (plan : Plan) → IsEnough code max_path plan → refusal_from max_path 0 (weights_of code) ≡ None
 none-too-large code max_path plan h =

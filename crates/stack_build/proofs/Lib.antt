@@ -1,3 +1,4 @@
+mod Common
 pub mod Plans
 pub mod Together
 pub mod Frames

@@ -1,16 +1,11 @@
 -- What code may rely on in a plan is what the generator asks of it.
-use Rattle.std.proofs.Common.{◌≡◌, ◌<◌, ◌≤◌, ◌+◌, ℕ, Bool, true, false, length, refl, arith}
-use Rattle.std.specs.Prelude.{Some, slice_index}
+use Rattle.stack_build.proofs.Common.{◌≡◌, ◌<◌, ◌≤◌, ◌+◌, ℕ, Bool, true, false, length, refl, arith, Some, slice_index, FlatCode, function_at, operation_at, weight_of, Plan, IsEnough}
 use Rattle.flat_code.specs.declared.operations.Op.{Op}
-use Rattle.flat_code.specs.Codes.{FlatCode, function_at, operation_at}
-use Rattle.flat_code.specs.Weight.{weight_of}
 use Rattle.call_graph.specs.Lists.{has}
 use Rattle.call_graph.specs.declared.sites.Target.TheVariants.{Function, Table}
-use Rattle.checkpoint_place.specs.declared.plans.Plan.{Plan}
 use Rattle.stack_certificate.specs.declared.sites.LinkKind.{LinkKind}
 use Rattle.codegen_link.specs.Links.{linked_if, link, need}
 use Rattle.codegen_link.specs.Plans.{IsPlanFor}
-use Rattle.stack_plan.specs.Plans.{IsEnough}
 
 -- a link that is plain isn't at a checkpoint
 plain-link : (b : Bool) (bytes : ℕ) → linked_if b bytes ≡ LinkKind.Plain → b ≡ false

@@ -1,7 +1,5 @@
 -- What the steps of a build say together.
-use Rattle.std.proofs.Common.{◌≡◌, ◌-◌, ℕ, List, ap, ◌∙◌}
-use Rattle.call_graph.specs.Graph.{CallGraphState}
-use Rattle.call_graph.specs.declared.sites.GraphSite.{GraphSite}
+use Rattle.stack_build.proofs.Common.{◌≡◌, ◌-◌, ℕ, List, ap, ◌∙◌, CallGraphState, GraphSite}
 use Rattle.checkpoint_place.specs.declared.refusals.PlaceError.TheVariants as place
 use Rattle.codegen_link.specs.declared.refusals.GenError.TheVariants as gen
 

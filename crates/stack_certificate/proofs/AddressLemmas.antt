@@ -1,12 +1,6 @@
 -- Sums of the words before an operation, a global or a table.
-use Rattle.std.proofs.Common.{◌≡◌, ℕ, ◌+◌, ◌<◌, ◌≤◌, List, length, map, take, arith, sym, ap, subst, ◌∙◌, Option, Some}
-use Rattle.std.specs.Prelude.{slice_index_or, sum, sum_by}
-use Rattle.std.proofs.lemmas.List.Sums.{sum_by_more, sum_by_more_le, sum-map}
-use Rattle.std.proofs.lemmas.Option.{slice_get-get_or, slice_get_within}
-use Rattle.flat_code.specs.declared.operations.Op.{Op}
-use Rattle.flat_code.specs.Codes.{FlatCode, function_at, operation_at}
+use Rattle.stack_certificate.proofs.Common.{◌≡◌, ℕ, ◌+◌, ◌<◌, ◌≤◌, List, length, map, take, arith, sym, ap, subst, ◌∙◌, Option, Some, slice_index_or, sum, sum_by, sum_by_more, sum_by_more_le, sum-map, slice_get-get_or, slice_get_within, Op, FlatCode, function_at, operation_at, kind_of, size, size_at, words_before}
 use Rattle.stack_certificate.specs.declared.certificates.Certificate.{Certificate}
-use Rattle.stack_certificate.specs.Templates.{kind_of, size, size_at, words_before}
 
 -- a sum grows by the next element, and stays within a bound of the whole
 pub sum_step : {X : Type 0} (f : X → ℕ) (xs : List X) (i : ℕ) (x : X) → i < length xs → x ≡ slice_index_or xs i x → sum_by f (take i xs) + f x ≡ sum_by f (take (i + 1) xs)

@@ -1,14 +1,7 @@
 -- The test of an instruction's numbers tells whether they are in their ranges.
-use Rattle.std.proofs.Common.{◌≡◌, ℕ, ◌<◌, Bool, true, false, ◌&&◌, nat_lt, nat_eq, ℤ, pos, negsuc, ◌≤ℤ◌, arith, refl, Some, None}
-use Rattle.std.specs.Prelude.{int_le, if◌then◌else◌}
-use Rattle.std.proofs.lemmas.Grind.{common_steps}
-use Rattle.std.proofs.lemmas.Int.{ints}
+use Rattle.stack_certificate.proofs.Common.{◌≡◌, ℕ, ◌<◌, Bool, true, false, ◌&&◌, nat_lt, nat_eq, ℤ, pos, negsuc, ◌≤ℤ◌, arith, refl, Some, None, int_le, if◌then◌else◌, common_steps, ints, IsInRange, IsRegister, IsImmediate, IsUpperImmediate, IsShiftCount, IsBranchOffset, IsJumpOffset, Instr, fits_register, fits_immediate, fits_branch, fits_jump, fits_upper, fits_shift, fits, checked}
 use Rattle.rv_code.specs.Field.{low_bits}
-use Rattle.rv_code.specs.Operands.{IsInRange}
-use Rattle.rv_code.specs.Range.{IsRegister, IsImmediate, IsUpperImmediate, IsShiftCount, IsBranchOffset, IsJumpOffset}
-use Rattle.rv_code.specs.declared.instructions.Instr.{Instr}
 use Rattle.rv_code.specs.declared.instructions.Instr.TheVariants.{Lui, Auipc, Jal, Jalr, Beq, Bne, Blt, Bge, Bltu, Bgeu, Lb, Lh, Lw, Lbu, Lhu, Sb, Sh, Sw, Addi, Slti, Sltiu, Xori, Ori, Andi, Slli, Srli, Srai, Add, Sub, Sll, Slt, Sltu, Xor, Srl, Sra, Or, And, Fence, Mul, Mulh, Mulhsu, Mulhu, Div, Divu, Rem, Remu}
-use Rattle.stack_certificate.specs.Fits.{fits_register, fits_immediate, fits_branch, fits_jump, fits_upper, fits_shift, fits, checked}
 
 -- a test that tells whether a fact holds
 record Answers (test : Bool) (P : Type 0) : Type 0 where

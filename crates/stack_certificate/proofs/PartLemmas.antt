@@ -1,12 +1,5 @@
 -- Parts that grow by one instruction at their end.
-use Rattle.std.proofs.Common.{◌≡◌, ℕ, zero, suc, ◌+◌, ◌<◌, List, [], ◌∷◌, ◌++◌, length, map, take, arith, ap, ◌∙◌, append_assoc, add-zero, Option}
-use Rattle.std.specs.Prelude.{slice_index}
-use Rattle.std.proofs.lemmas.List.{take_more, map-append, length-take-le}
-use Rattle.rv_code.specs.declared.instructions.Instr.{Instr}
-use Rattle.stack_certificate.specs.declared.functions.FunctionFact.{FunctionFact}
-use Rattle.stack_certificate.specs.Fits.{checked}
-use Rattle.stack_certificate.specs.Parts.{load, store, arguments, saves}
-use Rattle.stack_certificate.specs.Registers.{a0}
+use Rattle.stack_certificate.proofs.Common.{◌≡◌, ℕ, zero, suc, ◌+◌, ◌<◌, List, [], ◌∷◌, ◌++◌, length, map, take, arith, ap, ◌∙◌, append_assoc, add-zero, Option, slice_index, take_more, map-append, length-take-le, Instr, FunctionFact, checked, load, store, arguments, saves, a0}
 
 arguments-append : (fact : FunctionFact) (r : ℕ) (xs : List ℕ) (x : ℕ) → arguments fact r (xs ++ x ∷ []) ≡ arguments fact r xs ++ load fact (r + length xs) x ∷ []
 arguments-append fact r [] x = rw add-zero

@@ -1,19 +1,11 @@
 -- The variables of a well-formed program's operations have places.
-use Rattle.std.proofs.Common.{◌≡◌, ℕ, zero, suc, ◌<◌, ◌≤◌, List, [], ◌∷◌, length, map, arith, refl, ap, Option, Some, None, Bool}
-use Rattle.std.specs.Prelude.{slice_index_or, All, option_map}
-use Rattle.std.specs.List.{AllByRecursion}
+use Rattle.stack_certificate.proofs.Common.{◌≡◌, ℕ, zero, suc, ◌<◌, ◌≤◌, List, [], ◌∷◌, length, map, arith, refl, ap, Option, Some, None, Bool, slice_index_or, All, option_map, AllByRecursion, Op, FlatCode, function_at, signature_of, Context, context_of, IsScalar, IsResultPlace, IsReturned, IsOperation, IsFunction, IsWellFormed, FunctionFact, HasPlace, HavePlaces, HasPlaces}
 use Rattle.cap_word.proofs.CallLemmas.{number_is}
 use Rattle.cap_word.specs.ModelledCalls.{call_numbered, number_of, parameters_of}
 use Rattle.cap_word.specs.declared.modelled_calls.ModelledCall.{ModelledCall}
 use Rattle.flat_code.specs.declared.functions.FlatFunction.{FlatFunction}
-use Rattle.flat_code.specs.declared.operations.Op.{Op}
-use Rattle.flat_code.specs.Codes.{FlatCode, function_at}
 use Rattle.flat_code.specs.Modelled.{modelled_parameters}
-use Rattle.flat_code.specs.WellFormed.{signature_of, Context, context_of, IsScalar, IsResultPlace, IsReturned, IsOperation, IsFunction, IsWellFormed}
 use Rattle.cap_word.specs.Signatures.{signature_at}
-use Rattle.stack_certificate.specs.declared.functions.FunctionFact.{FunctionFact}
-use Rattle.stack_certificate.specs.Places.{HasPlace, HavePlaces}
-use Rattle.stack_certificate.specs.Templates.{HasPlaces}
 
 pub all_at : {X : Type 0} (P : X → Type 0) (xs : List X) (i : ℕ) (d : X) → AllByRecursion P xs → i < length xs → P (slice_index_or xs i d)
 all_at P [] i d h lt = absurd (omega arith)

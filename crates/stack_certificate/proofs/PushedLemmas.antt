@@ -1,8 +1,5 @@
 -- A list that holds what is made of the elements so far holds, with what is made of the next one behind it, that too.
-use Rattle.std.proofs.Common.{◌≡◌, ℕ, ◌+◌, ◌<◌, List, [], ◌∷◌, ◌++◌, length, map, take, sym, ap, ◌∙◌, arith}
-use Rattle.std.specs.Prelude.{slice_index_or, flat_map}
-use Rattle.std.specs.List.{range_with_len}
-use Rattle.std.proofs.lemmas.List.{take_more, map_more, flat_map_more}
+use Rattle.stack_certificate.proofs.Common.{◌≡◌, ℕ, ◌+◌, ◌<◌, List, [], ◌∷◌, ◌++◌, length, map, take, sym, ap, ◌∙◌, arith, slice_index_or, flat_map, range_with_len, take_more, map_more, flat_map_more}
 use Rattle.std.proofs.lemmas.List.FromFn.{map-range_with_len_more}
 
 joined : {Y : Type 0} (old new before more whole : List Y) → old ≡ before → new ≡ old ++ more → whole ≡ before ++ more → new ≡ whole

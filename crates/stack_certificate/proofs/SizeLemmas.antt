@@ -1,14 +1,8 @@
 -- How many instructions templates have.
-use Rattle.std.proofs.Common.{◌≡◌, ℕ, zero, suc, ◌+◌, ◌*◌, List, [], ◌∷◌, length, arith, refl, ap, length-append, Option, Some, None}
-use Rattle.std.specs.Prelude.{slice_index}
-use Rattle.flat_code.specs.declared.operations.Op.{Op}
+use Rattle.stack_certificate.proofs.Common.{◌≡◌, ℕ, zero, suc, ◌+◌, ◌*◌, List, [], ◌∷◌, length, arith, refl, ap, length-append, Option, Some, None, slice_index, Op, FunctionFact, middle, zeroes, arguments, result, transfer, saves, row, size, middle_size, transfer_size, result_size, prologue, a0}
 use Rattle.flat_code.specs.declared.operators.BinOp.{BinOp}
-use Rattle.stack_certificate.specs.declared.functions.FunctionFact.{FunctionFact}
 use Rattle.stack_certificate.specs.declared.settings.Setting.{Setting}
 use Rattle.stack_certificate.specs.declared.sites.LinkKind.{LinkKind}
-use Rattle.stack_certificate.specs.Parts.{middle, zeroes, arguments, result, transfer, saves}
-use Rattle.stack_certificate.specs.Templates.{row, size, middle_size, transfer_size, result_size, prologue}
-use Rattle.stack_certificate.specs.Registers.{a0}
 
 length-middle : (op : BinOp) → length (middle op) ≡ middle_size op
 length-middle BinOp.Add = refl
@@ -18,7 +12,7 @@ length-zeroes : (place n : ℕ) → length (zeroes place n) ≡ n
 length-zeroes place zero = refl
 length-zeroes place (suc n) = ap suc (length-zeroes (place + 4) n)
 
-length-arguments : (fact : FunctionFact) (r : ℕ) (xs : List ℕ) → length (arguments fact r xs) ≡ length xs
+pub length-arguments : (fact : FunctionFact) (r : ℕ) (xs : List ℕ) → length (arguments fact r xs) ≡ length xs
 length-arguments fact r [] = refl
 length-arguments fact r (x ∷ xs) = ap suc (length-arguments fact (r + 1) xs)
 
@@ -30,7 +24,7 @@ length-result : (fact : FunctionFact) (d : Option ℕ) → length (result fact d
 length-result fact None = refl
 length-result fact (Some d) = refl
 
-length-transfer : (kind : LinkKind) (callee : Option ℕ) (here : ℕ) → length (transfer kind callee here) ≡ transfer_size kind
+pub length-transfer : (kind : LinkKind) (callee : Option ℕ) (here : ℕ) → length (transfer kind callee here) ≡ transfer_size kind
 length-transfer LinkKind.Plain callee here = refl
 length-transfer _ callee here = refl
 

@@ -1,12 +1,6 @@
 -- When the instructions that name a place, a frame or a jump's target fit.
-use Rattle.std.proofs.Common.{◌≡◌, ℕ, ◌<◌, ℤ, pos, arith, sym, Some, None}
-use Rattle.std.proofs.lemmas.Int.{ints}
-use Rattle.rv_code.specs.Operands.{IsInRange}
-use Rattle.rv_code.specs.Range.{IsImmediate, IsJumpOffset}
-use Rattle.rv_code.specs.declared.instructions.Instr.{Instr}
-use Rattle.stack_certificate.specs.Fits.{checked}
+use Rattle.stack_certificate.proofs.Common.{◌≡◌, ℕ, ◌<◌, ℤ, pos, arith, sym, Some, None, ints, IsInRange, IsImmediate, IsJumpOffset, Instr, checked, sp}
 use Rattle.stack_certificate.proofs.FitsLemmas.{checked-in, checked-out}
-use Rattle.stack_certificate.specs.Registers.{sp}
 
 pub place_over : (offset : ℕ) → 2047 < offset → ¬ (IsImmediate (pos offset))
 place_over offset h f = omega (arith, ints, f.1)

@@ -1,14 +1,8 @@
 -- The words of slots.
-use Rattle.std.proofs.Common.{◌≡◌, ℕ, zero, suc, ◌+◌, ◌*◌, ◌<◌, ◌≤◌, List, map, pos, arith, refl, sym, ap, ◌∙◌, Option, Some, None}
-use Rattle.std.specs.Prelude.{slice_get, option_map}
-use Rattle.std.proofs.lemmas.Option.{slice_get-map}
+use Rattle.stack_certificate.proofs.Common.{◌≡◌, ℕ, zero, suc, ◌+◌, ◌*◌, ◌<◌, ◌≤◌, List, map, pos, arith, refl, sym, ap, ◌∙◌, Option, Some, None, slice_get, option_map, slice_get-map, Instr, checked, zeroes, zero_, sp}
 use Rattle.rv_code.specs.Table.{encoding}
-use Rattle.rv_code.specs.declared.instructions.Instr.{Instr}
-use Rattle.stack_certificate.specs.Fits.{checked}
 use Rattle.stack_certificate.specs.InstructionWords.{IsWordOf}
-use Rattle.stack_certificate.specs.Parts.{zeroes}
 use Rattle.stack_certificate.proofs.FitsLemmas.{checked-some, checked-none}
-use Rattle.stack_certificate.specs.Registers.{zero_, sp}
 
 word_of : (o : Option Instr) (instr : Instr) → option_map checked o ≡ Some (Some instr) → IsWordOf o (Some (encoding instr))
 word_of None instr h = cc

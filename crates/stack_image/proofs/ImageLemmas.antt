@@ -1,8 +1,5 @@
 -- An image that is read has the bytes as its spelling, and what is spelled is read again.
-use Rattle.std.proofs.Common.{◌≡◌, ◌∙◌, ℕ, List, refl, ap}
-use Rattle.stack_image.specs.declared.images.Image.{Image}
-use Rattle.stack_image.specs.Refusal.{code_size, globals_size, tables_size, entries_size}
-use Rattle.stack_image.specs.Reading.{words_of, behind, image_of}
+use Rattle.stack_image.proofs.Common.{◌≡◌, ◌∙◌, ℕ, List, refl, ap, Image, code_size, globals_size, tables_size, entries_size, words_of, behind, image_of}
 
 -- ---- the image, list by list
 

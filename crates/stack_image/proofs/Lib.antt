@@ -1,3 +1,4 @@
+mod Common
 pub mod ImageLemmas
 pub mod WordBytes
 pub mod NoRefusal

@@ -1,12 +1,9 @@
 -- Bytes are refused by nothing exactly where they begin as an image, keep the limits and end with the last word.
-use Rattle.std.proofs.Common.{◌≡◌, ℕ, ◌≤◌, Bool, true, false, cond, not, ltb, ◌&&◌, List, [], ◌∷◌, length, take, Option, Some, None, nat_eq, refl, arith}
-use Rattle.std.proofs.lemmas.Bool.{ltb-false, le-ltb}
+use Rattle.stack_image.proofs.Common.{◌≡◌, ℕ, ◌≤◌, Bool, true, false, cond, not, ltb, ◌&&◌, List, [], ◌∷◌, length, take, Option, Some, None, nat_eq, refl, arith, ltb-false, le-ltb, magic, begins_as_image, code_size, globals_size, tables_size, entries_size, exceeded, end_of, length_refusal, limit_refusal, refusal_of}
 use Rattle.cap_word.specs.declared.limits.Which.{Which}
 use Rattle.cap_word.specs.declared.limits.Which.TheVariants as limits
 use Rattle.stack_image.specs.declared.refusals.ImageError.{ImageError}
 use Rattle.stack_image.specs.declared.refusals.ImageError.TheVariants.{Magic, Short, Long}
-use Rattle.stack_image.specs.Spelling.{magic}
-use Rattle.stack_image.specs.Refusal.{begins_as_image, code_size, globals_size, tables_size, entries_size, exceeded, end_of, length_refusal, limit_refusal, refusal_of}
 
 -- ---- two tests, one after the other
 

@@ -1,10 +1,5 @@
 -- The spelling of an image is refused by nothing, and is read as that image.
-use Rattle.std.proofs.Common.{◌≡◌, ◌∙◌, ℕ, ◌+◌, ◌*◌, ◌^◌, ◌<◌, List, [], ◌++◌, length, None, true, refl, sym, ap, append_assoc, arith}
-use Rattle.std.proofs.lemmas.List.{append-nil, length-append}
-use Rattle.stack_image.specs.declared.images.Image.{Image}
-use Rattle.stack_image.specs.Spelling.{magic, word, words, sizes, spelling, IsWithinLimits, HoldsWords}
-use Rattle.stack_image.specs.Refusal.{number_at, begins_as_image, code_size, globals_size, tables_size, entries_size, end_of, refusal_of}
-use Rattle.stack_image.specs.Reading.{words_of, behind, image_of}
+use Rattle.stack_image.proofs.Common.{◌≡◌, ◌∙◌, ℕ, ◌+◌, ◌*◌, ◌^◌, ◌<◌, List, [], ◌++◌, length, None, true, refl, sym, ap, append_assoc, arith, append-nil, length-append, Image, magic, word, words, sizes, spelling, IsWithinLimits, HoldsWords, number_at, begins_as_image, code_size, globals_size, tables_size, entries_size, end_of, refusal_of, words_of, behind, image_of}
 use Rattle.stack_image.proofs.WordBytes.{AreWords, number_at-word, length-words, words_of-words, behind-words}
 use Rattle.stack_image.proofs.NoRefusal.{KeepsLimits, refusal_of_none}
 use Rattle.stack_image.proofs.ImageLemmas.{read_in_order}

@@ -1,9 +1,5 @@
 -- Bytes that nothing refuses are the spelling of the image that is read.
-use Rattle.std.proofs.Common.{◌≡◌, ◌∙◌, ℕ, ◌-◌, ◌*◌, List, [], ◌∷◌, ◌++◌, length, drop, refl, sym, ap, append_assoc, arith}
-use Rattle.std.proofs.lemmas.List.{append-nil, take-append-drop, drop-drop, drop_all, length-drop}
-use Rattle.stack_image.specs.Spelling.{magic, words, spelling, IsWithinLimits, HoldsWords}
-use Rattle.stack_image.specs.Refusal.{code_size, globals_size, tables_size, entries_size}
-use Rattle.stack_image.specs.Reading.{words_of, behind, image_of}
+use Rattle.stack_image.proofs.Common.{◌≡◌, ◌∙◌, ℕ, ◌-◌, ◌*◌, List, [], ◌∷◌, ◌++◌, length, drop, refl, sym, ap, append_assoc, arith, append-nil, take-append-drop, drop-drop, drop_all, length-drop, magic, words, spelling, IsWithinLimits, HoldsWords, code_size, globals_size, tables_size, entries_size, words_of, behind, image_of}
 use Rattle.stack_image.proofs.WordBytes.{IsBytes, IsBytes-drop, AreWords-words_of, number_at-drop, length-words_of, words_then_behind}
 use Rattle.stack_image.proofs.NoRefusal.{IsRefusedByNothing, magic_in_front}
 

@@ -1,16 +1,11 @@
 -- Words and their bytes.
-use Rattle.std.proofs.Common.{◌≡◌, ◌∙◌, ℕ, zero, suc, ◌+◌, ◌*◌, ◌^◌, ◌<◌, ◌≤◌, List, [], ◌∷◌, ◌++◌, length, get_or, take, drop, refl, sym, ap, inl, inr, append_assoc, arith}
 use Rattle.std.specs.Prelude.{All}
 use Rattle.std.specs.Int.{w32, from_le_bytes}
 use Rattle.std.proofs.Math.Seq.{take-add}
-use Rattle.std.proofs.lemmas.Bool.{cases_lt}
-use Rattle.std.proofs.lemmas.List.{append-nil, take-append-drop, take_at, drop_at, take_more, drop_more, take_all, drop-drop, length-append, length-take, length-take-le, length-drop, get_or-drop, get_or-take, get_or_past}
+use Rattle.stack_image.proofs.Common.{◌≡◌, ◌∙◌, ℕ, zero, suc, ◌+◌, ◌*◌, ◌^◌, ◌<◌, ◌≤◌, List, [], ◌∷◌, ◌++◌, length, get_or, take, drop, refl, sym, ap, inl, inr, append_assoc, arith, cases_lt, append-nil, take-append-drop, take_at, drop_at, take_more, drop_more, take_all, drop-drop, length-append, length-take, length-take-le, length-drop, get_or-drop, get_or-take, get_or_past, word, words, number_at, words_of, behind}
 use Rattle.std.proofs.lemmas.List.Concat.{flat_map-append}
 use Rattle.std.proofs.lemmas.List.Elements.{All-nil, All-push}
 use Rattle.std.proofs.lemmas.Nat.{le_bytes_4, from_le_bytes-to_le_bytes_4}
-use Rattle.stack_image.specs.Spelling.{word, words}
-use Rattle.stack_image.specs.Refusal.{number_at}
-use Rattle.stack_image.specs.Reading.{words_of, behind}
 
 abbrev pub IsBytes : List ℕ → Type 0
 IsBytes bytes = (i : ℕ) → get_or bytes i 0 < 256

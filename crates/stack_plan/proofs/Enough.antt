@@ -1,29 +1,14 @@
 -- A placement gives all that code relies on in a plan.
-use Rattle.std.proofs.Common.{◌≡◌, ℕ, zero, suc, ◌+◌, ◌<◌, ◌≤◌, Bool, true, false, not, List, [], ◌∷◌, length, map, filter, refl, ap, subst, ◌∙◌, arith}
-use Rattle.std.specs.Prelude.{◌||◌, Option, Some, None, Ok, Err, IfSome, slice_index, slice_index_or}
-use Rattle.std.specs.List.{All}
-use Rattle.std.proofs.lemmas.Bool.Decides.{nat_tests}
+use Rattle.stack_plan.proofs.Common.{◌≡◌, ℕ, zero, suc, ◌+◌, ◌<◌, ◌≤◌, Bool, true, false, not, List, [], ◌∷◌, length, map, filter, refl, ap, subst, ◌∙◌, arith, ◌||◌, Option, Some, None, Ok, Err, IfSome, slice_index, slice_index_or, All, nat_tests, FlatFunction, weight_of, GraphSite, callees, greatest, call_site, call_sites_from, CallGraphState, function_count, IsSiteOf, IsCallGraph, has, IsAmong, by_test, true_false, is_too_large, refusal_from, IsGraphOf, IsEnough, greatest-among}
 use Rattle.std.proofs.lemmas.List.Elements.{All-from_recursion, recursion_from_All}
 use Rattle.std.proofs.lemmas.List.Sorted.{All-permutation, IsPermutation-sym}
-use Rattle.flat_code.specs.declared.functions.FlatFunction.{FlatFunction}
 use Rattle.flat_code.specs.Codes.{FlatCode, function_at}
-use Rattle.flat_code.specs.Weight.{weight_of}
-use Rattle.call_graph.specs.declared.sites.GraphSite.{GraphSite}
-use Rattle.call_graph.specs.Callees.{callees, greatest}
-use Rattle.call_graph.specs.FlatCalls.{call_site, call_sites_from}
-use Rattle.call_graph.specs.Graph.{CallGraphState, function_count, IsSiteOf, IsCallGraph}
 use Rattle.call_graph.specs.Index.{sites_of}
-use Rattle.call_graph.specs.Lists.{has}
-use Rattle.call_graph.specs.Paths.{IsAmong}
-use Rattle.call_graph.proofs.ListLemmas.{by_test}
-use Rattle.cycle_break.proofs.NumberLemmas.{true_false}
 use Rattle.cycle_break.proofs.SiteLemmas.{all-among, among-all, among-filter, rising-filter, own-among}
 use Rattle.checkpoint_place.specs.declared.plans.Plan.{Plan}
 use Rattle.checkpoint_place.specs.declared.refusals.PlaceError.{PlaceError}
 use Rattle.checkpoint_place.specs.Placement.{callee_bound, is_within, is_checkpointed, IsPlacement}
-use Rattle.checkpoint_place.specs.Refusal.{is_too_large, refusal_from}
-use Rattle.stack_plan.specs.Plans.{IsGraphOf, IsEnough}
-use Rattle.stack_plan.proofs.SiteLemmas.{greatest-among, has-number, numbers-rise, greatest-within, site-among, function-there, site-caller}
+use Rattle.stack_plan.proofs.SiteLemmas.{has-number, numbers-rise, greatest-within, site-among, function-there, site-caller}
 
 -- ---- weights
 
@@ -32,7 +17,7 @@ weight-at [] f h = absurd (omega arith)
 weight-at (g ∷ gs) zero h = refl
 weight-at (g ∷ gs) (suc f) h = weight-at gs f (omega arith)
 
-weights-count : (fs : List FlatFunction) → length (map (λ g. weight_of g.sizes) fs) ≡ length fs
+pub weights-count : (fs : List FlatFunction) → length (map (λ g. weight_of g.sizes) fs) ≡ length fs
 weights-count [] = refl
 weights-count (f ∷ fs) = omega (arith, weights-count fs)
 

@@ -1,2 +1,3 @@
+mod Common
 pub mod SiteLemmas
 pub mod Enough

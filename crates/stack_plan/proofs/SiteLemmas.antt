@@ -1,26 +1,7 @@
 -- Call sites of operations, and the greatest value of some of them.
-use Rattle.std.proofs.Common.{◌≡◌, inl, inr, ℕ, zero, suc, ◌+◌, ◌<◌, ◌≤◌, nat_le, true, false, List, [], ◌∷◌, ◌++◌, length, map, filter, refl, sym, ap, subst, ◌∙◌, arith}
-use Rattle.std.specs.Prelude.{Option, Some, None, slice_get, slice_index_or}
-use Rattle.std.specs.List.{filter_map, cons_option}
+use Rattle.stack_plan.proofs.Common.{◌≡◌, inl, inr, ℕ, zero, suc, ◌+◌, ◌<◌, ◌≤◌, nat_le, true, false, List, [], ◌∷◌, ◌++◌, length, map, filter, refl, sym, ap, subst, ◌∙◌, arith, Option, Some, None, slice_get, slice_index_or, filter_map, cons_option, nat_tests, FlatFunction, GraphSite, greatest, call_site, call_sites_from, IsRising, has, IsAmong, by_test, has-head, has-tail}
 use Rattle.std.specs.List.Sorted.{IsStrictlyIncreasing}
-use Rattle.std.proofs.lemmas.Bool.Decides.{nat_tests}
 use Rattle.flat_code.specs.declared.operations.Op.{Op}
-use Rattle.flat_code.specs.declared.functions.FlatFunction.{FlatFunction}
-use Rattle.call_graph.specs.declared.sites.GraphSite.{GraphSite}
-use Rattle.call_graph.specs.Callees.{greatest}
-use Rattle.call_graph.specs.FlatCalls.{call_site, call_sites_from}
-use Rattle.call_graph.specs.Graph.{IsRising}
-use Rattle.call_graph.specs.Lists.{has}
-use Rattle.call_graph.specs.Paths.{IsAmong}
-use Rattle.call_graph.proofs.ListLemmas.{by_test}
-use Rattle.cycle_break.proofs.NumberLemmas.{has-head, has-tail}
-
-pub greatest-among : (v : GraphSite → ℕ) (ss : List GraphSite) (s : GraphSite) → IsAmong ss s → v s ≤ greatest v ss
-greatest-among v [] s h = absurd h
-greatest-among v (t ∷ ss) s h = elim h [
-  | inl e ↦ subst (λ x. v x ≤ greatest v (t ∷ ss)) e (omega arith)
-  | inr rest ↦ omega (arith, greatest-among v ss s rest)
-]
 
 pub has-number : (ss : List GraphSite) (s : GraphSite) → IsAmong ss s → has s.number (map (λ (x : GraphSite). x.number) ss) ≡ true
 has-number [] s among = absurd among

@@ -1,18 +1,5 @@
 -- A client by its number.
-use Rattle.std.proofs.Common.{◌≡◌, ◌≢◌, ℕ, ◌==◌, Bool, true, false, Some, List, [], ◌∷◌, ◌++◌, refl, sym, ap, ◌∙◌, subst, arith}
-use Rattle.std.specs.List.{AllByRecursion}
-use Rattle.std.proofs.lemmas.Bool.Decides.{nat_tests}
-use Rattle.stride_rule.specs.declared.clients.Client.{Client}
-use Rattle.stride_rule.specs.Clients.{IsAbsent, client_of, pass_in, with_growth, grown, without}
-use Rattle.stride_rule.specs.State.{AreOnce}
-
--- a test is true or false
-pub by_test : (b : Bool) (P : Type 0) → (b ≡ true → P) → (b ≡ false → P) → P
-by_test true P first second = first refl
-by_test false P first second = second refl
-
-pub same_number : (a b : ℕ) → (a == b) ≡ true → a ≡ b
-same_number a b h = grind (arith, nat_tests)
+use Rattle.stride_rule.proofs.Common.{◌≡◌, ◌≢◌, ℕ, ◌==◌, false, Some, List, [], ◌∷◌, ◌++◌, refl, sym, ap, ◌∙◌, subst, arith, AllByRecursion, nat_tests, Client, IsAbsent, client_of, pass_in, with_growth, grown, without, AreOnce, by_test}
 
 pub other_number : (a b : ℕ) → a ≢ b → (a == b) ≡ false
 other_number a b h = grind (arith, nat_tests)

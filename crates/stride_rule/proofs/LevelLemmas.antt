@@ -1,18 +1,7 @@
 -- Summaries at each level, while places change.
-use Rattle.std.proofs.Common.{◌≡◌, ◌≢◌, ℕ, false, ◌+◌, ◌<◌, ◌≤◌, ◌/◌, ◌%◌, Option, Some, None, List, length, slice_set, ap, ◌∙◌, subst, ⊎_elim, arith}
-use Rattle.std.proofs.lemmas.Bool.{cases_eq}
-use Rattle.std.proofs.lemmas.Bool.Decides.{nat_tests}
-use Rattle.std.proofs.lemmas.List.{get_or-set_same, get_or-set_other, length-set}
-use Rattle.ready_tree.specs.declared.bounds.Bounds.{Bounds}
-use Rattle.stride_rule.specs.declared.clients.Client.{Client}
+use Rattle.stride_rule.proofs.Common.{◌≡◌, ◌≢◌, ℕ, false, ◌+◌, ◌<◌, ◌≤◌, ◌/◌, ◌%◌, Option, Some, None, List, length, slice_set, ap, ◌∙◌, subst, ⊎_elim, arith, cases_eq, nat_tests, get_or-set_same, get_or-set_other, length-set, Bounds, Client, Row, Summary, goes_before, row_at, row_grown, met_with, Covers, Includes, may_help, summary_at}
 use Rattle.stride_rule.specs.declared.levels.Levels.{Levels}
-use Rattle.stride_rule.specs.declared.rows.Row.{Row}
-use Rattle.stride_rule.specs.declared.summaries.Summary.{Summary}
-use Rattle.stride_rule.specs.Clients.{goes_before}
 use Rattle.stride_rule.specs.Levels.{AreLevels, AreLevelsBut, IsCovered, IsThere}
-use Rattle.stride_rule.specs.Rows.{row_at, row_grown}
-use Rattle.stride_rule.specs.Search.{met_with}
-use Rattle.stride_rule.specs.Summaries.{Covers, Includes, may_help, summary_at}
 use Rattle.stride_rule.proofs.SummaryLemmas.{includes_covers, no_help}
 
 later_still : (pass stride number p n : ℕ) → goes_before pass number p n ≡ false → goes_before (pass + stride) number p n ≡ false

@@ -1,3 +1,4 @@
+mod Common
 pub mod OrderLemmas
 pub mod ClientLemmas
 pub mod RowLemmas

@@ -1,18 +1,6 @@
 -- A choice that `choose` or `first` gave may be noted, where no choice is under way.
-use Rattle.std.proofs.Common.{◌≡◌, ℕ, ◌&&◌, ◌||◌, not, Bool, true, false, IsTrue, Option, Some, None, List, [], ◌∷◌, refl, sym, ap, ◌∙◌, subst}
-use Rattle.std.specs.Prelude.{IsSome, IfSome}
-use Rattle.std.specs.List.{AllByRecursion, list_all}
-use Rattle.cap_word.specs.declared.threads.ThreadId.{ThreadId}
-use Rattle.ready_tree.specs.declared.bounds.Bounds.{Bounds}
-use Rattle.ready_tree.specs.declared.needs.Need.{Need}
-use Rattle.ready_tree.specs.Needs.{is_met}
-use Rattle.stride_rule.specs.declared.choices.StrideChoice.{StrideChoice}
-use Rattle.stride_rule.specs.declared.clients.Client.{Client}
-use Rattle.stride_rule.specs.Choices.{IsFirst, IsFirstEligible, IsLawfulStrideChoice, IsLawfulStrideThread, choice_among}
-use Rattle.stride_rule.specs.Clients.{client_of, is_before}
-use Rattle.stride_rule.specs.Told.{need_of}
+use Rattle.stride_rule.proofs.Common.{◌≡◌, ℕ, ◌&&◌, ◌||◌, not, Bool, true, false, IsTrue, Option, Some, None, List, [], ◌∷◌, refl, sym, ap, ◌∙◌, subst, IsSome, IfSome, AllByRecursion, list_all, ThreadId, Bounds, Need, is_met, StrideChoice, Client, IsFirst, IsFirstEligible, IsLawfulStrideChoice, IsLawfulStrideThread, choice_among, client_of, is_before, need_of, StrideState, AreExact, AreKnown, IsNotedAs, IsNotedAsIf, after_choice, waiting_in, waiting_of, and_parts}
 use Rattle.stride_rule.proofs.ClientLemmas.{all_to}
-use Rattle.stride_rule.specs.State.{StrideState, AreExact, AreKnown, IsNotedAs, IsNotedAsIf, after_choice, waiting_in, waiting_of}
 
 -- all clients wait
 pub waiting-none : (cs : List Client) → waiting_in None cs ≡ cs
@@ -22,15 +10,11 @@ waiting-none (c ∷ cs) = ap (λ (v : List Client). c ∷ v) (waiting-none cs)
 pub all_wait : (running : Option ℕ) (cs : List Client) → running ≡ None → waiting_in running cs ≡ cs
 all_wait running cs none = ap (λ (r : Option ℕ). waiting_in r cs) none ∙ waiting-none cs
 
-both_of : (a b : Bool) → (a && b) ≡ true → (a ≡ true) × (b ≡ true)
-both_of true b e = (refl, e)
-both_of false b e = absurd (let no : false ≡ true = e in cc)
-
 first-of_all : (eligible : ThreadId → Bool) (first : Client) (cs : List Client) → list_all (λ c. eligible c.thread) cs ≡ true →
     AllByRecursion (λ c. IsTrue (eligible c.thread) → is_before c first ≡ false) cs → IsFirst cs first
 first-of_all eligible first [] e all = tt
 first-of_all eligible first (c ∷ cs) e all =
-    let parts = both_of (eligible c.thread) (list_all (λ c. eligible c.thread) cs) e in
+    let parts = and_parts (eligible c.thread) (list_all (λ c. eligible c.thread) cs) e in
     (all.0 parts.0, first-of_all eligible first cs parts.1 all.1)
 
 pub record MayBeNoted (rule : StrideState) (choice : StrideChoice) : Type 0 where

@@ -1,7 +1,5 @@
 -- The order of clients is a strict total order.
-use Rattle.std.proofs.Common.{◌≡◌, ◌≢◌, ℕ, ◌≤◌, true, false, arith}
-use Rattle.std.proofs.lemmas.Bool.Decides.{nat_tests}
-use Rattle.stride_rule.specs.Clients.{goes_before}
+use Rattle.stride_rule.proofs.Common.{◌≡◌, ◌≢◌, ℕ, ◌≤◌, true, false, arith, nat_tests, goes_before}
 
 pub goes_before-self : (p n : ℕ) → goes_before p n p n ≡ false
 goes_before-self p n = grind (arith, nat_tests)

@@ -1,15 +1,6 @@
 -- Places, with the clients and the needs that stand at them.
-use Rattle.std.proofs.Common.{◌≡◌, ◌≢◌, ℕ, zero, suc, ◌<◌, ◌≤◌, ◌==◌, true, false, Option, Some, None, List, [], ◌∷◌, ◌++◌, length, filter, slice_set, refl, sym, ap, ◌∙◌, subst, arith}
-use Rattle.std.specs.List.{AllByRecursion}
-use Rattle.std.proofs.lemmas.Bool.Decides.{nat_tests}
-use Rattle.ready_tree.specs.declared.needs.Need.{Need}
-use Rattle.stride_rule.specs.declared.clients.Client.{Client}
-use Rattle.stride_rule.specs.declared.rows.Row.{Row}
-use Rattle.stride_rule.specs.Clients.{IsAbsent, client_of, pass_in, grown, without}
-use Rattle.stride_rule.specs.Rows.{clients_of, is_of, is_there, needs_in, pass_of, row_at, row_grown, row_told}
-use Rattle.stride_rule.specs.State.{AreOnce}
-use Rattle.stride_rule.specs.Told.{need_of, with_need, without_need}
-use Rattle.stride_rule.proofs.ClientLemmas.{by_test, same_number, other_number}
+use Rattle.stride_rule.proofs.Common.{◌≡◌, ◌≢◌, ℕ, zero, suc, ◌<◌, ◌≤◌, ◌==◌, true, false, Option, Some, None, List, [], ◌∷◌, ◌++◌, length, filter, slice_set, refl, sym, ap, ◌∙◌, subst, arith, AllByRecursion, nat_tests, Need, Client, Row, IsAbsent, client_of, pass_in, grown, without, clients_of, is_of, is_there, needs_in, pass_of, row_at, row_grown, row_told, AreOnce, need_of, with_need, without_need, by_test, eq_true}
+use Rattle.stride_rule.proofs.ClientLemmas.{other_number}
 
 -- ---- all places
 
@@ -69,7 +60,7 @@ module _ (number : ℕ) where
   apart_rows [] k other none there its = absurd (omega arith)
   apart_rows (None ∷ ps) zero other none there its = absurd cc
   apart_rows (None ∷ ps) (suc k) other none there its = apart_rows ps k other none (omega arith) its
-  apart_rows (Some r ∷ ps) zero other none there its = λ e. none.0 (same_number _ _ its ∙ sym e)
+  apart_rows (Some r ∷ ps) zero other none there its = λ e. none.0 (eq_true _ _ its ∙ sym e)
   apart_rows (Some r ∷ ps) (suc k) other none there its = apart_rows ps k other none.1 (omega arith) its
 
   head_apart : (r : Row) (ps : List (Option Row)) (k : ℕ) → AreOnce (clients_of (Some r ∷ ps)) → k < length ps → is_of number (row_at ps k) ≡ true → (r.client.thread.number == number) ≡ false
@@ -157,7 +148,7 @@ need_of-others [] number other need apart = let no : (number == other) ≡ false
 need_of-others (x ∷ needs) number other need apart =
     by_test (x.0 == number) _
     (λ same.
-    let no : (x.0 == other) ≡ false = other_number _ _ (λ e. apart (sym e ∙ same_number _ _ same)) in
+    let no : (x.0 == other) ≡ false = other_number _ _ (λ e. apart (sym e ∙ eq_true _ _ same)) in
     rw (same, no) refl)
     (λ differs.
     rw differs
@@ -168,7 +159,7 @@ need_of-without [] number other apart = refl
 need_of-without (x ∷ needs) number other apart =
     by_test (x.0 == number) _
     (λ same.
-    let no : (x.0 == other) ≡ false = other_number _ _ (λ e. apart (sym e ∙ same_number _ _ same)) in
+    let no : (x.0 == other) ≡ false = other_number _ _ (λ e. apart (sym e ∙ eq_true _ _ same)) in
     rw (same, no) refl)
     (λ differs.
     rw differs

@@ -1,21 +1,7 @@
 -- A search through the clients finds the lawful choice.
-use Rattle.std.proofs.Common.{◌≡◌, ◌≢◌, ℕ, ◌==◌, ◌&&◌, if◌then◌else◌, Bool, true, false, IsTrue, Option, Some, None, List, [], ◌∷◌, refl, sym, ap, ◌∙◌, subst, ◌⊎◌, inl, inr, arith}
-use Rattle.std.specs.Prelude.{⊤}
-use Rattle.std.specs.List.{AllByRecursion, list_all}
-use Rattle.std.proofs.lemmas.Bool.Decides.{nat_tests}
-use Rattle.cap_word.specs.declared.threads.ThreadId.{ThreadId}
-use Rattle.ready_tree.specs.declared.bounds.Bounds.{Bounds}
-use Rattle.ready_tree.specs.Needs.{is_met}
-use Rattle.stride_rule.specs.declared.clients.Client.{Client}
-use Rattle.stride_rule.specs.declared.rows.Row.{Row}
+use Rattle.stride_rule.proofs.Common.{◌≡◌, ◌≢◌, ℕ, ◌==◌, ◌&&◌, if◌then◌else◌, Bool, true, false, IsTrue, Option, Some, None, List, [], ◌∷◌, refl, sym, ap, ◌∙◌, subst, ◌⊎◌, inl, inr, arith, ⊤, AllByRecursion, list_all, nat_tests, ThreadId, Bounds, is_met, Client, Row, IsFirstEligible, IsLawfulStrideThread, IsAbsent, client_of, is_before, is_running, better, found_with, found_among, is_before_best, met_with, met_among, clients_of, needs_in, need_of, AreOnce, waiting_in, by_test}
 use Rattle.stride_rule.specs.declared.searching.Found.{Found}
-use Rattle.stride_rule.specs.Choices.{IsFirstEligible, IsLawfulStrideThread}
-use Rattle.stride_rule.specs.Clients.{IsAbsent, client_of, is_before, is_running}
-use Rattle.stride_rule.specs.Search.{better, found_with, found_among, is_before_best, met_with, met_among}
-use Rattle.stride_rule.specs.Rows.{clients_of, needs_in}
-use Rattle.stride_rule.specs.Told.{need_of}
-use Rattle.stride_rule.specs.State.{AreOnce, waiting_in}
-use Rattle.stride_rule.proofs.ClientLemmas.{by_test, other_number}
+use Rattle.stride_rule.proofs.ClientLemmas.{other_number}
 use Rattle.stride_rule.proofs.NotingLemmas.{all_wait}
 use Rattle.stride_rule.proofs.OrderLemmas.{goes_before-self, goes_before-asym, goes_before-cotrans}
 

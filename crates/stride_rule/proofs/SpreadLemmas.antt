@@ -1,11 +1,5 @@
 -- The passes of clients that are near the latest are at most the greatest stride apart.
-use Rattle.std.proofs.Common.{ℕ, ◌≡◌, ◌+◌, ◌-◌, ◌≤◌, min, max, Option, Some, None, List, [], ◌∷◌, refl, arith}
-use Rattle.std.specs.List.{AllByRecursion}
-use Rattle.stride_rule.specs.declared.clients.Client.{Client}
-use Rattle.stride_rule.specs.declared.rows.Row.{Row}
-use Rattle.stride_rule.specs.Rows.{clients_of}
-use Rattle.stride_rule.specs.Spread.{most_from, most_among, least_from, least_among, first_pass, apart_in}
-use Rattle.stride_rule.specs.State.{IsNear}
+use Rattle.stride_rule.proofs.Common.{ℕ, ◌≡◌, ◌+◌, ◌-◌, ◌≤◌, min, max, Option, Some, None, List, [], ◌∷◌, refl, arith, AllByRecursion, Client, Row, clients_of, most_from, most_among, least_from, least_among, first_pass, apart_in, IsNear}
 
 most-le : (latest greatest pass : ℕ) (cs : List Client) → pass ≤ latest + greatest → AllByRecursion (IsNear latest greatest) cs → most_from pass cs ≤ latest + greatest
 most-le latest greatest pass [] h near = h

@@ -1,20 +1,7 @@
 -- What a rule keeps through its calls.
-use Rattle.std.proofs.Common.{◌≡◌, ℕ, ◌+◌, ◌*◌, ◌^◌, ◌≤◌, ◌<◌, ◌||◌, max, not, Bool, true, false, IsTrue, Option, Some, None, List, [], ◌∷◌, ◌++◌, refl, sym, ap, ◌∙◌, subst, arith}
-use Rattle.std.specs.Prelude.{IsSome, IfSome, ◌==◌}
-use Rattle.std.specs.List.{AllByRecursion}
+use Rattle.stride_rule.proofs.Common.{◌≡◌, ℕ, ◌+◌, ◌*◌, ◌^◌, ◌≤◌, ◌<◌, ◌||◌, max, not, Bool, true, false, IsTrue, Option, Some, None, List, [], ◌∷◌, ◌++◌, refl, sym, ap, ◌∙◌, subst, arith, IsSome, IfSome, ◌==◌, AllByRecursion, ThreadId, Need, StrideChoice, Client, Row, IsFirst, IsAbsent, client_of, pass_in, with_growth, grown, without, with_need, without_need, clients_of, needs_in, stride_of, tickets_of, StrideState, IsClient, IsNear, IsKept, with_client, after_choice, after_segment, after_segment_for, after_leaving, by_test}
 use Rattle.std.proofs.Math.Nat.{div-le_self}
-use Rattle.cap_word.specs.declared.threads.ThreadId.{ThreadId}
-use Rattle.ready_tree.specs.declared.needs.Need.{Need}
-use Rattle.stride_rule.specs.declared.choices.StrideChoice.{StrideChoice}
-use Rattle.stride_rule.specs.declared.clients.Client.{Client}
-use Rattle.stride_rule.specs.declared.rows.Row.{Row}
-use Rattle.stride_rule.specs.Choices.{IsFirst}
-use Rattle.stride_rule.specs.Clients.{IsAbsent, client_of, pass_in, with_growth, grown, without}
-use Rattle.stride_rule.specs.Told.{with_need, without_need}
-use Rattle.stride_rule.specs.Rows.{clients_of, needs_in}
-use Rattle.stride_rule.specs.Tickets.{stride_of, tickets_of}
-use Rattle.stride_rule.specs.State.{StrideState, IsClient, IsNear, IsKept, with_client, after_choice, after_segment, after_segment_for, after_leaving}
-use Rattle.stride_rule.proofs.ClientLemmas.{by_test, all_to, all_append, pass-of_client, all-client, all-without, once-grown, once-without, once-append}
+use Rattle.stride_rule.proofs.ClientLemmas.{all_to, all_append, pass-of_client, all-client, all-without, once-grown, once-without, once-append}
 use Rattle.stride_rule.proofs.RowLemmas.{clients_appended, needs_appended}
 use Rattle.stride_rule.proofs.OrderLemmas.{not_before-le}
 

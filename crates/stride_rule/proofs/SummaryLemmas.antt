@@ -1,16 +1,6 @@
 -- What a summary says of the places that it covers.
-use Rattle.std.proofs.Common.{◌≡◌, ℕ, zero, suc, ◌<◌, ◌≤◌, ◌||◌, Bool, true, false, Option, Some, None, List, [], ◌∷◌, length, drop, refl, ap, ◌∙◌, arith}
 use Rattle.std.proofs.Math.Seq.{drop-nil}
-use Rattle.ready_tree.specs.declared.bounds.Bounds.{Bounds}
-use Rattle.ready_tree.specs.Needs.{is_met, is_some_met}
-use Rattle.stride_rule.specs.declared.clients.Client.{Client}
-use Rattle.stride_rule.specs.declared.rows.Row.{Row}
-use Rattle.stride_rule.specs.declared.summaries.Summary.{Summary}
-use Rattle.stride_rule.specs.Clients.{goes_before, is_before}
-use Rattle.stride_rule.specs.Rows.{row_at}
-use Rattle.stride_rule.specs.Search.{met_with, met_among}
-use Rattle.stride_rule.specs.Summaries.{Covers, Includes, may_help}
-use Rattle.stride_rule.proofs.ClientLemmas.{by_test}
+use Rattle.stride_rule.proofs.Common.{◌≡◌, ℕ, zero, suc, ◌<◌, ◌≤◌, ◌||◌, Bool, true, false, Option, Some, None, List, [], ◌∷◌, length, drop, refl, ap, ◌∙◌, arith, Bounds, is_met, is_some_met, Client, Row, Summary, goes_before, is_before, row_at, met_with, met_among, Covers, Includes, may_help, by_test}
 use Rattle.stride_rule.proofs.OrderLemmas.{goes_before-self, goes_before-cotrans}
 
 pub includes_self : (s : Summary) → Includes s s
@@ -28,14 +18,6 @@ includes_trans s mid other above below = record {
   met = λ bounds e. above.met bounds (below.met bounds e);
   least = goes_before-cotrans other.pass other.number mid.pass mid.number s.pass s.number below.least above.least;
 }
-
-pub or_left : (a b : Bool) → a ≡ true → (a || b) ≡ true
-or_left true b e = refl
-or_left false b e = absurd cc
-
-pub or_right : (a b : Bool) → b ≡ true → (a || b) ≡ true
-or_right true b e = refl
-or_right false b e = e
 
 -- ---- where a summary doesn't help, none of its places does
 

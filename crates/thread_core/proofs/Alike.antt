@@ -1,24 +1,5 @@
 -- A state with more room than another stands for the same machine world, and keeps what it keeps.
-use Rattle.std.proofs.Common.{◌≡◌, ℕ, ◌+◌, ◌-◌, ◌≤◌, List, length, Option, Some, None, refl, sym, ap, ◌∙◌, subst, arith, ◌^◌}
-use Rattle.std.specs.Prelude.{IsSome, slice_index_or, map, option_map}
-use Rattle.slab.specs.Slab.{Slab, get}
-use Rattle.cap_word.specs.declared.stops.Stop.{Stop}
-use Rattle.cap_word.specs.declared.threads.ThreadId.{ThreadId}
-use Rattle.accepted_pairs.specs.Acceptance.{Acceptance}
-use Rattle.machine_world.specs.Threads.{Thread, World, Stops, Move, step}
-use Rattle.machine_world.specs.WellFormed.{IsWellFormed}
-use Rattle.segment_run.specs.Contexts.{checked_of, core_of}
-use Rattle.thread_waits.specs.Waiting.{Waiting, wait_at, IsUntrapped}
-use Rattle.thread_waits.specs.declared.waits.Wait.{Wait}
-use Rattle.segment_laws.specs.Found.{IsNumbered, threads_in}
-use Rattle.segment_laws.proofs.Changing.{all_same}
-use Rattle.thread_core.specs.Kept.{IsKept, IsRunningThere}
-use Rattle.thread_core.specs.States.{number_of, thread_of_record, blocked_of, machine_of, setting_of, number_in}
-use Rattle.thread_core.specs.Steps.{Runs, KeepsRest, Told, TellsIf, held_in}
-use Rattle.thread_core.specs.Worlds.{KeepsPlaces}
-use Rattle.thread_core.specs.declared.records.Record.{Record}
-use Rattle.thread_core.specs.declared.state.State.{State}
-use Rattle.thread_core.specs.declared.turns.Turn.{Turn}
+use Rattle.thread_core.proofs.Common.{◌≡◌, ℕ, ◌+◌, ◌-◌, ◌≤◌, List, length, Option, Some, None, refl, sym, ap, ◌∙◌, subst, arith, ◌^◌, IsSome, slice_index_or, map, option_map, Slab, get, Stop, ThreadId, Acceptance, Thread, World, Stops, Move, step, IsWellFormed, checked_of, core_of, Waiting, wait_at, IsUntrapped, Wait, IsNumbered, threads_in, all_same, IsKept, IsRunningThere, number_of, thread_of_record, blocked_of, machine_of, setting_of, number_in, Runs, KeepsRest, Told, TellsIf, held_in, KeepsPlaces, Record, State, Turn}
 
 module _ (accepted : Acceptance) (most : ℕ) (st : State) (records : Slab Record) (waits : Waiting) (stopped : Option Turn) (slots : records.slots ≡ st.records.slots) (same : (place : ℕ) → wait_at waits place ≡ wait_at st.waits place)
     (longer : length st.waits.places ≤ length waits.places) (clock : waits.clock ≡ st.waits.clock) where

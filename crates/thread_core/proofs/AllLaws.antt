@@ -1,36 +1,14 @@
 -- What is told of all threads is told of all who wait.
-use Rattle.std.proofs.Common.{◌≡◌, ℕ, zero, suc, ◌<◌, ◌≤◌, ◌⊎◌, ◌&&◌, ◌||◌, inl, inr, not, Bool, true, false, List, [], ◌∷◌, length, map, All, Contains, Option, Some, None, refl, sym, ◌∙◌, ap, subst, arith, nat_eq, if◌then◌else◌, slice_index_or}
-use Rattle.std.specs.List.{list_any, AllByRecursion}
-use Rattle.std.proofs.lemmas.List.{get_or_past, get_or-map, length-map}
+use Rattle.thread_core.proofs.Common.{◌≡◌, ℕ, zero, suc, ◌<◌, ◌≤◌, ◌⊎◌, ◌&&◌, ◌||◌, inl, inr, not, Bool, true, false, List, [], ◌∷◌, length, map, All, Contains, Option, Some, None, refl, sym, ◌∙◌, ap, subst, arith, nat_eq, if◌then◌else◌, slice_index_or, list_any, AllByRecursion, get_or_past, get_or-map, length-map, get, Acceptance, asleep_until, Thread, first_with, wait_at, Wait, IsOfRecord, thread_members, number_of, thread_of_record, threads_of, machine_of, setting_of, IsKept, Record, State, get_or_any, or_right, or_cases, past_or_not}
 use Rattle.std.proofs.lemmas.List.Folds.{Any-from_list_any, list_any-from_Any}
-use Rattle.slab.specs.Slab.{get}
-use Rattle.accepted_pairs.specs.Acceptance.{Acceptance}
-use Rattle.machine_world.specs.Runs.{asleep_until}
-use Rattle.machine_world.specs.Threads.{Thread, first_with}
 use Rattle.thread_waits.specs.Waiting as waits
-use Rattle.thread_waits.specs.Waiting.{Waiting, wait_at}
-use Rattle.thread_waits.specs.declared.waits.Wait.{Wait}
-use Rattle.segment_laws.specs.Found.{IsOfRecord}
-use Rattle.segment_laws.proofs.Changing.{thread_members}
-use Rattle.thread_core.specs.States.{number_of, thread_of_record, threads_of, machine_of, setting_of}
-use Rattle.thread_core.specs.Kept.{IsKept}
 use Rattle.thread_core.specs.Ready as ready
-use Rattle.thread_core.specs.declared.records.Record.{Record}
-use Rattle.thread_core.specs.declared.state.State.{State}
 use Rattle.thread_core.proofs.TellingLaws.{found_at, ready_at, accept_at}
 
 both_ways : (a b : Bool) → (a ≡ true → b ≡ true) → (b ≡ true → a ≡ true) → a ≡ b
-both_ways true b f g = sym (f refl)
-both_ways false true f g = g refl
-both_ways false false f g = refl
-
-or_cases : (a b : Bool) → (a || b) ≡ true → (a ≡ true) ⊎ (b ≡ true)
-or_cases true b e = inl refl
-or_cases false b e = inr e
-
-or_right : (a b : Bool) → b ≡ true → (a || b) ≡ true
-or_right true b e = refl
-or_right false b e = e
+both_ways true b there back = sym (there refl)
+both_ways false true there back = back refl
+both_ways false false there back = refl
 
 -- a thread of the list of which a fact holds that holds of all, and that passes the test
 record Passing (P : Thread → Type 0) (test : Thread → Bool) : Type 0 where
@@ -88,14 +66,6 @@ wait_there : (places : List (Option Wait)) (k : ℕ) (wait : Wait) → slice_ind
 wait_there places k wait e (inl h) = h
 wait_there places k wait e (inr h) = absurd (let n : slice_index_or places k None ≡ None = get_or_past places k None h in let x : None ≡ Some wait = sym n ∙ e in cc)
 
-past_or_not : (n k : ℕ) → (k < n) ⊎ (n ≤ k)
-past_or_not n k = grind arith
-
-any_default : (xs : List (Option Wait)) (k : ℕ) (d e : Option Wait) → k < length xs → slice_index_or xs k d ≡ slice_index_or xs k e
-any_default [] k d e h = absurd (omega arith)
-any_default (x ∷ xs) zero d e h = refl
-any_default (x ∷ xs) (suc k) d e h = any_default xs k d e (omega arith)
-
 some_or_none : {X : Type 0} (o : Option X) → (o ≡ None) ⊎ ((x : X) × (o ≡ Some x))
 some_or_none None = inl refl
 some_or_none (Some x) = inr (x, refl)
@@ -123,14 +93,14 @@ module _ (accepted : Acceptance) (most : ℕ) (st : State) (kept : IsKept accept
       let passes : of_wait (wait_at st.waits place) ≡ true = sym (agree place p.fact.r p.fact.there) ∙ ap test (sym p.fact.is) ∙ p.passes in
       let s : (wait : Wait) × (wait_at st.waits place ≡ Some wait) = something of_wait none (wait_at st.waits place) passes in
       let h : place < length st.waits.places = wait_there st.waits.places place s.0 s.1 (past_or_not (length st.waits.places) place) in
-      list_any-from_Any of_wait st.waits.places (place, wait_at st.waits place, h, any_default st.waits.places place (wait_at st.waits place) None h, passes)
+      list_any-from_Any of_wait st.waits.places (place, wait_at st.waits place, h, get_or_any st.waits.places place (wait_at st.waits place) None h, passes)
 
   any_back : (test : Thread → Bool) (of_wait : Option Wait → Bool) → of_wait None ≡ false →
       ((place : ℕ) (r : Record) → get st.records place ≡ Some r → test (thread_of_record st.areas.pool st.waits place r) ≡ of_wait (wait_at st.waits place)) →
       list_any of_wait st.waits.places ≡ true → list_any test (threads_of st) ≡ true
   any_back test of_wait none agree e =
       let a : (k : ℕ) × (x : Option Wait) × (k < length st.waits.places) × (slice_index_or st.waits.places k x ≡ x) × (of_wait x ≡ true) = Any-from_list_any of_wait st.waits.places e in
-      let is : wait_at st.waits a.0 ≡ a.1 = any_default st.waits.places a.0 None a.1 a.2 ∙ a.3 in
+      let is : wait_at st.waits a.0 ≡ a.1 = get_or_any st.waits.places a.0 None a.1 a.2 ∙ a.3 in
       let passes : of_wait (wait_at st.waits a.0) ≡ true = rw is a.4 in
       let s : (wait : Wait) × (wait_at st.waits a.0 ≡ Some wait) = something of_wait none (wait_at st.waits a.0) passes in
       let r : (r : Record) × (get st.records a.0 ≡ Some r) = record_there a.0 s.0 s.1 (some_or_none (get st.records a.0)) in

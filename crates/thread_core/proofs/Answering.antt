@@ -1,44 +1,6 @@
 -- A thread that stands at the ECALL of a call that is answered at once: what the step of the world is, and what comes of it.
-use Rattle.std.proofs.Common.{◌≡◌, ◌≢◌, ℕ, ◌+◌, ◌-◌, ◌^◌, ◌<◌, ◌⊎◌, inl, inr, Option, Some, None, refl, sym, ap, ◌∙◌, subst, arith}
-use Rattle.std.specs.Prelude.{option_map}
-use Rattle.std.proofs.lemmas.Bool.{cases_eq}
-use Rattle.slab.specs.Slab.{Slab, get}
-use Rattle.c_lower.specs.ProgramCode.{lowered}
-use Rattle.c_mean.specs.ModelledCalls.{ImmediateRow, immediate_row}
-use Rattle.cap_word.specs.Calls.{Immediate}
-use Rattle.cap_word.specs.declared.calls.Ask.{Ask}
-use Rattle.cap_word.specs.declared.stops.Stop.{Stop}
-use Rattle.cap_word.specs.declared.threads.ThreadId.{ThreadId}
-use Rattle.cap_word.specs.declared.traps.TrapKind.{TrapKind}
-use Rattle.accepted_pairs.specs.Acceptance.{Acceptance}
-use Rattle.accepted_pairs.specs.Accepting.{accepted_tree}
-use Rattle.certificate_rules.specs.Validity.{IsValid}
-use Rattle.flat_code.specs.declared.operations.Op.{Op}
-use Rattle.machine_meaning.proofs.Formed.{formed}
-use Rattle.machine_meaning.proofs.Zeroes.{program_zeroes}
-use Rattle.machine_world.specs.Areas.{Areas}
-use Rattle.machine_world.specs.Local.{Calls}
-use Rattle.machine_world.specs.Places.{size_in}
-use Rattle.machine_world.specs.Rests.{AtCall}
-use Rattle.machine_world.specs.Threads.{Thread, World, Move, Goes, Stops, answered, unless_trap, printed, result_of, retired, resumed, step}
-use Rattle.machine_world.specs.WellFormed.{IsWellFormed, KeepsWellFormed}
-use Rattle.machine_world.proofs.FormWorlds.{KeepsWellFormed-step}
-use Rattle.segment_laws.proofs.ValidFacts.{CodeFacts-valid}
-use Rattle.segment_laws.specs.Facts.{CodeFacts}
-use Rattle.segment_run.specs.Contexts.{checked_of, code_of, local_of, IsReady}
-use Rattle.segment_run.specs.Passing.{RestsBefore, RestsBehind}
+use Rattle.thread_core.proofs.Common.{◌≡◌, ◌≢◌, ℕ, ◌+◌, ◌-◌, ◌^◌, ◌<◌, ◌⊎◌, inl, inr, Option, Some, None, refl, sym, ap, ◌∙◌, subst, arith, option_map, cases_eq, Slab, get, lowered, ImmediateRow, immediate_row, Immediate, Ask, Stop, ThreadId, TrapKind, Acceptance, accepted_tree, IsValid, Op, formed, program_zeroes, Areas, Calls, size_in, AtCall, Thread, World, Move, Goes, Stops, answered, unless_trap, printed, result_of, retired, resumed, step, IsWellFormed, KeepsWellFormed, KeepsWellFormed-step, CodeFacts-valid, CodeFacts, checked_of, code_of, local_of, IsReady, RestsBefore, RestsBehind, IsAtModel, Context, Fuel, Exchanging, IsKept, ContextIs, HasContext, passed_context, number_of, thread_of_record, blocked_of, machine_of, setting_of, Runs, LocalIs, MayRun, SamePlaces, KeepsRest, Told, TellsIf, held_in, Record, State, Turn}
 use Rattle.segment_run.specs.Safe.{RestsAtCall}
-use Rattle.segment_run.specs.Segments.{IsAtModel}
-use Rattle.segment_run.specs.declared.contexts.Context.{Context}
-use Rattle.segment_run.specs.declared.contexts.Fuel.{Fuel}
-use Rattle.thread_exchange.specs.Exchanges.{Exchanging}
-use Rattle.thread_core.specs.Kept.{IsKept}
-use Rattle.thread_core.specs.Parts.{ContextIs, HasContext, passed_context}
-use Rattle.thread_core.specs.States.{number_of, thread_of_record, blocked_of, machine_of, setting_of}
-use Rattle.thread_core.specs.Steps.{Runs, LocalIs, MayRun, SamePlaces, KeepsRest, Told, TellsIf, held_in}
-use Rattle.thread_core.specs.declared.records.Record.{Record}
-use Rattle.thread_core.specs.declared.state.State.{State}
-use Rattle.thread_core.specs.declared.turns.Turn.{Turn}
 use Rattle.thread_core.proofs.PassLaws.{its_record, its_step, its_chunks, waits_not, world_after, kept_after}
 use Rattle.thread_core.proofs.TellingLaws.{number_at}
 

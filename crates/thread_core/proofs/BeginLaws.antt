@@ -1,31 +1,6 @@
 -- What a turn makes of a world: a good stretch, and a world that keeps what every world keeps.
-use Rattle.std.proofs.Common.{◌≡◌, ℕ, ◌+◌, ◌-◌, Option, Some, None, IsSome, IsTrue, refl, sym, ◌∙◌, ap, subst, arith}
-use Rattle.c_lower.specs.ProgramCode.{lowered}
-use Rattle.c_tree.specs.WellScoped.{IsWellScoped}
-use Rattle.cap_word.specs.declared.threads.ThreadId.{ThreadId}
-use Rattle.accepted_pairs.specs.Acceptance.{Acceptance}
-use Rattle.accepted_pairs.specs.Accepting.{accepted_tree}
-use Rattle.certificate_rules.specs.Validity.{IsValid}
-use Rattle.machine_world.specs.Runs.{world_of, Pick, after_action}
-use Rattle.machine_world.specs.Stretches.{IsGoodStretch}
-use Rattle.machine_world.specs.Threads.{World, Setting, Move, Puts, Spawns, Blocks, Ends, Stops, step}
-use Rattle.machine_world.specs.WellFormed.{IsWellFormed}
-use Rattle.slab.specs.Slab.{get}
-use Rattle.segment_run.specs.Contexts.{checked_of, code_of, local_of, IsReady}
-use Rattle.thread_core.specs.declared.records.Record.{Record}
-use Rattle.segment_laws.specs.Silent.{GoesOn}
-use Rattle.machine_meaning.specs.Running.{IsRunning, KeepsRunning}
+use Rattle.thread_core.proofs.Common.{◌≡◌, ℕ, ◌+◌, ◌-◌, Option, Some, None, IsSome, IsTrue, refl, sym, ◌∙◌, ap, subst, arith, lowered, IsWellScoped, ThreadId, Acceptance, accepted_tree, IsValid, world_of, Pick, after_action, IsGoodStretch, World, Setting, Move, Puts, Spawns, Blocks, Ends, Stops, step, IsWellFormed, get, checked_of, code_of, local_of, IsReady, Record, GoesOn, IsRunning, KeepsRunning, IsSettled, IsKept, HasCome, machine_of, setting_of, number_in, held_in, MayRun, OnTold, KeepsRest, GoesIf, is_ready_in, Tells, IsTurn, MayBegin, LeavesRun, Held, State, Turn, Counts, counts_step}
 use Rattle.machine_meaning.proofs.Stretching as runs
-use Rattle.machine_meaning.specs.UnderWay.{IsSettled}
-use Rattle.thread_core.specs.Kept.{IsKept, HasCome}
-use Rattle.thread_core.specs.States.{machine_of, setting_of, number_in}
-use Rattle.thread_core.specs.Steps.{held_in, MayRun, OnTold, KeepsRest, GoesIf}
-use Rattle.thread_core.specs.Ready.{is_ready_in}
-use Rattle.thread_core.specs.Turns.{Tells, IsTurn, MayBegin, LeavesRun}
-use Rattle.thread_core.specs.Worlds.{Held}
-use Rattle.thread_core.specs.declared.state.State.{State}
-use Rattle.thread_core.specs.declared.turns.Turn.{Turn}
-use Rattle.machine_world.proofs.Counts.{Counts, counts_step}
 use Rattle.thread_core.proofs.CostLaws.{goes_cost}
 use Rattle.thread_core.proofs.OutsideLaws.{between_come}
 

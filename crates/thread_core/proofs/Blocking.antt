@@ -1,50 +1,8 @@
 -- A thread that stands at the ECALL of a call that blocks: what the step of the world is, and what comes of it.
-use Rattle.std.proofs.Common.{◌≡◌, ◌≢◌, ℕ, ◌+◌, ◌-◌, ◌^◌, ◌<◌, ◌⊎◌, inl, inr, List, length, Option, Some, None, IsSome, option_map, refl, sym, ap, ◌∙◌, subst, arith, slice_set}
-use Rattle.std.proofs.lemmas.List.{length-map, length-set, get_or-set_same, get_or-set_other}
-use Rattle.slab.specs.Slab.{Slab, get}
-use Rattle.c_lower.specs.ProgramCode.{lowered}
-use Rattle.c_mean.specs.ModelledCalls.{BlockingRow}
-use Rattle.cap_word.specs.Calls.{Blocking}
-use Rattle.cap_word.specs.declared.calls.Block.{Block}
-use Rattle.cap_word.specs.declared.stops.Stop.{Stop}
-use Rattle.cap_word.specs.declared.threads.ThreadId.{ThreadId}
-use Rattle.cap_word.specs.declared.traps.TrapKind.{TrapKind}
-use Rattle.accepted_pairs.specs.Acceptance.{Acceptance}
-use Rattle.accepted_pairs.specs.Accepting.{accepted_tree}
-use Rattle.certificate_rules.specs.Validity.{IsValid}
-use Rattle.chunk_pool.specs.Pool.{Pool}
-use Rattle.flat_code.specs.declared.operations.Op.{Op}
-use Rattle.machine_world.specs.InPlace.{Frame}
-use Rattle.machine_world.specs.Keys.{key_of}
-use Rattle.machine_world.specs.Local.{Core, Calls, passed}
-use Rattle.machine_world.specs.Places.{Checked, Place}
-use Rattle.machine_world.specs.Rests.{IsResting, IsPastCall, AtStart, AtCall, PastCall}
-use Rattle.machine_world.specs.StandsForWorld.{IsPast}
-use Rattle.machine_world.specs.Threads.{Thread, World, Move, Blocks, Stops, blocks, retired, replaced, thread_of, step}
-use Rattle.machine_world.specs.WellFormed.{IsWellFormed, KeepsWellFormed}
-use Rattle.machine_world.proofs.FormWorlds.{KeepsWellFormed-step}
-use Rattle.segment_run.specs.Contexts.{checked_of, code_of, local_of, core_of}
-use Rattle.segment_run.specs.Passing.{RestsBefore, RestsBehind, RestsAround, IsAround}
-use Rattle.segment_run.specs.Segments.{IsAtModel}
-use Rattle.segment_run.specs.declared.contexts.Context.{Context}
-use Rattle.segment_run.specs.declared.contexts.Fuel.{Fuel}
-use Rattle.thread_exchange.specs.Exchanges.{row_of}
-use Rattle.thread_waits.specs.Waiting.{Waiting, wait_at, IsUntrapped}
-use Rattle.thread_waits.specs.declared.waits.Wait.{Wait}
-use Rattle.segment_laws.specs.Found.{IsNumbered}
-use Rattle.segment_laws.proofs.Changing.{record_written}
-use Rattle.thread_core.specs.Kept.{IsKept, AreAligned, RunsAt}
-use Rattle.thread_core.specs.Parts.{ContextIs, HasContext, passed_context}
-use Rattle.thread_core.specs.States.{number_of, thread_of_record, threads_of, blocked_of, machine_of, setting_of}
-use Rattle.thread_core.specs.Steps.{Runs, LocalIs, Told, TellsIf, held_in}
-use Rattle.thread_core.specs.Turns.{HasKeyOf, HasKey}
-use Rattle.thread_core.specs.declared.records.Record.{Record}
-use Rattle.thread_core.specs.declared.state.State.{State}
-use Rattle.thread_core.specs.declared.turns.Turn.{Turn}
+use Rattle.thread_core.proofs.Common.{◌≡◌, ◌≢◌, ℕ, ◌+◌, ◌-◌, ◌^◌, ◌<◌, ◌⊎◌, inl, inr, List, length, Option, Some, None, IsSome, option_map, refl, sym, ap, ◌∙◌, subst, arith, slice_set, length-map, length-set, get_or-set_same, get_or-set_other, Slab, get, lowered, BlockingRow, Blocking, Block, Stop, ThreadId, TrapKind, Acceptance, accepted_tree, IsValid, Pool, Op, Frame, key_of, Core, Calls, passed, Checked, Place, IsResting, IsPastCall, AtStart, AtCall, PastCall, IsPast, Thread, World, Move, Blocks, Stops, blocks, retired, replaced, thread_of, step, IsWellFormed, KeepsWellFormed, KeepsWellFormed-step, checked_of, code_of, local_of, core_of, RestsBefore, RestsBehind, RestsAround, IsAround, IsAtModel, Context, Fuel, row_of, Waiting, wait_at, IsUntrapped, Wait, IsNumbered, record_written, IsKept, AreAligned, RunsAt, ContextIs, HasContext, passed_context, number_of, thread_of_record, threads_of, blocked_of, machine_of, setting_of, Runs, LocalIs, Told, TellsIf, held_in, HasKeyOf, HasKey, Record, State, Turn, same_or_not}
 use Rattle.thread_core.proofs.Answering.{rests_small}
 use Rattle.thread_core.proofs.PassLaws.{its_record, its_step, passed_core}
 use Rattle.thread_core.proofs.TellingLaws.{number_at, found_at}
-use Rattle.thread_waits.proofs.BlockLaws.{same_or_not}
 
 around_by : (c : Checked) (pool : Pool) (core : Core) (rests : IsResting c pool core) → IsPast c pool core rests → IsAround c pool core rests
 around_by c pool core (AtStart f frames in_place) past = past

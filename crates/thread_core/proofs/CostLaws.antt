@@ -1,8 +1,5 @@
 -- What silent steps do to the cost.
-use Rattle.std.proofs.Common.{◌≡◌, ℕ, zero, suc, ◌+◌, add-zero, arith, sym, ◌∙◌, ap, subst}
-use Rattle.segment_laws.specs.Silent.{GoesOn}
-use Rattle.machine_world.specs.Threads.{World, Setting}
-use Rattle.machine_world.proofs.Counts.{Counts, counts_step}
+use Rattle.thread_core.proofs.Common.{◌≡◌, ℕ, zero, suc, ◌+◌, add-zero, arith, sym, ◌∙◌, ap, subst, GoesOn, World, Setting, Counts, counts_step}
 
 pub goes_cost : (s : Setting) (n : ℕ) (w at : World) → GoesOn s n w at → at.cost ≡ w.cost + n
 goes_cost s zero w at e = ap (λ (v : World). v.cost) e ∙ sym (add-zero w.cost)

@@ -1,11 +1,6 @@
 -- A call that blocks, and is no trap, names a channel or a resource that there is.
-use Rattle.std.proofs.Common.{◌≡◌, ℕ, zero, suc, ◌≤◌, List, length, Some, None, arith}
-use Rattle.cap_word.specs.declared.calls.Block.{Block}
-use Rattle.cap_word.specs.declared.traps.TrapKind.{TrapKind}
-use Rattle.c_mean.specs.ModelledCalls.{cap_of, resource_trap}
-use Rattle.thread_exchange.specs.Exchanges.{Exchanging, row_of}
+use Rattle.thread_core.proofs.Common.{◌≡◌, ℕ, zero, suc, ◌≤◌, List, length, Some, None, arith, Block, TrapKind, cap_of, resource_trap, Exchanging, row_of, IsBlockInRange}
 use Rattle.thread_exchange.proofs.ResourceLaws.{given_below, channel_below}
-use Rattle.thread_waits.specs.Waiting.{IsBlockInRange}
 
 some_resource : (caps : List ℕ) (r amount most : ℕ) → resource_trap caps r amount most ≡ None → 1 ≤ r
 some_resource caps zero amount most t = absurd (let no : Some TrapKind.Resource ≡ None = t in cc)

@@ -1,28 +1,10 @@
 -- A call behind silent steps, and the stop of a run.
-use Rattle.std.proofs.Common.{◌≡◌, ℕ, ◌+◌, ◌-◌, ◌<◌, ◌≤◌, Option, Some, None, IfNone, refl, sym, ◌∙◌, ap, subst, arith}
 use Rattle.cap_word.specs.Runs as runs
-use Rattle.cap_word.specs.declared.stops.Stop.{Stop}
-use Rattle.cap_word.specs.declared.threads.ThreadId.{ThreadId}
-use Rattle.cap_word.specs.declared.traps.TrapKind.{TrapKind}
-use Rattle.accepted_pairs.specs.Acceptance.{Acceptance}
+use Rattle.thread_core.proofs.Common.{◌≡◌, ℕ, ◌+◌, ◌-◌, ◌<◌, ◌≤◌, Option, Some, None, IfNone, refl, sym, ◌∙◌, ap, subst, arith, Stop, ThreadId, TrapKind, Acceptance, LocalMove, local_step, Thread, Setting, thread_of, moved, step, code_of, Segment, get, GoesOn, step_moves, step_fuel, IsRunningThere, number_in, thread_of_record, machine_of, setting_of, MayRun, Runs, LocalIs, KeepsRest, SamePlaces, PlacesIf, RanTo, Told, TellsIf, OnTold, held_in, KeepsPlaces, Record, State, Turn}
 use Rattle.machine_world.specs.Local as local
-use Rattle.machine_world.specs.Local.{LocalMove, local_step}
 use Rattle.machine_world.specs.Threads as machine
-use Rattle.machine_world.specs.Threads.{Thread, Setting, thread_of, moved, step}
-use Rattle.segment_run.specs.Contexts.{code_of}
-use Rattle.segment_run.specs.declared.segments.Segment.{Segment}
 use Rattle.segment_run.specs.declared.segments.Segment.TheVariants as answer
-use Rattle.slab.specs.Slab.{get}
-use Rattle.segment_laws.specs.Silent.{GoesOn}
 use Rattle.segment_laws.proofs.Silent as silent
-use Rattle.segment_laws.proofs.Silent.{step_moves, step_fuel}
-use Rattle.thread_core.specs.Kept.{IsRunningThere}
-use Rattle.thread_core.specs.States.{number_in, thread_of_record, machine_of, setting_of}
-use Rattle.thread_core.specs.Steps.{MayRun, Runs, LocalIs, KeepsRest, SamePlaces, PlacesIf, RanTo, Told, TellsIf, OnTold, held_in}
-use Rattle.thread_core.specs.Worlds.{KeepsPlaces}
-use Rattle.thread_core.specs.declared.records.Record.{Record}
-use Rattle.thread_core.specs.declared.state.State.{State}
-use Rattle.thread_core.specs.declared.turns.Turn.{Turn}
 use Rattle.thread_core.proofs.Alike.{stop_told}
 use Rattle.thread_core.proofs.TellingLaws.{found_at, number_at}
 use Rattle.thread_core.proofs.BeginLaws.{setting_same}

@@ -1,48 +1,11 @@
 -- The world with its first thread.
-use Rattle.std.proofs.Common.{◌≡◌, ◌≢◌, ℕ, zero, suc, ◌+◌, ◌-◌, ◌*◌, ◌/◌, ◌%◌, ◌<◌, ◌≤◌, ◌^◌, ◌⊎◌, inl, inr, List, [], ◌∷◌, length, map, slice_set, Option, Some, None, option_map, IsSome, if◌then◌else◌, refl, sym, ◌∙◌, ap, subst, arith, slice_index_or}
-use Rattle.std.proofs.lemmas.Bool.{cases_eq}
-use Rattle.slab.specs.Slab.{get, Updates}
-use Rattle.cap_word.specs.declared.threads.ThreadId.{ThreadId}
-use Rattle.c_lower.specs.ProgramCode.{lowered, lowered_function}
+use Rattle.thread_core.proofs.Common.{◌≡◌, ◌≢◌, ℕ, zero, suc, ◌+◌, ◌-◌, ◌*◌, ◌/◌, ◌%◌, ◌<◌, ◌≤◌, ◌^◌, ◌⊎◌, inl, inr, List, [], ◌∷◌, length, map, slice_set, Option, Some, None, option_map, IsSome, if◌then◌else◌, refl, sym, ◌∙◌, ap, subst, arith, slice_index_or, cases_eq, get, Updates, ThreadId, lowered, lowered_function, ProgramTree, IsWellScoped, Acceptance, accepted_tree, IsValid, Pool, Taken, IsPool, FitsNone, start_pool, taken_for, Areas, Core, with_header, start_world, started_on, empty_world, StandsForWorld, World, start_core, with_thread, AreWords, AreWellFormed, IsWellFormed, IsWellFormedIf, IsWellFormedIf-start, AreOf, checked_of, core_of, IsStarted, Context, NeedsFit-valid, fact_at, Certificate, Image, Exchanging, wait_at, Waiting, IsUntrapped, Wait, at_place, IsNumbered, record_added, StandsSettled, AreAligned, IsKept, HasCome, RunsAt, IsRunningThere, IsPolicy, start_areas, number_of, numbers_of, number_in, blocked_of, threads_of, machine_of, setting_of, thread_of_record, Record, State, first_bytes-start, taken_for-count, taken_for-none, taken_for-start}
 use Rattle.c_mean.specs.World as source
-use Rattle.c_tree.specs.Trees.{ProgramTree}
-use Rattle.c_tree.specs.WellScoped.{IsWellScoped}
-use Rattle.accepted_pairs.specs.Acceptance.{Acceptance}
-use Rattle.accepted_pairs.specs.Accepting.{accepted_tree}
-use Rattle.certificate_rules.specs.Validity.{IsValid}
-use Rattle.chunk_pool.specs.Pool.{Pool, Taken, IsPool, FitsNone, start_pool, taken_for}
-use Rattle.machine_world.specs.Areas.{Areas}
-use Rattle.machine_world.specs.Local.{Core, with_header}
-use Rattle.machine_world.specs.Runs.{start_world, started_on, empty_world}
-use Rattle.machine_world.specs.StandsForWorld.{StandsForWorld}
-use Rattle.machine_world.specs.Threads.{World, start_core, with_thread}
-use Rattle.machine_world.specs.WellFormed.{AreWords, AreWellFormed, IsWellFormed, IsWellFormedIf}
-use Rattle.machine_world.proofs.FormWorlds.{IsWellFormedIf-start}
-use Rattle.segment_run.specs.Contexts.{AreOf, checked_of, core_of}
-use Rattle.segment_run.specs.Starting.{IsStarted}
-use Rattle.segment_run.specs.declared.contexts.Context.{Context}
 use Rattle.segment_run.proofs.Forming.{areas_formed}
-use Rattle.segment_laws.proofs.Needs.{NeedsFit-valid}
-use Rattle.stack_certificate.specs.Certificates.{fact_at}
-use Rattle.stack_certificate.specs.declared.certificates.Certificate.{Certificate}
-use Rattle.stack_image.specs.declared.images.Image.{Image}
-use Rattle.thread_exchange.specs.Exchanges.{Exchanging}
-use Rattle.thread_waits.specs.Waiting.{wait_at, Waiting, IsUntrapped}
-use Rattle.thread_waits.specs.declared.waits.Wait.{Wait}
-use Rattle.segment_laws.specs.Found.{at_place, IsNumbered}
-use Rattle.segment_laws.proofs.Changing.{record_added}
-use Rattle.machine_meaning.specs.UnderWay.{StandsSettled}
 use Rattle.machine_meaning.proofs.BetweenSegments.{starts_law}
-use Rattle.thread_core.specs.Kept.{AreAligned, IsKept, HasCome, RunsAt, IsRunningThere}
-use Rattle.thread_core.specs.Making.{IsPolicy, start_areas}
 use Rattle.thread_core.specs.FirstParts.{AreParts}
-use Rattle.thread_core.specs.States.{number_of, numbers_of, number_in, blocked_of, threads_of, machine_of, setting_of, thread_of_record}
 use Rattle.thread_core.specs.declared.making.Parts.{Parts}
 use Rattle.thread_core.specs.declared.policy.WorldPolicy.{WorldPolicy}
-use Rattle.thread_core.specs.declared.records.Record.{Record}
-use Rattle.thread_core.specs.declared.state.State.{State}
-use Rattle.chunk_pool.proofs.ShapeLaws.{first_bytes-start}
-use Rattle.chunk_pool.proofs.NeedLaws.{taken_for-count, taken_for-none, taken_for-start}
 use Rattle.machine_world.proofs.CountedLaws.{all_free-new}
 
 pub chunk_fours : (chunk : ℕ) → chunk % 16 ≡ 0 → 4 * (chunk / 4) ≡ chunk

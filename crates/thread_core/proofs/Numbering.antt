@@ -1,14 +1,8 @@
 -- What a step of the world leaves of the numbers of threads, and of the thread whose segment ends.
-use Rattle.std.proofs.Common.{◌≡◌, ℕ, zero, suc, ◌+◌, List, [], ◌∷◌, ◌++◌, Option, Some, None, refl, sym, ◌∙◌, ap, subst}
-use Rattle.std.proofs.lemmas.Bool.{cond_both}
+use Rattle.thread_core.proofs.Common.{◌≡◌, ℕ, zero, suc, ◌+◌, List, [], ◌∷◌, ◌++◌, Option, Some, None, refl, sym, ◌∙◌, ap, subst, cond_both, may_run, picked, picked_at, is_between, after_action, Pick, Blocked, Thread, World, Setting, thread_of, Move, Goes, Puts, Spawns, Blocks, Ends, step, GoesOn, Counts, counts_step, AreFrom, first_with-number}
 use Rattle.cap_word.specs.Runs as runs
-use Rattle.machine_world.specs.Runs.{may_run, picked, picked_at, is_between, after_action, Pick}
-use Rattle.machine_world.specs.Threads.{Blocked, Thread, World, Setting, thread_of, Move, Goes, Puts, Spawns, Blocks, Ends, step}
-use Rattle.segment_laws.specs.Silent.{GoesOn}
 use Rattle.machine_world.proofs.StepCases.{Ways, blocked_at, row_for, on_step, on_printed}
-use Rattle.machine_world.proofs.Counts.{Counts, counts_step}
-use Rattle.machine_meaning.proofs.Threads.{number_of, replaced_same, without_same}
-use Rattle.thread_core.specs.Sources.{AreFrom}
+use Rattle.machine_meaning.proofs.Threads.{replaced_same, without_same}
 
 -- one number more
 pub are_from_one : (first : ℕ) (numbers : List ℕ) (end number : ℕ) → AreFrom first numbers end → number ≡ end → AreFrom first (numbers ++ number ∷ []) (end + 1)
@@ -36,8 +30,8 @@ leaves_step s w number running =
     on_step s w (Leaves number w) (λ stop. tt) tt
     (λ other thread runs there left.
     let same : other ≡ number = cc in
-    let own : thread.number ≡ number = number_of other w.threads thread there ∙ same in
-    let found : thread_of w thread.number ≡ Some thread = subst (λ (n : ℕ). thread_of w n ≡ Some thread) (sym (number_of other w.threads thread there)) there in
+    let own : thread.number ≡ number = first_with-number other w.threads thread there ∙ same in
+    let found : thread_of w thread.number ≡ Some thread = subst (λ (n : ℕ). thread_of w n ≡ Some thread) (sym (first_with-number other w.threads thread there)) there in
     subst (λ (n : ℕ). Ways s w (Leaves n w) thread) own (record {
       goes = λ after e. refl;
       answers = λ ask still e. on_printed (Leaves thread.number w) (row_for s w thread ask).prints _ refl (λ word some. refl);

@@ -1,11 +1,6 @@
 -- Chains that are read by the headers, where the chunks have their words.
-use Rattle.std.proofs.Common.{◌≡◌, ℕ, zero, suc, List, ◌∷◌, Option, refl, ap, ◌∙◌}
-use Rattle.std.specs.Prelude.{slice_index}
-use Rattle.std.specs.List.{AllByRecursion}
+use Rattle.thread_core.proofs.Common.{◌≡◌, ℕ, zero, suc, List, ◌∷◌, Option, refl, ap, ◌∙◌, slice_index, AllByRecursion, Pool, shape_of, chunk_of, chunk_at, chunk_at-same, chunk_below, chain_from}
 use Rattle.std.specs.Option.{unwrap_or}
-use Rattle.chunk_pool.specs.Pool.{Pool, shape_of, chunk_of, chunk_at}
-use Rattle.chunk_pool.proofs.ShapeLaws.{chunk_at-same}
-use Rattle.segment_run.specs.Contexts.{chunk_below, chain_from}
 
 pub same_below : (pool after : Pool) (chunk : ℕ) → shape_of after ≡ shape_of pool → chunk_of after chunk ≡ chunk_of pool chunk → chunk_below after chunk ≡ chunk_below pool chunk
 same_below pool after chunk shape kept =

@@ -1,23 +1,5 @@
 -- What comes from outside, and the clock that goes on, keep what every world keeps.
-use Rattle.std.proofs.Common.{◌≡◌, ℕ, ◌≤◌, ◌^◌, ◌&&◌, Bool, true, false, Option, Some, None, is_none, refl, sym, subst, arith, nat_le, if◌then◌else◌}
-use Rattle.std.proofs.lemmas.Bool.Decides.{nat_tests}
-use Rattle.c_mean.specs.ModelledCalls.{Delivery, is_dropped, with_delivery}
-use Rattle.cap_word.specs.declared.calls.Block.{Block}
-use Rattle.cap_word.specs.declared.threads.ThreadId.{ThreadId}
-use Rattle.accepted_pairs.specs.Acceptance.{Acceptance}
-use Rattle.machine_world.specs.Places.{Checked}
-use Rattle.machine_world.specs.Runs.{Deliver, Advance, delivered, advanced}
-use Rattle.machine_world.specs.Threads.{World, Setting}
-use Rattle.machine_world.specs.WellFormed.{IsWellFormed, IsWellFormedIf, DeliversWords}
-use Rattle.machine_world.proofs.FormWorlds.{IsWellFormedIf-action}
-use Rattle.segment_run.specs.Contexts.{checked_of}
-use Rattle.thread_exchange.specs.Exchanges.{Exchanging, after_delivery}
-use Rattle.thread_waits.specs.Waiting.{Waiting, wait_at, IsUntrapped}
-use Rattle.thread_waits.specs.declared.waits.Wait.{Wait}
-use Rattle.machine_meaning.specs.UnderWay.{IsSettled}
-use Rattle.thread_core.specs.States.{machine_of, setting_of, number_in}
-use Rattle.thread_core.specs.Kept.{IsKept, HasCome}
-use Rattle.thread_core.specs.declared.state.State.{State}
+use Rattle.thread_core.proofs.Common.{◌≡◌, ℕ, ◌≤◌, ◌^◌, ◌&&◌, Bool, true, false, Option, Some, None, is_none, refl, sym, subst, arith, nat_le, if◌then◌else◌, Delivery, is_dropped, with_delivery, Block, ThreadId, Acceptance, Checked, Deliver, Advance, delivered, advanced, World, Setting, IsWellFormed, IsWellFormedIf, DeliversWords, IsWellFormedIf-action, checked_of, Exchanging, after_delivery, Waiting, wait_at, IsUntrapped, Wait, IsSettled, machine_of, setting_of, number_in, IsKept, HasCome, State, and_from, le_yes}
 
 -- a call is a trap by the caps alone
 untrapped_block : (x y : Exchanging) → y.caps ≡ x.caps → (block : Block) (since : ℕ) → IsUntrapped x (Some (Wait.At block since)) → IsUntrapped y (Some (Wait.At block since))
@@ -32,13 +14,6 @@ untrapped_same x y e _ u = tt
 form_if : (c : Checked) (s : Setting) (w : World) (b : Bool) → b ≡ true → IsWellFormedIf c s (if b then Some w else None) → IsWellFormed c s w
 form_if c s w true e f = f
 form_if c s w false e f = absurd (cc)
-
-both : (a b : Bool) → a ≡ true → b ≡ true → (a && b) ≡ true
-both true b e f = f
-both false b e f = absurd (cc)
-
-le_yes : (a b : ℕ) → a ≤ b → nat_le a b ≡ true
-le_yes a b h = grind (arith, nat_tests)
 
 pub between_is : (running : Option ThreadId) → number_in running ≡ None → running ≡ None
 between_is None e = refl
@@ -100,7 +75,7 @@ module _ (accepted : Acceptance) (most : ℕ) (st : State) (kept : IsKept accept
   at_time to later possible =
       let form : IsWellFormed (checked_of accepted) setting (advanced (machine_of most st) to) =
       form_if (checked_of accepted) setting (advanced (machine_of most st) to) (is_none (number_in st.running) && nat_le st.waits.clock to)
-      (both (is_none (number_in st.running)) (nat_le st.waits.clock to) (none_is st.running between) (le_yes st.waits.clock to later))
+      (and_from (is_none (number_in st.running)) (nat_le st.waits.clock to) (none_is st.running between) (le_yes st.waits.clock to later))
       (IsWellFormedIf-action (checked_of accepted) setting (machine_of most st) (Advance to) tt kept.formed) in
       record {
         kept = record {

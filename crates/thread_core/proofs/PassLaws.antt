@@ -1,33 +1,9 @@
 -- A thread that runs passes its ECALL.
-use Rattle.std.proofs.Common.{◌≡◌, ◌≢◌, ℕ, ◌+◌, ◌-◌, ◌^◌, ◌<◌, ◌≤◌, ◌⊎◌, inl, inr, List, length, Option, Some, None, refl, sym, ◌∙◌, ap, subst, arith}
-use Rattle.std.proofs.lemmas.List.{length-map}
+use Rattle.thread_core.proofs.Common.{◌≡◌, ◌≢◌, ℕ, ◌+◌, ◌-◌, ◌^◌, ◌<◌, ◌≤◌, ◌⊎◌, inl, inr, List, length, Option, Some, None, refl, sym, ◌∙◌, ap, subst, arith, length-map, Slab, get, ThreadId, Acceptance, Core, LocalMove, local_step, passed, with_result, Thread, thread_of, replaced, moved, step, retired, checked_of, code_of, local_of, IsOwned, IsOwned-owns, Context, Fuel, IsWellFormed, Exchanging, step_moves, wait_at, IsNumbered, record_written, has_form, number_of, thread_of_record, threads_of, machine_of, setting_of, number_in, IsKept, IsRunningThere, RunsAt, AreAligned, HasContext, passed_context, Runs, Record, State, same_or_not}
 use Rattle.std.proofs.Math.Nat.{mod-eq_of_lt}
-use Rattle.slab.specs.Slab.{Slab, get}
 use Rattle.cap_word.specs.Word.{add}
-use Rattle.cap_word.specs.declared.threads.ThreadId.{ThreadId}
-use Rattle.accepted_pairs.specs.Acceptance.{Acceptance}
-use Rattle.machine_world.specs.Local.{Core, LocalMove, local_step, passed, with_result}
-use Rattle.machine_world.specs.Threads.{Thread, thread_of, replaced, moved, step, retired}
-use Rattle.segment_run.specs.Contexts.{checked_of, code_of, local_of, IsOwned}
-use Rattle.segment_run.proofs.Owning.{IsOwned-owns}
-use Rattle.segment_run.specs.declared.contexts.Context.{Context}
-use Rattle.segment_run.specs.declared.contexts.Fuel.{Fuel}
-use Rattle.machine_world.specs.WellFormed.{IsWellFormed}
-use Rattle.thread_exchange.specs.Exchanges.{Exchanging}
-use Rattle.segment_laws.proofs.Silent.{step_moves}
-use Rattle.thread_waits.specs.Waiting.{wait_at}
-use Rattle.segment_laws.specs.Found.{IsNumbered}
-use Rattle.segment_laws.proofs.Changing.{record_written}
-use Rattle.machine_meaning.proofs.Forms.{has_form}
-use Rattle.thread_core.specs.States.{number_of, thread_of_record, threads_of, machine_of, setting_of, number_in}
-use Rattle.thread_core.specs.Kept.{IsKept, IsRunningThere, RunsAt, AreAligned}
-use Rattle.thread_core.specs.Parts.{HasContext, passed_context}
-use Rattle.thread_core.specs.Steps.{Runs}
-use Rattle.thread_core.specs.declared.records.Record.{Record}
-use Rattle.thread_core.specs.declared.state.State.{State}
 use Rattle.thread_core.proofs.OutsideLaws.{untrapped_same}
 use Rattle.thread_core.proofs.TellingLaws.{found_at}
-use Rattle.thread_waits.proofs.BlockLaws.{same_or_not}
 
 same_record : (st : State) (place : ℕ) (r t : Record) → get st.records place ≡ Some r → get st.records place ≡ Some t → r ≡ t
 same_record st place r t e f = let x : Some r ≡ Some t = sym e ∙ f in cc

@@ -1,52 +1,13 @@
 -- A segment of a thread that is ready begins.
-use Rattle.std.proofs.lemmas.Bool.Decides.{nat_tests}
-use Rattle.std.proofs.Common.{◌≡◌, Ok, ◌||◌, is_some, ◌*◌, pos, ◌-ℤ◌, ◌≢◌, ℕ, ◌+◌, ◌-◌, ◌<◌, ◌⊎◌, inl, inr, Bool, true, false, length, Option, Some, None, IsSome, option_map, is_none, refl, sym, ◌∙◌, ap, subst, arith, nat_eq, slice_set, if◌then◌else◌}
-use Rattle.std.proofs.lemmas.List.{length-map, length-set, get_or-set_same, get_or-set_other}
-use Rattle.slab.specs.Slab.{Slab, get}
-use Rattle.c_lower.specs.ProgramCode.{lowered}
-use Rattle.c_tree.specs.WellScoped.{IsWellScoped}
-use Rattle.accepted_pairs.specs.Accepting.{accepted_tree}
-use Rattle.certificate_rules.specs.Validity.{IsValid}
-use Rattle.chunk_pool.specs.Pool.{Pool}
-use Rattle.machine_world.specs.Areas.{Areas}
-use Rattle.machine_world.specs.Places.{Checked}
-use Rattle.machine_world.specs.Rests.{IsResting, AtStart, PastCall}
+use Rattle.thread_core.proofs.Common.{◌≡◌, Ok, ◌||◌, is_some, ◌*◌, pos, ◌-ℤ◌, ◌≢◌, ℕ, ◌+◌, ◌-◌, ◌<◌, ◌⊎◌, inl, inr, Bool, true, false, length, Option, Some, None, IsSome, option_map, is_none, refl, sym, ◌∙◌, ap, subst, arith, nat_eq, slice_set, if◌then◌else◌, nat_tests, length-map, length-set, get_or-set_same, get_or-set_other, Slab, get, lowered, IsWellScoped, accepted_tree, IsValid, Pool, Areas, Checked, IsResting, AtStart, PastCall, RestsBehind, fact_at, IsSettled, IsSettledIf, IsSettledThread, RestsSo, Block, ThreadId, Acceptance, Core, Pick, after_action, picked, picked_at, may_run, Blocked, result_on, Thread, World, Setting, first_with, replaced, IsWellFormed, IsWellFormedIf, IsWellFormedIf-action, checked_of, code_of, core_of, local_of, IsReady, Context, Exchanging, MayResume, row_of, Waiting, wait_at, IsUntrapped, Wait, IsNumbered, threads_in, record_written, all_same, number_of, thread_of_record, threads_of, machine_of, setting_of, number_in, blocked_of, IsKept, AreAligned, is_past, wake_of, answered_context, is_ready_in, held_in, SamePlaces, Runs, MayRun, wait_of, Record, State, same_or_not}
 use Rattle.rv_code.specs.declared.instructions.Instr.{Instr}
 use Rattle.rv_machine.specs.Step.{instruction_at}
 use Rattle.segment_laws.proofs.Facts.{CodeFacts}
-use Rattle.segment_run.specs.Passing.{RestsBehind}
 use Rattle.segment_run.proofs.Behind.{code_facts, behind_call}
 use Rattle.segment_run.proofs.Retiring.{reply_rests}
-use Rattle.stack_certificate.specs.Certificates.{fact_at}
-use Rattle.machine_meaning.specs.UnderWay.{IsSettled, IsSettledIf, IsSettledThread, RestsSo}
 use Rattle.thread_core.proofs.PassLaws.{its_chunks}
-use Rattle.cap_word.specs.declared.calls.Block.{Block}
-use Rattle.cap_word.specs.declared.threads.ThreadId.{ThreadId}
-use Rattle.accepted_pairs.specs.Acceptance.{Acceptance}
-use Rattle.machine_world.specs.Local.{Core}
-use Rattle.machine_world.specs.Runs.{Pick, after_action, picked, picked_at, may_run}
-use Rattle.machine_world.specs.Threads.{Blocked, result_on, Thread, World, Setting, first_with, replaced}
-use Rattle.machine_world.specs.WellFormed.{IsWellFormed, IsWellFormedIf}
-use Rattle.machine_world.proofs.FormWorlds.{IsWellFormedIf-action}
-use Rattle.segment_run.specs.Contexts.{checked_of, code_of, core_of, local_of, IsReady}
-use Rattle.segment_run.specs.declared.contexts.Context.{Context}
-use Rattle.thread_exchange.specs.Exchanges.{Exchanging, MayResume, row_of}
-use Rattle.thread_waits.specs.Waiting.{Waiting, wait_at, IsUntrapped}
-use Rattle.thread_waits.specs.declared.waits.Wait.{Wait}
-use Rattle.segment_laws.specs.Found.{IsNumbered, threads_in}
-use Rattle.segment_laws.proofs.Changing.{record_written, all_same}
-use Rattle.thread_core.specs.States.{number_of, thread_of_record, threads_of, machine_of, setting_of, number_in, blocked_of}
-use Rattle.thread_core.specs.Kept.{IsKept, AreAligned}
-use Rattle.c_mean.specs.ModelledCalls.{is_past, wake_of}
-use Rattle.thread_core.specs.Parts.{answered_context}
-use Rattle.thread_core.specs.Ready.{is_ready_in}
-use Rattle.thread_core.specs.Steps.{held_in, SamePlaces, Runs, MayRun}
-use Rattle.thread_core.specs.Waiting.{wait_of}
-use Rattle.thread_core.specs.declared.records.Record.{Record}
-use Rattle.thread_core.specs.declared.state.State.{State}
 use Rattle.thread_core.proofs.OutsideLaws.{untrapped_same}
 use Rattle.thread_core.proofs.TellingLaws.{found_at, ready_told}
-use Rattle.thread_waits.proofs.BlockLaws.{same_or_not}
 
 if_so : (b : Bool) → b ≡ true → (x y : Option World) → (if b then x else y) ≡ x
 if_so true e x y = refl

@@ -1,45 +1,14 @@
 -- A segment up to a call, as the state of a world shows it.
-use Rattle.std.proofs.Common.{◌≡◌, ◌≢◌, ℕ, zero, suc, ◌+◌, ◌-◌, ◌<◌, ◌⊎◌, inl, inr, Bool, true, false, List, [], ◌∷◌, length, Option, Some, None, option_map, IsSome, refl, sym, ◌∙◌, ap, subst, arith, slice_index_or}
-use Rattle.std.specs.Prelude.{nat_eq}
-use Rattle.std.specs.List.{AllByRecursion}
-use Rattle.std.proofs.lemmas.Bool.{cases_eq}
+use Rattle.thread_core.proofs.Common.{◌≡◌, ◌≢◌, ℕ, zero, suc, ◌+◌, ◌-◌, ◌<◌, ◌⊎◌, inl, inr, Bool, true, false, List, [], ◌∷◌, length, Option, Some, None, option_map, IsSome, refl, sym, ◌∙◌, ap, subst, arith, slice_index_or, nat_eq, AllByRecursion, cases_eq, ThreadId, Acceptance, chunk_of, shape_of, Areas, Local, local_step, Checked, Blocked, Thread, World, Setting, first_with, thread_of, replaced, without, moved, step, IsWellFormed, KeepsWellFormed, KeepsWellFormed-step, checked_of, code_of, core_of, local_of, chain_from, AreOf, IsSegment, KeepsChunks, Context, Fuel, Segment, segment_keeps, replaced_gone, Slab, get, GoesOn, after_silent, goes_on, step_turns, IsNumbered, KeepsRecords, record_written, record_removed, IsKept, AreAligned, RunsAt, IsRunningThere, blocked_of, number_of, number_in, numbers_of, thread_of_record, threads_of, machine_of, setting_of, MayRun, Runs, IsNext, HasFuel, RanTo, RanOut, Ran, held_in, KeepsPlaces, Record, State, wait_at, count-same}
 use Rattle.cap_word.specs.Runs as runs
-use Rattle.cap_word.specs.declared.threads.ThreadId.{ThreadId}
-use Rattle.accepted_pairs.specs.Acceptance.{Acceptance}
-use Rattle.chunk_pool.specs.Pool.{chunk_of, shape_of}
-use Rattle.machine_world.specs.Areas.{Areas}
 use Rattle.machine_world.specs.Held.{copies_in, KeepsShape}
 use Rattle.machine_world.specs.Local as local
-use Rattle.machine_world.specs.Local.{Local, local_step}
-use Rattle.machine_world.specs.Places.{Checked}
 use Rattle.machine_world.specs.Threads as machine
-use Rattle.machine_world.specs.Threads.{Blocked, Thread, World, Setting, first_with, thread_of, replaced, without, moved, step}
-use Rattle.machine_world.specs.WellFormed.{IsWellFormed, KeepsWellFormed}
-use Rattle.machine_world.proofs.FormWorlds.{KeepsWellFormed-step}
 use Rattle.machine_world.proofs.HeldLaws.{KeepsShape-step}
 use Rattle.segment_laws.specs.Ways.{WayIn, Leads}
-use Rattle.segment_run.specs.Contexts.{checked_of, code_of, core_of, local_of, chain_from, AreOf}
-use Rattle.segment_run.specs.Segments.{IsSegment, KeepsChunks}
-use Rattle.segment_run.specs.declared.contexts.Context.{Context}
-use Rattle.segment_run.specs.declared.contexts.Fuel.{Fuel}
-use Rattle.segment_run.specs.declared.segments.Segment.{Segment}
 use Rattle.segment_run.specs.declared.segments.Segment.TheVariants as answer
-use Rattle.segment_laws.proofs.OtherThreads.{segment_keeps, replaced_gone}
-use Rattle.slab.specs.Slab.{Slab, get}
-use Rattle.segment_laws.specs.Silent.{GoesOn, after_silent}
-use Rattle.segment_laws.proofs.Silent.{goes_on, step_turns}
-use Rattle.segment_laws.specs.Found.{IsNumbered, KeepsRecords}
-use Rattle.segment_laws.proofs.Changing.{record_written, record_removed}
-use Rattle.thread_core.specs.Kept.{IsKept, AreAligned, RunsAt, IsRunningThere}
-use Rattle.thread_core.specs.States.{blocked_of, number_of, number_in, numbers_of, thread_of_record, threads_of, machine_of, setting_of}
-use Rattle.thread_core.specs.Steps.{MayRun, Runs, IsNext, HasFuel, RanTo, RanOut, Ran, held_in}
-use Rattle.thread_core.specs.Worlds.{KeepsPlaces}
-use Rattle.thread_core.specs.declared.records.Record.{Record}
-use Rattle.thread_core.specs.declared.state.State.{State}
 use Rattle.thread_core.proofs.OtherChains.{chain_stays}
 use Rattle.thread_core.proofs.TellingLaws.{found_at, number_at}
-use Rattle.thread_waits.specs.Waiting.{wait_at}
-use Rattle.chunk_pool.proofs.ShapeLaws.{count-same}
 use Rattle.machine_meaning.proofs.Threads.{without_same}
 
 -- ---- any steps

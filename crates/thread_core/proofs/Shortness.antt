@@ -1,18 +1,7 @@
 -- Along a good stretch every chain is short.
-use Rattle.std.proofs.Common.{◌≡◌, ℕ, zero, suc, ◌-◌, List, [], ◌∷◌, Some, sym, subst, ◌∙◌}
-use Rattle.std.specs.List.{AllByRecursion}
-use Rattle.chunk_pool.specs.Pool.{Pool}
-use Rattle.machine_world.specs.InPlace.{IsInPlace}
-use Rattle.machine_world.specs.Places.{Checked}
-use Rattle.machine_world.specs.Runs.{after_action, Pick}
-use Rattle.machine_world.specs.Stretches.{IsSound, OnWorld, IsGoodStretch}
-use Rattle.machine_world.specs.Threads.{Thread, World, Setting, Move, Goes, Puts, Spawns, Blocks, Ends, step}
+use Rattle.thread_core.proofs.Common.{◌≡◌, ℕ, zero, suc, ◌-◌, List, [], ◌∷◌, Some, sym, subst, ◌∙◌, AllByRecursion, Pool, IsInPlace, Checked, after_action, Pick, IsSound, OnWorld, IsGoodStretch, Thread, World, Setting, Move, Goes, Puts, Spawns, Blocks, Ends, step, checked_of, IsTurn, Held, Turn}
 use Rattle.machine_world.proofs.ChainLaws.{length-chain}
-use Rattle.segment_run.specs.Contexts.{checked_of}
 use Rattle.thread_core.specs.Lengths.{HasShortChain, HaveShortChains, ChainsStayShort, StepsKeepShort, BeginsShort}
-use Rattle.thread_core.specs.Turns.{IsTurn}
-use Rattle.thread_core.specs.Worlds.{Held}
-use Rattle.thread_core.specs.declared.turns.Turn.{Turn}
 
 each_short : (c : Checked) (pool : Pool) (threads : List Thread) → AllByRecursion (λ thread. IsInPlace c pool thread.core) threads → AllByRecursion (λ thread. HasShortChain c pool thread.core) threads
 each_short c pool [] all = tt

@@ -1,21 +1,11 @@
 -- How the thread whose segment has ended rests in the source, where the world stands for it.
-use Rattle.std.proofs.Common.{◌≡◌, ℕ, ◌<◌, List, length, Option, Some, None, sym, ◌∙◌, subst}
-use Rattle.std.specs.Prelude.{slice_get}
+use Rattle.thread_core.proofs.Common.{◌≡◌, ℕ, ◌<◌, List, length, Option, Some, None, sym, ◌∙◌, subst, slice_get, ProgramTree, Pool, Core, Checked, IsResting, PastCall, IsPast, StandsForRest, Blocked, Thread, World, thread_of, IsKeyOf, HasEnded, HasKey, HasKeyOf}
 use Rattle.c_mean.specs.Frames.{Waiting, key_of}
 use Rattle.c_mean.specs.World as source
 use Rattle.c_mean.specs.World.{Rest}
-use Rattle.c_tree.specs.Trees.{ProgramTree}
 use Rattle.accepted_pairs.proofs.SomeAt.{some_at}
-use Rattle.chunk_pool.specs.Pool.{Pool}
-use Rattle.machine_world.specs.Local.{Core}
-use Rattle.machine_world.specs.Places.{Checked}
-use Rattle.machine_world.specs.Rests.{IsResting, PastCall}
 use Rattle.machine_world.specs.StandsFor.{Waits, StandsFor}
-use Rattle.machine_world.specs.StandsForWorld.{IsPast, StandsForRest}
-use Rattle.machine_world.specs.Threads.{Blocked, Thread, World, thread_of}
 use Rattle.machine_meaning.proofs.SiteKeys.{key_is}
-use Rattle.thread_core.specs.Sources.{IsKeyOf, HasEnded}
-use Rattle.thread_core.specs.Turns.{HasKey, HasKeyOf}
 use Rattle.thread_core.proofs.Numbering.{IsBlockedIn}
 
 resting : (c : Checked) (program : ProgramTree) (pool : Pool) (core : Core) (key : List ℕ) → HasKeyOf c pool core key → (waiting : Waiting) → (rests : IsResting c pool core) → IsPast c pool core rests → StandsFor c program pool core rests (Waits waiting) → key ≡ key_of waiting

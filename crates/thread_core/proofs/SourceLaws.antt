@@ -1,34 +1,8 @@
 -- What a turn tells, beside the source's run of the thread.
-use Rattle.std.proofs.Common.{◌≡◌, ℕ, ◌<◌, List, [], ◌∷◌, ◌++◌, length, Option, Some, None, refl, sym, ◌∙◌, ap, subst}
-use Rattle.std.specs.Prelude.{slice_get}
-use Rattle.c_lower.specs.ProgramCode.{lowered}
+use Rattle.thread_core.proofs.Common.{◌≡◌, ℕ, ◌<◌, List, [], ◌∷◌, ◌++◌, length, Option, Some, None, refl, sym, ◌∙◌, ap, subst, slice_get, lowered, ProgramTree, IsWellScoped, Stop, ThreadId, TrapKind, Acceptance, accepted_tree, IsValid, Checked, after_action, Pick, StandsForWorld, World, Setting, Move, Puts, Spawns, Blocks, Ends, Stops, step, IsWellFormed, checked_of, IsRunning, IsReached, IsFinished, IsFinishedIn, StepReaches, IsSettled, IsKept, AreFrom, IsBeside, IsDone, TellsSource, ProceedsAsSource, machine_of, setting_of, held_in, OnTold, Tells, State, Turn}
 use Rattle.c_mean.specs.World as source
-use Rattle.c_tree.specs.Trees.{ProgramTree}
-use Rattle.c_tree.specs.WellScoped.{IsWellScoped}
-use Rattle.cap_word.specs.declared.stops.Stop.{Stop}
-use Rattle.cap_word.specs.declared.threads.ThreadId.{ThreadId}
-use Rattle.cap_word.specs.declared.traps.TrapKind.{TrapKind}
-use Rattle.accepted_pairs.specs.Acceptance.{Acceptance}
-use Rattle.accepted_pairs.specs.Accepting.{accepted_tree}
-use Rattle.certificate_rules.specs.Validity.{IsValid}
-use Rattle.machine_world.specs.Places.{Checked}
-use Rattle.machine_world.specs.Runs.{after_action, Pick}
-use Rattle.machine_world.specs.StandsForWorld.{StandsForWorld}
-use Rattle.machine_world.specs.Threads.{World, Setting, Move, Puts, Spawns, Blocks, Ends, Stops, step}
-use Rattle.machine_world.specs.WellFormed.{IsWellFormed}
-use Rattle.segment_run.specs.Contexts.{checked_of}
-use Rattle.machine_meaning.specs.Running.{IsRunning}
 use Rattle.machine_meaning.proofs.Stretching as runs
 use Rattle.machine_meaning.proofs.WorldLaws as law
-use Rattle.machine_meaning.specs.Reached.{IsReached, IsFinished, IsFinishedIn, StepReaches}
-use Rattle.machine_meaning.specs.UnderWay.{IsSettled}
-use Rattle.thread_core.specs.Kept.{IsKept}
-use Rattle.thread_core.specs.Sources.{AreFrom, IsBeside, IsDone, TellsSource, ProceedsAsSource}
-use Rattle.thread_core.specs.States.{machine_of, setting_of}
-use Rattle.thread_core.specs.Steps.{held_in, OnTold}
-use Rattle.thread_core.specs.Turns.{Tells}
-use Rattle.thread_core.specs.declared.state.State.{State}
-use Rattle.thread_core.specs.declared.turns.Turn.{Turn}
 use Rattle.thread_core.proofs.BeginLaws.{setting_same}
 use Rattle.thread_core.proofs.Numbering.{Leaves, are_from_one, leaves_step, goes_next}
 use Rattle.thread_core.proofs.SourceKeys.{key_of_rest, ended_rest}

@@ -1,33 +1,6 @@
 -- What came of a spawn, from what its calls tell.
-use Rattle.std.proofs.Common.{◌≡◌, ◌≢◌, ℕ, ◌+◌, ◌-◌, ◌^◌, ◌<◌, List, length, Option, Some, None, refl, sym, ap, ◌∙◌, subst, arith}
-use Rattle.std.specs.Prelude.{slice_index_or, slice_set}
-use Rattle.std.proofs.lemmas.List.{get_or-set_other, get_or-set_same, length-set}
-use Rattle.slab.specs.Slab.{get}
-use Rattle.c_lower.specs.ProgramCode.{lowered}
-use Rattle.cap_word.specs.declared.calls.Ask.{Ask}
-use Rattle.cap_word.specs.declared.threads.ThreadId.{ThreadId}
-use Rattle.accepted_pairs.specs.Acceptance.{Acceptance}
-use Rattle.accepted_pairs.specs.Accepting.{accepted_tree}
-use Rattle.certificate_rules.specs.Validity.{IsValid}
-use Rattle.chunk_pool.specs.Pool.{Taken, taken_for, FitsNone}
-use Rattle.machine_world.specs.Areas.{Areas}
-use Rattle.machine_world.specs.Threads.{start_core, Move}
-use Rattle.cap_word.specs.Calls.{most_threads}
-use Rattle.segment_run.specs.Contexts.{checked_of, code_of, local_of, core_of, AreOf}
-use Rattle.segment_run.specs.Passing.{RestsBefore, RestsBehind}
-use Rattle.segment_run.specs.Segments.{IsAtAsk}
-use Rattle.segment_run.specs.Starting.{IsStarted}
-use Rattle.segment_run.specs.declared.contexts.Context.{Context}
-use Rattle.stack_certificate.specs.Certificates.{fact_at}
-use Rattle.thread_waits.specs.Waiting.{Waiting, wait_at}
-use Rattle.thread_waits.specs.declared.waits.Wait.{Wait}
-use Rattle.thread_core.specs.Parts.{ContextIs, HasContext, passed_context}
+use Rattle.thread_core.proofs.Common.{◌≡◌, ◌≢◌, ℕ, ◌+◌, ◌-◌, ◌^◌, ◌<◌, List, length, Option, Some, None, refl, sym, ap, ◌∙◌, subst, arith, slice_index_or, slice_set, get_or-set_other, get_or-set_same, length-set, get, lowered, Ask, ThreadId, Acceptance, accepted_tree, IsValid, Taken, taken_for, FitsNone, Areas, start_core, Move, most_threads, checked_of, code_of, local_of, core_of, AreOf, RestsBefore, RestsBehind, IsAtAsk, IsStarted, Context, fact_at, Waiting, wait_at, Wait, ContextIs, HasContext, passed_context, machine_of, Runs, LocalIs, Told, TellsIf, held_in, Record, State, Turn}
 use Rattle.thread_core.specs.Starts.{HasMorePlaces, HasPlaceFor, HasAdded}
-use Rattle.thread_core.specs.States.{machine_of}
-use Rattle.thread_core.specs.Steps.{Runs, LocalIs, Told, TellsIf, held_in}
-use Rattle.thread_core.specs.declared.records.Record.{Record}
-use Rattle.thread_core.specs.declared.state.State.{State}
-use Rattle.thread_core.specs.declared.turns.Turn.{Turn}
 use Rattle.thread_core.proofs.Alike.{kept_alike, rest_alike, places_alike, machine_alike}
 use Rattle.thread_core.proofs.Spawning as spawning
 use Rattle.thread_core.proofs.Started as started

@@ -1,36 +1,5 @@
 -- A thread that stands at the ECALL of a spawn: what the step of the world is, and what comes of it.
-use Rattle.std.proofs.Common.{◌≡◌, ℕ, ◌-◌, ◌<◌, ◌≤◌, true, false, length, Option, Some, None, refl, ap, ◌∙◌, subst, arith}
-use Rattle.std.specs.Prelude.{nat_eq, nat_le}
-use Rattle.std.proofs.lemmas.Bool.{cond-true, cond-false, ne_eqb}
-use Rattle.std.proofs.lemmas.Bool.Decides.{nat_tests}
-use Rattle.slab.specs.Slab.{get}
-use Rattle.c_lower.specs.ProgramCode.{lowered}
-use Rattle.cap_word.specs.declared.calls.Ask.{Ask}
-use Rattle.cap_word.specs.declared.stops.Stop.{Stop}
-use Rattle.cap_word.specs.declared.threads.ThreadId.{ThreadId}
-use Rattle.accepted_pairs.specs.Acceptance.{Acceptance}
-use Rattle.accepted_pairs.specs.Accepting.{accepted_tree}
-use Rattle.certificate_rules.specs.Validity.{IsValid}
-use Rattle.chunk_pool.specs.Pool.{Taken, taken_for, FitsNone}
-use Rattle.flat_code.specs.declared.operations.Op.{Op}
-use Rattle.machine_meaning.proofs.Formed.{formed}
-use Rattle.machine_world.specs.Places.{Checked}
-use Rattle.machine_world.specs.Threads.{Thread, World, Setting, Stops, Spawns, thread_of, starts, spawned, retired, resumed, with_thread, moved, step_of, step_on, step}
-use Rattle.cap_word.specs.Calls.{most_threads}
-use Rattle.machine_world.specs.WellFormed.{IsWellFormed, KeepsWellFormed}
-use Rattle.machine_world.proofs.FormWorlds.{KeepsWellFormed-step}
-use Rattle.segment_run.specs.Contexts.{checked_of, code_of, local_of}
-use Rattle.segment_run.specs.Segments.{IsAtSpawn, IsAtAsk}
-use Rattle.segment_laws.proofs.Needs.{NeedsFit-valid}
-use Rattle.stack_certificate.specs.Certificates.{fact_at, need_of}
-use Rattle.stack_certificate.specs.Templates.{kind_of}
-use Rattle.segment_laws.proofs.Changing.{thread_found}
-use Rattle.thread_core.specs.Kept.{IsRunningThere}
-use Rattle.thread_core.specs.States.{number_of, thread_of_record, threads_of, machine_of, setting_of, number_in}
-use Rattle.thread_core.specs.Steps.{Runs, LocalIs}
-use Rattle.thread_core.specs.declared.records.Record.{Record}
-use Rattle.thread_core.specs.declared.state.State.{State}
-use Rattle.chunk_pool.proofs.NeedLaws.{taken_for-none}
+use Rattle.thread_core.proofs.Common.{◌≡◌, ℕ, ◌-◌, ◌<◌, ◌≤◌, true, false, length, Option, Some, None, refl, ap, ◌∙◌, subst, arith, nat_eq, nat_le, cond-true, cond-false, ne_eqb, nat_tests, get, lowered, Ask, Stop, ThreadId, Acceptance, accepted_tree, IsValid, Taken, taken_for, FitsNone, Op, formed, Checked, Thread, World, Setting, Stops, Spawns, thread_of, starts, spawned, retired, resumed, with_thread, moved, step_of, step_on, step, most_threads, IsWellFormed, KeepsWellFormed, KeepsWellFormed-step, checked_of, code_of, local_of, IsAtSpawn, IsAtAsk, NeedsFit-valid, fact_at, need_of, kind_of, thread_found, IsRunningThere, number_of, thread_of_record, threads_of, machine_of, setting_of, number_in, Runs, LocalIs, Record, State, taken_for-none}
 
 module _ (accepted : Acceptance) (most : ℕ) (st : State) (thread : ThreadId) (runs : Runs accepted most st thread) (left : 0 < st.fuel.left) (function argument : ℕ)
     (at : LocalIs st thread (λ l. IsAtAsk (checked_of accepted) (code_of accepted) l (Ask.Spawn function argument))) (valid : IsValid (lowered (accepted_tree accepted)) accepted.image accepted.certificate) where

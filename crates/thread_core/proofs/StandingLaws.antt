@@ -1,15 +1,6 @@
 -- Where a thread stands is told by its record.
-use Rattle.std.proofs.Common.{◌≡◌, ◌≢◌, ℕ, ◌⊎◌, inl, inr, true, false, Option, Some, None, option_map, refl, nat_eq, if◌then◌else◌, slice_index_or}
-use Rattle.slab.specs.Slab.{get}
-use Rattle.cap_word.specs.declared.threads.ThreadId.{ThreadId}
-use Rattle.accepted_pairs.specs.Acceptance.{Acceptance}
-use Rattle.machine_world.specs.Threads.{first_with}
-use Rattle.thread_core.specs.Kept.{IsKept}
-use Rattle.thread_core.specs.Ready.{is_same_number}
+use Rattle.thread_core.proofs.Common.{◌≡◌, ◌≢◌, ℕ, ◌⊎◌, inl, inr, true, false, Option, Some, None, option_map, refl, nat_eq, if◌then◌else◌, slice_index_or, get, ThreadId, Acceptance, first_with, IsKept, is_same_number, thread_of_record, threads_of, numbers_of, Record, State}
 use Rattle.thread_core.specs.Standings.{standing_of, standing_by, standing_for}
-use Rattle.thread_core.specs.States.{thread_of_record, threads_of, numbers_of}
-use Rattle.thread_core.specs.declared.records.Record.{Record}
-use Rattle.thread_core.specs.declared.state.State.{State}
 use Rattle.thread_core.proofs.TellingLaws.{eq_cases, number_at, found_at}
 
 module _ (accepted : Acceptance) (most : ℕ) (st : State) (kept : IsKept accepted most st) where

@@ -1,58 +1,14 @@
 -- What a state is where a thread has started: its machine world is that after the step, and it keeps what every state keeps.
-use Rattle.std.proofs.Common.{◌≡◌, ◌≢◌, ℕ, ◌+◌, ◌-◌, ◌^◌, ◌<◌, ◌≤◌, ◌⊎◌, inl, inr, List, [], ◌∷◌, ◌++◌, length, Option, Some, None, refl, sym, ap, ◌∙◌, subst, arith, ⊎_elim}
-use Rattle.std.specs.Prelude.{IsSome, option_map}
-use Rattle.std.proofs.lemmas.Bool.{cases_eq}
-use Rattle.std.proofs.lemmas.List.{length-map, length-append}
-use Rattle.slab.specs.Slab.{Slab, get}
-use Rattle.c_lower.specs.ProgramCode.{lowered}
+use Rattle.thread_core.proofs.Common.{◌≡◌, ◌≢◌, ℕ, ◌+◌, ◌-◌, ◌^◌, ◌<◌, ◌≤◌, ◌⊎◌, inl, inr, List, [], ◌∷◌, ◌++◌, length, Option, Some, None, refl, sym, ap, ◌∙◌, subst, arith, ⊎_elim, IsSome, option_map, cases_eq, length-map, length-append, Slab, get, lowered, Ask, ThreadId, Acceptance, accepted_tree, IsValid, Pool, Op, formed, program_zeroes, Areas, with_header, size_in, IsResting, AtCall, fact_at, Thread, World, Setting, Move, thread_of, resumed, replaced, start_core, most_threads, IsWellFormed, CodeFacts-valid, CodeFacts, checked_of, code_of, local_of, core_of, chain_from, AreOf, IsReady, RestsBefore, RestsBehind, IsAtAsk, Context, Fuel, IsOwned-owns, replaced_joined, IsNumbered, KeepsRecords, threads_in, thread_found, record_added, record_written, Waiting, wait_at, IsUntrapped, Wait, has_form, IsKept, RunsAt, IsRunningThere, passed_context, number_of, thread_of_record, threads_of, blocked_of, machine_of, setting_of, number_in, Runs, LocalIs, Told, TellsIf, held_in, Record, State, Turn, count-same}
 use Rattle.cap_word.specs.Word as word
-use Rattle.cap_word.specs.declared.calls.Ask.{Ask}
-use Rattle.cap_word.specs.declared.threads.ThreadId.{ThreadId}
-use Rattle.accepted_pairs.specs.Acceptance.{Acceptance}
-use Rattle.accepted_pairs.specs.Accepting.{accepted_tree}
-use Rattle.certificate_rules.specs.Validity.{IsValid}
-use Rattle.chunk_pool.specs.Pool.{Pool}
-use Rattle.flat_code.specs.declared.operations.Op.{Op}
-use Rattle.machine_meaning.proofs.Formed.{formed}
-use Rattle.machine_meaning.proofs.Zeroes.{program_zeroes}
-use Rattle.machine_world.specs.Areas.{Areas}
-use Rattle.machine_world.specs.Local.{with_header}
-use Rattle.machine_world.specs.Places.{size_in}
-use Rattle.machine_world.specs.Rests.{IsResting, AtCall}
-use Rattle.stack_certificate.specs.Certificates.{fact_at}
-use Rattle.machine_world.specs.Threads.{Thread, World, Setting, Move, thread_of, resumed, replaced, start_core}
-use Rattle.cap_word.specs.Calls.{most_threads}
-use Rattle.machine_world.specs.WellFormed.{IsWellFormed}
-use Rattle.segment_laws.proofs.ValidFacts.{CodeFacts-valid}
-use Rattle.segment_laws.specs.Facts.{CodeFacts}
 use Rattle.segment_laws.proofs.Registers.{add-small}
-use Rattle.segment_run.specs.Contexts.{checked_of, code_of, local_of, core_of, chain_from, AreOf, IsReady}
-use Rattle.segment_run.specs.Passing.{RestsBefore, RestsBehind}
-use Rattle.segment_run.specs.Segments.{IsAtAsk}
-use Rattle.segment_run.specs.declared.contexts.Context.{Context}
-use Rattle.segment_run.specs.declared.contexts.Fuel.{Fuel}
-use Rattle.segment_run.proofs.Owning.{IsOwned-owns}
-use Rattle.segment_laws.proofs.OtherThreads.{replaced_joined}
-use Rattle.segment_laws.specs.Found.{IsNumbered, KeepsRecords, threads_in}
-use Rattle.segment_laws.proofs.Changing.{thread_found, record_added, record_written}
 use Rattle.segment_laws.specs.Kept.{KeepsChunks}
 use Rattle.segment_laws.proofs.SameRest.{rests_law}
-use Rattle.thread_waits.specs.Waiting.{Waiting, wait_at, IsUntrapped}
-use Rattle.thread_waits.specs.declared.waits.Wait.{Wait}
-use Rattle.machine_meaning.proofs.Forms.{has_form}
 use Rattle.machine_meaning.proofs.Fresh.{kept_starting}
-use Rattle.thread_core.specs.Kept.{IsKept, RunsAt, IsRunningThere}
-use Rattle.thread_core.specs.Parts.{passed_context}
-use Rattle.thread_core.specs.States.{number_of, thread_of_record, threads_of, blocked_of, machine_of, setting_of, number_in}
-use Rattle.thread_core.specs.Steps.{Runs, LocalIs, Told, TellsIf, held_in}
-use Rattle.thread_core.specs.declared.records.Record.{Record}
-use Rattle.thread_core.specs.declared.state.State.{State}
-use Rattle.thread_core.specs.declared.turns.Turn.{Turn}
 use Rattle.thread_core.proofs.OtherChains.{chain_stays}
 use Rattle.thread_core.proofs.Spawning as spawning
 use Rattle.thread_core.proofs.Spawning.{Takes}
 use Rattle.thread_core.proofs.TellingLaws.{number_at}
-use Rattle.chunk_pool.proofs.ShapeLaws.{count-same}
 
 module _ (accepted : Acceptance) (most : ℕ) (st : State) (thread : ThreadId) (runs : Runs accepted most st thread) (left : 0 < st.fuel.left) (function argument : ℕ)
     (at : LocalIs st thread (λ l. IsAtAsk (checked_of accepted) (code_of accepted) l (Ask.Spawn function argument))) (valid : IsValid (lowered (accepted_tree accepted)) accepted.image accepted.certificate)

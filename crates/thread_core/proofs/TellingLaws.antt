@@ -1,29 +1,13 @@
 -- What is told of one thread is told of its record.
-use Rattle.std.proofs.Common.{◌≡◌, ◌≢◌, ℕ, ◌⊎◌, inl, inr, Bool, true, false, Option, Some, None, option_map, IsSome, refl, sym, ◌∙◌, ap, arith, nat_eq, if◌then◌else◌, slice_index_or}
-use Rattle.std.proofs.lemmas.Bool.Decides.{nat_tests}
+use Rattle.thread_core.proofs.Common.{◌≡◌, ◌≢◌, ℕ, ◌⊎◌, inl, inr, Bool, true, false, Option, Some, None, option_map, IsSome, refl, sym, ◌∙◌, ap, arith, nat_eq, if◌then◌else◌, slice_index_or, nat_tests, get, Block, ThreadId, Acceptance, Thread, Setting, first_with, wait_at, IsUntrapped, Wait, IsNumbered, thread_found, number_of, thread_of_record, threads_of, machine_of, setting_of, numbers_of, number_in, IsKept, RunsAt, IsRunningThere, wait_of, waits_for_in, is_same_number, passes, is_ready_thread, is_at_accept_thread, Record, State, self}
 use Rattle.std.proofs.Math.ListN as list
-use Rattle.slab.specs.Slab.{get}
-use Rattle.cap_word.specs.declared.calls.Block.{Block}
-use Rattle.cap_word.specs.declared.threads.ThreadId.{ThreadId}
-use Rattle.accepted_pairs.specs.Acceptance.{Acceptance}
-use Rattle.machine_world.specs.Threads.{Thread, Setting, first_with}
 use Rattle.thread_waits.specs.Waiting as waits
-use Rattle.thread_waits.specs.Waiting.{wait_at, IsUntrapped}
-use Rattle.thread_waits.specs.declared.waits.Wait.{Wait}
-use Rattle.segment_laws.specs.Found.{IsNumbered}
-use Rattle.segment_laws.proofs.Changing.{thread_found}
-use Rattle.thread_core.specs.States.{number_of, thread_of_record, threads_of, machine_of, setting_of, numbers_of, number_in}
-use Rattle.thread_core.specs.Kept.{IsKept, RunsAt, IsRunningThere}
-use Rattle.thread_core.specs.Waiting.{wait_of, waits_for_in}
-use Rattle.thread_core.specs.Ready.{is_same_number, passes, is_ready_thread, is_at_accept_thread}
 use Rattle.ready_tree.specs.declared.bounds.Bounds.{Bounds}
 use Rattle.ready_tree.specs.declared.needs.Need.{Need}
 use Rattle.ready_tree.specs.Needs.{is_met, is_arrival, is_same_need}
 use Rattle.ready_tree.proofs.NeedLaws.{same_need, need_self}
 use Rattle.thread_waits.specs.Needs.{need_for}
 use Rattle.thread_core.specs.Needs.{waits_for_need, waits_to_go}
-use Rattle.thread_core.specs.declared.records.Record.{Record}
-use Rattle.thread_core.specs.declared.state.State.{State}
 
 pub eq_cases : (a b : ℕ) → ((nat_eq a b ≡ true) × (a ≡ b)) ⊎ ((nat_eq a b ≡ false) × (a ≢ b))
 eq_cases a b = grind (arith, nat_tests)
@@ -31,9 +15,6 @@ eq_cases a b = grind (arith, nat_tests)
 -- the number of the record at a place
 pub number_at : (st : State) (place : ℕ) → slice_index_or (numbers_of st) place None ≡ option_map number_of (get st.records place)
 number_at st place = list.get_or-map (option_map number_of) st.records.slots place None
-
-same_eq : (a : ℕ) → nat_eq a a ≡ true
-same_eq a = grind (arith, nat_tests)
 
 by_same : (b c : Bool) → b ≡ true → (if b then c else false) ≡ c
 by_same true c e = refl
@@ -65,7 +46,7 @@ runs_yes_by st thread there place r e here (inl same) =
     let s : Some there.0 ≡ Some r = sym there.1 ∙ ap (λ k. get st.records k) same.1 ∙ e in
     let n : there.0 ≡ r = cc in
     let m : thread.number ≡ r.number = sym there.2 ∙ ap (λ (x : Record). x.number) n in
-    rw m (same_eq r.number)
+    rw m (self r.number)
 runs_yes_by st thread there place r e here (inr other) = absurd (here other.1)
 
 runs_yes : (st : State) (running : Option ThreadId) → IsRunningThere st running → (place : ℕ) (r : Record) → get st.records place ≡ Some r → ((RunsAt running place → ⊥) → ⊥) → is_same_number (number_in running) r.number ≡ true
@@ -83,7 +64,7 @@ module _ (accepted : Acceptance) (most : ℕ) (st : State) (kept : IsKept accept
       ≡ test (thread_of_record st.areas.pool st.waits thread.slot r)
   told test thread r e n =
       let f : first_with thread.number (threads_of st) ≡ Some (thread_of_record st.areas.pool st.waits thread.slot r) = rw (← n) (found_at thread.slot r e) in
-      rw (number_at st thread.slot, e, f) (by_same (nat_eq r.number thread.number) (test (thread_of_record st.areas.pool st.waits thread.slot r)) (rw n (same_eq thread.number)))
+      rw (number_at st thread.slot, e, f) (by_same (nat_eq r.number thread.number) (test (thread_of_record st.areas.pool st.waits thread.slot r)) (rw n (self thread.number)))
 
   -- and of one that has none there
   pub untold : (test : Thread → Bool) (thread : ThreadId) → get st.records thread.slot ≡ None →

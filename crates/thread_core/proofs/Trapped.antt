@@ -1,36 +1,14 @@
 -- Where a step of the world is a trap, the source's run comes to it from where it is, and starts no thread on the way.
-use Rattle.std.proofs.Common.{◌≡◌, ℕ, nat_eq, List, length, Option, Some, None, refl, sym, ap, subst, ◌∙◌}
-use Rattle.std.specs.Prelude.{nat_le}
-use Rattle.std.proofs.lemmas.Bool.{cond_both}
-use Rattle.cap_word.specs.Calls.{Call, Blocking, Immediate, most_threads}
+use Rattle.thread_core.proofs.Common.{◌≡◌, ℕ, nat_eq, List, length, Option, Some, None, refl, sym, ap, subst, ◌∙◌, nat_le, cond_both, Call, Blocking, Immediate, most_threads, Block, Stop, TrapKind, lowered, Exchange, blocking_row, immediate_row, ProgramTree, IsWellScoped, IsValid, Taken, taken_for, Op, LocalMove, Ended, Trapped, local_step, Checked, Thread, World, Setting, Move, retired, resumed, result_of, unless_trap, printed, answered, blocks, package_call, spawned, starts, asked, moved, step, local_in, IsWellFormed, fact_at, need_of, kind_of, Certificate, Image, IsReached, IsFinished}
 use Rattle.cap_word.specs.Runs.{Goes, Asks, Stops, moves}
-use Rattle.cap_word.specs.declared.calls.Block.{Block}
-use Rattle.cap_word.specs.declared.stops.Stop.{Stop}
-use Rattle.cap_word.specs.declared.traps.TrapKind.{TrapKind}
-use Rattle.c_lower.specs.ProgramCode.{lowered}
 use Rattle.c_mean.specs.Frames.{Waiting}
-use Rattle.c_mean.specs.ModelledCalls.{Exchange, blocking_row, immediate_row}
 use Rattle.c_mean.specs.Steps.{source_resume}
 use Rattle.c_mean.specs.World as source
 use Rattle.c_mean.specs.World.{Segment, SegmentMove, segment_machine}
 use Rattle.c_mean.proofs.SegmentLemmas.{asks_in_world, stops_in_world}
-use Rattle.c_tree.specs.Trees.{ProgramTree}
-use Rattle.c_tree.specs.WellScoped.{IsWellScoped}
-use Rattle.certificate_rules.specs.Validity.{IsValid}
-use Rattle.chunk_pool.specs.Pool.{Taken, taken_for}
-use Rattle.flat_code.specs.declared.operations.Op.{Op}
 use Rattle.machine_world.specs.Local as local
-use Rattle.machine_world.specs.Local.{LocalMove, Ended, Trapped, local_step}
-use Rattle.machine_world.specs.Places.{Checked}
 use Rattle.machine_world.specs.Threads as machine
-use Rattle.machine_world.specs.Threads.{Thread, World, Setting, Move, retired, resumed, result_of, unless_trap, printed, answered, blocks, package_call, spawned, starts, asked, moved, step, local_in}
-use Rattle.machine_world.specs.WellFormed.{IsWellFormed}
 use Rattle.machine_meaning.specs.AsSource.{AsksCall, IsStepAsSource}
-use Rattle.stack_certificate.specs.Certificates.{fact_at, need_of}
-use Rattle.stack_certificate.specs.Templates.{kind_of}
-use Rattle.stack_certificate.specs.declared.certificates.Certificate.{Certificate}
-use Rattle.stack_image.specs.declared.images.Image.{Image}
-use Rattle.machine_meaning.specs.Reached.{IsReached, IsFinished}
 use Rattle.machine_meaning.proofs.SegmentSteps.{along, finish, own}
 use Rattle.machine_meaning.proofs.WorldSteps.{step_is}
 

@@ -1,8 +1,5 @@
 -- The clock goes on.
-use Rattle.std.proofs.Common.{ℕ, ◌≤◌}
-use Rattle.thread_waits.specs.Waiting.{latest}
-use Rattle.thread_waits.specs.Counted.{IsCounted}
-use Rattle.thread_waits.specs.declared.waits.Waits.TheInside.{Inside}
+use Rattle.thread_waits.proofs.Common.{ℕ, ◌≤◌, latest, IsCounted, Inside}
 
 -- what is counted doesn't depend on the clock
 pub advanced_counted : (old : Inside) (to : ℕ) → IsCounted old → to ≤ latest → IsCounted (record old { clock = to })

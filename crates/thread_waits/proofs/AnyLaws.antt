@@ -1,14 +1,6 @@
 -- Tests of some element of a list.
-use Rattle.std.proofs.Common.{◌≡◌, ◌+◌, ◌<◌, ◌&&◌, ◌||◌, Bool, true, false, List, [], ◌∷◌, refl, arith, count_by}
-use Rattle.std.specs.List.{list_any}
+use Rattle.thread_waits.proofs.Common.{◌≡◌, ◌+◌, ◌<◌, ◌&&◌, ◌||◌, Bool, true, false, List, [], ◌∷◌, refl, arith, count_by, list_any, or-true, or_swap}
 use Rattle.thread_waits.proofs.GrownLaws.{one_if, count_cons}
-
-or_four : (a b c d : Bool) → ((a || b) || (c || d)) ≡ ((a || c) || (b || d))
-or_four true b c d = refl
-or_four false true true d = refl
-or_four false true false d = refl
-or_four false false true d = refl
-or_four false false false d = refl
 
 and_or : (a b h : Bool) → ((a && h) || (b && h)) ≡ ((a || b) && h)
 and_or true true true = refl
@@ -17,10 +9,6 @@ and_or true false true = refl
 and_or true false false = refl
 and_or false b h = refl
 
-or_true : (a : Bool) → (a || true) ≡ true
-or_true true = refl
-or_true false = refl
-
 module _ {X : Type 0} where
   pub any_ext : (p q : X → Bool) → ((x : X) → p x ≡ q x) → (xs : List X) → list_any p xs ≡ list_any q xs
   any_ext p q e [] = refl
@@ -28,7 +16,7 @@ module _ {X : Type 0} where
 
   pub any_or : (p q : X → Bool) (xs : List X) → list_any (λ x. p x || q x) xs ≡ (list_any p xs || list_any q xs)
   any_or p q [] = refl
-  any_or p q (x ∷ xs) = rw (any_or p q xs) (or_four (p x) (q x) (list_any p xs) (list_any q xs))
+  any_or p q (x ∷ xs) = rw (any_or p q xs) (or_swap (p x) (q x) (list_any p xs) (list_any q xs))
 
   pub any_and : (p : X → Bool) (h : Bool) (xs : List X) → list_any (λ x. p x && h) xs ≡ (list_any p xs && h)
   any_and p h [] = refl
@@ -37,7 +25,7 @@ module _ {X : Type 0} where
   count_step : (p q : X → Bool) → ((x : X) → p x ≡ true → q x ≡ true) → (x : X) (xs : List X) → (b : Bool) → p x ≡ b → (0 < count_by p xs → list_any q xs ≡ true) →
       0 < one_if b + count_by p xs → (q x || list_any q xs) ≡ true
   count_step p q f x xs true e rest h = rw (f x e) refl
-  count_step p q f x xs false e rest h = rw (rest (omega arith)) (or_true (q x))
+  count_step p q f x xs false e rest h = rw (rest (omega arith)) (or-true (q x))
 
   -- where so many pass one test, some passes another that each of these passes
   pub any_from_count : (p q : X → Bool) → ((x : X) → p x ≡ true → q x ≡ true) → (xs : List X) → 0 < count_by p xs → list_any q xs ≡ true

@@ -1,14 +1,8 @@
 -- The least numbers of blocks of places, and trees that have them.
-use Rattle.std.proofs.Common.{◌≡◌, ◌≢◌, ℕ, ◌+◌, ◌*◌, ◌/◌, ◌<◌, ◌≤◌, ◌⊎◌, inl, inr, List, length, min, Option, Some, None, refl, sym, ◌∙◌, ap, subst, arith, below_more, slice_index_or, slice_set}
-use Rattle.std.proofs.lemmas.List.{get_or-set_same, get_or-set_other, length-set}
-use Rattle.thread_waits.specs.declared.waits.Wait.{Wait}
-use Rattle.thread_waits.specs.Counted.{IsBetween, IsLeafOf, IsLeastBetween, IsTreeOf, no_number, number_or}
+use Rattle.thread_waits.proofs.Common.{◌≡◌, ◌≢◌, ℕ, ◌+◌, ◌*◌, ◌/◌, ◌<◌, ◌≤◌, ◌⊎◌, inl, inr, List, length, min, Option, Some, None, refl, sym, ◌∙◌, ap, subst, arith, below_more, slice_index_or, slice_set, get_or-set_same, get_or-set_other, length-set, Wait, IsBetween, IsLeafOf, IsLeastBetween, IsTreeOf, no_number, number_or, same_or_not}
 
 pub past_or_not : (n k : ℕ) → (k < n) ⊎ (n ≤ k)
 past_or_not n k = grind arith
-
-pub same_or_not : (i n : ℕ) → (i ≡ n) ⊎ (i ≢ n)
-same_or_not i n = grind arith
 
 pub number_is : (o : Option ℕ) (n : ℕ) → number_or o ≡ n → n ≢ no_number → o ≡ Some n
 number_is None n e d = absurd (d (sym e))

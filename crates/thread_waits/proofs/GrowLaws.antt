@@ -1,7 +1,6 @@
 -- Numbers are filled in one after another.
-use Rattle.std.proofs.Common.{◌≡◌, ℕ, suc, ◌-◌, ◌<◌, List, [], ◌∷◌, ◌++◌, length, take, replicate, sym, ◌∙◌, arith, append_assoc, slice_index, slice_set}
 use Rattle.std.proofs.Math.Seq.{take-suc}
-use Rattle.std.proofs.lemmas.List.{set-append_right, length-take}
+use Rattle.thread_waits.proofs.Common.{◌≡◌, ℕ, suc, ◌-◌, ◌<◌, List, [], ◌∷◌, ◌++◌, length, take, replicate, sym, ◌∙◌, arith, append_assoc, slice_index, slice_set, set-append_right, length-take}
 
 pub filled : (xs : List ℕ) (p m n none : ℕ) → p < length xs → m ≡ suc n →
     slice_set (take p xs ++ replicate m none) p (slice_index xs p) ≡ take (suc p) xs ++ replicate n none

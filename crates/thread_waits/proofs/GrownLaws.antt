@@ -1,13 +1,6 @@
 -- More places, at which nobody waits.
-use Rattle.std.proofs.Common.{◌≡◌, ◌≢◌, ℕ, zero, suc, ◌+◌, ◌*◌, ◌<◌, ◌≤◌, ◌⊎◌, inl, inr, Bool, false, cond, List, [], ◌∷◌, length, All, Option, None, refl, sym, ◌∙◌, arith, count_by, slice_index_or, slice_set}
-use Rattle.std.proofs.lemmas.List.{get_or_past, get_or-set_same, get_or-set_other}
-use Rattle.std.proofs.lemmas.List.Sums.{sum_by-cons}
-use Rattle.std.proofs.lemmas.List.Elements.{All-get_or, All-from_get_or}
-use Rattle.thread_waits.specs.declared.waits.Wait.{Wait}
-use Rattle.thread_waits.specs.Waiting.{IsWaitInRangeIf, is_at_accept}
-use Rattle.thread_waits.specs.Counted.{IsCounted, IsTreeOf, IsGrown, no_number, is_ready_always, is_at_channel, amount_of, wake_of}
-use Rattle.thread_waits.specs.declared.waits.Waits.TheInside.{Inside}
-use Rattle.thread_waits.proofs.BlockLaws.{between_same, past_or_not, same_or_not}
+use Rattle.thread_waits.proofs.Common.{◌≡◌, ◌≢◌, ℕ, zero, suc, ◌+◌, ◌*◌, ◌<◌, ◌≤◌, ◌⊎◌, inl, inr, Bool, false, cond, List, [], ◌∷◌, length, All, Option, None, refl, sym, ◌∙◌, arith, count_by, slice_index_or, slice_set, get_or_past, get_or-set_same, get_or-set_other, sum_by-cons, All-get_or, All-from_get_or, Wait, IsWaitInRangeIf, is_at_accept, IsCounted, IsTreeOf, IsGrown, no_number, is_ready_always, is_at_channel, amount_of, wake_of, Inside, same_or_not}
+use Rattle.thread_waits.proofs.BlockLaws.{between_same, past_or_not}
 
 -- each place has what it had
 abbrev pub AreSame : List (Option Wait) → List (Option Wait) → Type 0

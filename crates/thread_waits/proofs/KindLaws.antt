@@ -1,12 +1,5 @@
 -- Readiness by kinds.
-use Rattle.std.proofs.Common.{◌≡◌, ℕ, ◌&&◌, ◌||◌, not, Bool, true, false, List, Option, Some, refl, ◌∙◌}
-use Rattle.std.specs.List.{list_any}
-use Rattle.cap_word.specs.declared.calls.Block.{Block}
-use Rattle.c_mean.specs.ModelledCalls.{Exchange, channel_of, holds_some}
-use Rattle.thread_waits.specs.declared.waits.Wait.{Wait}
-use Rattle.thread_waits.specs.Waiting.{Waiting, is_ready_in, is_at_accept, any_ready_in, any_elsewhere_in}
-use Rattle.thread_waits.specs.Counted.{is_ready_anyway}
-use Rattle.thread_waits.specs.Telling.{is_at_message, is_taking}
+use Rattle.thread_waits.proofs.Common.{◌≡◌, ℕ, ◌&&◌, ◌||◌, not, Bool, true, false, List, Option, Some, refl, ◌∙◌, list_any, Block, Exchange, channel_of, holds_some, Wait, Waiting, is_ready_in, is_at_accept, any_ready_in, any_elsewhere_in, is_ready_anyway, is_at_message, is_taking, or-true}
 use Rattle.thread_waits.proofs.AnyLaws.{any_ext, any_or, any_and}
 
 or_false : (a : Bool) → ((a || false) && true) ≡ a
@@ -84,16 +77,12 @@ any_ready_by caps x w =
 
 -- ---- the answers, one after another
 
-or_true : (a : Bool) → (a || true) ≡ true
-or_true true = refl
-or_true false = refl
-
 module _ (caps : List ℕ) (x : Exchange) (w : Waiting) where
   pub elsewhere_anyway : list_any (is_ready_anyway w.clock) w.places ≡ true → any_elsewhere_in caps x w ≡ true
   elsewhere_anyway e = any_elsewhere_by caps x w ∙ rw e refl
 
   pub elsewhere_message : list_any (is_at_message x) w.places ≡ true → any_elsewhere_in caps x w ≡ true
-  elsewhere_message e = any_elsewhere_by caps x w ∙ rw e (or_true (list_any (is_ready_anyway w.clock) w.places))
+  elsewhere_message e = any_elsewhere_by caps x w ∙ rw e (or-true (list_any (is_ready_anyway w.clock) w.places))
 
   pub elsewhere_taking : list_any (is_ready_anyway w.clock) w.places ≡ false → list_any (is_at_message x) w.places ≡ false → any_elsewhere_in caps x w ≡ list_any (is_taking caps x) w.places
   elsewhere_taking e f = any_elsewhere_by caps x w ∙ rw (e, f) refl

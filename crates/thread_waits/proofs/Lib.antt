@@ -1,3 +1,4 @@
+mod Common
 pub mod TreeLaws
 pub mod GrowLaws
 pub mod AnyLaws

@@ -1,18 +1,11 @@
 -- Needs are met where those who wait are ready.
-use Rattle.std.proofs.Common.{◌≡◌, ◌≢◌, ℕ, ◌+◌, ◌-◌, ◌*◌, ◌<◌, ◌≤◌, ◌^◌, Bool, true, false, ◌&&◌, ◌||◌, ◌==◌, not, cond, nat_le, nat_lt, bit_or, w64, zero, suc, Option, Some, None, All, List, [], ◌∷◌, length, refl, ◌∙◌, sym, ap, subst, arith, slice_index, slice_index_or, slice_set, below_more, length-set, get_or-set_same, get_or-set_other, ◌%◌}
-use Rattle.std.proofs.lemmas.Bool.Decides.{nat_tests}
+use Rattle.thread_waits.proofs.Common.{◌≡◌, ◌≢◌, ℕ, ◌+◌, ◌-◌, ◌*◌, ◌<◌, ◌≤◌, ◌^◌, Bool, true, false, ◌&&◌, ◌||◌, ◌==◌, not, cond, nat_le, nat_lt, bit_or, w64, zero, suc, Option, Some, None, All, List, [], ◌∷◌, length, refl, ◌∙◌, sym, ap, subst, arith, slice_index, slice_index_or, slice_set, below_more, length-set, get_or-set_same, get_or-set_other, ◌%◌, nat_tests, and_pow, bit_at_set_same, bit_at_set_other, All-get_or, Block, Exchange, cap_of, channel_of, holds_some, is_ready, use_of, IsBlockInRange, IsWaitInRange, IsWaitInRangeIf, is_ready_for, latest, Wait, or-false}
 use Rattle.std.proofs.lemmas.Nat.{pow_pos}
-use Rattle.std.proofs.lemmas.Nat.Bits.{and_pow, bit_at_set_same, bit_at_set_other}
-use Rattle.std.proofs.lemmas.List.Elements.{All-get_or}
 use Rattle.std.specs.Int.{bit_at}
 use lib.Bits.{and_zero_r}
-use Rattle.cap_word.specs.declared.calls.Block.{Block}
-use Rattle.c_mean.specs.ModelledCalls.{Exchange, cap_of, channel_of, holds_some, is_ready, use_of}
 use Rattle.ready_tree.specs.declared.bounds.Bounds.{Bounds}
 use Rattle.ready_tree.specs.Needs.{is_met, is_shared}
 use Rattle.thread_waits.specs.Needs.{need_of_block, need_for}
-use Rattle.thread_waits.specs.Waiting.{IsBlockInRange, IsWaitInRange, IsWaitInRangeIf, is_ready_for, latest}
-use Rattle.thread_waits.specs.declared.waits.Wait.{Wait}
 
 -- a bit that stands for a test says what the test says
 bit_says : (bit size : ℕ) (b : Bool) → 0 < size → bit ≡ cond b 1 0 → not (bit * size == 0) ≡ b
@@ -65,10 +58,6 @@ unused_more caps x r unused cap used before below cap_is used_is within = record
 no_clock : (clock : ℕ) → clock ≤ latest → nat_le (2 ^ 64 - 1) clock ≡ false
 no_clock clock h = grind (arith, nat_tests)
 
-or_false : (a : Bool) → (a || false) ≡ a
-or_false true = refl
-or_false false = refl
-
 fits_same : (used amount cap : ℕ) → used ≤ cap → nat_le amount (cap - used) ≡ nat_le (used + amount) cap
 fits_same used amount cap within = grind (arith, nat_tests)
 
@@ -99,7 +88,7 @@ pub record Tells (bounds : Bounds) (caps : List ℕ) (x : Exchange) (clock : ℕ
 
 module _ (bounds : Bounds) (caps : List ℕ) (x : Exchange) (clock : ℕ) (tells : Tells bounds caps x clock) (early : clock ≤ latest) where
   met_block : (since : ℕ) (block : Block) → IsBlockInRange block → is_met bounds (need_of_block since block) ≡ is_ready caps x clock since block
-  met_block since Block.Accept in_range = tells.arrival ∙ sym (or_false (holds_some x.arrivals))
+  met_block since Block.Accept in_range = tells.arrival ∙ sym (or-false (holds_some x.arrivals))
   met_block since (Block.Wait channel) in_range =
       rw (tells.channels channel in_range, tells.clock_is, no_clock clock early) refl
   met_block since (Block.Sleep ticks) in_range = rw (shared_none bounds.channels, tells.clock_is) refl
@@ -110,7 +99,7 @@ module _ (bounds : Bounds) (caps : List ℕ) (x : Exchange) (clock : ℕ) (tells
       below_eight r (nat_le amount (slice_index bounds.unused r)) in_range.1
       ∙ ap (λ n. nat_le amount n) (tells.unused r in_range.1)
       ∙ fits_same (use_of x r) amount (cap_of caps r) (tells.within r in_range.1)
-      ∙ sym (or_false (nat_le (use_of x r + amount) (cap_of caps r)))
+      ∙ sym (or-false (nat_le (use_of x r + amount) (cap_of caps r)))
 
   pub met_wait : (wait : Wait) → IsWaitInRange wait → is_met bounds (need_for wait) ≡ is_ready_for caps x clock wait
   met_wait Wait.Fresh in_range = refl

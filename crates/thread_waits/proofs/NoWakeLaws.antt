@@ -1,11 +1,6 @@
 -- Every time to wake is a number.
-use Rattle.std.proofs.Common.{◌≡◌, ℕ, ◌+◌, ◌^◌, ◌<◌, ◌≤◌, ◌⊎◌, inl, inr, Option, Some, None, sym, ◌∙◌, arith}
-use Rattle.cap_word.specs.declared.calls.Block.{Block}
-use Rattle.c_mean.specs.ModelledCalls.{ticks_of}
-use Rattle.thread_waits.specs.declared.waits.Wait.{Wait}
-use Rattle.thread_waits.specs.Waiting.{IsWaitInRangeIf, latest}
-use Rattle.thread_waits.specs.Counted.{no_number, later_wake, if_later}
-use Rattle.thread_waits.proofs.TimeLaws.{few_ticks, later_yes, later_no, past_or_later}
+use Rattle.thread_waits.proofs.Common.{◌≡◌, ℕ, ◌+◌, ◌^◌, ◌<◌, ◌≤◌, ◌⊎◌, inl, inr, Option, Some, None, sym, ◌∙◌, arith, Block, ticks_of, Wait, IsWaitInRangeIf, latest, no_number, later_wake, if_later, cases_lt}
+use Rattle.thread_waits.proofs.TimeLaws.{few_ticks, later_yes, later_no}
 
 time_small : (clock time n : ℕ) → if_later clock (Some time) ≡ Some n → time < no_number → (clock < time) ⊎ (time ≤ clock) → n < no_number
 time_small clock time n e h (inl later) = let x : time ≡ n = (let y : Some time ≡ Some n = sym (later_yes clock time later) ∙ e in cc) in omega arith
@@ -14,7 +9,7 @@ time_small clock time n e h (inr past) = absurd (let y : None ≡ Some n = sym (
 ticks_small : (clock since ticks n : ℕ) → since ≤ latest → if_later clock (Some (since + ticks_of ticks)) ≡ Some n → n < no_number
 ticks_small clock since ticks n h e =
     let few : ticks_of ticks < 2 ^ 31 = few_ticks ticks in
-    time_small clock (since + ticks_of ticks) n e (omega arith) (past_or_later clock (since + ticks_of ticks))
+    time_small clock (since + ticks_of ticks) n e (omega arith) (cases_lt clock (since + ticks_of ticks))
 
 block_small : (clock since n : ℕ) (block : Block) → since ≤ latest → later_wake clock (Some (Wait.At block since)) ≡ Some n → n < no_number
 block_small clock since n (Block.Sleep ticks) h e = ticks_small clock since ticks n h e

@@ -1,11 +1,5 @@
 -- Another waits at a place.
-use Rattle.std.proofs.Common.{◌≡◌, ℕ, ◌+◌, ◌-◌, ◌<◌, Bool, cond, List, [], length, Option, None, arith, count_by, slice_index, slice_index_or, slice_set}
-use Rattle.std.proofs.lemmas.List.Sums.{sum_by-set}
-use Rattle.std.proofs.lemmas.List.Elements.{All-from_get_or}
-use Rattle.thread_waits.specs.declared.waits.Wait.{Wait}
-use Rattle.thread_waits.specs.declared.waits.Waits.TheInside.{Inside}
-use Rattle.thread_waits.specs.Waiting.{IsWaitInRangeIf, is_at_accept}
-use Rattle.thread_waits.specs.Counted.{IsCounted, IsTreeOf, amount_of, is_at_channel, is_ready_always, wake_of}
+use Rattle.thread_waits.proofs.Common.{◌≡◌, ℕ, ◌+◌, ◌-◌, ◌<◌, Bool, cond, List, [], length, Option, None, arith, count_by, slice_index, slice_index_or, slice_set, sum_by-set, All-from_get_or, Wait, Inside, IsWaitInRangeIf, is_at_accept, IsCounted, IsTreeOf, amount_of, is_at_channel, is_ready_always, wake_of}
 use Rattle.thread_waits.proofs.GrownLaws.{holds_with, one_if}
 
 -- what is counted before and after

@@ -1,17 +1,5 @@
 -- Who waits at a channel or for a resource is ready.
-use Rattle.std.proofs.Common.{◌≡◌, ◌≢◌, ℕ, zero, suc, ◌+◌, ◌<◌, ◌≤◌, ◌⊎◌, inl, inr, Bool, true, false, cond, List, [], ◌∷◌, length, All, Option, Some, None, refl, ap, arith, count_by, nat_eq, nat_le, slice_index_or}
-use Rattle.std.specs.List.{list_any}
-use Rattle.std.proofs.lemmas.Bool.Decides.{nat_tests}
-use Rattle.std.proofs.lemmas.List.Sums.{get_or-le-sum_by}
-use Rattle.std.proofs.lemmas.List.Folds.{list_any_none, list_any-from_Any}
-use Rattle.std.proofs.lemmas.List.Elements.{All-from_get_or, All-get_or}
-use Rattle.cap_word.specs.declared.calls.Block.{Block}
-use Rattle.c_mean.specs.ModelledCalls.{Exchange, channel_of, holds_some, use_of, cap_of}
-use Rattle.thread_waits.specs.declared.waits.Wait.{Wait}
-use Rattle.thread_waits.specs.Least.{IsLeast}
-use Rattle.thread_waits.specs.Waiting.{IsWaitInRangeIf}
-use Rattle.thread_waits.specs.Counted.{IsTreeOf, is_at_channel, amount_of, no_number}
-use Rattle.thread_waits.specs.Telling.{is_at_message, is_taker, is_taking, is_unused, HasPlace}
+use Rattle.thread_waits.proofs.Common.{◌≡◌, ◌≢◌, ℕ, zero, suc, ◌+◌, ◌<◌, ◌≤◌, ◌⊎◌, inl, inr, Bool, true, false, cond, List, [], ◌∷◌, length, All, Option, Some, None, refl, ap, arith, count_by, nat_eq, nat_le, slice_index_or, list_any, nat_tests, get_or-le-sum_by, list_any_none, list_any-from_Any, All-from_get_or, All-get_or, Block, Exchange, channel_of, holds_some, use_of, cap_of, Wait, IsLeast, IsWaitInRangeIf, IsTreeOf, is_at_channel, amount_of, no_number, is_at_message, is_taker, is_taking, is_unused, HasPlace}
 use Rattle.thread_waits.proofs.AnyLaws.{any_from_count}
 use Rattle.thread_waits.proofs.GrownLaws.{one_if, holds_at}
 use Rattle.thread_waits.proofs.TimeLaws.{eq_same, le_yes, le_no}

@@ -1,22 +1,11 @@
 -- Who sleeps has a time that is to come, and no message at his channel. The least time of all is the tree's where no message
 -- waits for anybody, or else is found place by place.
-use Rattle.std.proofs.Common.{◌≡◌, ◌≢◌, ℕ, zero, suc, ◌+◌, ◌<◌, ◌≤◌, ◌⊎◌, inl, inr, ◌||◌, Bool, true, false, cond, List, [], ◌∷◌, length, map, min, All, Contains, Option, Some, None, refl, sym, ◌∙◌, ap, subst, arith, below_more, count_by, nat_le, slice_index_or}
 use Rattle.std.specs.Prelude.{if◌then◌else◌}
-use Rattle.std.specs.List.{list_any}
-use Rattle.std.proofs.lemmas.List.{get_or-map, length-map}
-use Rattle.std.proofs.lemmas.List.Elements.{All-from_get_or}
-use Rattle.std.proofs.lemmas.List.Folds.{list_any_none, list_any-from_Any}
-use Rattle.cap_word.specs.declared.calls.Block.{Block}
-use Rattle.c_mean.specs.ModelledCalls.{Exchange, cap_of, channel_of, holds_some, ticks_of, use_of}
-use Rattle.thread_waits.specs.declared.waits.Wait.{Wait}
-use Rattle.thread_waits.specs.Least.{IsLeast}
-use Rattle.thread_waits.specs.Waiting.{Waiting, IsWaitInRangeIf, IsWake, latest, sleeps_in}
-use Rattle.thread_waits.specs.Counted.{IsTreeOf, is_ready_always, is_ready_anyway, later_wake, if_later, no_number, number_or, wake_of}
-use Rattle.thread_waits.specs.Telling.{is_at_message, silent_wake, HasPlace, IsLeastOfFirst, IsLeastNumber}
+use Rattle.thread_waits.proofs.Common.{◌≡◌, ◌≢◌, ℕ, zero, suc, ◌+◌, ◌<◌, ◌≤◌, ◌⊎◌, inl, inr, ◌||◌, Bool, true, false, cond, List, [], ◌∷◌, length, map, min, All, Contains, Option, Some, None, refl, sym, ◌∙◌, ap, subst, arith, below_more, count_by, nat_le, slice_index_or, list_any, get_or-map, length-map, All-from_get_or, list_any_none, list_any-from_Any, Block, Exchange, cap_of, channel_of, holds_some, ticks_of, use_of, Wait, IsLeast, Waiting, IsWaitInRangeIf, IsWake, latest, sleeps_in, IsTreeOf, is_ready_always, is_ready_anyway, later_wake, if_later, no_number, number_or, wake_of, is_at_message, silent_wake, HasPlace, IsLeastOfFirst, IsLeastNumber, or_parts, cases_lt}
 use Rattle.thread_waits.proofs.AnyLaws.{none_from_count}
 use Rattle.thread_waits.proofs.BlockLaws.{lesser_is, number_is, past_or_not}
 use Rattle.thread_waits.proofs.GrownLaws.{holds_at}
-use Rattle.thread_waits.proofs.TimeLaws.{le_yes, le_no, later_yes, later_no, later_same, past_or_later, past_ready, none_or_some, unready}
+use Rattle.thread_waits.proofs.TimeLaws.{le_yes, le_no, later_yes, later_no, later_same, past_ready, none_or_some, unready}
 use Rattle.thread_waits.proofs.NoWakeLaws.{wake_small, none_by}
 use Rattle.thread_waits.proofs.ReadyLaws.{default_same}
 use Rattle.thread_waits.proofs.WakeLaws.{no_lower, place_of}
@@ -33,12 +22,12 @@ past_by clock time (inr past) = ap (λ (b : Bool). cond b None (Some time)) (le_
 
 message_or_past : (h : Bool) (clock time : ℕ) → ◌≡◌ {A = Option ℕ} (if h || nat_le time clock then None else Some time) (if h then None else if_later clock (Some time))
 message_or_past true clock time = refl
-message_or_past false clock time = past_by clock time (past_or_later clock time)
+message_or_past false clock time = past_by clock time (cases_lt clock time)
 
 sleeps_block : (caps : List ℕ) (x : Exchange) (clock since : ℕ) (block : Block) → sleeps_in caps x clock (Some (Wait.At block since)) ≡ silent_wake x clock (Some (Wait.At block since))
 sleeps_block caps x clock since Block.Accept = none_either (holds_some x.arrivals || false)
 sleeps_block caps x clock since (Block.Wait channel) = none_either (holds_some (channel_of x channel) || false) ∙ sym (none_either (holds_some (channel_of x channel)))
-sleeps_block caps x clock since (Block.Sleep ticks) = past_by clock (since + ticks_of ticks) (past_or_later clock (since + ticks_of ticks))
+sleeps_block caps x clock since (Block.Sleep ticks) = past_by clock (since + ticks_of ticks) (cases_lt clock (since + ticks_of ticks))
 sleeps_block caps x clock since Block.Yield = refl
 sleeps_block caps x clock since (Block.Take resource amount) = none_either (nat_le (use_of x resource + amount) (cap_of caps resource) || false)
 sleeps_block caps x clock since (Block.WaitFor channel ticks) = message_or_past (holds_some (channel_of x channel)) clock (since + ticks_of ticks)
@@ -60,14 +49,10 @@ silent_small x clock n wait r e = wake_small clock n wait r (spoken_not (is_at_m
 
 -- ---- the least by the tree
 
-or_both : (a b : Bool) → (a || b) ≡ false → (a ≡ false) × (b ≡ false)
-or_both true b e = absurd (let no : true ≡ false = e in cc)
-or_both false b e = (refl, e)
-
 none_passes : (p : Option Wait → Bool) (places : List (Option Wait)) → list_any p places ≡ false → (k : ℕ) → k < length places → p (slice_index_or places k None) ≡ false
 none_passes p [] e k h = absurd (omega arith)
-none_passes p (wait ∷ places) e zero h = (or_both (p wait) (list_any p places) e).0
-none_passes p (wait ∷ places) e (suc k) h = none_passes p places (or_both (p wait) (list_any p places) e).1 k (omega arith)
+none_passes p (wait ∷ places) e zero h = (or_parts (p wait) (list_any p places) e).0
+none_passes p (wait ∷ places) e (suc k) h = none_passes p places (or_parts (p wait) (list_any p places) e).1 k (omega arith)
 
 -- where no message waits for anybody and nobody's time has come
 module _ (x : Exchange) (clock : ℕ) (places : List (Option Wait)) (leaves : List ℕ) (least : ℕ) (quiet : list_any (is_at_message x) places ≡ false) (ranges : All IsWaitInRangeIf places) (t : IsTreeOf wake_of places leaves) (l : IsLeast leaves least) (later : clock < least) where
@@ -111,7 +96,7 @@ module _ (clock : ℕ) (possible : clock ≤ latest) (places : List (Option Wait
       (p.place, slice_index_or places p.place None, p.there, default_same places p.place p.there, past_ready clock least (slice_index_or places p.place None) p.number h))
 
   pub past_least : nat_le least clock ≡ list_any (is_ready_anyway clock) places
-  past_least = past_by_least (past_or_later clock least)
+  past_least = past_by_least (cases_lt clock least)
 
 -- ---- the least place by place
 

@@ -1,11 +1,5 @@
 -- One place, at which nobody waits.
-use Rattle.std.proofs.Common.{◌≡◌, ℕ, zero, suc, List, [], ◌∷◌, Option, None, replicate, refl, arith, slice_index_or}
-use Rattle.std.proofs.lemmas.List.{get_or-replicate}
-use Rattle.std.proofs.lemmas.List.Elements.{All-cons}
-use Rattle.thread_waits.specs.declared.waits.Wait.{Wait}
-use Rattle.thread_waits.specs.declared.waits.Waits.TheInside.{Inside}
-use Rattle.thread_waits.specs.Waiting.{IsWaitInRangeIf}
-use Rattle.thread_waits.specs.Counted.{IsCounted, IsTreeOf, no_number, amount_of, wake_of}
+use Rattle.thread_waits.proofs.Common.{◌≡◌, ℕ, zero, suc, List, [], ◌∷◌, Option, None, replicate, refl, arith, slice_index_or, get_or-replicate, All-cons, Wait, Inside, IsWaitInRangeIf, IsCounted, IsTreeOf, no_number, amount_of, wake_of}
 
 empty_place : (k : ℕ) → slice_index_or (no_number ∷ []) k no_number ≡ no_number
 empty_place zero = refl

@@ -1,11 +1,6 @@
 -- Times that are to come and times that are past.
-use Rattle.std.proofs.Common.{◌≡◌, ℕ, ◌+◌, ◌^◌, ◌<◌, ◌≤◌, ◌⊎◌, inl, inr, true, false, Option, Some, None, refl, arith, nat_eq, nat_le, nat_lt}
 use Rattle.std.proofs.lemmas.Grind.{common_steps}
-use Rattle.std.proofs.lemmas.Bool.Decides.{nat_tests}
-use Rattle.cap_word.specs.declared.calls.Block.{Block}
-use Rattle.c_mean.specs.ModelledCalls.{ticks_of}
-use Rattle.thread_waits.specs.declared.waits.Wait.{Wait}
-use Rattle.thread_waits.specs.Counted.{if_later, is_ready_always, is_ready_anyway, number_or, wake_of}
+use Rattle.thread_waits.proofs.Common.{◌≡◌, ℕ, ◌+◌, ◌^◌, ◌<◌, ◌≤◌, ◌⊎◌, inl, inr, true, false, Option, Some, None, refl, arith, nat_eq, nat_le, nat_lt, nat_tests, Block, ticks_of, Wait, if_later, is_ready_always, is_ready_anyway, number_or, wake_of}
 
 pub few_ticks : (n : ℕ) → ticks_of n < 2 ^ 31
 few_ticks n = grind (arith, common_steps)
@@ -37,9 +32,6 @@ none_by clock time (inr n) h = rw n.0 refl
 
 pub later_no : (clock time : ℕ) → time ≤ clock → if_later clock (Some time) ≡ None
 later_no clock time h = none_by clock time (lt_cases clock time) h
-
-pub past_or_later : (clock time : ℕ) → (clock < time) ⊎ (time ≤ clock)
-past_or_later clock time = grind arith
 
 pub none_or_some : (o : Option ℕ) → (o ≡ None) ⊎ ((n : ℕ) × (o ≡ Some n))
 none_or_some None = inl refl

@@ -1,10 +1,6 @@
 -- The root of a tree of minima is the least leaf.
-use Rattle.std.proofs.Common.{◌≡◌, ℕ, zero, suc, ◌+◌, ◌-◌, ◌*◌, ◌/◌, ◌<◌, ◌≤◌, ◌⊎◌, inl, inr, List, length, Contains, refl, ◌∙◌, subst, ap, arith, slice_index}
 use Rattle.std.proofs.Math.Arith.{bin_ind}
-use Rattle.std.proofs.lemmas.List.{get_or-drop, length-drop}
-use Rattle.std.proofs.lemmas.List.Elements.{All-from_get_or, Contains-get_or}
-use Rattle.thread_waits.specs.Least.{IsLeast}
-use Rattle.thread_waits.specs.Minima.{IsNode, AreMinima, leaves_in}
+use Rattle.thread_waits.proofs.Common.{◌≡◌, ℕ, zero, suc, ◌+◌, ◌-◌, ◌*◌, ◌/◌, ◌<◌, ◌≤◌, ◌⊎◌, inl, inr, List, length, Contains, refl, ◌∙◌, subst, ap, arith, slice_index, get_or-drop, length-drop, All-from_get_or, Contains-get_or, IsLeast, IsNode, AreMinima, leaves_in}
 
 -- ---- the root
 

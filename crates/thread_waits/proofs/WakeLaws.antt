@@ -1,11 +1,5 @@
 -- The least number of a tree is that of somebody who waits, and nobody waits for a lesser one.
-use Rattle.std.proofs.Common.{◌≡◌, ◌≢◌, ℕ, zero, suc, ◌+◌, ◌*◌, ◌/◌, ◌<◌, ◌≤◌, ◌⊎◌, inl, inr, List, [], ◌∷◌, length, Option, Some, None, refl, sym, ◌∙◌, ap, subst, arith, slice_index_or}
-use Rattle.std.proofs.lemmas.List.{get_or_past}
-use Rattle.std.proofs.lemmas.List.Elements.{All-get_or}
-use Rattle.thread_waits.specs.declared.waits.Wait.{Wait}
-use Rattle.thread_waits.specs.Least.{IsLeast}
-use Rattle.thread_waits.specs.Counted.{IsBetween, IsTreeOf, no_number, number_or}
-use Rattle.thread_waits.specs.Telling.{HasPlace}
+use Rattle.thread_waits.proofs.Common.{◌≡◌, ◌≢◌, ℕ, zero, suc, ◌+◌, ◌*◌, ◌/◌, ◌<◌, ◌≤◌, ◌⊎◌, inl, inr, List, [], ◌∷◌, length, Option, Some, None, refl, sym, ◌∙◌, ap, subst, arith, slice_index_or, get_or_past, All-get_or, Wait, IsLeast, IsBetween, IsTreeOf, no_number, number_or, HasPlace}
 use Rattle.thread_waits.proofs.BlockLaws.{past_or_not}
 
 -- what is read at a place doesn't depend on the default

@@ -1,15 +1,6 @@
 -- The workload is built whatever its number.
-use Rattle.std.proofs.Common.{ℕ, ◌≡◌, ◌≤◌, List, length, map, ap, sym, subst, arith}
-use Rattle.std.specs.Prelude.{option_map}
-use Rattle.std.proofs.lemmas.List.Sums.{sum_by-take-le}
-use Rattle.c_tree.specs.Trees.{ProgramTree}
-use Rattle.c_lower.specs.ProgramCode.{lowered, lowered_function}
-use Rattle.c_scope.specs.SourceText.{ReadsAs}
-use Rattle.scope_rules.specs.Names.{Binding}
-use Rattle.scope_rules.specs.Items.{definitions}
-use Rattle.codegen_link.specs.Layout.{function_words}
+use Rattle.workload.proofs.Common.{ℕ, ◌≡◌, ◌≤◌, List, length, map, ap, sym, subst, arith, option_map, sum_by-take-le, ProgramTree, lowered, lowered_function, ReadsAs, Binding, definitions, function_words, program_text}
 use Rattle.stack_build.specs.Refusals.{of_place}
-use Rattle.workload.specs.Programs.{program_text}
 use Rattle.workload.proofs.Items.{program_items}
 use Rattle.workload.proofs.Resolved.{main_trees, main_length}
 use Rattle.workload.proofs.Reading.{functions_are}

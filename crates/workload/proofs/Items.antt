@@ -1,9 +1,5 @@
 -- The tree of the workload's source: an item for each line, by the places of its tokens.
-use Rattle.std.proofs.Common.{ℕ, zero, suc, true, false, List, [], ◌∷◌, ◌++◌, length, Some}
-use Rattle.std.specs.Prelude.{codes}
-use Rattle.c_tree.specs.declared.operators.BinaryOperator.{BinaryOperator}
-use Rattle.c_tree.specs.RawTrees.{NameTree, RawExprTree, RawNumber, RawName, RawBinary, RawCall, NoExprs, And, RawDeclareScalar, RawSet, RawCalling, RawStmtTrees, RawDo, RawFor, RawReturn, NoRawStmts, RawThen, RawItemTree, RawFunctionItem}
-use Rattle.workload.specs.Programs.{chain_text, worker_line}
+use Rattle.workload.proofs.Common.{ℕ, zero, suc, true, false, List, [], ◌∷◌, ◌++◌, length, Some, codes, BinaryOperator, NameTree, RawExprTree, RawNumber, RawName, RawBinary, RawCall, NoExprs, And, RawDeclareScalar, RawSet, RawCalling, RawStmtTrees, RawDo, RawFor, RawReturn, NoRawStmts, RawThen, RawItemTree, RawFunctionItem, chain_text, worker_line}
 use Rattle.workload.proofs.Spelling.{place_of}
 use Rattle.workload.proofs.Pieces.{chain_name, first_pieces, link_pieces, worker_pieces, main_pieces}
 

@@ -1,10 +1,5 @@
 -- The tokens of the workload's source.
-use Rattle.std.proofs.Common.{ℕ, zero, suc, ◌≡◌, ◌≤◌, ◌+◌, List, [], ◌∷◌, ◌++◌, length, refl, sym, ap, subst, arith, append_assoc, append-nil}
-use Rattle.std.proofs.lemmas.List.{length-append}
-use Rattle.c_lex.specs.declared.tokens.Token.{Token}
-use Rattle.c_lex.specs.Gaps.IsGap.{nothing, space}
-use Rattle.c_lex.specs.Tokens.{LeadsTo, AreTokensOf}
-use Rattle.workload.specs.Programs.{line_feed, first_line, link_line, chain_text, worker_line, main_line, program_text}
+use Rattle.workload.proofs.Common.{ℕ, zero, suc, ◌≡◌, ◌≤◌, ◌+◌, List, [], ◌∷◌, ◌++◌, length, refl, sym, ap, subst, arith, append_assoc, append-nil, length-append, Token, nothing, space, LeadsTo, AreTokensOf, line_feed, first_line, link_line, chain_text, worker_line, main_line, program_text}
 use Rattle.workload.proofs.Spelling.{Written, spell, end_of, end_is, tokens_of, AreWritten, leads_on, leads_gap}
 use Rattle.workload.proofs.Pieces.{first_pieces, first_written, first_spelled, link_pieces, link_written, link_spelled, worker_pieces, worker_written, worker_spelled, main_pieces, main_written, main_spelled}
 

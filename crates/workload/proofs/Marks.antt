@@ -1,12 +1,6 @@
 -- Marks as they are written, each in front of a byte with which no longer mark begins.
-use Rattle.std.proofs.Common.{ℕ, ◌≡◌, ◌≢◌, inl, inr, ⊎_elim, List, [], ◌∷◌, ◌++◌, get_or, Bool, true, false, refl, sym, ap, ◌∙◌, subst}
-use Rattle.std.specs.Prelude.{nat_eq, ◌&&◌}
-use Rattle.std.proofs.lemmas.Bool.{both_ways}
-use Rattle.c_lex.specs.declared.marks.Mark.{Mark}
+use Rattle.workload.proofs.Common.{ℕ, ◌≡◌, ◌≢◌, inl, inr, ⊎_elim, List, [], ◌∷◌, ◌++◌, get_or, Bool, true, false, refl, sym, ap, ◌∙◌, subst, nat_eq, ◌&&◌, both_ways, Mark, is_word_byte, mark_text, IsWord, IsLexeme}
 use Rattle.c_lex.specs.declared.marks.Mark.TheVariants as marks
-use Rattle.c_lex.specs.Bytes.{is_word_byte}
-use Rattle.c_lex.specs.Marks.{mark_text}
-use Rattle.c_lex.specs.Lexemes.{IsWord, IsLexeme}
 use Rattle.workload.proofs.Spelling.{IsWritten, mark}
 use Rattle.workload.proofs.Words.{AllWhite, gap_of}
 

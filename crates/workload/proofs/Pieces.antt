@@ -1,11 +1,7 @@
 -- The four kinds of lines of the workload's source, token by token as they are written.
-use Rattle.std.proofs.Common.{ℕ, ◌≡◌, ◌<◌, ◌≤◌, ◌^◌, List, [], ◌∷◌, ◌++◌, refl, lit<, arith, append_assoc}
-use Rattle.std.specs.Prelude.{codes}
-use Rattle.cap_text.specs.Decimals.{canonical_decimal}
+use Rattle.workload.proofs.Common.{ℕ, ◌≡◌, ◌<◌, ◌≤◌, ◌^◌, List, [], ◌∷◌, ◌++◌, refl, lit<, arith, append_assoc, codes, canonical_decimal, IsNumber, first_line, link_line, worker_line, main_line}
 use Rattle.c_lex.specs.declared.keywords.Keyword.TheVariants as keywords
 use Rattle.c_lex.specs.declared.marks.Mark.TheVariants as marks
-use Rattle.c_lex.specs.Numbers.{IsNumber}
-use Rattle.workload.specs.Programs.{first_line, link_line, worker_line, main_line}
 use Rattle.workload.proofs.Spelling.{Written, close, blank, keyword, mark, name, number, spell, AreWritten}
 use Rattle.workload.proofs.Words.{keyword_written, name_written, number_written, decimal_word, decimal_number, chain_is_name, name_x, name_r, name_w, name_n, name_c, name_v, name_i, name_main, name_accept, name_wait, name_put, name_spawn}
 use Rattle.workload.proofs.Marks.{left_parenthesis, right_parenthesis, left_brace, right_brace, comma, semicolon, assign, less, plus}

@@ -1,10 +1,6 @@
 -- The source of the workload reads as a program, and which functions that has.
-use Rattle.std.proofs.Common.{ℕ, ◌≡◌, ◌≤◌, ap, ◌∙◌}
-use Rattle.c_tree.specs.Trees.{ProgramTree}
-use Rattle.c_scope.specs.SourceText.{ReadsAs}
+use Rattle.workload.proofs.Common.{ℕ, ◌≡◌, ◌≤◌, ap, ◌∙◌, ProgramTree, ReadsAs, definitions, program_of, program_text}
 use Rattle.c_scope.proofs.EveryWhole.{one_program}
-use Rattle.scope_rules.specs.Items.{definitions, program_of}
-use Rattle.workload.specs.Programs.{program_text}
 use Rattle.workload.proofs.Lexed.{program_tokens, program_lexed}
 use Rattle.workload.proofs.Items.{program_items}
 use Rattle.workload.proofs.Trees.{program_derived}

@@ -1,17 +1,8 @@
 -- The tree of the workload's source breaks no rule of scope, defines main and exceeds no limit.
-use Rattle.std.proofs.Common.{ℕ, zero, suc, ◌≡◌, ◌≤◌, ◌+◌, ◌*◌, ◌%◌, ◌^◌, true, false, List, [], ◌∷◌, ◌++◌, length, None, refl, ap, ◌∙◌, arith, lit≤}
-use Rattle.std.specs.Prelude.{codes, sum, nat_lt, not}
-use Rattle.std.proofs.lemmas.List.{length-append}
-use Rattle.std.proofs.lemmas.Bool.Decides.{nat_tests}
-use Rattle.c_tree.specs.RawTrees.{RawItemTree}
-use Rattle.c_tree.specs.Trees.{FunctionTree, ProgramTree}
+use Rattle.workload.proofs.Common.{ℕ, zero, suc, ◌≡◌, ◌≤◌, ◌+◌, ◌*◌, ◌%◌, ◌^◌, true, false, List, [], ◌∷◌, ◌++◌, length, None, refl, ap, ◌∙◌, arith, lit≤, codes, sum, nat_lt, not, length-append, nat_tests, RawItemTree, FunctionTree, ProgramTree, Binding, find, function_of, next, Sofar, at_start, with_definition, with_definitions, definitions, item_faults, item_after, items_faults, items_after, program_of, has_main, is_missing}
 use Rattle.c_tree.specs.Sizes.{declared_words}
 use Rattle.c_tree.specs.TextOrder.{stmts_sites, functions_sites}
-use Rattle.scope_rules.specs.Names.{Binding, find}
-use Rattle.scope_rules.specs.Meanings.{function_of}
-use Rattle.scope_rules.specs.Calls.{next}
 use Rattle.scope_rules.specs.Limits.{most_locals, most_params, first_exceeded, exceeded}
-use Rattle.scope_rules.specs.Items.{Sofar, at_start, with_definition, with_definitions, definitions, item_faults, item_after, items_faults, items_after, program_of, has_main, is_missing}
 use Rattle.scope_rules.specs.Outcomes.{IsResolved}
 use Rattle.workload.proofs.Pieces.{chain_name}
 use Rattle.workload.proofs.Items.{first_item, first_places, link_item, link_places, worker_item, worker_places, main_item, main_places, chain_items, program_items}

@@ -1,20 +1,8 @@
 -- Each name of the workload's source means what it is to mean: the names in scope line by line, and the functions made.
-use Rattle.std.proofs.Common.{ℕ, zero, suc, ◌≡◌, ◌<◌, ◌%◌, ◌^◌, Bool, true, false, List, [], ◌∷◌, ◌++◌, length, Some, None, refl, ap, ◌∙◌, arith}
-use Rattle.std.specs.Prelude.{codes, if◌then◌else◌}
-use Rattle.std.specs.Str.{bytes_eq}
-use Rattle.std.proofs.lemmas.Slice.Eq.{bytes_eq-Decides}
-use Rattle.cap_text.specs.Decimals.{canonical_decimal}
-use Rattle.cap_text.proofs.DecimalLaws.{decimal_unique}
-use Rattle.c_tree.specs.declared.operators.BinaryOperator.{BinaryOperator}
+use Rattle.workload.proofs.Common.{ℕ, zero, suc, ◌≡◌, ◌<◌, ◌%◌, ◌^◌, Bool, true, false, List, [], ◌∷◌, ◌++◌, length, Some, None, refl, ap, ◌∙◌, arith, codes, if◌then◌else◌, bytes_eq, bytes_eq-Decides, canonical_decimal, decimal_unique, BinaryOperator, Number, Local, Binary, CallFunction, CallSpawn, CallModelled, Computed, Called, DeclareScalar, SetLocal, Calling, Do, For, Return, NoStmts, Then, FunctionTree, Binding, find, function_of, next, Sofar, modelled_names, item_faults, item_after, false_from_ne_true, same_itself}
 use Rattle.cap_word.specs.declared.modelled_calls.ModelledCall.{ModelledCall}
-use Rattle.c_tree.specs.Trees.{Number, Local, Binary, CallFunction, CallSpawn, CallModelled, Computed, Called, DeclareScalar, SetLocal, Calling, Do, For, Return, NoStmts, Then, FunctionTree}
 use Rattle.scope_rules.specs.declared.meanings.Meaning.{Meaning}
 use Rattle.scope_rules.specs.declared.meanings.Found.{Found}
-use Rattle.scope_rules.specs.Names.{Binding, find}
-use Rattle.scope_rules.specs.Meanings.{function_of}
-use Rattle.scope_rules.specs.Calls.{next}
-use Rattle.scope_rules.specs.Items.{Sofar, modelled_names, item_faults, item_after}
-use Rattle.workload.proofs.Words.{same_itself}
 use Rattle.workload.proofs.Pieces.{chain_name}
 use Rattle.workload.proofs.Items.{link_item, worker_item, main_item}
 
@@ -94,13 +82,8 @@ find_outside t defs (suc m) other = find_further t (defined defs (chain_name (su
 pub no_local : (t : List ℕ) (defs : List Binding) (m : ℕ) → ((i : ℕ) → bytes_eq (chain_name i) t ≡ false) → find t modelled_names ≡ None → find t (chain_names defs m) ≡ None
 no_local t defs m other none = find_outside t defs m other ∙ none
 
--- the names of the chain are distinct
-false_unless : (b : Bool) → (b ≡ true → ⊥) → b ≡ false
-false_unless true never = absurd (never refl)
-false_unless false never = refl
-
 pub chain_differs : (i k : ℕ) → (i ≡ k → ⊥) → bytes_eq (chain_name i) (chain_name k) ≡ false
-chain_differs i k other = false_unless (bytes_eq (chain_name i) (chain_name k)) (λ e. other (decimal_unique i k (tails ((bytes_eq-Decides (chain_name i) (chain_name k)).0 e)))) where
+chain_differs i k other = false_from_ne_true (bytes_eq (chain_name i) (chain_name k)) (λ e. other (decimal_unique i k (tails ((bytes_eq-Decides (chain_name i) (chain_name k)).0 e)))) where
   tails : chain_name i ≡ chain_name k → canonical_decimal i ≡ canonical_decimal k
   tails e = cc
 

@@ -1,9 +1,5 @@
 -- The frames and the code of the four shapes of function that the source of the workload has.
-use Rattle.std.proofs.Common.{ℕ, zero, suc, ◌≡◌, ◌≤◌, ◌+◌, ◌*◌, ◌%◌, ◌^◌, false, List, [], ◌∷◌, ◌++◌, length, map, Some, None, refl, ap, ◌∙◌, arith, lit≤}
-use Rattle.std.specs.Prelude.{codes, sum_by, if◌then◌else◌}
-use Rattle.std.proofs.lemmas.List.Sums.{sum_by-cons}
-use Rattle.c_tree.specs.Trees.{FunctionTree}
-use Rattle.c_lower.specs.ProgramCode.{function_sizes, lowered_function}
+use Rattle.workload.proofs.Common.{ℕ, zero, suc, ◌≡◌, ◌≤◌, ◌+◌, ◌*◌, ◌%◌, ◌^◌, false, List, [], ◌∷◌, ◌++◌, length, map, Some, None, refl, ap, ◌∙◌, arith, lit≤, codes, sum_by, if◌then◌else◌, sum_by-cons, FunctionTree, function_sizes, lowered_function, function_words, Binding, find, function_of, next}
 use Rattle.flat_code.specs.declared.operations.Op.{Op}
 use Rattle.flat_code.specs.Codes.{FlatCode}
 use Rattle.flat_code.specs.Weight.{weight_of}
@@ -12,11 +8,7 @@ use Rattle.checkpoint_place.specs.declared.refusals.PlaceError.TheVariants.{Fram
 use Rattle.checkpoint_place.specs.Refusal.{is_too_large, refusal_from}
 use Rattle.stack_certificate.specs.declared.sites.LinkKind.{LinkKind}
 use Rattle.stack_certificate.specs.Templates.{transfer_size}
-use Rattle.codegen_link.specs.Layout.{function_words}
 use Rattle.codegen_link.specs.Links.{link}
-use Rattle.scope_rules.specs.Names.{Binding, find}
-use Rattle.scope_rules.specs.Meanings.{function_of}
-use Rattle.scope_rules.specs.Calls.{next}
 use Rattle.workload.proofs.Pieces.{chain_name}
 use Rattle.workload.proofs.Scopes.{first_tree, link_tree, worker_tree, main_tree}
 use Rattle.workload.proofs.Resolved.{chain_site, worker_site, chain_trees, worker_trees, main_trees}

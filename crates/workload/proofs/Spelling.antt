@@ -1,19 +1,9 @@
 -- Texts that are written token by token: the tokens that they have, and where these stand.
-use Rattle.std.proofs.Common.{ℕ, zero, suc, ◌≡◌, ◌+◌, List, [], ◌∷◌, ◌++◌, length, take, drop, refl, sym, ap, ◌∙◌, subst, arith, append_assoc}
-use Rattle.std.proofs.lemmas.List.{length-append, drop-drop}
+use Rattle.workload.proofs.Common.{ℕ, zero, suc, ◌≡◌, ◌+◌, List, [], ◌∷◌, ◌++◌, length, take, drop, refl, sym, ap, ◌∙◌, subst, arith, append_assoc, length-append, drop-drop, Token, Keyword, Mark, IsGap, keyword_text, mark_text, IsTaken, IsOfKind, LeadsTo}
 use Rattle.std.proofs.Math.Seq.{drop-append_seam, take-append_seam}
-use Rattle.c_lex.specs.declared.tokens.Token.{Token}
 use Rattle.c_lex.specs.declared.tokens.TokenKind.{TokenKind}
 use Rattle.c_lex.specs.declared.tokens.TokenKind.TheVariants as kinds
-use Rattle.c_lex.specs.declared.keywords.Keyword.{Keyword}
-use Rattle.c_lex.specs.declared.marks.Mark.{Mark}
-use Rattle.c_lex.specs.Gaps.{IsGap, IsComment}
-use Rattle.c_lex.specs.Gaps.IsGap.{nothing, space, comment}
-use Rattle.c_lex.specs.Keywords.{keyword_text}
-use Rattle.c_lex.specs.Marks.{mark_text}
-use Rattle.c_lex.specs.Lexemes.{IsTaken, IsOfKind}
 use Rattle.c_lex.specs.Places.{lexeme_of}
-use Rattle.c_lex.specs.Tokens.{LeadsTo}
 use Rattle.c_lex.proofs.Leads.{IsGap-append}
 
 -- a token as it is written: the white space before it, its bytes, and what it is
@@ -95,16 +85,6 @@ end_is at (w ∷ ws) after =
     let more = length-append w.lexeme (spell ws after) in
     let rest = end_is (past at w) ws after in
     omega arith
-
--- white space and white space are white space
-gap_append_at : (front whole gap after : List ℕ) → whole ≡ gap ++ after → IsGap front whole → IsGap gap after → IsGap (front ++ gap) after
-gap_append_at [] whole gap after split nothing more = more
-gap_append_at (b ∷ front) whole gap after split (space white rest) more = space white (gap_append_at front whole gap after split rest more)
-gap_append_at front whole gap after split (comment text rest same is others) more =
-    comment text (rest ++ gap)
-    (ap (λ l. l ++ gap) same ∙ append_assoc text rest gap)
-    (subst (IsComment text) (ap (λ l. rest ++ l) split ∙ sym (append_assoc rest gap after)) is)
-    (gap_append_at rest whole gap after split others more)
 
 -- what a rest leads to, the text leads to that has white space before it
 pub leads_gap : (at : ℕ) (gap rest : List ℕ) (tokens : List Token) (stop : ℕ) (end : List ℕ) → IsGap gap rest → LeadsTo (at + length gap) rest tokens stop end → LeadsTo at (gap ++ rest) tokens stop end

@@ -1,17 +1,12 @@
 -- The tokens of the workload's source are its tree: a derivation for each of the four kinds of lines.
-use Rattle.std.proofs.Common.{ℕ, zero, suc, ◌≡◌, ◌<◌, ◌+◌, true, Some, List, [], ◌∷◌, ◌++◌, length, refl, sym, ap, ◌∙◌, lit<, lit≤, append_assoc, append-nil}
-use Rattle.std.specs.Prelude.{codes}
-use Rattle.c_lex.specs.declared.tokens.Token.{Token}
+use Rattle.workload.proofs.Common.{ℕ, zero, suc, ◌≡◌, ◌<◌, ◌+◌, true, Some, List, [], ◌∷◌, ◌++◌, length, refl, sym, ap, ◌∙◌, lit<, lit≤, append_assoc, append-nil, codes, Token, BinaryOperator, RawExprTree, RawBinary, RawDeclareScalar, RawItemTree, link_line, chain_text, worker_line, main_line, program_text}
 use Rattle.c_lex.specs.declared.tokens.TokenKind.TheVariants as kinds
-use Rattle.c_tree.specs.declared.operators.BinaryOperator.{BinaryOperator}
 use Rattle.c_tree.specs.declared.operators.Infix.{Infix}
-use Rattle.c_tree.specs.RawTrees.{RawExprTree, RawBinary, RawDeclareScalar, RawItemTree}
 use Rattle.c_grammar.specs.declared.signs.Sign.{Sign}
 use Rattle.c_grammar.specs.Signs.{sign_of_token}
 use Rattle.c_grammar.specs.Operators.{infix_operator_of, level_of_infix}
 use Rattle.c_grammar.specs.Tokens.{Passes, PassesName, PassesNumber}
 use Rattle.c_grammar.specs.Grammar.{PassesInfix, IsExpr, IsBinary, IsRepeated, IsUnary, IsPrimary, AreArguments, AreMoreArguments, IsSimple, IsLocal, AreMoreLocals, AreLocals, IsUpToSemicolon, IsForInit, IsForStep, IsBody, IsBlock, AreStmts, AreMoreNamed, AreNamed, IsResult, AreItem, AreItems, IsProgram}
-use Rattle.workload.specs.Programs.{link_line, chain_text, worker_line, main_line, program_text}
 use Rattle.workload.proofs.Spelling.{Written, spell, past, token_of, tokens_of, place_of, Stands, stands_from, stands_at, lexeme_is}
 use Rattle.workload.proofs.Pieces.{first_pieces, first_spelled, link_pieces, link_spelled, worker_pieces, worker_spelled, main_pieces, main_spelled}
 use Rattle.workload.proofs.Lexed.{chain_tokens, worker_place, main_place, worker_tokens, main_tokens, program_tokens}
@@ -62,7 +57,6 @@ pub first_derived : (source : List ℕ) (at : ℕ) (after : List ℕ) (more : Li
     → AreItem true source (tokens_of at (first_pieces) more) (first_item (place_of at (first_pieces)) ∷ []) more
 first_derived source at after more s =
     let ws : List Written = first_pieces in
-    let p : ℕ → ℕ = place_of at ws in
     AreItem.function (IsResult.int_result (pass refl)) (passes_name more (stands_from 1 source at ws after s) refl) (AreNamed.some_named (pass refl) (pass refl) (passes_name more (stands_from 4 source at ws after s) refl) (AreMoreNamed.last_named (pass refl)))
     (IsBlock.braces (pass refl) (AreStmts.another_stmt (IsBody.return_value (pass refl) (IsUpToSemicolon.something (operand_alone (IsPrimary.name (passes_name more (stands_from 8 source at ws after s) refl))) (pass refl)))
     (AreStmts.last_stmt (pass refl))))

@@ -1,7 +1,5 @@
 -- The tokens of the workload's source are a program in which nothing is too deep, and every call in it is whole.
-use Rattle.std.proofs.Common.{ℕ, zero, suc, ◌≡◌, List, [], ◌∷◌, None, refl, ◌∙◌, subst}
-use Rattle.c_lex.specs.declared.tokens.Token.{Token}
-use Rattle.c_tree.specs.RawTrees.{RawItemTree}
+use Rattle.workload.proofs.Common.{ℕ, zero, suc, ◌≡◌, List, [], ◌∷◌, None, refl, ◌∙◌, subst, Token, RawItemTree}
 use Rattle.c_tree.specs.WholeCalls.{AreCallsWhole}
 use Rattle.c_grammar.specs.Reading.{run}
 use Rattle.c_grammar.specs.Refusals.{IsWithin, Verdict}

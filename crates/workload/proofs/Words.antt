@@ -1,29 +1,11 @@
 -- Words as they are written: keywords, names and numbers, each in front of a byte of no word.
-use Rattle.std.proofs.Common.{ℕ, ◌≡◌, ◌≢◌, ◌<◌, ◌≤◌, ◌^◌, inl, inr, ⊎_elim, List, [], ◌∷◌, ◌++◌, length, get_or, Bool, true, false, refl, sym, ap, ◌∙◌, subst, arith, rules}
-use Rattle.std.specs.Prelude.{IsTrue, codes, nat_eq, ◌&&◌, ◌||◌}
-use Rattle.std.specs.Str.{bytes_eq}
+use Rattle.workload.proofs.Common.{ℕ, ◌≡◌, ◌≢◌, ◌<◌, ◌≤◌, ◌^◌, inl, inr, ⊎_elim, List, [], ◌∷◌, ◌++◌, length, get_or, Bool, true, false, refl, sym, ap, ◌∙◌, subst, arith, IsTrue, codes, nat_eq, ◌&&◌, ◌||◌, bytes_eq, both_ways, and_parts, nat_tests, canonical_decimal, decimal_digits, decimal_value, length_decimal, first_of_decimal, Keyword, is_white_space, is_letter, is_word_byte, IsGap, nothing, space, keyword_text, IsNumber, IsDecimal, AllWordBytes, IsWord, IsIdentifier, IsLexeme, IsTaken, IsOfKind, AllWordBytes-inside, same_itself}
 use Rattle.std.specs.Char.{is_ascii_digit, digit_value}
 use Rattle.std.specs.Str.Parse.{AllDigits}
-use Rattle.std.proofs.lemmas.Bool.{both_ways, and_parts}
-use Rattle.std.proofs.lemmas.Slice.Eq.{bytes_eq-Decides}
-use Rattle.std.proofs.lemmas.Bool.Decides.{nat_tests}
 use Rattle.std.proofs.lemmas.Str.Parse.{digit_from_value}
-use Rattle.cap_text.specs.Decimals.{canonical_decimal}
-use Rattle.cap_text.proofs.DecimalLaws.{decimal_digits, decimal_value, length_decimal, first_of_decimal}
-use Rattle.c_lex.specs.declared.keywords.Keyword.{Keyword}
 use Rattle.c_lex.specs.declared.keywords.Keyword.TheVariants as keywords
-use Rattle.c_lex.specs.Bytes.{is_white_space, is_letter, is_word_byte}
-use Rattle.c_lex.specs.Gaps.{IsGap}
-use Rattle.c_lex.specs.Gaps.IsGap.{nothing, space}
-use Rattle.c_lex.specs.Keywords.{keyword_text}
-use Rattle.c_lex.specs.Numbers.{IsNumber, IsDecimal}
-use Rattle.c_lex.specs.Lexemes.{AllWordBytes, IsWord, IsIdentifier, IsLexeme, IsTaken, IsOfKind}
 use Rattle.workload.proofs.Spelling.{Written, IsWritten, keyword, name, number}
 use Rattle.c_lex.proofs.MarkTable.{mark_no_word}
-
--- a text is written as itself
-pub same_itself : (text : List ℕ) → bytes_eq text text ≡ true
-same_itself text = search (rules, bytes_eq-Decides)
 
 -- white space alone
 abbrev pub AllWhite : List ℕ → Type 0
@@ -39,11 +21,6 @@ abbrev pub EndsWord : List ℕ → Type 0
 EndsWord [] = Unit {0}
 EndsWord (b ∷ rest) = is_word_byte b ≡ false
 
--- a byte within a word
-within_word : (front : List ℕ) (b : ℕ) (back : List ℕ) → AllWordBytes (front ++ b ∷ back) → IsTrue (is_word_byte b)
-within_word [] b back all = all.0
-within_word (c ∷ front) b back all = within_word front b back all.1
-
 ends_at : (b : ℕ) (rest after : List ℕ) → after ≡ b ∷ rest → EndsWord after → is_word_byte b ≡ false
 ends_at b rest after same ends = subst EndsWord same ends
 
@@ -56,7 +33,7 @@ word_taken first lexeme after all ends = record {
 } where
   longer : (more rest : List ℕ) → after ≡ more ++ rest → IsLexeme ((first ∷ lexeme) ++ more) → more ≡ []
   longer [] rest same whole = refl
-  longer (b ∷ more) rest same (inl word) = absurd (both_ways _ (ends_at b (more ++ rest) after same ends) (within_word (first ∷ lexeme) b more word))
+  longer (b ∷ more) rest same (inl word) = absurd (both_ways _ (ends_at b (more ++ rest) after same ends) (AllWordBytes-inside (first ∷ lexeme) b more word))
   longer (b ∷ more) rest same (inr mark) = absurd (both_ways _ (mark_no_word mark.0) (sym (ap (λ text. is_word_byte (get_or text 0 0)) mark.1) ∙ all.0))
 
 -- a word as it is written

@@ -1,11 +1,7 @@
 -- What a text has after each piece that is appended.
-use Rattle.std.proofs.Common.{◌≡◌, ℕ, ℤ, pos, ◌+◌, ◌*◌, ◌%◌, ◌<◌, ◌^◌, List, ◌++◌, refl, ap, sym, ◌∙◌, arith, append_assoc, append-nil, add-one, to_z, of_z, FitsSigned}
-use Rattle.std.specs.Prelude.{codes}
+use Rattle.workload.proofs.Common.{◌≡◌, ℕ, ℤ, pos, ◌+◌, ◌*◌, ◌%◌, ◌<◌, ◌^◌, List, ◌++◌, refl, ap, sym, ◌∙◌, arith, append_assoc, append-nil, add-one, to_z, of_z, FitsSigned, codes, canonical_decimal, canonical_integer, first_line, link_line, chain_text, worker_line, main_line, program_text, arrival_line, message_line, lines_below}
 use Rattle.std.specs.Int.{w128}
 use Rattle.std.proofs.lemmas.Int.{to_z-of_z}
-use Rattle.cap_text.specs.Decimals.{canonical_decimal, canonical_integer}
-use Rattle.workload.specs.Programs.{first_line, link_line, chain_text, worker_line, main_line, program_text}
-use Rattle.workload.specs.Traces.{arrival_line, message_line, lines_below}
 
 decimal_of_pos : (n : ℕ) → canonical_integer (pos n) ≡ canonical_decimal n
 unfolding canonical_integer

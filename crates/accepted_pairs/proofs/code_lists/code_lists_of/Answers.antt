@@ -1,4 +1,4 @@
-use Rattle.flat_code.specs.ProgramView.{program_code}
+use Rattle.accepted_pairs.proofs.Common.{program_code}
 use Rattle.accepted_pairs.proofs.ReadableLemmas.{readable_of}
 use Rattle.accepted_pairs.proofs.code_lists.code_lists_of.Goals as goal
 

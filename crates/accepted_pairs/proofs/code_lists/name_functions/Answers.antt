@@ -1,8 +1,4 @@
-use Rattle.std.proofs.Common.{◌≡◌, ℕ, ◌+◌, ◌-◌, ◌/◌, ◌<◌, ◌≤◌, length, ap, subst, arith}
-use Rattle.std.specs.Prelude.{slice_index}
-use Rattle.flat_code.specs.ProgramView.{program_code}
-use Rattle.stack_certificate.specs.declared.functions.FunctionFact.{FunctionFact}
-use Rattle.accepted_pairs.specs.CodeLists.{NamesFunctions}
+use Rattle.accepted_pairs.proofs.Common.{◌≡◌, ℕ, ◌+◌, ◌-◌, ◌/◌, ◌<◌, ◌≤◌, length, ap, subst, arith, slice_index, program_code, FunctionFact, NamesFunctions}
 use Rattle.accepted_pairs.proofs.CodeListLemmas.{as_many, lies_inside, named_more}
 use Rattle.accepted_pairs.proofs.code_lists.name_functions.Goals as goal
 

@@ -1,5 +1,4 @@
-use Rattle.std.proofs.Common.{◌≡◌, length}
-use Rattle.accepted_pairs.specs.CodeLists.{NamesFunctions}
+use Rattle.accepted_pairs.proofs.Common.{◌≡◌, length, NamesFunctions}
 use Rattle.accepted_pairs.proofs.code_lists.name_functions.Given as goal
 
 abbrev pub invariant-loop-f : goal.invariant-loop-f

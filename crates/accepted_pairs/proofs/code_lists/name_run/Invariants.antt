@@ -1,5 +1,4 @@
-use Rattle.std.proofs.Common.{◌≡◌, ℕ, ◌<◌, ◌≤◌}
-use Rattle.std.specs.Prelude.{slice_index}
+use Rattle.accepted_pairs.proofs.Common.{◌≡◌, ℕ, ◌<◌, ◌≤◌, slice_index}
 use Rattle.accepted_pairs.proofs.code_lists.name_run.Given as goal
 
 abbrev pub invariant-loop-word : goal.invariant-loop-word

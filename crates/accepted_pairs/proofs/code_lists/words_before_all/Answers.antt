@@ -1,4 +1,4 @@
-use Rattle.flat_code.specs.ProgramView.{program_code}
+use Rattle.accepted_pairs.proofs.Common.{program_code}
 use Rattle.accepted_pairs.proofs.CodeListLemmas.{before_one_more}
 use Rattle.accepted_pairs.proofs.code_lists.words_before_all.Goals as goal
 

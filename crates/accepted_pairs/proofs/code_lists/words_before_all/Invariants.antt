@@ -1,5 +1,4 @@
-use Rattle.flat_code.specs.ProgramView.{program_code}
-use Rattle.accepted_pairs.specs.CodeLists.{AreBefore}
+use Rattle.accepted_pairs.proofs.Common.{program_code, AreBefore}
 use Rattle.accepted_pairs.proofs.code_lists.words_before_all.Given as goal
 
 abbrev pub invariant-loop-f : goal.invariant-loop-f

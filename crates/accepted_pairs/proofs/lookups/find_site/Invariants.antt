@@ -1,6 +1,4 @@
-use Rattle.std.proofs.Common.{ℕ, ◌-◌, ◌<◌, ◌≤◌, length}
-use Rattle.std.specs.Prelude.{slice_index}
-use Rattle.certificate_rules.specs.Sites.{fact_numbers}
+use Rattle.accepted_pairs.proofs.Common.{ℕ, ◌-◌, ◌<◌, ◌≤◌, length, slice_index, fact_numbers}
 use Rattle.accepted_pairs.proofs.lookups.find_site.Given as goal
 
 abbrev pub invariant-halving : goal.invariant-halving

@@ -1,9 +1,4 @@
-use Rattle.std.proofs.Common.{◌≡◌, sym, ap, subst, ◌∙◌}
-use Rattle.std.specs.Prelude.{slice_index_or}
-use Rattle.flat_code.specs.Codes.{function_at}
-use Rattle.flat_code.specs.ProgramView.{program_code}
-use Rattle.flat_code.specs.WellFormed.{IsFunction}
-use Rattle.stack_certificate.proofs.PlaceLemmas.{function_formed, any_default}
+use Rattle.accepted_pairs.proofs.Common.{◌≡◌, sym, ap, subst, ◌∙◌, slice_index_or, function_at, program_code, IsFunction, function_formed, any_default}
 use Rattle.accepted_pairs.proofs.lookups.function_of.Goals as goal
 
 pub returns : goal.returns

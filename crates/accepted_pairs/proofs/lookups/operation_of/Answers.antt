@@ -1,9 +1,4 @@
-use Rattle.std.proofs.Common.{◌≡◌, sym, ap, subst, ◌∙◌}
-use Rattle.std.specs.Prelude.{slice_get, slice_index_or}
-use Rattle.flat_code.specs.Codes.{function_at}
-use Rattle.flat_code.specs.ProgramView.{program_code}
-use Rattle.flat_code.specs.WellFormed.{IsOperation, context_of}
-use Rattle.stack_certificate.proofs.PlaceLemmas.{operation_formed}
+use Rattle.accepted_pairs.proofs.Common.{◌≡◌, sym, ap, subst, ◌∙◌, slice_get, slice_index_or, function_at, program_code, IsOperation, context_of, operation_formed}
 use Rattle.accepted_pairs.proofs.lookups.operation_of.Goals as goal
 
 pub returns-clause-there : goal.returns-clause-there

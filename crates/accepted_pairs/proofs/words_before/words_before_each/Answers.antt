@@ -1,7 +1,4 @@
-use Rattle.std.proofs.Common.{◌≡◌, ◌+◌, sym, ap, ◌∙◌, arith}
-use Rattle.flat_code.specs.Codes.{function_at, operation_at}
-use Rattle.flat_code.specs.ProgramView.{program_code}
-use Rattle.stack_certificate.specs.Templates.{kind_of, size_at, words_before}
+use Rattle.accepted_pairs.proofs.Common.{◌≡◌, ◌+◌, sym, ap, ◌∙◌, arith, function_at, operation_at, program_code, kind_of, size_at, words_before}
 use Rattle.stack_certificate.proofs.AddressLemmas.{words_step}
 use Rattle.accepted_pairs.proofs.BeforeLemmas.{before_more, range_more, count_more}
 use Rattle.accepted_pairs.proofs.words_before.words_before_each.Goals as goal

@@ -1,6 +1,5 @@
-use Rattle.std.proofs.Common.{rules}
 use Rattle.std.proofs.lemmas.List.Sorted.{IsPartitionPoint-from_clause}
-use Rattle.blocking_graph.specs.Edges.{is_before}
+use Rattle.blocking_graph.proofs.Common.{rules, is_before}
 use Rattle.blocking_graph.proofs.PlaceLemmas.{rising-parted, point-place}
 use Rattle.blocking_graph.proofs.adding.place_of.Goals as goal
 

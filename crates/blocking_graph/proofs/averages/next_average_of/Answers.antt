@@ -1,7 +1,4 @@
-use Rattle.std.proofs.Common.{◌≡◌, ◌≤◌, unsigned_abs, arith}
-use Rattle.std.proofs.lemmas.Int.{to_z-of_z}
-use Rattle.std.specs.Int.{w128}
-use Rattle.blocking_graph.specs.Averages.{floor_div}
+use Rattle.blocking_graph.proofs.Common.{◌≡◌, ◌≤◌, unsigned_abs, arith, to_z-of_z, w128, floor_div}
 use Rattle.blocking_graph.proofs.AverageLemmas.{next_average_from, computed_average}
 use Rattle.blocking_graph.proofs.averages.next_average_of.Goals as goal
 

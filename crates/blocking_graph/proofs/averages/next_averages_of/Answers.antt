@@ -1,7 +1,4 @@
-use Rattle.std.proofs.Common.{ℤ, length, length-set, ◌≢◌, ◌<◌, below_more, get_or-set_other, get_or-set_same, ◌≡◌, get_or, pos, FitsSigned, rules, arith, w64}
-use Rattle.std.proofs.lemmas.Int.{to_z-of_z}
-use Rattle.std.specs.Int.{w128}
-use Rattle.blocking_graph.specs.Averages.{next_average}
+use Rattle.blocking_graph.proofs.Common.{ℤ, length, length-set, ◌≢◌, ◌<◌, below_more, get_or-set_other, get_or-set_same, ◌≡◌, get_or, pos, FitsSigned, rules, arith, w64, to_z-of_z, w128, next_average}
 use Rattle.blocking_graph.proofs.AverageLemmas.{next_from_each}
 use Rattle.blocking_graph.proofs.averages.next_averages_of.Goals as goal
 

@@ -1,5 +1,4 @@
-use Rattle.std.proofs.Common.{◌≡◌, ℕ, ◌<◌, length, get_or, pos}
-use Rattle.blocking_graph.specs.Averages.{next_average}
+use Rattle.blocking_graph.proofs.Common.{◌≡◌, ℕ, ◌<◌, length, get_or, pos, next_average}
 use Rattle.blocking_graph.proofs.averages.next_averages_of.Given as goal
 
 abbrev pub invariant-loop-resource : goal.invariant-loop-resource

@@ -1,6 +1,4 @@
-use Rattle.std.proofs.Common.{subst, arith}
-use Rattle.blocking_graph.specs.Edges.{edges_from, count_of}
-use Rattle.blocking_graph.specs.Sums.{IsMoved, edge_after}
+use Rattle.blocking_graph.proofs.Common.{subst, arith, edges_from, count_of, IsMoved, edge_after}
 use Rattle.blocking_graph.proofs.SumLemmas.{edge_held, edge_with_room, edge_in_range, IsEdge-after, count_after-le, count-le, change-le, sum_of_moved}
 use Rattle.blocking_graph.proofs.sums.sums_with.Goals as goal
 

@@ -1,13 +1,6 @@
-use Rattle.std.proofs.Common.{ap, sym, subst, ◌∙◌, length}
 use Rattle.c_tree.specs.RawProgramView.{raw_program_tree}
-use Rattle.c_tree.specs.ProgramView.{program_tree}
+use Rattle.c_hoist.proofs.Common.{ap, sym, subst, ◌∙◌, length, program_tree, is_call, items_places, ranks, HasRead, IsResolvedBy, items_hoisted}
 use Rattle.c_tree.specs.WellScoped.{AreSiteNumbers}
-use Rattle.grammar_laws.specs.Nested.{is_call}
-use Rattle.grammar_laws.specs.Places.{items_places}
-use Rattle.grammar_laws.specs.Ranks.{ranks}
-use Rattle.scope_rules.specs.Reading.{HasRead}
-use Rattle.scope_rules.specs.Numbered.{IsResolvedBy}
-use Rattle.hoist_parts.specs.Statements.{items_hoisted}
 use Rattle.hoist_parts.proofs.Temporaries.{items_small}
 use Rattle.hoist_parts.proofs.Whole.{items_hoisted_whole}
 use Rattle.hoist_meaning.proofs.TreeCounts.{each_call}

@@ -1,11 +1,5 @@
-use Rattle.std.proofs.Common.{◌≡◌, rules, sym, ap, subst, ◌∙◌, [], ◌∷◌, ◌++◌, append_assoc, append-nil, length, arith}
 use Rattle.std.proofs.lemmas.List.{nil_from_length}
-use Rattle.std.specs.Vec.Iter.{into_iter_items}
-use Rattle.c_tree.specs.RawViews.{raw_item_tree, raw_item_trees}
-use Rattle.grammar_laws.specs.Nested.{is_call}
-use Rattle.grammar_laws.specs.Places.{item_places, items_places}
-use Rattle.scope_rules.specs.Reading.{HasRead}
-use Rattle.hoist_parts.specs.Statements.{item_hoisted, items_hoisted}
+use Rattle.c_hoist.proofs.Common.{◌≡◌, rules, sym, ap, subst, ◌∙◌, [], ◌∷◌, ◌++◌, append_assoc, append-nil, length, arith, into_iter_items, raw_item_tree, raw_item_trees, is_call, item_places, items_places, HasRead, item_hoisted, items_hoisted}
 use Rattle.c_hoist.proofs.Rewriting.{read_of_hoisted, places_of_one_more}
 use Rattle.c_hoist.proofs.nested_text.rewritten.Goals as goal
 

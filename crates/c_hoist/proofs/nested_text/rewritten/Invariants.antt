@@ -1,11 +1,4 @@
-use Rattle.std.proofs.Common.{◌≡◌, List, ◌++◌, length}
-use Rattle.std.specs.Vec.Iter.{into_iter_items, into_iter_len}
-use Rattle.c_tree.specs.RawTrees.{RawItemTree}
-use Rattle.c_tree.specs.RawViews.{raw_item_trees}
-use Rattle.grammar_laws.specs.Nested.{is_call}
-use Rattle.grammar_laws.specs.Places.{items_places}
-use Rattle.scope_rules.specs.Reading.{HasRead}
-use Rattle.hoist_parts.specs.Statements.{items_hoisted}
+use Rattle.c_hoist.proofs.Common.{◌≡◌, List, ◌++◌, length, into_iter_items, into_iter_len, RawItemTree, raw_item_trees, is_call, items_places, HasRead, items_hoisted}
 use Rattle.c_hoist.proofs.nested_text.rewritten.Given as goal
 
 abbrev pub invariant-loop-item : goal.invariant-loop-item

@@ -1,4 +1,4 @@
-use Rattle.std.proofs.lemmas.List.{take_rest}
+use Rattle.c_lex.proofs.Common.{take_rest}
 use Rattle.c_lex.proofs.CommentLemmas.{block_comment, open_comment}
 use Rattle.c_lex.proofs.comments.block_comment_length.Goals as goal
 

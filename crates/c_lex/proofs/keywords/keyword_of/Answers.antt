@@ -1,7 +1,4 @@
-use Rattle.std.proofs.Common.{sym, ap, ◌∙◌, arith, below_more}
-use Rattle.std.proofs.lemmas.Bool.Decides.{Decides-eqb, not_from_Decides}
-use Rattle.std.proofs.lemmas.Slice.Eq.{slice_eq-Decides}
-use Rattle.c_lex.specs.Keywords.{keyword_text}
+use Rattle.c_lex.proofs.Common.{sym, ap, ◌∙◌, arith, below_more, Decides-eqb, not_from_Decides, slice_eq-Decides, keyword_text}
 use Rattle.c_lex.proofs.KeywordTable.{keyword_place, keyword_at_place, keyword_place-lt}
 use Rattle.c_lex.proofs.keywords.keyword_of.Goals as goal
 

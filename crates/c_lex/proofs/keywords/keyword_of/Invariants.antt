@@ -1,6 +1,5 @@
-use Rattle.std.proofs.Common.{ℕ, ◌≢◌, ◌<◌, get_or}
 use Rattle.c_lex.specs.declared.keywords.Keyword.TheVariants as keywords
-use Rattle.c_lex.specs.Keywords.{keyword_text}
+use Rattle.c_lex.proofs.Common.{ℕ, ◌≢◌, ◌<◌, get_or, keyword_text}
 use Rattle.c_lex.proofs.keywords.keyword_of.Given as goal
 
 -- none so far

@@ -1,10 +1,5 @@
-use Rattle.std.proofs.Common.{◌≡◌, [], ◌∷◌, ◌++◌, drop, is_ok, sym, ap, ◌∙◌, subst, arith, append_assoc, inl, Err}
-use Rattle.std.proofs.lemmas.Bool.{cond-true}
-use Rattle.std.proofs.lemmas.List.{length-drop, take_rest}
+use Rattle.c_lex.proofs.Common.{◌≡◌, [], ◌∷◌, ◌++◌, drop, is_ok, sym, ap, ◌∙◌, subst, arith, append_assoc, inl, Err, cond-true, length-drop, take_rest, Token, IsFirstGap, IsFirstToken, IsFirstPiece, LeadsTo, BeginsNone, IsLexErrorOf}
 use Rattle.std.proofs.lemmas.Result.{err_from_is_err_and}
-use Rattle.c_lex.specs.declared.tokens.Token.{Token}
-use Rattle.c_lex.specs.Pieces.{IsFirstGap, IsFirstToken, IsFirstPiece}
-use Rattle.c_lex.specs.Tokens.{LeadsTo, BeginsNone, IsLexErrorOf}
 use Rattle.c_lex.proofs.Leads.{gap_step, token_step, refused_at, all_taken}
 use Rattle.c_lex.proofs.Unique.{one_list, never_both, one_error}
 use Rattle.c_lex.proofs.lexer.lex.Goals as goal

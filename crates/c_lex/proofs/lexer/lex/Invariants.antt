@@ -1,6 +1,4 @@
-use Rattle.std.proofs.Common.{ℕ, ◌-◌, ◌≤◌, List, ◌++◌, length, drop}
-use Rattle.c_lex.specs.declared.tokens.Token.{Token}
-use Rattle.c_lex.specs.Tokens.{LeadsTo}
+use Rattle.c_lex.proofs.Common.{ℕ, ◌-◌, ◌≤◌, List, ◌++◌, length, drop, Token, LeadsTo}
 use Rattle.c_lex.proofs.lexer.lex.Given as goal
 
 -- what the rest leads to, the source leads to, with the tokens so far before it

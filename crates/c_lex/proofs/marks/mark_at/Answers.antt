@@ -1,8 +1,4 @@
-use Rattle.std.proofs.Common.{◌++◌, length, drop, sym, ap, ◌∙◌, subst, arith, below_more, ⊎_elim}
-use Rattle.std.proofs.lemmas.Bool.{cases_lt, both_ways}
-use Rattle.std.proofs.lemmas.Bool.Decides.{Decides-eqb}
-use Rattle.std.proofs.lemmas.Slice.Eq.{starts_is}
-use Rattle.c_lex.specs.Marks.{mark_text, BeginsWith}
+use Rattle.c_lex.proofs.Common.{◌++◌, length, drop, sym, ap, ◌∙◌, subst, arith, below_more, ⊎_elim, cases_lt, both_ways, Decides-eqb, starts_is, mark_text, BeginsWith}
 use Rattle.c_lex.proofs.MarkTable.{mark_place, mark_at_place, mark_place-lt, length_falls}
 use Rattle.c_lex.proofs.marks.mark_at.Goals as goal
 

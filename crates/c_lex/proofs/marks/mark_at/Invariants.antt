@@ -1,6 +1,5 @@
-use Rattle.std.proofs.Common.{ℕ, ◌<◌, get_or}
 use Rattle.c_lex.specs.declared.marks.Mark.TheVariants as marks
-use Rattle.c_lex.specs.Marks.{mark_text, BeginsWith}
+use Rattle.c_lex.proofs.Common.{ℕ, ◌<◌, get_or, mark_text, BeginsWith}
 use Rattle.c_lex.proofs.marks.mark_at.Given as goal
 
 -- none so far

@@ -1,5 +1,4 @@
-use Rattle.std.proofs.Common.{◌≡◌, ◌≢◌, ◌⊎◌, get_or, arith}
-use Rattle.std.proofs.lemmas.List.{take_rest}
+use Rattle.c_lex.proofs.Common.{◌≡◌, ◌≢◌, ◌⊎◌, get_or, arith, take_rest}
 use Rattle.c_lex.proofs.NumberWords.{null_word, decimal_some, hexadecimal_some, hexadecimal_none}
 use Rattle.c_lex.proofs.numbers.number_of.Goals as goal
 

@@ -1,6 +1,4 @@
-use Rattle.std.proofs.Common.{◌≡◌, ◌+◌, ◌*◌, ◌<◌, get_or, sym, ap, ◌∙◌, subst, arith}
-use Rattle.std.specs.Char.{digit_value}
-use Rattle.std.proofs.lemmas.Int.Digits.{digits_value_more, digits_more}
+use Rattle.c_lex.proofs.Common.{◌≡◌, ◌+◌, ◌*◌, ◌<◌, get_or, sym, ap, ◌∙◌, subst, arith, digit_value, digits_value_more, digits_more}
 use Rattle.c_lex.proofs.Digits.{AllDigits-at, digits_value-take}
 use Rattle.c_lex.proofs.numbers.value_of.Goals as goal
 

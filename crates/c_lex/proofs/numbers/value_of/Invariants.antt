@@ -1,5 +1,4 @@
-use Rattle.std.proofs.Common.{◌≡◌, take}
-use Rattle.std.specs.Str.Parse.{AllDigits, digits_value}
+use Rattle.c_lex.proofs.Common.{◌≡◌, take, AllDigits, digits_value}
 use Rattle.c_lex.proofs.numbers.value_of.Given as goal
 
 -- the number that the digits so far spell

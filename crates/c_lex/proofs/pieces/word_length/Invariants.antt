@@ -1,5 +1,4 @@
-use Rattle.std.proofs.Common.{ℕ, ◌<◌, slice_index, IsTrue}
-use Rattle.c_lex.specs.Bytes.{is_word_byte}
+use Rattle.c_lex.proofs.Common.{ℕ, ◌<◌, slice_index, IsTrue, is_word_byte}
 use Rattle.c_lex.proofs.pieces.word_length.Given as goal
 
 -- a word so far

@@ -1,6 +1,4 @@
-use Rattle.std.proofs.Common.{◌≡◌, ◌+◌, ◌^◌, ◌∷◌, map, drop}
-use Rattle.c_tree.specs.Views.{expr_tree}
-use Rattle.c_tree.proofs.Cuts.{drop_at}
+use Rattle.c_lower.proofs.Common.{◌≡◌, ◌+◌, ◌^◌, ◌∷◌, map, drop, expr_tree, drop_at}
 use Rattle.c_lower.proofs.CallGlue.{arguments_turn, variables_turn, argument_fits, others_fit}
 use Rattle.c_lower.proofs.calls.put_arguments.Goals as goal
 

@@ -1,7 +1,4 @@
-use Rattle.std.proofs.Common.{◌≡◌, ◌<◌, ◌+◌, ◌^◌, ◌++◌, length, map, drop}
-use Rattle.c_tree.specs.Temporaries.{arguments_temporaries}
-use Rattle.c_tree.specs.Views.{expr_tree}
-use Rattle.c_lower.specs.CallCode.{arguments_code, arguments_in}
+use Rattle.c_lower.proofs.Common.{◌≡◌, ◌<◌, ◌+◌, ◌^◌, ◌++◌, length, map, drop, arguments_temporaries, expr_tree, arguments_code, arguments_in}
 use Rattle.c_lower.proofs.calls.put_arguments.Given as goal
 
 abbrev pub invariant-loop-index : goal.invariant-loop-index

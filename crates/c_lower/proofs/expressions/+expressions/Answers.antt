@@ -1,13 +1,9 @@
-use Rattle.std.proofs.Common.{◌≡◌, ◌+◌, ◌^◌, ◌∷◌, ◌++◌, ◌∙◌, length, map, drop, rules, ap}
 use Rattle.c_tree.specs.declared.expressions.Expr.{the_lemmas as expr_lemmas}
-use Rattle.c_tree.specs.Views.{expr_tree, chained}
-use Rattle.c_tree.proofs.Cuts.{drop_at}
-use Rattle.c_tree.proofs.ExprEquations.{operand_tree, expr_tree-LocalElement, expr_tree-GlobalElement, expr_tree-Unary, expr_tree-Chain, expr_tree-Conditional}
-use Rattle.c_lower.specs.ExprCode.{expr_code}
+use Rattle.c_lower.proofs.Common.{◌≡◌, ◌+◌, ◌^◌, ◌∷◌, ◌++◌, ◌∙◌, length, map, drop, rules, ap, expr_tree, chained, drop_at, operand_tree, expr_tree-LocalElement, expr_tree-GlobalElement, expr_tree-Unary, expr_tree-Chain, expr_tree-Conditional, expr_code, on_ok_weaker}
 use Rattle.c_lower.proofs.ChainCode.{chained_fits}
 use Rattle.c_lower.proofs.ExprGlue.{chain_begun, chain_turn}
 use Rattle.c_lower.proofs.Patches.{conditional_patched, and_patched, or_patched}
-use Rattle.c_lower.proofs.Glue.{glued2, then_on_ok}
+use Rattle.c_lower.proofs.Glue.{glued2}
 use Rattle.c_lower.proofs.expressions.+expressions.Goals as goal
 
 pub put_expr-put_expr-requires-in-Chain : goal.put_expr-put_expr-requires-in-Chain
@@ -49,7 +45,7 @@ pub put_expr-returns-in_ok-put_expr-in-Unary : goal.put_expr-returns-in_ok-put_e
 put_expr-returns-in_ok-put_expr-in-Unary t c =
     let operand : c.put_expr.new.code.items ≡ c.args.code.now.items ++ expr_code (expr_tree c.in-Unary.operand.value) (length c.args.code.now.items) c.args.k = rw (← c.deref-in-Unary.ensures) c.in_ok-put_expr-in-Unary.ensures in
     rw (c.in-Unary.is, expr_tree-Unary c.in-Unary.operator c.in-Unary.operand)
-    (then_on_ok c.put_unary.result (glued2 _ _ _ _ _ operand) c.put_unary.ensures)
+    (on_ok_weaker c.put_unary.result (glued2 _ _ _ _ _ operand) c.put_unary.ensures)
 
 pub put_expr-returns-in_ok-put_expr-in-Conditional-3 : goal.put_expr-returns-in_ok-put_expr-in-Conditional-3
 put_expr-returns-in_ok-put_expr-in-Conditional-3 t c =
@@ -69,7 +65,7 @@ put_expr-returns-in_ok-put_expr-in-Conditional-3 t c =
     let e3 : d3 ≡ d2 ++ expr_code first (length d2) k = rw (← c.deref-in-Conditional-2.ensures) c.in_ok-put_expr-in-Conditional-2.ensures in
     let e5 : d5 ≡ d4 ++ expr_code other (length d4) k = rw (← c.deref-in-Conditional-3.ensures) c.in_ok-put_expr-in-Conditional-3.ensures in
     rw (c.in-Conditional.is, expr_tree-Conditional c.in-Conditional.condition c.in-Conditional.then c.in-Conditional.otherwise)
-    (then_on_ok c.close_jump.result
+    (on_ok_weaker c.close_jump.result
     (conditional_patched c0 c1 d2 d3 d4 d5 c.close_jump.new.code.items condition first other k test.test jump.jump e1 test.ensures.place test.ensures.code e3 jump.ensures.place jump.ensures.code e5)
     c.close_jump.ensures)
 
@@ -77,7 +73,7 @@ pub put_operand-returns-in_ok-put_expr-in-LogicalAnd : goal.put_operand-returns-
 put_operand-returns-in_ok-put_expr-in-LogicalAnd t c =
     let test = c.in_ok-test-in-LogicalAnd in
     rw c.in-LogicalAnd.is
-    (then_on_ok c.put_both.result
+    (on_ok_weaker c.put_both.result
     (and_patched c.args.code.now.items c.put_open.new.code.items c.put_expr.new.code.items c.put_both.new.code.items (expr_tree c.args.operand.now) c.args.k test.test test.ensures.place test.ensures.code c.in_ok-put_expr-in-LogicalAnd.ensures)
     c.put_both.ensures)
 
@@ -85,6 +81,6 @@ pub put_operand-returns-in_ok-put_expr-in-LogicalOr : goal.put_operand-returns-i
 put_operand-returns-in_ok-put_expr-in-LogicalOr t c =
     let jump = c.in_ok-jump-in-LogicalOr in
     rw c.in-LogicalOr.is
-    (then_on_ok c.put_either.result
+    (on_ok_weaker c.put_either.result
     (or_patched c.args.code.now.items c.put_unless.new.code.items c.put_expr-in-LogicalOr.new.code.items c.put_either.new.code.items (expr_tree c.args.operand.now) c.args.k jump.jump jump.ensures.place jump.ensures.code c.in_ok-put_expr-in-LogicalOr.ensures)
     c.put_either.ensures)

@@ -1,7 +1,4 @@
-use Rattle.std.proofs.Common.{◌≡◌, ◌^◌, ◌++◌, length, map, drop}
-use Rattle.c_tree.specs.Views.{expr_tree}
-use Rattle.c_lower.specs.ExprCode.{expr_code}
-use Rattle.c_lower.specs.Chains.{operands_code}
+use Rattle.c_lower.proofs.Common.{◌≡◌, ◌^◌, ◌++◌, length, map, drop, expr_tree, expr_code, operands_code}
 use Rattle.c_lower.proofs.ChainCode.{OperandsFit}
 use Rattle.c_lower.proofs.expressions.+expressions.Given as goal
 

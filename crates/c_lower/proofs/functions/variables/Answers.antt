@@ -1,5 +1,4 @@
-use Rattle.std.proofs.Common.{[], ◌∷◌, ◌++◌, ◌∙◌, append_assoc, ap}
-use Rattle.c_tree.specs.Sizes.{scalars}
+use Rattle.c_lower.proofs.Common.{[], ◌∷◌, ◌++◌, ◌∙◌, append_assoc, ap, scalars}
 use Rattle.c_lower.proofs.FormedPrograms.{scalars_push}
 use Rattle.c_lower.proofs.functions.variables.Goals as goal
 

@@ -1,5 +1,4 @@
-use Rattle.std.proofs.Common.{◌≡◌, ◌++◌}
-use Rattle.c_tree.specs.Sizes.{scalars}
+use Rattle.c_lower.proofs.Common.{◌≡◌, ◌++◌, scalars}
 use Rattle.c_lower.proofs.functions.variables.Given as goal
 
 abbrev pub invariant-loop : goal.invariant-loop

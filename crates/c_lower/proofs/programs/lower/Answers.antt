@@ -1,9 +1,5 @@
-use Rattle.std.proofs.Common.{◌≡◌, ◌≤◌, ◌^◌, ◌∙◌, List, length, map, sym, ap, subst}
-use Rattle.std.specs.List.{AllByRecursion}
+use Rattle.c_lower.proofs.Common.{◌≡◌, ◌≤◌, ◌^◌, ◌∙◌, List, length, map, sym, ap, subst, AllByRecursion, FlatFunction, IsWellFormed, lowered_function, lowered_global}
 use Rattle.c_tree.specs.ProgramView.{program_tree}
-use Rattle.flat_code.specs.declared.functions.FlatFunction.{FlatFunction}
-use Rattle.flat_code.specs.WellFormed.{IsWellFormed}
-use Rattle.c_lower.specs.ProgramCode.{lowered_function, lowered_global}
 use Rattle.c_lower.proofs.FormedPrograms.{program_formed, all_small, all_few, lowered_is}
 use Rattle.c_lower.proofs.programs.lower.Goals as goal
 

@@ -1,8 +1,4 @@
-use Rattle.std.proofs.Common.{◌≡◌, ◌≤◌, ◌^◌, ◌++◌, length, map, drop}
-use Rattle.std.specs.List.{AllByRecursion}
-use Rattle.c_tree.specs.Temporaries.{function_temporaries}
-use Rattle.c_tree.specs.Views.{function_tree}
-use Rattle.c_lower.specs.ProgramCode.{lowered_function}
+use Rattle.c_lower.proofs.Common.{◌≡◌, ◌≤◌, ◌^◌, ◌++◌, length, map, drop, AllByRecursion, function_temporaries, function_tree, lowered_function}
 use Rattle.c_lower.proofs.programs.lower_functions.Given as goal
 
 abbrev pub invariant-loop-function : goal.invariant-loop-function

@@ -1,5 +1,4 @@
-use Rattle.std.proofs.Common.{◌≡◌, ◌++◌, map, drop}
-use Rattle.c_lower.specs.ProgramCode.{lowered_global}
+use Rattle.c_lower.proofs.Common.{◌≡◌, ◌++◌, map, drop, lowered_global}
 use Rattle.c_lower.proofs.programs.lower_globals.Given as goal
 
 abbrev pub invariant-loop-global : goal.invariant-loop-global

@@ -1,6 +1,4 @@
-use Rattle.std.proofs.Common.{◌≡◌, ◌+◌, ◌∷◌, map, drop, arith}
-use Rattle.c_tree.specs.Views.{simple_tree}
-use Rattle.c_tree.proofs.Cuts.{drop_at}
+use Rattle.c_lower.proofs.Common.{◌≡◌, ◌+◌, ◌∷◌, map, drop, arith, simple_tree, drop_at}
 use Rattle.c_lower.proofs.StmtGlue.{simples_turn}
 use Rattle.c_lower.proofs.simples.put_simples.Goals as goal
 

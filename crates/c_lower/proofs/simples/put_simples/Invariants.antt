@@ -1,7 +1,4 @@
-use Rattle.std.proofs.Common.{◌≡◌, ◌<◌, ◌+◌, ◌^◌, ◌++◌, length, map, drop}
-use Rattle.c_tree.specs.Temporaries.{simples_temporaries}
-use Rattle.c_tree.specs.Views.{simple_tree}
-use Rattle.c_lower.specs.StmtCode.{simples_code}
+use Rattle.c_lower.proofs.Common.{◌≡◌, ◌<◌, ◌+◌, ◌^◌, ◌++◌, length, map, drop, simples_temporaries, simple_tree, simples_code}
 use Rattle.c_lower.proofs.simples.put_simples.Given as goal
 
 abbrev pub invariant-loop-simple : goal.invariant-loop-simple

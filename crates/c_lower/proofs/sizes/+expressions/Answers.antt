@@ -1,7 +1,4 @@
-use Rattle.std.proofs.Common.{◌≡◌, ◌+◌, map, arith}
-use Rattle.c_tree.specs.Views.{expr_tree}
-use Rattle.c_tree.proofs.ExprEquations.{operand_tree, expr_tree-Chain}
-use Rattle.c_lower.specs.ExprCode.{expr_size}
+use Rattle.c_lower.proofs.Common.{◌≡◌, ◌+◌, map, arith, expr_tree, operand_tree, expr_tree-Chain, expr_size}
 use Rattle.c_lower.proofs.ChainCode.{chained_size}
 use Rattle.c_lower.proofs.sizes.+expressions.Goals as goal
 

@@ -1,7 +1,4 @@
-use Rattle.std.proofs.Common.{◌≡◌, ◌+◌, map, drop}
-use Rattle.c_tree.specs.Views.{expr_tree}
-use Rattle.c_lower.specs.ExprCode.{expr_size}
-use Rattle.c_lower.specs.Chains.{operands_size}
+use Rattle.c_lower.proofs.Common.{◌≡◌, ◌+◌, map, drop, expr_tree, expr_size, operands_size}
 use Rattle.c_lower.proofs.sizes.+expressions.Given as goal
 
 abbrev pub invariant-add_expr-loop-operator : goal.invariant-add_expr-loop-operator

@@ -1,7 +1,4 @@
-use Rattle.std.proofs.Common.{◌≡◌, ◌≤◌, ◌++◌, length, drop}
-use Rattle.c_tree.specs.Views.{stmt_trees}
-use Rattle.c_lower.specs.StmtCode.{stmts_size}
-use Rattle.c_lower.specs.StmtSizes.{stmts_sizes}
+use Rattle.c_lower.proofs.Common.{◌≡◌, ◌≤◌, ◌++◌, length, drop, stmt_trees, stmts_size, stmts_sizes}
 use Rattle.c_lower.proofs.sizes.+sizes.Given as goal
 
 abbrev pub invariant-size_of_stmts-loop-index : goal.invariant-size_of_stmts-loop-index

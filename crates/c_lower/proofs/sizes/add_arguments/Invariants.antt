@@ -1,6 +1,4 @@
-use Rattle.std.proofs.Common.{◌≡◌, ◌+◌, map, drop}
-use Rattle.c_tree.specs.Views.{expr_tree}
-use Rattle.c_lower.specs.CallCode.{arguments_size}
+use Rattle.c_lower.proofs.Common.{◌≡◌, ◌+◌, map, drop, expr_tree, arguments_size}
 use Rattle.c_lower.proofs.sizes.add_arguments.Given as goal
 
 abbrev pub invariant-loop-argument : goal.invariant-loop-argument

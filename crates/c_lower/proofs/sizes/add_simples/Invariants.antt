@@ -1,6 +1,4 @@
-use Rattle.std.proofs.Common.{◌≡◌, ◌+◌, map, drop}
-use Rattle.c_tree.specs.Views.{simple_tree}
-use Rattle.c_lower.specs.StmtCode.{simples_size}
+use Rattle.c_lower.proofs.Common.{◌≡◌, ◌+◌, map, drop, simple_tree, simples_size}
 use Rattle.c_lower.proofs.sizes.add_simples.Given as goal
 
 abbrev pub invariant-loop-simple : goal.invariant-loop-simple

@@ -1,12 +1,7 @@
-use Rattle.std.proofs.Common.{◌≡◌, ◌+◌, ◌∷◌, ◌++◌, ℕ, length, map, drop, subst, arith}
-use Rattle.std.specs.Prelude.{option_map}
+use Rattle.c_lower.proofs.Common.{◌≡◌, ◌+◌, ◌∷◌, ◌++◌, ℕ, length, map, drop, subst, arith, option_map, expr_tree, simple_tree, stmt_tree, stmt_trees, drop_at, simples_code, step_code, step_size, test_code, test_size, on_ok_weaker}
 use Rattle.c_tree.specs.declared.statements.ForParts.{ForParts}
 use Rattle.c_tree.specs.declared.statements.Stmt.{Stmt}
-use Rattle.c_tree.specs.Views.{expr_tree, simple_tree, stmt_tree, stmt_trees}
-use Rattle.c_tree.proofs.Cuts.{drop_at}
 use Rattle.c_tree.proofs.StmtEquations.{stmt_tree-Block, stmt_tree-If, stmt_tree-IfElse, stmt_tree-While, stmt_tree-For}
-use Rattle.c_lower.specs.StmtCode.{simples_code, step_code, step_size, test_code, test_size}
-use Rattle.c_lower.proofs.Glue.{then_on_ok}
 use Rattle.c_lower.proofs.StmtPuts.{Put, if_put, if_else_put, while_put, for_put, one_more_put}
 use Rattle.c_lower.proofs.statements.+statements.Goals as goal
 
@@ -34,7 +29,7 @@ put_stmt-returns-in_ok-put_condition-in-If t c =
     let s1 = c.last_size.new.sizes.items in
     let s2 = c.put_stmt.new.sizes.items in
     rw (c.in-If.is, stmt_tree-If c.in-If.condition c.in-If.then)
-    (then_on_ok c.put_stmt.result
+    (on_ok_weaker c.put_stmt.result
     (λ e. if_put c0 c1 c2 s0 s1 s2 (expr_tree c.in-If.condition) (stmt_tree c.in-If.then.value) context.t context.leave context.skip _ _ c.last_size.ensures c.in_ok-put_condition-in-If.ensures.to c.in_ok-put_condition-in-If.ensures.code
     (subst (λ (x : Stmt). Put c1 c2 s1 s2 (stmt_tree x) context.t context.leave context.skip) c.deref-in-If.ensures e))
     c.put_stmt.ensures)
@@ -56,7 +51,7 @@ put_stmt-returns-in_ok-put_jump-in-IfElse t c =
     let second = stmt_tree c.in-IfElse.otherwise.value in
     let put1 : Put c1 c2 s1 s2 first context.t context.leave context.skip = subst (λ (x : Stmt). Put c1 c2 s1 s2 (stmt_tree x) context.t context.leave context.skip) c.deref-in-IfElse.ensures c.in_ok-put_stmt-in-IfElse.ensures in
     rw (c.in-IfElse.is, stmt_tree-IfElse c.in-IfElse.condition c.in-IfElse.then c.in-IfElse.otherwise)
-    (then_on_ok c.put_stmt-in-IfElse-2.result
+    (on_ok_weaker c.put_stmt-in-IfElse-2.result
     (λ e. if_else_put c0 c1 c2 c3 c4 s0 s1 s2 s3 s4 (expr_tree c.in-IfElse.condition) first second context.t context.leave context.skip _ _ _ c.last_size-in-IfElse.ensures c.in_ok-put_condition-in-IfElse.ensures.to c.in_ok-put_condition-in-IfElse.ensures.code put1 c.last_size-in-IfElse-2.ensures c.in_ok-put_jump-in-IfElse.ensures
     (subst (λ (x : Stmt). Put c3 c4 s3 s4 (stmt_tree x) context.t context.leave context.skip) c.deref-in-IfElse-2.ensures e))
     c.put_stmt-in-IfElse-2.ensures)
@@ -76,7 +71,7 @@ put_stmt-returns-in_ok-put_stmt-in-While t c =
     let body = stmt_tree c.in-While.body.value in
     let put : Put c1 c2 s1 s2 body context.t leave skip = subst (λ (x : Stmt). Put c1 c2 s1 s2 (stmt_tree x) context.t leave skip) c.deref-in-While.ensures c.in_ok-put_stmt-in-While.ensures in
     rw (c.in-While.is, stmt_tree-While c.in-While.condition c.in-While.body)
-    (then_on_ok c.put.result
+    (on_ok_weaker c.put.result
     (while_put c0 c1 c2 c3 s0 s1 s2 (expr_tree c.in-While.condition) body context.t context.leave context.skip skip leave _ c.in_ok-skip-in-While.ensures c.last_size-in-While.ensures c.in_ok-leave-in-While.ensures.to c.in_ok-leave-in-While.ensures.code put)
     c.put.ensures)
 
@@ -109,7 +104,7 @@ put_stmt-returns-in_ok-put_step-in-For t c =
     subst (λ (n : ℕ). Put c2 c3 s1 s2 body n inside.leave inside.skip) c.in_ok-inside-in-For.ensures.t
     (subst (λ (x : Stmt). Put c2 c3 s1 s2 (stmt_tree x) inside.t inside.leave inside.skip) c.deref-in-For-6.ensures c.in_ok-put_stmt-in-For.ensures) in
     rw (c.in-For.is, stmt_tree-For c.in-For.parts c.in-For.body)
-    (then_on_ok c.put-in-For.result
+    (on_ok_weaker c.put-in-For.result
     (for_put c0 c1 c2 c3 c4 c5 s0 s1 s2 init condition step body context.t context.leave context.skip _ inside.skip inside.leave _ e1 c.in_ok-turn-in-For.ensures c.last_size-in-For.ensures skip leave e2 put e4)
     c.put-in-For.ensures)
 

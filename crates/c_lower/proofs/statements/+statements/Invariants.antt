@@ -1,8 +1,4 @@
-use Rattle.std.proofs.Common.{◌≡◌, ◌<◌, ◌+◌, ◌^◌, ◌++◌, List, ℕ, length, drop}
-use Rattle.c_tree.specs.Temporaries.{stmts_temporaries}
-use Rattle.c_tree.specs.Views.{stmt_trees}
-use Rattle.c_lower.specs.StmtCode.{stmts_code}
-use Rattle.c_lower.specs.StmtSizes.{stmts_sizes}
+use Rattle.c_lower.proofs.Common.{◌≡◌, ◌<◌, ◌+◌, ◌^◌, ◌++◌, List, ℕ, length, drop, stmts_temporaries, stmt_trees, stmts_code, stmts_sizes}
 use Rattle.c_lower.proofs.statements.+statements.Given as goal
 
 abbrev pub invariant-put_stmts-loop-stmt : goal.invariant-put_stmts-loop-stmt

@@ -1,6 +1,4 @@
-use Rattle.std.proofs.Common.{◌≡◌, ◌+◌, length, arith}
-use Rattle.c_tree.specs.Views.{expr_tree}
-use Rattle.c_lower.specs.ExprCode.{expr_size, expr_code}
+use Rattle.c_lower.proofs.Common.{◌≡◌, ◌+◌, length, arith, expr_tree, expr_size, expr_code}
 use Rattle.c_lower.proofs.CodeSizes.{expr_length}
 use Rattle.c_lower.proofs.ExprGlue.{grown}
 use Rattle.c_lower.proofs.statements.put_condition.Goals as goal

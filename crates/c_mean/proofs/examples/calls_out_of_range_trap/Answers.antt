@@ -1,5 +1,4 @@
-use Rattle.std.proofs.Common.{refl}
-use Rattle.cap_word.specs.Word.{signed, word_of, floor_div, flag, add, sub, mul, div, rem, sll, sra}
+use Rattle.c_mean.proofs.Common.{refl, signed, word_of, floor_div, flag, add, sub, mul, div, rem, sll, sra}
 use Rattle.c_mean.proofs.examples.calls_out_of_range_trap.Goals as goal
 
 pub returns-clause-taken : goal.returns-clause-taken

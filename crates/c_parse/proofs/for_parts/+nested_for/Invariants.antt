@@ -1,7 +1,4 @@
-use Rattle.std.proofs.Common.{◌≡◌, drop}
-use Rattle.c_tree.specs.RawViews.{raw_stmt_trees}
-use Rattle.c_parse.specs.NestedCalls.{earlier}
-use Rattle.c_parse.specs.ForParts.{nested_in_all_for}
+use Rattle.c_parse.proofs.Common.{◌≡◌, drop, raw_stmt_trees, earlier, nested_in_all_for}
 use Rattle.c_parse.proofs.for_parts.+nested_for.Given as goal
 
 abbrev pub invariant-nested_in_all_for-loop-stmt : goal.invariant-nested_in_all_for-loop-stmt

@@ -1,7 +1,4 @@
-use Rattle.std.proofs.Common.{◌≡◌, drop}
-use Rattle.c_tree.specs.RawViews.{raw_item_trees}
-use Rattle.c_parse.specs.NestedCalls.{earlier}
-use Rattle.c_parse.specs.ForParts.{nested_in_fors}
+use Rattle.c_parse.proofs.Common.{◌≡◌, drop, raw_item_trees, earlier, nested_in_fors}
 use Rattle.c_parse.proofs.for_parts.nested_in_fors.Given as goal
 
 abbrev pub invariant-loop-item : goal.invariant-loop-item

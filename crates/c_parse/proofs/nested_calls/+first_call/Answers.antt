@@ -1,6 +1,4 @@
-use Rattle.std.proofs.Common.{map, refl}
-use Rattle.c_tree.specs.RawViews.{raw_expr_tree}
-use Rattle.c_tree.proofs.RawExprEquations.{raw_operand_tree, raw_expr_tree-Chain}
+use Rattle.c_parse.proofs.Common.{map, refl, raw_expr_tree, raw_operand_tree, raw_expr_tree-Chain}
 use Rattle.c_parse.proofs.CallChains.{chained_call}
 use Rattle.c_parse.proofs.nested_calls.+first_call.Goals as goal
 

@@ -1,7 +1,4 @@
-use Rattle.std.proofs.Common.{◌≡◌, map, drop}
-use Rattle.c_tree.specs.RawViews.{raw_expr_tree}
-use Rattle.c_tree.proofs.RawExprEquations.{raw_operand_tree}
-use Rattle.c_parse.specs.NestedCalls.{first_call}
+use Rattle.c_parse.proofs.Common.{◌≡◌, map, drop, raw_expr_tree, raw_operand_tree, first_call}
 use Rattle.c_parse.proofs.CallChains.{chain_call}
 use Rattle.c_parse.proofs.nested_calls.+first_call.Given as goal
 

@@ -1,6 +1,4 @@
-use Rattle.std.proofs.Common.{◌≡◌, drop}
-use Rattle.c_tree.specs.RawViews.{raw_stmt_trees}
-use Rattle.c_parse.specs.NestedCalls.{earlier, nested_in_stmts}
+use Rattle.c_parse.proofs.Common.{◌≡◌, drop, raw_stmt_trees, earlier, nested_in_stmts}
 use Rattle.c_parse.proofs.nested_calls.+nested.Given as goal
 
 abbrev pub invariant-nested_in_stmts-loop-stmt : goal.invariant-nested_in_stmts-loop-stmt

@@ -1,9 +1,5 @@
-use Rattle.std.proofs.Common.{◌≡◌, ◌≢◌, ◌∙◌, ℕ, Bool, false, nat_eq, List, [], ◌∷◌, length, map, vec_len, refl, sym, ap, subst, arith}
 use Rattle.std.proofs.lemmas.Bool.Decides.{nat_tests}
-use Rattle.c_tree.specs.RawTrees.{RawExprTree}
-use Rattle.c_tree.specs.RawViews.{raw_expr_tree, raw_chained}
-use Rattle.c_tree.proofs.RawExprEquations.{raw_operand_tree, raw_expr_tree-Chain}
-use Rattle.c_parse.specs.NestedCalls.{first_call, nested_in_value}
+use Rattle.c_parse.proofs.Common.{◌≡◌, ◌≢◌, ◌∙◌, ℕ, Bool, false, nat_eq, List, [], ◌∷◌, length, map, vec_len, refl, sym, ap, subst, arith, RawExprTree, raw_expr_tree, raw_chained, raw_operand_tree, raw_expr_tree-Chain, first_call, nested_in_value}
 use Rattle.c_parse.proofs.CallChains.{some_chain_value}
 use Rattle.c_parse.proofs.nested_calls.+nested_in_value.Goals as goal
 

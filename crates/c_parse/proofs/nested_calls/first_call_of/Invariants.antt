@@ -1,6 +1,4 @@
-use Rattle.std.proofs.Common.{◌≡◌, drop}
-use Rattle.c_tree.specs.RawViews.{raw_expr_trees}
-use Rattle.c_parse.specs.NestedCalls.{earlier, first_call_of}
+use Rattle.c_parse.proofs.Common.{◌≡◌, drop, raw_expr_trees, earlier, first_call_of}
 use Rattle.c_parse.proofs.nested_calls.first_call_of.Given as goal
 
 abbrev pub invariant-loop-expr : goal.invariant-loop-expr

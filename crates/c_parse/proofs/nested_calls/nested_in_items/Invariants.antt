@@ -1,6 +1,4 @@
-use Rattle.std.proofs.Common.{◌≡◌, drop}
-use Rattle.c_tree.specs.RawViews.{raw_item_trees}
-use Rattle.c_parse.specs.NestedCalls.{earlier, nested_in_items}
+use Rattle.c_parse.proofs.Common.{◌≡◌, drop, raw_item_trees, earlier, nested_in_items}
 use Rattle.c_parse.proofs.nested_calls.nested_in_items.Given as goal
 
 abbrev pub invariant-loop-item : goal.invariant-loop-item

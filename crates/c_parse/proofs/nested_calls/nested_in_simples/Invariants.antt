@@ -1,6 +1,4 @@
-use Rattle.std.proofs.Common.{◌≡◌, map, drop}
-use Rattle.c_tree.specs.RawViews.{raw_simple_tree}
-use Rattle.c_parse.specs.NestedCalls.{earlier, nested_in_simples}
+use Rattle.c_parse.proofs.Common.{◌≡◌, map, drop, raw_simple_tree, earlier, nested_in_simples}
 use Rattle.c_parse.proofs.nested_calls.nested_in_simples.Given as goal
 
 abbrev pub invariant-loop-simple : goal.invariant-loop-simple

@@ -1,9 +1,5 @@
-use Rattle.std.proofs.Common.{◌≡◌, None, Some, refl, sym, ap, ◌∙◌, length}
-use Rattle.c_tree.specs.RawViews.{raw_item_trees}
-use Rattle.c_tree.specs.WholeForParts.{AreForPartsWhole}
-use Rattle.c_parse.specs.ForParts.{nested_in_fors}
+use Rattle.c_parse.proofs.Common.{◌≡◌, None, Some, refl, sym, ap, ◌∙◌, length, raw_item_trees, AreForPartsWhole, nested_in_fors, exit}
 use Rattle.c_parse.proofs.ForWhole.{for_parts_whole, for_parts_none}
-use Rattle.grammar_reader.proofs.Paths.{exit}
 use Rattle.c_parse.proofs.ParseRules.{parsed_whole, parsed_nested, parsed_refused}
 use Rattle.c_parse.proofs.parser.nested_tree_of.Goals as goal
 

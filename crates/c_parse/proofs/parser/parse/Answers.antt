@@ -1,5 +1,4 @@
-use Rattle.c_tree.specs.WholeCalls.{AreCallsWhole}
-use Rattle.c_parse.specs.NestedCalls.{nested_in_items}
+use Rattle.c_parse.proofs.Common.{AreCallsWhole, nested_in_items}
 use Rattle.c_parse.proofs.NestedWhole.{items_whole, items_none}
 use Rattle.c_parse.proofs.ParseRules.{only_tree, only_refusal}
 use Rattle.c_parse.proofs.parser.parse.Goals as goal

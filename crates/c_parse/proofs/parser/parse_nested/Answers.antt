@@ -1,5 +1,4 @@
-use Rattle.c_tree.specs.WholeForParts.{AreForPartsWhole}
-use Rattle.c_parse.specs.ForParts.{nested_in_fors}
+use Rattle.c_parse.proofs.Common.{AreForPartsWhole, nested_in_fors}
 use Rattle.c_parse.proofs.ForWhole.{for_parts_whole, for_parts_none}
 use Rattle.c_parse.proofs.ParseRules.{only_tree, only_refusal}
 use Rattle.c_parse.proofs.parser.parse_nested.Goals as goal

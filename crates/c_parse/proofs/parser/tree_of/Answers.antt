@@ -1,9 +1,5 @@
-use Rattle.std.proofs.Common.{◌≡◌, None, Some, refl, sym, ap, ◌∙◌, length}
-use Rattle.c_tree.specs.RawViews.{raw_item_trees}
-use Rattle.c_tree.specs.WholeCalls.{AreCallsWhole}
-use Rattle.c_parse.specs.NestedCalls.{nested_in_items}
+use Rattle.c_parse.proofs.Common.{◌≡◌, None, Some, refl, sym, ap, ◌∙◌, length, raw_item_trees, AreCallsWhole, nested_in_items, exit}
 use Rattle.c_parse.proofs.NestedWhole.{items_whole, items_none}
-use Rattle.grammar_reader.proofs.Paths.{exit}
 use Rattle.c_parse.proofs.ParseRules.{parsed_whole, parsed_nested, parsed_refused}
 use Rattle.c_parse.proofs.parser.tree_of.Goals as goal
 

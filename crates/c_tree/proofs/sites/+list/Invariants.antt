@@ -1,6 +1,4 @@
-use Rattle.std.proofs.Common.{◌≡◌, ◌++◌, drop}
-use Rattle.c_tree.specs.Views.{stmt_trees}
-use Rattle.c_tree.specs.TextOrder.{stmts_sites}
+use Rattle.c_tree.proofs.Common.{◌≡◌, ◌++◌, drop, stmt_trees, stmts_sites}
 use Rattle.c_tree.proofs.sites.+list.Given as goal
 
 abbrev pub invariant-list_stmts-loop-stmt : goal.invariant-list_stmts-loop-stmt

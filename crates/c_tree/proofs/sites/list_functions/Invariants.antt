@@ -1,6 +1,4 @@
-use Rattle.std.proofs.Common.{◌≡◌, ◌++◌, map, drop}
-use Rattle.c_tree.specs.Views.{function_tree}
-use Rattle.c_tree.specs.TextOrder.{functions_sites}
+use Rattle.c_tree.proofs.Common.{◌≡◌, ◌++◌, map, drop, function_tree, functions_sites}
 use Rattle.c_tree.proofs.sites.list_functions.Given as goal
 
 abbrev pub invariant-loop-function : goal.invariant-loop-function

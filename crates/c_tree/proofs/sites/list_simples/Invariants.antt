@@ -1,6 +1,4 @@
-use Rattle.std.proofs.Common.{◌≡◌, ◌++◌, map, drop}
-use Rattle.c_tree.specs.Views.{simple_tree}
-use Rattle.c_tree.specs.TextOrder.{simples_sites}
+use Rattle.c_tree.proofs.Common.{◌≡◌, ◌++◌, map, drop, simple_tree, simples_sites}
 use Rattle.c_tree.proofs.sites.list_simples.Given as goal
 
 abbrev pub invariant-loop-simple : goal.invariant-loop-simple

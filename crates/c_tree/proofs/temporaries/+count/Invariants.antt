@@ -1,6 +1,4 @@
-use Rattle.std.proofs.Common.{◌≡◌, ◌≤◌, max, drop}
-use Rattle.c_tree.specs.Views.{stmt_trees}
-use Rattle.c_tree.specs.Temporaries.{capped, stmts_temporaries}
+use Rattle.c_tree.proofs.Common.{◌≡◌, ◌≤◌, max, drop, stmt_trees, capped, stmts_temporaries}
 use Rattle.c_tree.proofs.temporaries.+count.Given as goal
 
 abbrev pub invariant-stmts_of-loop-stmt : goal.invariant-stmts_of-loop-stmt

@@ -1,6 +1,4 @@
-use Rattle.std.proofs.Common.{◌≡◌, ◌≤◌, max, map, drop}
-use Rattle.c_tree.specs.Views.{expr_tree}
-use Rattle.c_tree.specs.Temporaries.{capped, arguments_temporaries}
+use Rattle.c_tree.proofs.Common.{◌≡◌, ◌≤◌, max, map, drop, expr_tree, capped, arguments_temporaries}
 use Rattle.c_tree.proofs.temporaries.arguments_of.Given as goal
 
 abbrev pub invariant-loop-index : goal.invariant-loop-index

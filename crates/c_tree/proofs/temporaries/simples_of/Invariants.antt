@@ -1,6 +1,4 @@
-use Rattle.std.proofs.Common.{◌≡◌, ◌≤◌, max, map, drop}
-use Rattle.c_tree.specs.Views.{simple_tree}
-use Rattle.c_tree.specs.Temporaries.{capped, simples_temporaries}
+use Rattle.c_tree.proofs.Common.{◌≡◌, ◌≤◌, max, map, drop, simple_tree, capped, simples_temporaries}
 use Rattle.c_tree.proofs.temporaries.simples_of.Given as goal
 
 abbrev pub invariant-loop-simple : goal.invariant-loop-simple

@@ -1,6 +1,4 @@
-use Rattle.std.proofs.Common.{◌≡◌, length, arith}
-use Rattle.std.proofs.lemmas.Grind.{common_steps}
-use Rattle.flat_code.specs.ProgramView.{program_code}
+use Rattle.call_cycles.proofs.Common.{◌≡◌, length, arith, common_steps, program_code}
 use Rattle.call_cycles.proofs.OrderLemmas.{acyclic-where}
 use Rattle.call_cycles.proofs.cycles.cycle_of.Goals as goal
 

@@ -1,9 +1,4 @@
-use Rattle.std.proofs.Common.{◌≡◌, true, length, arith}
-use Rattle.std.proofs.lemmas.Grind.{common_steps}
-use Rattle.flat_code.specs.ProgramView.{program_code}
-use Rattle.call_graph.specs.Lists.{has}
-use Rattle.cycle_break.proofs.NumberLemmas.{true_false}
-use Rattle.cycle_break.specs.Trail.{is_marked}
+use Rattle.call_cycles.proofs.Common.{◌≡◌, true, length, arith, common_steps, program_code, has, true_false, is_marked}
 use Rattle.call_cycles.proofs.MarkLemmas.{has-last, marked-below}
 use Rattle.call_cycles.proofs.WalkLemmas.{walked-more, walked-end}
 use Rattle.call_cycles.proofs.cycles.is_on_cycle.Goals as goal

@@ -1,5 +1,4 @@
-use Rattle.std.proofs.Common.{length, ap, arith}
-use Rattle.flat_code.specs.ProgramView.{program_code}
+use Rattle.call_cycles.proofs.Common.{length, ap, arith, program_code}
 use Rattle.call_cycles.proofs.OrderLemmas.{cycle-within}
 use Rattle.call_cycles.proofs.WalkLemmas.{least-cycle}
 use Rattle.call_cycles.proofs.cycles.least_on_cycle.Goals as goal

@@ -1,9 +1,5 @@
-use Rattle.std.proofs.Common.{◌≡◌, ◌<◌, true, length, arith}
-use Rattle.std.proofs.lemmas.Grind.{common_steps}
-use Rattle.flat_code.specs.ProgramView.{program_code}
-use Rattle.call_graph.specs.Lists.{has}
-use Rattle.cycle_break.specs.Trail.{is_marked}
-use Rattle.call_cycles.proofs.ClosedLemmas.{spread-first, spread-more, spread-end, closed-set, unreached-off, not-true}
+use Rattle.call_cycles.proofs.Common.{◌≡◌, ◌<◌, true, length, arith, common_steps, program_code, has, is_marked, not-true}
+use Rattle.call_cycles.proofs.ClosedLemmas.{spread-first, spread-more, spread-end, closed-set, unreached-off}
 use Rattle.call_cycles.proofs.MarkLemmas.{has-last, marked-below, seen-set}
 use Rattle.call_cycles.proofs.off_cycles.is_off_cycles.Goals as goal
 

@@ -1,6 +1,4 @@
-use Rattle.std.proofs.Common.{◌+◌, length}
-use Rattle.flat_code.specs.ProgramView.{program_code}
-use Rattle.call_cycles.specs.Marks.{AreSeen, unmarked}
+use Rattle.call_cycles.proofs.Common.{◌+◌, length, program_code, AreSeen, unmarked}
 use Rattle.call_cycles.proofs.ClosedLemmas.{IsSpread}
 use Rattle.call_cycles.proofs.off_cycles.is_off_cycles.Given as goal
 

@@ -1,5 +1,4 @@
-use Rattle.std.proofs.Common.{◌<◌, length, ap, arith}
-use Rattle.flat_code.specs.ProgramView.{program_code}
+use Rattle.call_cycles.proofs.Common.{◌<◌, length, ap, arith, program_code}
 use Rattle.call_cycles.proofs.ClosedLemmas.{off-more}
 use Rattle.call_cycles.proofs.off_cycles.note_function.Goals as goal
 

@@ -1,6 +1,4 @@
-use Rattle.std.proofs.Common.{◌≡◌, ◌≤◌, length, vec_len}
-use Rattle.flat_code.specs.ProgramView.{program_code}
-use Rattle.call_cycles.specs.Marks.{AreOffCycles, AreSeen, IsClosed}
+use Rattle.call_cycles.proofs.Common.{◌≡◌, ◌≤◌, length, vec_len, program_code, AreOffCycles, AreSeen, IsClosed}
 use Rattle.call_cycles.proofs.off_cycles.off_cycles.Given as goal
 
 abbrev pub invariant-loop-place : goal.invariant-loop-place

@@ -1,6 +1,5 @@
-use Rattle.std.proofs.Common.{◌≡◌}
 use Rattle.std.proofs.lemmas.Result.{on_ok_weaker}
-use Rattle.flat_code.specs.ProgramView.{program_code}
+use Rattle.call_cycles.proofs.Common.{◌≡◌, program_code}
 use Rattle.call_cycles.proofs.MarkLemmas.{seen-kept}
 use Rattle.call_cycles.proofs.reaching.mark_called.Goals as goal
 

@@ -1,9 +1,4 @@
-use Rattle.std.proofs.Common.{◌≡◌, List, length, refl, ap, ◌∙◌, subst, arith}
-use Rattle.std.proofs.lemmas.Option.{slice_get_read}
-use Rattle.flat_code.specs.declared.operations.Op.{Op}
-use Rattle.flat_code.specs.Codes.{function_at}
-use Rattle.flat_code.specs.ProgramView.{program_code}
-use Rattle.call_cycles.specs.Marks.{Marks}
+use Rattle.call_cycles.proofs.Common.{◌≡◌, List, length, refl, ap, ◌∙◌, subst, arith, slice_get_read, Op, function_at, program_code, Marks}
 use Rattle.call_cycles.proofs.MarkLemmas.{CallsBefore, ops-none, ops-more, ops-over}
 use Rattle.call_cycles.proofs.reaching.mark_callees.Goals as goal
 

@@ -1,5 +1,4 @@
-use Rattle.flat_code.specs.ProgramView.{program_code}
-use Rattle.call_cycles.specs.Marks.{AreSeen, Marks}
+use Rattle.call_cycles.proofs.Common.{program_code, AreSeen, Marks}
 use Rattle.call_cycles.proofs.MarkLemmas.{CallsBefore}
 use Rattle.call_cycles.proofs.reaching.mark_callees.Given as goal
 

@@ -1,6 +1,4 @@
-use Rattle.std.proofs.Common.{◌≡◌, true, take}
-use Rattle.call_graph.specs.Lists.{has}
-use Rattle.call_cycles.specs.Marks.{Marks}
+use Rattle.call_cycles.proofs.Common.{◌≡◌, true, take, has, Marks}
 use Rattle.call_cycles.proofs.reaching.mark_each.Given as goal
 
 abbrev pub invariant-loop-function : goal.invariant-loop-function

@@ -1,9 +1,4 @@
-use Rattle.std.proofs.Common.{◌≡◌, true, arith, rules}
-use Rattle.std.proofs.lemmas.Grind.{common_steps}
-use Rattle.call_graph.specs.Lists.{has}
-use Rattle.flat_code.specs.Codes.{members_of}
-use Rattle.flat_code.specs.ProgramView.{program_code}
-use Rattle.call_cycles.specs.Marks.{Marks}
+use Rattle.call_cycles.proofs.Common.{◌≡◌, true, arith, rules, common_steps, has, members_of, program_code, Marks}
 use Rattle.call_cycles.proofs.MarkLemmas.{marks-none, seen-more}
 use Rattle.call_cycles.proofs.reaching.mark_members.Goals as goal
 

@@ -1,5 +1,4 @@
-use Rattle.call_graph.specs.Graph.{IsSiteOf}
-use Rattle.call_graph.proofs.ListLemmas.{all-at}
+use Rattle.call_cycles.proofs.Common.{IsSiteOf, all-at}
 use Rattle.call_cycles.proofs.ReversedLemmas.{below-nodes}
 use Rattle.call_cycles.proofs.reversed.add_callers.Goals as goal
 

@@ -1,4 +1,4 @@
-use Rattle.call_cycles.specs.Reversed.{AreNumbered}
+use Rattle.call_cycles.proofs.Common.{AreNumbered}
 use Rattle.call_cycles.proofs.reversed.add_callers.Given as goal
 
 abbrev pub invariant-loop-site : goal.invariant-loop-site

@@ -1,4 +1,4 @@
-use Rattle.call_cycles.specs.Reversed.{AreNumbered}
+use Rattle.call_cycles.proofs.Common.{AreNumbered}
 use Rattle.call_cycles.proofs.reversed.add_each.Given as goal
 
 abbrev pub invariant-loop-function : goal.invariant-loop-function

@@ -1,6 +1,5 @@
-use Rattle.std.proofs.Common.{arith}
 use Rattle.std.proofs.lemmas.Grind.{common_steps}
-use Rattle.std.proofs.lemmas.List.Elements.{filter_map-append}
+use Rattle.call_graph.proofs.Common.{arith, filter_map-append}
 use Rattle.call_graph.proofs.flat_calls.push_sites.Goals as goal
 
 pub loop-op-preserved : goal.loop-op-preserved

@@ -1,6 +1,4 @@
-use Rattle.std.proofs.Common.{◌≡◌, ◌++◌, take}
-use Rattle.std.specs.List.{filter_map}
-use Rattle.call_graph.specs.FlatCalls.{call_site}
+use Rattle.call_graph.proofs.Common.{◌≡◌, ◌++◌, take, filter_map, call_site}
 use Rattle.call_graph.proofs.flat_calls.push_sites.Given as goal
 
 abbrev pub invariant-loop-op : goal.invariant-loop-op

@@ -1,5 +1,4 @@
-use Rattle.std.proofs.Common.{◌≡◌, ◌++◌, drop}
-use Rattle.call_graph.specs.FlatCalls.{call_sites_from}
+use Rattle.call_graph.proofs.Common.{◌≡◌, ◌++◌, drop, call_sites_from}
 use Rattle.call_graph.proofs.flat_calls.sites_of_functions.Given as goal
 
 abbrev pub invariant-loop-caller : goal.invariant-loop-caller

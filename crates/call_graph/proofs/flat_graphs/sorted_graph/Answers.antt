@@ -1,7 +1,4 @@
-use Rattle.std.proofs.Common.{rules}
-use Rattle.std.proofs.lemmas.List.Sorted.{IsNonDecreasingBy-from_sort_by_key}
-use Rattle.std.specs.List.Sorted.{IsNonDecreasingBy}
-use Rattle.call_graph.specs.declared.sites.GraphSite.{GraphSite}
+use Rattle.call_graph.proofs.Common.{rules, IsNonDecreasingBy-from_sort_by_key, IsNonDecreasingBy, GraphSite}
 use Rattle.call_graph.proofs.FlatLemmas.{sorted-graph}
 use Rattle.call_graph.proofs.flat_graphs.sorted_graph.Goals as goal
 

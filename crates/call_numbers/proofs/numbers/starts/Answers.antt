@@ -1,8 +1,9 @@
 use Rattle.std.proofs.Common.{◌≡◌, ◌≢◌, ◌<◌, ◌+◌, refl, sym, ◌∙◌, length, get_or, arith, below_more}
 use Rattle.std.proofs.Math.ListN.{set}
 use Rattle.std.proofs.lemmas.List.{get_or_read, get_or-set_other, get_or-set_same, length-set}
+use Rattle.grammar_laws.proofs.RankLaws.{lesser_few}
 use Rattle.grammar_laws.specs.Ranks.{lesser}
-use Rattle.call_numbers.proofs.Counts.{lesser_next, lesser_none, lesser_few, count_room, all_counted}
+use Rattle.call_numbers.proofs.Counts.{lesser_next, lesser_none, count_room, all_counted}
 use Rattle.call_numbers.proofs.numbers.starts.Goals as goal
 
 pub overflow_add-index_mut : goal.overflow_add-index_mut

@@ -1,9 +1,4 @@
-use Rattle.std.proofs.Common.{◌≡◌, ◌++◌, ◌∷◌, [], map, sym, ap, ◌∙◌}
-use Rattle.std.proofs.lemmas.Result.{on_ok_weaker}
-use Rattle.c_tree.specs.RawViews.{raw_expr_tree, raw_expr_trees, raw_chained}
-use Rattle.c_tree.proofs.RawExprEquations.{raw_operand_tree, raw_expr_tree-Chain, raw_expr_tree-Conditional, raw_expr_tree-Call, raw_expr_tree-TableCall}
-use Rattle.grammar_laws.specs.Nested.{is_call}
-use Rattle.grammar_laws.specs.Places.{expr_places, exprs_places}
+use Rattle.call_places.proofs.Common.{◌≡◌, ◌++◌, ◌∷◌, [], map, sym, ap, ◌∙◌, on_ok_weaker, raw_expr_tree, raw_expr_trees, raw_chained, raw_operand_tree, raw_expr_tree-Chain, raw_expr_tree-Conditional, raw_expr_tree-Call, raw_expr_tree-TableCall, is_call, expr_places, exprs_places}
 use Rattle.call_places.proofs.ChainPlaces.{chain_begins, two_added, three_added}
 use Rattle.call_places.proofs.calls.+exprs.Goals as goal
 

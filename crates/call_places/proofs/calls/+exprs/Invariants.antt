@@ -1,8 +1,4 @@
-use Rattle.std.proofs.Common.{◌≡◌, ◌++◌, map, drop}
-use Rattle.c_tree.specs.RawViews.{raw_expr_tree, raw_expr_trees}
-use Rattle.c_tree.proofs.RawExprEquations.{raw_operand_tree}
-use Rattle.grammar_laws.specs.Nested.{is_call}
-use Rattle.grammar_laws.specs.Places.{expr_places, exprs_places}
+use Rattle.call_places.proofs.Common.{◌≡◌, ◌++◌, map, drop, raw_expr_tree, raw_expr_trees, raw_operand_tree, is_call, expr_places, exprs_places}
 use Rattle.call_places.proofs.ChainPlaces.{operands_places}
 use Rattle.call_places.proofs.calls.+exprs.Given as goal
 

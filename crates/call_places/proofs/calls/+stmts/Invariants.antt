@@ -1,7 +1,4 @@
-use Rattle.std.proofs.Common.{◌≡◌, ◌++◌, drop}
-use Rattle.c_tree.specs.RawViews.{raw_stmt_trees}
-use Rattle.grammar_laws.specs.Nested.{is_call}
-use Rattle.grammar_laws.specs.Places.{stmts_places}
+use Rattle.call_places.proofs.Common.{◌≡◌, ◌++◌, drop, raw_stmt_trees, is_call, stmts_places}
 use Rattle.call_places.proofs.calls.+stmts.Given as goal
 
 abbrev pub invariant-add_stmts-loop-stmt : goal.invariant-add_stmts-loop-stmt

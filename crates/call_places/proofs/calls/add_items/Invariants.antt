@@ -1,7 +1,4 @@
-use Rattle.std.proofs.Common.{◌≡◌, ◌++◌, drop}
-use Rattle.c_tree.specs.RawViews.{raw_item_trees}
-use Rattle.grammar_laws.specs.Nested.{is_call}
-use Rattle.grammar_laws.specs.Places.{items_places}
+use Rattle.call_places.proofs.Common.{◌≡◌, ◌++◌, drop, raw_item_trees, is_call, items_places}
 use Rattle.call_places.proofs.calls.add_items.Given as goal
 
 abbrev pub invariant-loop-item : goal.invariant-loop-item

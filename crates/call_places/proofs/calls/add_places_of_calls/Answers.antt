@@ -1,10 +1,5 @@
-use Rattle.std.proofs.Common.{◌≡◌, ◌++◌, map, sym, ap, ◌∙◌}
 use Rattle.std.specs.Prelude.{option_map}
-use Rattle.std.proofs.lemmas.List.{append-nil}
-use Rattle.std.proofs.lemmas.Result.{on_ok_weaker}
-use Rattle.c_tree.specs.RawViews.{name_tree, raw_stmt_trees, raw_item_tree}
-use Rattle.grammar_laws.specs.Nested.{is_call}
-use Rattle.grammar_laws.specs.Places.{stmts_places, item_places}
+use Rattle.call_places.proofs.Common.{◌≡◌, ◌++◌, map, sym, ap, ◌∙◌, append-nil, on_ok_weaker, name_tree, raw_stmt_trees, raw_item_tree, is_call, stmts_places, item_places}
 use Rattle.grammar_laws.proofs.NoNames.{no_declared, no_used, no_parameters}
 use Rattle.call_places.proofs.calls.add_places_of_calls.Goals as goal
 

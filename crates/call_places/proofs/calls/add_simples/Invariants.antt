@@ -1,7 +1,4 @@
-use Rattle.std.proofs.Common.{◌≡◌, ◌++◌, map, drop}
-use Rattle.c_tree.specs.RawViews.{raw_simple_tree}
-use Rattle.grammar_laws.specs.Nested.{is_call}
-use Rattle.grammar_laws.specs.Places.{simples_places}
+use Rattle.call_places.proofs.Common.{◌≡◌, ◌++◌, map, drop, raw_simple_tree, is_call, simples_places}
 use Rattle.call_places.proofs.calls.add_simples.Given as goal
 
 abbrev pub invariant-loop-simple : goal.invariant-loop-simple

@@ -1,7 +1,4 @@
-use Rattle.std.proofs.Common.{◌≡◌, ◌≤◌, ◌^◌, take, arith, ap, ◌∙◌, sym}
-use Rattle.std.specs.Str.Parse.{digits_value}
-use Rattle.std.proofs.lemmas.List.{take_all}
-use Rattle.cap_text.specs.Decimals.{canonical_decimal}
+use Rattle.cap_text.proofs.Common.{◌≡◌, ◌≤◌, ◌^◌, take, arith, ap, ◌∙◌, sym, digits_value, take_all, canonical_decimal}
 use Rattle.cap_text.proofs.DecimalLaws.{decimal_value}
 use Rattle.cap_text.proofs.Spellings.{prefix_le, prefix_more, digit_range}
 use Rattle.cap_text.proofs.numbers.number_of.Goals as goal

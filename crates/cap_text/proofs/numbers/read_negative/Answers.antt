@@ -1,6 +1,4 @@
-use Rattle.std.proofs.Common.{◌≡◌, ℕ, ◌+◌, ◌-◌, arith, refl, ap, ◌∙◌, Result, Err, ℤ}
-use Rattle.cap_text.specs.Decimals.{canonical_decimal}
-use Rattle.cap_text.specs.declared.numbers.NumberError.{NumberError}
+use Rattle.cap_text.proofs.Common.{◌≡◌, ℕ, ◌+◌, ◌-◌, arith, refl, ap, ◌∙◌, Result, Err, ℤ, canonical_decimal, NumberError}
 use Rattle.cap_text.proofs.Refusals.{says, refuses, Refusals, NoSize, LargeSize, size_refused, sizes_apart, no_size_of_zero, negated}
 use Rattle.cap_text.proofs.numbers.read_negative.Goals as goal
 

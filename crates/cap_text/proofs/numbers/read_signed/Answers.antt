@@ -1,5 +1,4 @@
-use Rattle.std.proofs.Common.{rules, FitsSigned}
-use Rattle.std.specs.Int.{w128}
+use Rattle.cap_text.proofs.Common.{rules, FitsSigned, w128}
 use Rattle.cap_text.proofs.Refusals.{in_range, one_integer}
 use Rattle.cap_text.proofs.numbers.read_signed.Goals as goal
 

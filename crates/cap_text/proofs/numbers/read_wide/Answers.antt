@@ -1,6 +1,4 @@
-use Rattle.std.proofs.Common.{refl}
-use Rattle.std.specs.Int.{w128}
-use Rattle.cap_text.specs.Decimals.{IsInteger}
+use Rattle.cap_text.proofs.Common.{refl, w128, IsInteger}
 use Rattle.cap_text.proofs.Refusals.{Refusals, LargeInteger, natural_number, negative_number, natural_refusals, negative_refusals, no_integer, integer_reads}
 use Rattle.cap_text.proofs.numbers.read_wide.Goals as goal
 

@@ -1,7 +1,4 @@
-use Rattle.std.proofs.Common.{◌≡◌, take, arith, ap, subst, ◌∙◌, sym}
-use Rattle.std.specs.Str.Parse.{AllDigits, digits_value}
-use Rattle.std.proofs.lemmas.List.{take_all}
-use Rattle.cap_text.specs.Decimals.{canonical_decimal}
+use Rattle.cap_text.proofs.Common.{◌≡◌, take, arith, ap, subst, ◌∙◌, sym, AllDigits, digits_value, take_all, canonical_decimal}
 use Rattle.cap_text.proofs.ShortNumbers.{one_more, room, short, zero_is, spells}
 use Rattle.cap_text.proofs.numbers.short_number.Goals as goal
 

@@ -1,5 +1,4 @@
-use Rattle.std.proofs.Common.{◌≡◌, take}
-use Rattle.std.specs.Str.Parse.{AllDigits, digits_value}
+use Rattle.cap_text.proofs.Common.{◌≡◌, take, AllDigits, digits_value}
 use Rattle.cap_text.proofs.numbers.short_number.Given as goal
 
 -- the bytes so far are digits, and this is their value

@@ -1,6 +1,5 @@
-use Rattle.std.proofs.Common.{◌≡◌, ◌∙◌, arith}
 use Rattle.std.proofs.lemmas.Grind.{common_steps}
-use Rattle.cap_text.specs.Decimals.{canonical_integer}
+use Rattle.cap_text.proofs.Common.{◌≡◌, ◌∙◌, arith, canonical_integer}
 use Rattle.cap_text.proofs.DecimalLaws.{passed_integer_is}
 use Rattle.cap_text.proofs.putting.put_dec.Goals as goal
 

@@ -1,7 +1,4 @@
-use Rattle.std.proofs.Common.{map, refl}
-use Rattle.std.specs.String.{string_bytes}
-use Rattle.capriccio_call.specs.Due.{IsDue}
-use Rattle.command_outcomes.proofs.Ending.{keeps-itself}
+use Rattle.capriccio_call.proofs.Common.{map, refl, string_bytes, IsDue, Keeps-refl}
 use Rattle.capriccio_call.proofs.Told.{told-done, told-stop}
 use Rattle.capriccio_call.proofs.GoodRun.{good-without, was-good}
 use Rattle.capriccio_call.proofs.Faults.{after-fault}
@@ -13,7 +10,7 @@ use Rattle.capriccio_call.proofs.command.capriccio.Goals as goal
 pub returns-in-Ok : goal.returns-in-Ok
 returns-in-Ok g c =
     let texts = map (λ word. string_bytes word) c.args.words.now.items in
-    let answered = told-done (IsDue texts) _ _ c.in-Ok.field-0 c.put.new.place _ _ _ _ (λ given h. exact texts _ _ given h) c.in-Ok.ensures c.put.ensures (keeps-itself _) refl in
+    let answered = told-done (IsDue texts) _ _ c.in-Ok.field-0 c.put.new.place _ _ _ _ (λ given h. exact texts _ _ given h) c.in-Ok.ensures c.put.ensures (Keeps-refl _) refl in
     record {
       answer = answered;
       good = was-good texts _ _ _ _ _ _ c.put.new.place c.in-Ok.field-0.status answered;

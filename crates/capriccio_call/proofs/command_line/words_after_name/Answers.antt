@@ -1,6 +1,4 @@
-use Rattle.std.proofs.Common.{◌≡◌, ◌++◌, ◌∷◌, [], List, Option, Some, None, option_to_list, drop, refl, sym, ap, ◌∙◌, append_assoc, append-nil, subst}
-use Rattle.std.proofs.lemmas.List.{nil_from_length}
-use Rattle.std.specs.Vec.Iter.{into_iter_items, into_iter_steps}
+use Rattle.capriccio_call.proofs.Common.{◌≡◌, ◌++◌, ◌∷◌, [], List, Option, Some, None, option_to_list, drop, refl, sym, ap, ◌∙◌, append_assoc, append-nil, subst, nil_from_length, into_iter_items, into_iter_steps}
 use Rattle.capriccio_call.proofs.command_line.words_after_name.Goals as goal
 
 -- what is behind the first of them

@@ -1,5 +1,4 @@
-use Rattle.std.proofs.Common.{◌≡◌, ◌++◌, drop}
-use Rattle.std.specs.Vec.Iter.{into_iter_items}
+use Rattle.capriccio_call.proofs.Common.{◌≡◌, ◌++◌, drop, into_iter_items}
 use Rattle.capriccio_call.proofs.command_line.words_after_name.Given as goal
 
 abbrev pub invariant-loop-word : goal.invariant-loop-word

@@ -1,22 +1,6 @@
-use Rattle.std.proofs.Common.{Result, sym, subst}
-use Rattle.codegen_link.specs.declared.options.Options.{Options}
+use Rattle.capriccio_call.proofs.Common.{Result, sym, subst, Options, request_of, Builds, Outside, outside_by, Does, sizes_of, Graphs, Checks, Budgets, Audits, Stop, Ended, Serves, EndsAs, IsStatus, audit-options, build-sizes, serve-sizes, serve-policy, serve-pool, run-policy, IsEnd}
 use Rattle.command_words.specs.declared.commands.Command.{Command}
-use Rattle.command_words.specs.WordList.{request_of}
-use Rattle.pair_commands.specs.BuildsFiles.{Builds}
-use Rattle.command_outcomes.specs.Done.{Outside, outside_by}
-use Rattle.capriccio_call.specs.Due.{Does}
-use Rattle.command_options.specs.Options.{sizes_of}
-use Rattle.pair_commands.specs.Graphs.{Graphs}
-use Rattle.pair_commands.specs.Checks.{Checks}
-use Rattle.pair_commands.specs.Budgets.{Budgets}
-use Rattle.command_audit.specs.Audits.{Audits}
-use Rattle.command_outcomes.specs.declared.stops.Stop.{Stop}
-use Rattle.capriccio_commands.specs.declared.ended.Ended.{Ended}
-use Rattle.pair_commands.specs.Runs.{Serves}
-use Rattle.command_outcomes.specs.Steps.{EndsAs, IsStatus}
 use Rattle.capriccio_call.proofs.Handed.{ends-without}
-use Rattle.command_options.proofs.Options.{audit-options, build-sizes, serve-sizes, serve-policy, serve-pool, run-policy}
-use Rattle.capriccio_commands.specs.Ends.{IsEnd}
 use Rattle.capriccio_call.proofs.dispatch.do_command.Goals as goal
 
 pub do_build-requires : goal.do_build-requires

@@ -1,12 +1,6 @@
-use Rattle.std.proofs.Common.{inl, inr, refl, ap, map, Err}
-use Rattle.std.specs.String.{string_bytes}
-use Rattle.command_words.specs.WordList.{request_of}
+use Rattle.capriccio_call.proofs.Common.{inl, inr, refl, ap, map, Err, string_bytes, request_of, Does, IsDue, Outside, outside_by, ends-follow, refused-at-once, memory-at-once, IsEnd}
 use Rattle.command_words.specs.declared.commands.WordsError.{WordsError}
 use Rattle.command_outcomes.specs.declared.stops.Cause.TheVariants.{Usage}
-use Rattle.capriccio_call.specs.Due.{Does, IsDue}
-use Rattle.command_outcomes.specs.Done.{Outside, outside_by}
-use Rattle.command_outcomes.proofs.Ending.{ends-follow, refused-at-once, memory-at-once}
-use Rattle.capriccio_commands.specs.Ends.{IsEnd}
 use Rattle.capriccio_call.proofs.dispatch.do_words.Goals as goal
 
 pub do_command-requires : goal.do_command-requires

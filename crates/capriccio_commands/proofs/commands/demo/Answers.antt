@@ -1,9 +1,4 @@
-use Rattle.std.proofs.Common.{refl, subst, List, ℕ, Ok, Err}
-use Rattle.std.proofs.lemmas.Result.{err_from_is_err_and}
-use Rattle.command_outcomes.specs.Done.{Outside}
-use Rattle.command_outcomes.specs.Steps.{IsPrinted}
-use Rattle.command_outcomes.proofs.Ending.{keeps-itself, files-keep}
-use Rattle.capriccio_commands.specs.Demos.{Demos}
+use Rattle.capriccio_commands.proofs.Common.{refl, subst, List, ℕ, Ok, Err, err_from_is_err_and, Outside, IsPrinted, files-keep, Demos, Keeps-refl}
 use Rattle.capriccio_commands.proofs.Shown.{shown-told, shown-cut, shown-stopped}
 use Rattle.capriccio_commands.proofs.commands.demo.Goals as goal
 
@@ -20,7 +15,7 @@ returns-in-Ok g c = λ files loads stores left reads.
     let before : Outside = record { files = files; loads = loads; stores = stores; left = left; reads = reads; taken = K.taken a.out.now; writes = K.faults a.out.now } in
     let after : Outside = record { files = files; loads = loads; stores = stores; left = left; reads = reads; taken = K.taken c.print.new.out; writes = K.faults c.print.new.out } in
     let printed = subst (λ (text : List ℕ). IsPrinted shown.status text before.taken after.taken before.writes after.writes (Ok c.in-Ok.told)) c.as_slice.ensures.value c.in-Ok.ensures in
-    shown-told (Demos a.number) before after shown c.in-Ok.told c.in_ok-status.ensures (files-keep files) (keeps-itself left) refl refl refl printed
+    shown-told (Demos a.number) before after shown c.in-Ok.told c.in_ok-status.ensures (files-keep files) (Keeps-refl left) refl refl refl printed
 
 pub returns : goal.returns
 returns g c = λ files loads stores left reads.
@@ -28,4 +23,4 @@ returns g c = λ files loads stores left reads.
     let before : Outside = record { files = files; loads = loads; stores = stores; left = left; reads = reads; taken = K.taken a.out.now; writes = K.faults a.out.now } in
     let after : Outside = record { files = files; loads = loads; stores = stores; left = left; reads = reads; taken = K.taken c.print.new.out; writes = K.faults c.print.new.out } in
     let printed = subst (λ (text : List ℕ). IsPrinted shown.status text before.taken after.taken before.writes after.writes (Err c.in-Err.stop)) c.as_slice.ensures.value c.in-Err.ensures in
-    shown-cut (Demos a.number) before after shown c.in-Err.stop c.in_ok-status.ensures (files-keep files) (keeps-itself left) refl refl refl printed
+    shown-cut (Demos a.number) before after shown c.in-Err.stop c.in_ok-status.ensures (files-keep files) (Keeps-refl left) refl refl refl printed

@@ -1,10 +1,4 @@
-use Rattle.std.proofs.Common.{◌≤◌, ◌+◌, ◌*◌, refl, sym, subst}
-use Rattle.std.proofs.lemmas.Result.{err_from_is_err_and}
-use Rattle.accepted_pairs.specs.Accepting.{accepted_tree}
-use Rattle.command_outcomes.specs.Done.{Outside, outside_by}
-use Rattle.pair_commands.specs.Runs.{RunsOn, Serves, setup_of}
-use Rattle.command_outcomes.proofs.Ending.{ends-follow, stopped, keeps-itself}
-use Rattle.capriccio_commands.specs.Ends.{IsEnd}
+use Rattle.capriccio_commands.proofs.Common.{◌≤◌, ◌+◌, ◌*◌, refl, sym, subst, err_from_is_err_and, accepted_tree, Outside, outside_by, RunsOn, Serves, setup_of, ends-follow, stopped, IsEnd, Keeps-refl}
 use Rattle.capriccio_commands.proofs.commands.serve.Goals as goal
 
 pub run_accepted-requires-clause-pool : goal.run_accepted-requires-clause-pool
@@ -20,7 +14,7 @@ returns-in_err-accepted g c =
     let after : Outside = outside_by F.files F.load_faults F.store_faults S.left S.faults K.taken K.faults shelf a.trace.now a.out.now in
     let step = c.in_err-accepted.ensures in
     rw (p.1, p.2) (stopped IsEnd (Serves before.files before.left a.source.now a.sizes a.policy) before after c.in_err-accepted.field-0.0 step.files step.stores
-    (keeps-itself before.left) refl (keeps-itself before.taken) refl (step.answer before.left a.policy))
+    (Keeps-refl before.left) refl (Keeps-refl before.taken) refl (step.answer before.left a.policy))
 
 pub returns : goal.returns
 returns g c =

@@ -1,8 +1,4 @@
-use Rattle.std.proofs.Common.{Some}
-use Rattle.std.proofs.lemmas.Result.{err_from_is_err_and, MatchResult-weaker}
-use Rattle.c_tree.specs.ProgramView.{program_tree}
-use Rattle.workload.specs.Traces.{trace_text}
-use Rattle.capriccio_commands.specs.Demos.{Demos, demo_policy}
+use Rattle.capriccio_commands.proofs.Common.{Some, err_from_is_err_and, MatchResult-weaker, program_tree, trace_text, Demos, demo_policy}
 use Rattle.capriccio_commands.proofs.Shown.{no-more, unaccepted-workload}
 use Rattle.capriccio_commands.proofs.Workloads.{demo-in-range}
 use Rattle.capriccio_commands.proofs.demo_command.accept_workload.Goals as goal

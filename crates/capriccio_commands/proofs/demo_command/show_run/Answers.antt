@@ -1,16 +1,8 @@
-use Rattle.std.proofs.Common.{◌≤◌, ℕ, List, Some, Ok, Err, subst, sym}
-use Rattle.command_outcomes.specs.Steps.{RunEnds}
-use Rattle.std.proofs.lemmas.Result.{err_from_is_err_and}
-use Rattle.accepted_pairs.specs.Accepting.{accepted_tree}
+use Rattle.capriccio_commands.proofs.Common.{◌≤◌, ℕ, List, Some, Ok, Err, subst, sym, RunEnds, err_from_is_err_and, accepted_tree, demo_policy, IsFitText, TakesFit, RunsOn, pool_bytes, setup_of, IsEnd}
 use Rattle.command_words.specs.declared.options.Policy.{Policy}
-use Rattle.capriccio_commands.specs.Demos.{demo_policy}
-use Rattle.run_course.specs.Output.{IsFitText}
-use Rattle.capriccio_commands.specs.FitLogs.{TakesFit}
-use Rattle.pair_commands.specs.Runs.{RunsOn, pool_bytes, setup_of}
 use Rattle.capriccio_commands.proofs.FitCounting.{clean-fits}
 use Rattle.capriccio_commands.proofs.Shown.{no-stop, served, served-world, shows-due}
 use Rattle.capriccio_commands.proofs.Workloads.{demo-run-policy, demo-pool}
-use Rattle.capriccio_commands.specs.Ends.{IsEnd}
 use Rattle.capriccio_commands.proofs.demo_command.show_run.Goals as goal
 
 pub run_accepted-requires-clause-range : goal.run_accepted-requires-clause-range

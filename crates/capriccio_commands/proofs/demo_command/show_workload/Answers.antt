@@ -1,5 +1,4 @@
-use Rattle.std.proofs.lemmas.Result.{err_from_is_err_and, MatchResult-weaker}
-use Rattle.capriccio_commands.specs.Demos.{Demos}
+use Rattle.capriccio_commands.proofs.Common.{err_from_is_err_and, MatchResult-weaker, Demos}
 use Rattle.capriccio_commands.proofs.Shown.{no-more, shown-due}
 use Rattle.capriccio_commands.proofs.demo_command.show_workload.Goals as goal
 

@@ -1,14 +1,6 @@
-use Rattle.std.proofs.Common.{◌≤◌, ◌∙◌, List, ℕ, length, sym, subst}
-use Rattle.std.specs.Prelude.{MatchResult}
-use Rattle.std.proofs.lemmas.Result.{MatchResult-weaker}
-use Rattle.c_tree.specs.ProgramView.{program_tree}
+use Rattle.capriccio_commands.proofs.Common.{◌≤◌, ◌∙◌, List, ℕ, length, sym, subst, MatchResult, MatchResult-weaker, program_tree, reads_nested, program_text, NoMore, AfterSource, IsSourceText, IsStop}
 use Rattle.c_tree.specs.declared.programs.Program.{Program}
 use Rattle.c_scope.specs.SourceText.{ReadsAs}
-use Rattle.c_hoist.proofs.WholeReads.{reads_nested}
-use Rattle.workload.specs.Programs.{program_text}
-use Rattle.command_outcomes.specs.Outcome.{NoMore}
-use Rattle.command_files.specs.Loads.{AfterSource, IsSourceText}
-use Rattle.command_outcomes.specs.Steps.{IsStop}
 use Rattle.capriccio_commands.proofs.Workloads.{program-short, no-source-error}
 use Rattle.capriccio_commands.proofs.demo_command.workload_program.Goals as goal
 

@@ -1,10 +1,5 @@
-use Rattle.std.proofs.Common.{subst}
-use Rattle.accepted_pairs.specs.Accepting.{accepted_tree}
-use Rattle.accepted_pairs.specs.Acceptance.{Acceptance}
-use Rattle.pair_commands.specs.Runs.{RunsOn, setup_of}
-use Rattle.command_outcomes.specs.Steps.{RunEnds}
+use Rattle.capriccio_commands.proofs.Common.{subst, accepted_tree, Acceptance, RunsOn, setup_of, RunEnds, IsEnd}
 use Rattle.capriccio_commands.proofs.Making.{made-world}
-use Rattle.capriccio_commands.specs.Ends.{IsEnd}
 use Rattle.capriccio_commands.proofs.running.run_accepted.Goals as goal
 
 pub run_world-requires-clause-made : goal.run_world-requires-clause-made

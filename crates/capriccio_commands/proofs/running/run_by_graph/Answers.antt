@@ -1,6 +1,4 @@
-use Rattle.command_outcomes.specs.Done.{Outside}
-use Rattle.choice_rules.specs.Policy.{by_graph}
-use Rattle.capriccio_commands.specs.MadeWorlds.{setup_in}
+use Rattle.capriccio_commands.proofs.Common.{Outside, by_graph, setup_in}
 use Rattle.capriccio_commands.proofs.Making.{at-start, made-accepted, world-of}
 use Rattle.capriccio_commands.proofs.FitCounting.{closed-fits}
 use Rattle.capriccio_commands.proofs.Stopped.{closed}

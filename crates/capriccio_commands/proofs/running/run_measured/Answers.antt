@@ -1,7 +1,4 @@
-use Rattle.pair_commands.specs.Runs.{RunsOn}
-use Rattle.capriccio_commands.specs.MadeWorlds.{setup_in}
-use Rattle.command_outcomes.proofs.Ending.{memory-before}
-use Rattle.capriccio_commands.specs.Ends.{IsEnd}
+use Rattle.capriccio_commands.proofs.Common.{RunsOn, setup_in, memory-before, IsEnd}
 use Rattle.capriccio_commands.proofs.running.run_measured.Goals as goal
 
 pub returns-in-Err-clause-ends : goal.returns-in-Err-clause-ends

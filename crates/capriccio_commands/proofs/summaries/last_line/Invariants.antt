@@ -1,5 +1,4 @@
-use Rattle.std.proofs.Common.{◌≡◌, []}
-use Rattle.cap_text.specs.TextLines.{lines_of}
+use Rattle.capriccio_commands.proofs.Common.{◌≡◌, [], lines_of}
 use Rattle.capriccio_commands.proofs.Counting.{last_in}
 use Rattle.capriccio_commands.proofs.summaries.last_line.Given as goal
 

@@ -1,6 +1,4 @@
-use Rattle.std.specs.Prelude.{codes}
-use Rattle.command_outcomes.proofs.Appended.{three-pieces}
-use Rattle.capriccio_commands.specs.Summary.{count_line}
+use Rattle.capriccio_commands.proofs.Common.{codes, three-pieces, count_line}
 use Rattle.capriccio_commands.proofs.summaries.put_census.Goals as goal
 
 pub returns : goal.returns

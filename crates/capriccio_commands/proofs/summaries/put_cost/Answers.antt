@@ -1,9 +1,5 @@
-use Rattle.std.proofs.Common.{[], ◌∷◌}
-use Rattle.std.specs.Int.{w128}
-use Rattle.std.proofs.lemmas.Int.{to_z_pos}
-use Rattle.cap_text.specs.Decimals.{canonical_decimal}
+use Rattle.capriccio_commands.proofs.Common.{[], ◌∷◌, w128, to_z_pos, canonical_decimal, three-pieces}
 use Rattle.schedule_log.proofs.Pushed.{decimal_of_pos}
-use Rattle.command_outcomes.proofs.Appended.{three-pieces}
 use Rattle.capriccio_commands.proofs.summaries.put_cost.Goals as goal
 
 pub returns : goal.returns

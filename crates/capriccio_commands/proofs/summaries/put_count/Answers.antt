@@ -1,6 +1,4 @@
-use Rattle.std.proofs.Common.{[], ◌∷◌}
-use Rattle.cap_text.specs.Decimals.{canonical_decimal}
-use Rattle.command_outcomes.proofs.Appended.{three-pieces}
+use Rattle.capriccio_commands.proofs.Common.{[], ◌∷◌, canonical_decimal, three-pieces}
 use Rattle.capriccio_commands.proofs.summaries.put_count.Goals as goal
 
 pub returns : goal.returns

@@ -1,8 +1,4 @@
-use Rattle.std.proofs.Common.{[], ◌∷◌, FitsSigned, rules}
-use Rattle.std.specs.Int.{w128}
-use Rattle.std.proofs.lemmas.Int.{to_z-of_z}
-use Rattle.cap_text.specs.Decimals.{canonical_integer}
-use Rattle.command_outcomes.proofs.Appended.{three-pieces}
+use Rattle.capriccio_commands.proofs.Common.{[], ◌∷◌, FitsSigned, rules, w128, to_z-of_z, canonical_integer, three-pieces}
 use Rattle.capriccio_commands.proofs.summaries.put_sum.Goals as goal
 
 pub returns : goal.returns

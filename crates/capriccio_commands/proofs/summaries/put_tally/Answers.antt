@@ -1,8 +1,4 @@
-use Rattle.std.proofs.Common.{FitsSigned, rules}
-use Rattle.std.specs.Prelude.{codes}
-use Rattle.std.specs.Int.{w128}
-use Rattle.std.proofs.lemmas.Int.{to_z-of_z}
-use Rattle.capriccio_commands.specs.Summary.{count_line, sum_line}
+use Rattle.capriccio_commands.proofs.Common.{FitsSigned, rules, codes, w128, to_z-of_z, count_line, sum_line}
 use Rattle.capriccio_commands.proofs.Shown.{four-pieces}
 use Rattle.capriccio_commands.proofs.summaries.put_tally.Goals as goal
 

@@ -1,5 +1,4 @@
-use Rattle.std.proofs.Common.{subst, sym, ◌∙◌, List, ℕ}
-use Rattle.capriccio_commands.specs.Summary.{no_tally}
+use Rattle.capriccio_commands.proofs.Common.{subst, sym, ◌∙◌, List, ℕ, no_tally}
 use Rattle.capriccio_commands.proofs.Counting.{IsTallying, tally-starts, tally-goes-on, tally-is}
 use Rattle.capriccio_commands.proofs.FitCounting.{IsReading, reading-starts, line-is-read, room-for-line, reading-goes-on, room-at-end}
 use Rattle.capriccio_commands.proofs.summaries.tally_log.Goals as goal

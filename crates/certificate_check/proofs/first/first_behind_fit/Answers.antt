@@ -1,7 +1,4 @@
-use Rattle.std.proofs.Common.{◌≡◌, ℕ, subst, arith}
-use Rattle.flat_code.specs.ProgramView.{program_code}
-use Rattle.certificate_rules.specs.Validity.{Holds}
-use Rattle.rule_failures.specs.First.{HoldBelow, IsFirstSpot}
+use Rattle.certificate_check.proofs.Common.{◌≡◌, ℕ, subst, arith, program_code, Holds, HoldBelow, IsFirstSpot}
 use Rattle.accepted_pairs.proofs.ReadableLemmas.{readable}
 use Rattle.rule_failures.proofs.RangeLemmas.{counts_of, first_rule}
 use Rattle.certificate_check.proofs.BelowLemmas.{below_next, valid_from, failure_from}

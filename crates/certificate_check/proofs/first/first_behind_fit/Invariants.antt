@@ -1,5 +1,4 @@
-use Rattle.flat_code.specs.ProgramView.{program_code}
-use Rattle.rule_failures.specs.First.{HoldBelow}
+use Rattle.certificate_check.proofs.Common.{program_code, HoldBelow}
 use Rattle.certificate_check.proofs.first.first_behind_fit.Given as goal
 
 abbrev pub invariant-loop-rule : goal.invariant-loop-rule

@@ -1,7 +1,4 @@
-use Rattle.std.proofs.Common.{subst}
-use Rattle.flat_code.specs.ProgramView.{program_code}
-use Rattle.certificate_rules.specs.Rules.{V1}
-use Rattle.rule_failures.specs.First.{IsFirstSpot}
+use Rattle.certificate_check.proofs.Common.{subst, program_code, V1, IsFirstSpot}
 use Rattle.certificate_check.proofs.BelowLemmas.{below_start, first_failure_from}
 use Rattle.certificate_check.proofs.first.first_failure.Goals as goal
 

@@ -1,9 +1,4 @@
-use Rattle.std.proofs.Common.{◌≡◌, ℕ, Option, refl, sym, arith}
-use Rattle.std.proofs.lemmas.Result.{IfOk-weaker}
-use Rattle.flat_code.specs.ProgramView.{program_code}
-use Rattle.certificate_rules.specs.Rules.{V4, V6}
-use Rattle.certificate_rules.specs.Validity.{Holds}
-use Rattle.rule_failures.specs.First.{IsFirst}
+use Rattle.certificate_check.proofs.Common.{◌≡◌, ℕ, Option, refl, sym, arith, IfOk-weaker, program_code, V4, V6, Holds, IsFirst}
 use Rattle.certificate_check.proofs.RuleLemmas.{first_v3, first_v4, first_v5, first_v6, first_v9, first_v10, first_v11}
 use Rattle.certificate_check.proofs.first.first_in_function.Goals as goal
 

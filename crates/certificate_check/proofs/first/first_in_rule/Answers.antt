@@ -1,11 +1,4 @@
-use Rattle.std.proofs.Common.{Option, sym, subst}
-use Rattle.std.proofs.lemmas.Result.{IfOk-weaker}
-use Rattle.flat_code.specs.ProgramView.{program_code}
-use Rattle.certificate_rules.specs.Rules.{V2, V7, V8, V12}
-use Rattle.certificate_rules.specs.Validity.{Holds}
-use Rattle.rule_failures.specs.declared.spots.Spot.{Spot}
-use Rattle.rule_failures.specs.First.{IsFirstSpot}
-use Rattle.certificate_check.specs.Answers.{at_zero}
+use Rattle.certificate_check.proofs.Common.{Option, sym, subst, IfOk-weaker, program_code, V2, V7, V8, V12, Holds, Spot, IsFirstSpot, at_zero}
 use Rattle.certificate_check.proofs.RuleLemmas.{spot_everywhere, spot_v2, spot_v7, spot_v8, spot_v12}
 use Rattle.certificate_check.proofs.first.first_in_rule.Goals as goal
 

@@ -1,8 +1,4 @@
-use Rattle.std.proofs.Common.{zero, length, ap, subst, arith, inl, inr}
-use Rattle.std.proofs.lemmas.Bool.{cases_lt}
-use Rattle.flat_code.specs.ProgramView.{program_code}
-use Rattle.certificate_rules.specs.Validity.{Holds}
-use Rattle.rule_failures.specs.First.{IsFirst}
+use Rattle.certificate_check.proofs.Common.{zero, length, ap, subst, arith, inl, inr, cases_lt, program_code, Holds, IsFirst}
 use Rattle.certificate_check.proofs.BelowLemmas.{past_functions, holds_more}
 use Rattle.certificate_check.proofs.first.first_over_functions.Goals as goal
 

@@ -1,6 +1,4 @@
-use Rattle.std.proofs.Common.{ℕ, ◌<◌}
-use Rattle.flat_code.specs.ProgramView.{program_code}
-use Rattle.certificate_rules.specs.Validity.{Holds}
+use Rattle.certificate_check.proofs.Common.{ℕ, ◌<◌, program_code, Holds}
 use Rattle.certificate_check.proofs.first.first_over_functions.Given as goal
 
 abbrev pub invariant-loop-f : goal.invariant-loop-f

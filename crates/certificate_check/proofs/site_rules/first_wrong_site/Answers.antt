@@ -1,7 +1,4 @@
-use Rattle.std.proofs.Common.{◌≤◌, length, ap, subst, arith, Some, None}
-use Rattle.flat_code.specs.Codes.{function_at}
-use Rattle.flat_code.specs.ProgramView.{program_code}
-use Rattle.certificate_check.specs.LeastSite.{IsLeastSite}
+use Rattle.certificate_check.proofs.Common.{◌≤◌, length, ap, subst, arith, Some, None, function_at, program_code, IsLeastSite}
 use Rattle.certificate_check.proofs.SiteLemmas.{needs_first, bounds_first}
 use Rattle.certificate_check.proofs.site_rules.first_wrong_site.Goals as goal
 

@@ -1,5 +1,4 @@
-use Rattle.flat_code.specs.ProgramView.{program_code}
-use Rattle.certificate_check.specs.LeastSite.{IsLeastSite}
+use Rattle.certificate_check.proofs.Common.{program_code, IsLeastSite}
 use Rattle.certificate_check.proofs.site_rules.first_wrong_site.Given as goal
 
 abbrev pub invariant-loop-op : goal.invariant-loop-op

@@ -1,6 +1,4 @@
-use Rattle.std.proofs.Common.{refl, sym}
-use Rattle.std.proofs.lemmas.Bool.{false≢true}
-use Rattle.flat_code.specs.ProgramView.{program_code}
+use Rattle.certificate_check.proofs.Common.{refl, sym, false≢true, program_code}
 use Rattle.certificate_check.proofs.SiteLemmas.{same_least, lesser_least, no_site}
 use Rattle.certificate_check.proofs.site_rules.least_site.Goals as goal
 

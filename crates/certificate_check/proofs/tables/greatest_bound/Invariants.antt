@@ -1,6 +1,4 @@
-use Rattle.std.proofs.Common.{◌≡◌, drop}
-use Rattle.std.specs.Prelude.{max}
-use Rattle.certificate_rules.specs.Sites.{greatest_bound}
+use Rattle.certificate_check.proofs.Common.{◌≡◌, drop, max, greatest_bound}
 use Rattle.certificate_check.proofs.tables.greatest_bound.Given as goal
 
 abbrev pub invariant-loop-function : goal.invariant-loop-function

@@ -1,5 +1,4 @@
-use Rattle.std.proofs.Common.{ap, ◌∙◌, arith}
-use Rattle.certificate_rules.specs.Sites.{greatest_bound}
+use Rattle.certificate_check.proofs.Common.{ap, ◌∙◌, arith, greatest_bound}
 use Rattle.stack_certificate.proofs.PushedLemmas.{map-pushed}
 use Rattle.certificate_check.proofs.tables.member_bounds.Goals as goal
 

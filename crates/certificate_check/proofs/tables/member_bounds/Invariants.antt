@@ -1,5 +1,4 @@
-use Rattle.std.proofs.Common.{◌≡◌, map, take}
-use Rattle.certificate_rules.specs.Sites.{greatest_bound}
+use Rattle.certificate_check.proofs.Common.{◌≡◌, map, take, greatest_bound}
 use Rattle.certificate_check.proofs.tables.member_bounds.Given as goal
 
 abbrev pub invariant-loop-table : goal.invariant-loop-table

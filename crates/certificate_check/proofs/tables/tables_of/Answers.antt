@@ -1,7 +1,5 @@
-use Rattle.std.proofs.Common.{ℕ, List, length, ap, ◌∙◌, arith}
-use Rattle.std.specs.Prelude.{slice_index}
+use Rattle.certificate_check.proofs.Common.{ℕ, List, length, ap, ◌∙◌, arith, slice_index, program_code}
 use Rattle.std.proofs.lemmas.List.FromFn.{length-map-range_with_len, get_or-map-range_with_len}
-use Rattle.flat_code.specs.ProgramView.{program_code}
 use Rattle.stack_certificate.specs.Certificates.{global_address, table_address}
 use Rattle.certificate_check.proofs.tables.tables_of.Goals as goal
 

@@ -1,6 +1,4 @@
-use Rattle.std.proofs.Common.{◌≡◌, ◌≤◌, ◌++◌, length, map}
-use Rattle.cap_text.specs.Decimals.{canonical_decimal}
-use Rattle.certificate_text.specs.Text.{AreWords}
+use Rattle.certificate_text.proofs.Common.{◌≡◌, ◌≤◌, ◌++◌, length, map, canonical_decimal, AreWords}
 use Rattle.certificate_text.proofs.fact_lines.read_places.Given as goal
 
 abbrev pub invariant-loop-places : goal.invariant-loop-places

@@ -1,7 +1,4 @@
-use Rattle.std.proofs.Common.{◌≡◌, ◌+◌, ◌++◌, length, map}
-use Rattle.std.specs.List.{AllByRecursion}
-use Rattle.cap_text.specs.TextLines.{ended_lines}
-use Rattle.certificate_text.specs.Text.{function_line, HasFewPlaces, HoldsFunctionWords}
+use Rattle.certificate_text.proofs.Common.{◌≡◌, ◌+◌, ◌++◌, length, map, AllByRecursion, ended_lines, function_line, HasFewPlaces, HoldsFunctionWords}
 use Rattle.certificate_text.proofs.reading.read_functions.Given as goal
 
 abbrev pub invariant-loop-number : goal.invariant-loop-number

@@ -1,6 +1,5 @@
-use Rattle.std.proofs.Common.{◌+◌, refl, arith, None}
 use Rattle.std.proofs.lemmas.Result.{err_from_is_err_and}
-use Rattle.certificate_text.specs.FirstRefused.{Functions, Sites}
+use Rattle.certificate_text.proofs.Common.{◌+◌, refl, arith, None, Functions, Sites}
 use Rattle.certificate_text.proofs.Causes.{head_read, functions_read, sites_read, head_led, functions_led, count_led, sites_led, cause_behind, line_refused, whole_parts, some_text, no_text}
 use Rattle.certificate_text.proofs.Otherwise.{other_sites, not_over}
 use Rattle.certificate_text.proofs.Passing.{last_number}

@@ -1,7 +1,4 @@
-use Rattle.std.proofs.Common.{◌≡◌, ◌+◌, ◌++◌, length, map, None}
-use Rattle.std.specs.List.{AllByRecursion}
-use Rattle.cap_text.specs.TextLines.{ended_lines}
-use Rattle.certificate_text.specs.Text.{site_line, HoldsSiteWords, Rises}
+use Rattle.certificate_text.proofs.Common.{◌≡◌, ◌+◌, ◌++◌, length, map, None, AllByRecursion, ended_lines, site_line, HoldsSiteWords, Rises}
 use Rattle.certificate_text.proofs.Passing.{last_number}
 use Rattle.certificate_text.proofs.reading.read_sites.Given as goal
 

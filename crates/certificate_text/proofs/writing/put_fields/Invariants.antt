@@ -1,6 +1,4 @@
-use Rattle.std.proofs.Common.{◌≡◌, ◌++◌, map, take}
-use Rattle.cap_text.specs.Decimals.{canonical_decimal}
-use Rattle.cap_text.specs.Pieces.{after_each}
+use Rattle.certificate_text.proofs.Common.{◌≡◌, ◌++◌, map, take, canonical_decimal, after_each}
 use Rattle.certificate_text.proofs.writing.put_fields.Given as goal
 
 abbrev pub invariant-loop-number : goal.invariant-loop-number

@@ -1,7 +1,4 @@
-use Rattle.std.proofs.Common.{◌≡◌, ◌++◌, map, take}
-use Rattle.std.specs.List.{AllByRecursion}
-use Rattle.cap_text.specs.TextLines.{ended_lines}
-use Rattle.certificate_text.specs.Text.{function_line, HoldsFunctionWords}
+use Rattle.certificate_text.proofs.Common.{◌≡◌, ◌++◌, map, take, AllByRecursion, ended_lines, function_line, HoldsFunctionWords}
 use Rattle.certificate_text.proofs.writing.put_functions.Given as goal
 
 abbrev pub invariant-loop-fact : goal.invariant-loop-fact

@@ -1,7 +1,4 @@
-use Rattle.std.proofs.Common.{◌≡◌, ◌++◌, map, take}
-use Rattle.std.specs.List.{AllByRecursion}
-use Rattle.cap_text.specs.TextLines.{ended_lines}
-use Rattle.certificate_text.specs.Text.{site_line, HoldsSiteWords}
+use Rattle.certificate_text.proofs.Common.{◌≡◌, ◌++◌, map, take, AllByRecursion, ended_lines, site_line, HoldsSiteWords}
 use Rattle.certificate_text.proofs.writing.put_sites.Given as goal
 
 abbrev pub invariant-loop-fact : goal.invariant-loop-fact

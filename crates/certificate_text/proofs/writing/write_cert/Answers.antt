@@ -1,6 +1,4 @@
-use Rattle.std.proofs.Common.{subst}
-use Rattle.std.specs.List.{AllByRecursion}
-use Rattle.certificate_text.specs.Text.{HoldsFunctionWords, HoldsSiteWords}
+use Rattle.certificate_text.proofs.Common.{subst, AllByRecursion, HoldsFunctionWords, HoldsSiteWords}
 use Rattle.certificate_text.proofs.writing.write_cert.Goals as goal
 
 pub returns-clause-words : goal.returns-clause-words

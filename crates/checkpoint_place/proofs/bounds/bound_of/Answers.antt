@@ -1,10 +1,5 @@
-use Rattle.std.proofs.Common.{◌≡◌, ◌<◌, ◌+◌, length, get_or, arith}
-use Rattle.std.proofs.lemmas.List.{get_or_read}
+use Rattle.checkpoint_place.proofs.Common.{◌≡◌, ◌<◌, ◌+◌, length, get_or, arith, get_or_read, callees, is_call_of, LeadsTo, no_site, AreAmong}
 use Rattle.std.proofs.lemmas.Grind.{common_steps}
-use Rattle.call_graph.specs.Callees.{callees}
-use Rattle.call_graph.specs.Index.{is_call_of, LeadsTo}
-use Rattle.call_graph.proofs.IndexLemmas.{no_site}
-use Rattle.checkpoint_place.specs.KnownTables.{AreAmong}
 use Rattle.checkpoint_place.proofs.KnownLemmas.{filtered-at}
 use Rattle.checkpoint_place.proofs.bounds.bound_of.Goals as goal
 

@@ -1,9 +1,4 @@
-use Rattle.std.proofs.Common.{◌≡◌, ℕ, List, ◌≤◌, ◌<◌, ◌+◌, ◌-◌, true, max, length, drop, get_or, filter, slice_index}
-use Rattle.call_graph.specs.declared.sites.GraphSite.{GraphSite}
-use Rattle.call_graph.specs.Callees.{greatest}
-use Rattle.call_graph.specs.Index.{is_call_of, sites_of}
-use Rattle.checkpoint_place.specs.KnownTables.{AreKnownAmong, CallAmong, IsKnown}
-use Rattle.checkpoint_place.specs.Placement.{callee_bound, is_within}
+use Rattle.checkpoint_place.proofs.Common.{◌≡◌, ℕ, List, ◌≤◌, ◌<◌, ◌+◌, ◌-◌, true, max, length, drop, get_or, filter, slice_index, GraphSite, greatest, is_call_of, sites_of, AreKnownAmong, CallAmong, IsKnown, callee_bound, is_within}
 use Rattle.checkpoint_place.proofs.bounds.bound_of.Given as goal
 
 abbrev pub invariant-loop-place : goal.invariant-loop-place

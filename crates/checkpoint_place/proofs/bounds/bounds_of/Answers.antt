@@ -1,10 +1,4 @@
-use Rattle.std.proofs.Common.{◌≡◌, ◌<◌, length, take, reverse, get_or, slice_index, ap, ◌∙◌, arith}
-use Rattle.std.proofs.lemmas.List.{take_all}
-use Rattle.call_graph.specs.Graph.{function_count}
-use Rattle.call_graph.specs.Lists.{has}
-use Rattle.call_graph.proofs.ListLemmas.{all-at}
-use Rattle.cycle_break.proofs.RankLemmas.{has-reverse}
-use Rattle.checkpoint_place.specs.KnownTables.{AreKnownAmong}
+use Rattle.checkpoint_place.proofs.Common.{◌≡◌, ◌<◌, length, take, reverse, get_or, slice_index, ap, ◌∙◌, arith, take_all, function_count, has, all-at, has-reverse, AreKnownAmong}
 use Rattle.checkpoint_place.proofs.KnownLemmas.{IsKnown-agree, AreKnownAmong-more}
 use Rattle.checkpoint_place.proofs.BoundLemmas.{bound_by, bounds-kept, next-calls, AreBound-more}
 use Rattle.checkpoint_place.proofs.bounds.bounds_of.Goals as goal

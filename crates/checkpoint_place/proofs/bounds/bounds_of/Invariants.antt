@@ -1,6 +1,4 @@
-use Rattle.std.proofs.Common.{◌≡◌, reverse, take, vec_len, slice_index}
-use Rattle.call_graph.specs.Graph.{function_count}
-use Rattle.checkpoint_place.specs.KnownTables.{AreKnownAmong, IsKnown}
+use Rattle.checkpoint_place.proofs.Common.{◌≡◌, reverse, take, vec_len, slice_index, function_count, AreKnownAmong, IsKnown}
 use Rattle.checkpoint_place.proofs.BoundLemmas.{AreBound}
 use Rattle.checkpoint_place.proofs.bounds.bounds_of.Given as goal
 

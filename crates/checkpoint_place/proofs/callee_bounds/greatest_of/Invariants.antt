@@ -1,5 +1,4 @@
-use Rattle.std.proofs.Common.{◌≡◌, max, drop, slice_index}
-use Rattle.call_graph.specs.Callees.{greatest}
+use Rattle.checkpoint_place.proofs.Common.{◌≡◌, max, drop, slice_index, greatest}
 use Rattle.checkpoint_place.proofs.callee_bounds.greatest_of.Given as goal
 
 abbrev pub invariant-loop-function : goal.invariant-loop-function

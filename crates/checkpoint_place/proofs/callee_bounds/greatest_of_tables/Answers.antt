@@ -1,8 +1,4 @@
-use Rattle.std.proofs.Common.{◌<◌, [], ◌∷◌, ◌++◌, length, map, take, slice_index, ap, sym, ◌∙◌, subst}
-use Rattle.std.specs.List.{AllByRecursion}
-use Rattle.std.proofs.lemmas.List.{map_more}
-use Rattle.call_graph.specs.Callees.{greatest}
-use Rattle.call_graph.proofs.ListLemmas.{all-at}
+use Rattle.checkpoint_place.proofs.Common.{◌<◌, [], ◌∷◌, ◌++◌, length, map, take, slice_index, ap, sym, ◌∙◌, subst, AllByRecursion, map_more, greatest, all-at}
 use Rattle.checkpoint_place.proofs.callee_bounds.greatest_of_tables.Goals as goal
 
 pub greatest_of-requires : goal.greatest_of-requires

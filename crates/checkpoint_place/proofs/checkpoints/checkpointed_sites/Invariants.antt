@@ -1,5 +1,4 @@
-use Rattle.std.proofs.Common.{◌≡◌, map, filter, take, slice_index}
-use Rattle.checkpoint_place.specs.Placement.{is_checkpointed}
+use Rattle.checkpoint_place.proofs.Common.{◌≡◌, map, filter, take, slice_index, is_checkpointed}
 use Rattle.checkpoint_place.proofs.checkpoints.checkpointed_sites.Given as goal
 
 abbrev pub invariant-loop-site : goal.invariant-loop-site

@@ -1,9 +1,5 @@
-use Rattle.std.proofs.Common.{◌<◌, reverse, sym, ◌∙◌, arith}
-use Rattle.std.proofs.lemmas.List.{reverse-reverse}
-use Rattle.std.specs.List.{AllByRecursion}
-use Rattle.call_graph.specs.Graph.{function_count}
+use Rattle.checkpoint_place.proofs.Common.{◌<◌, reverse, sym, ◌∙◌, arith, reverse-reverse, AllByRecursion, function_count, has-reverse}
 use Rattle.cycle_break.proofs.OrderLemmas.{all-reversed}
-use Rattle.cycle_break.proofs.RankLemmas.{has-reverse}
 use Rattle.checkpoint_place.proofs.PlanLemmas.{all-fit}
 use Rattle.checkpoint_place.proofs.WeightLemmas.{greatest-weight}
 use Rattle.checkpoint_place.proofs.placing.plan.Goals as goal

@@ -1,5 +1,4 @@
-use Rattle.std.proofs.Common.{◌≡◌, drop}
-use Rattle.checkpoint_place.specs.Refusal.{refusal_from}
+use Rattle.checkpoint_place.proofs.Common.{◌≡◌, drop, refusal_from}
 use Rattle.checkpoint_place.proofs.placing.refusal.Given as goal
 
 abbrev pub invariant-loop-function : goal.invariant-loop-function

@@ -1,6 +1,4 @@
-use Rattle.std.proofs.Common.{ℕ, ◌≤◌, length, map, refl, subst, sym}
-use Rattle.std.proofs.lemmas.List.{length-map}
-use Rattle.flat_code.specs.Codes.{FlatCode}
+use Rattle.chunk_budget.proofs.Common.{ℕ, ◌≤◌, length, map, refl, subst, sym, length-map, FlatCode}
 use Rattle.c_lower.specs.ProgramCode.{lowered_function}
 use Rattle.accepted_pairs.specs.Accepting.{accepted_tree}
 use Rattle.chunk_budget.proofs.checking.check_budget.Goals as goal

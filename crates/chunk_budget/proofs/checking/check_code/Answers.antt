@@ -1,5 +1,4 @@
-use Rattle.std.proofs.Common.{ap, length, arith}
-use Rattle.flat_code.specs.ProgramView.{program_code}
+use Rattle.chunk_budget.proofs.Common.{ap, length, arith, program_code}
 use Rattle.chunk_budget.proofs.CheckLemmas.{low_refused, root_refused, is_budget}
 use Rattle.chunk_budget.proofs.checking.check_code.Goals as goal
 

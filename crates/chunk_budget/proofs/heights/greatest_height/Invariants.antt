@@ -1,5 +1,4 @@
-use Rattle.std.proofs.Common.{◌≡◌, max, drop}
-use Rattle.chunk_budget.specs.Tests.{highest}
+use Rattle.chunk_budget.proofs.Common.{◌≡◌, max, drop, highest}
 use Rattle.chunk_budget.proofs.heights.greatest_height.Given as goal
 
 abbrev pub invariant-loop-function : goal.invariant-loop-function

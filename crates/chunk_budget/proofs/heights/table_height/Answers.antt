@@ -1,4 +1,4 @@
-use Rattle.flat_code.specs.ProgramView.{program_code}
+use Rattle.chunk_budget.proofs.Common.{program_code}
 use Rattle.chunk_budget.proofs.heights.table_height.Goals as goal
 
 pub returns-clause-known : goal.returns-clause-known

@@ -1,8 +1,4 @@
-use Rattle.std.proofs.Common.{ap, sym, ◌∙◌, max, arith}
-use Rattle.std.proofs.lemmas.Grind.{common_steps}
-use Rattle.flat_code.specs.ProgramView.{program_code}
-use Rattle.call_graph.specs.Callees.{greatest}
-use Rattle.chunk_budget.specs.Made.{height_asked}
+use Rattle.chunk_budget.proofs.Common.{ap, sym, ◌∙◌, max, arith, common_steps, program_code, greatest, height_asked}
 use Rattle.chunk_budget.proofs.LeastBudgetLemmas.{max-is, greatest-more, greatest-over}
 use Rattle.chunk_budget.proofs.made.height_over.Goals as goal
 

@@ -1,8 +1,4 @@
-use Rattle.std.proofs.Common.{◌≡◌, max, drop}
-use Rattle.flat_code.specs.ProgramView.{program_code}
-use Rattle.call_graph.specs.Callees.{greatest}
-use Rattle.chunk_budget.specs.Known.{IsKnown}
-use Rattle.chunk_budget.specs.Made.{height_asked}
+use Rattle.chunk_budget.proofs.Common.{◌≡◌, max, drop, program_code, greatest, IsKnown, height_asked}
 use Rattle.chunk_budget.proofs.made.height_over.Given as goal
 
 abbrev pub invariant-loop-op : goal.invariant-loop-op

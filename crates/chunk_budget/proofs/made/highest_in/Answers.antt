@@ -1,6 +1,4 @@
-use Rattle.std.proofs.Common.{ap, sym, ◌∙◌, max, arith}
-use Rattle.call_graph.specs.Callees.{greatest}
-use Rattle.chunk_budget.specs.Made.{height_spawned}
+use Rattle.chunk_budget.proofs.Common.{ap, sym, ◌∙◌, max, arith, greatest, height_spawned}
 use Rattle.chunk_budget.proofs.LeastBudgetLemmas.{max-is, greatest-more, greatest-over}
 use Rattle.chunk_budget.proofs.made.highest_in.Goals as goal
 

@@ -1,6 +1,4 @@
-use Rattle.std.proofs.Common.{◌≡◌, max, drop}
-use Rattle.call_graph.specs.Callees.{greatest}
-use Rattle.chunk_budget.specs.Made.{height_spawned}
+use Rattle.chunk_budget.proofs.Common.{◌≡◌, max, drop, greatest, height_spawned}
 use Rattle.chunk_budget.proofs.made.highest_in.Given as goal
 
 abbrev pub invariant-loop-op : goal.invariant-loop-op

@@ -1,5 +1,4 @@
-use Rattle.std.proofs.Common.{arith}
-use Rattle.flat_code.specs.ProgramView.{program_code}
+use Rattle.chunk_budget.proofs.Common.{arith, program_code}
 use Rattle.chunk_budget.proofs.LeastBudgetLemmas.{spawned_by, below-more, max-is}
 use Rattle.chunk_budget.proofs.made.highest_root.Goals as goal
 

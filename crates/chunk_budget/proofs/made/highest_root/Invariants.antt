@@ -1,7 +1,4 @@
-use Rattle.std.proofs.Common.{◌≡◌, max}
-use Rattle.flat_code.specs.ProgramView.{program_code}
-use Rattle.chunk_budget.specs.Budgets.{height_of}
-use Rattle.chunk_budget.specs.Made.{greatest_below}
+use Rattle.chunk_budget.proofs.Common.{◌≡◌, max, program_code, height_of, greatest_below}
 use Rattle.chunk_budget.proofs.LeastBudgetLemmas.{spawned_by}
 use Rattle.chunk_budget.proofs.made.highest_root.Given as goal
 

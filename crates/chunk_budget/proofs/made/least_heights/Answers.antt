@@ -1,8 +1,4 @@
-use Rattle.std.proofs.Common.{◌≡◌, ◌<◌, max, length, get_or, refl, arith}
-use Rattle.std.proofs.lemmas.List.{get_or_read}
-use Rattle.call_graph.proofs.ListLemmas.{all-at}
-use Rattle.flat_code.specs.ProgramView.{program_code}
-use Rattle.chunk_budget.specs.Budgets.{height_of}
+use Rattle.chunk_budget.proofs.Common.{◌≡◌, ◌<◌, max, length, get_or, refl, arith, get_or_read, all-at, program_code, height_of}
 use Rattle.chunk_budget.proofs.MadeLemmas.{asked_of, covered-more, covered-all, least-more}
 use Rattle.chunk_budget.proofs.LeastBudgetLemmas.{max-is}
 use Rattle.chunk_budget.proofs.made.least_heights.Goals as goal

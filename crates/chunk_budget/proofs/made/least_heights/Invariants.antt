@@ -1,5 +1,4 @@
-use Rattle.std.proofs.Common.{◌≡◌, length, vec_len}
-use Rattle.flat_code.specs.ProgramView.{program_code}
+use Rattle.chunk_budget.proofs.Common.{◌≡◌, length, vec_len, program_code}
 use Rattle.chunk_budget.proofs.MadeLemmas.{AreCoveredBefore, AreLeast}
 use Rattle.chunk_budget.proofs.made.least_heights.Given as goal
 

@@ -1,5 +1,4 @@
-use Rattle.std.proofs.Common.{◌≡◌, ◌+◌, length, arith}
-use Rattle.flat_code.specs.ProgramView.{program_code}
+use Rattle.chunk_budget.proofs.Common.{◌≡◌, ◌+◌, length, arith, program_code}
 use Rattle.chunk_budget.proofs.LeastBudgetLemmas.{highest_of, is-least}
 use Rattle.chunk_budget.proofs.making.budget_over.Goals as goal
 

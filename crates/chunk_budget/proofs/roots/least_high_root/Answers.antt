@@ -1,4 +1,4 @@
-use Rattle.flat_code.specs.ProgramView.{program_code}
+use Rattle.chunk_budget.proofs.Common.{program_code}
 use Rattle.chunk_budget.proofs.RootLemmas.{high_least}
 use Rattle.chunk_budget.proofs.roots.least_high_root.Goals as goal
 

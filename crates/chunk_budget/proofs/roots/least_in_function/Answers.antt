@@ -1,6 +1,4 @@
-use Rattle.std.proofs.Common.{ap, sym, ◌∙◌, arith}
-use Rattle.chunk_budget.specs.Least.{lesser, least_in}
-use Rattle.chunk_budget.specs.Tests.{high_root}
+use Rattle.chunk_budget.proofs.Common.{ap, sym, ◌∙◌, arith, lesser, least_in, high_root}
 use Rattle.chunk_budget.proofs.LeastLemmas.{least_more, least_over}
 use Rattle.chunk_budget.proofs.roots.least_in_function.Goals as goal
 

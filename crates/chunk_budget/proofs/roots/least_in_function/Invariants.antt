@@ -1,6 +1,4 @@
-use Rattle.std.proofs.Common.{◌≡◌, drop}
-use Rattle.chunk_budget.specs.Least.{least_in}
-use Rattle.chunk_budget.specs.Tests.{high_root}
+use Rattle.chunk_budget.proofs.Common.{◌≡◌, drop, least_in, high_root}
 use Rattle.chunk_budget.proofs.roots.least_in_function.Given as goal
 
 abbrev pub invariant-loop-op : goal.invariant-loop-op

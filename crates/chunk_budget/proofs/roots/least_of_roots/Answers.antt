@@ -1,8 +1,4 @@
-use Rattle.std.proofs.Common.{ap, sym, ◌∙◌}
-use Rattle.flat_code.specs.Codes.{function_at}
-use Rattle.flat_code.specs.ProgramView.{program_code}
-use Rattle.chunk_budget.specs.Least.{least_in}
-use Rattle.chunk_budget.specs.Tests.{high_function, high_root}
+use Rattle.chunk_budget.proofs.Common.{ap, sym, ◌∙◌, function_at, program_code, least_in, high_function, high_root}
 use Rattle.chunk_budget.proofs.LeastLemmas.{below_more}
 use Rattle.chunk_budget.proofs.roots.least_of_roots.Goals as goal
 

@@ -1,7 +1,4 @@
-use Rattle.std.proofs.Common.{◌≡◌}
-use Rattle.flat_code.specs.ProgramView.{program_code}
-use Rattle.chunk_budget.specs.Least.{least_below}
-use Rattle.chunk_budget.specs.Tests.{high_function, high_root}
+use Rattle.chunk_budget.proofs.Common.{◌≡◌, program_code, least_below, high_function, high_root}
 use Rattle.chunk_budget.proofs.roots.least_of_roots.Given as goal
 
 abbrev pub invariant-loop-function : goal.invariant-loop-function

@@ -1,7 +1,4 @@
-use Rattle.std.proofs.Common.{ap, sym, ◌∙◌, arith}
-use Rattle.flat_code.specs.ProgramView.{program_code}
-use Rattle.chunk_budget.specs.Least.{lesser, least_in}
-use Rattle.chunk_budget.specs.Tests.{low_site}
+use Rattle.chunk_budget.proofs.Common.{ap, sym, ◌∙◌, arith, program_code, lesser, least_in, low_site}
 use Rattle.chunk_budget.proofs.LeastLemmas.{least_more, least_over}
 use Rattle.chunk_budget.proofs.sites.least_in_function.Goals as goal
 

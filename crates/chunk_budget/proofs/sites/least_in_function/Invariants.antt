@@ -1,8 +1,4 @@
-use Rattle.std.proofs.Common.{◌≡◌, drop}
-use Rattle.flat_code.specs.ProgramView.{program_code}
-use Rattle.chunk_budget.specs.Known.{IsKnown}
-use Rattle.chunk_budget.specs.Least.{least_in}
-use Rattle.chunk_budget.specs.Tests.{low_site}
+use Rattle.chunk_budget.proofs.Common.{◌≡◌, drop, program_code, IsKnown, least_in, low_site}
 use Rattle.chunk_budget.proofs.sites.least_in_function.Given as goal
 
 abbrev pub invariant-loop-op : goal.invariant-loop-op

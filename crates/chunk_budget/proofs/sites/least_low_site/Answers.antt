@@ -1,4 +1,4 @@
-use Rattle.flat_code.specs.ProgramView.{program_code}
+use Rattle.chunk_budget.proofs.Common.{program_code}
 use Rattle.chunk_budget.proofs.CoverLemmas.{low_least}
 use Rattle.chunk_budget.proofs.sites.least_low_site.Goals as goal
 

@@ -1,8 +1,4 @@
-use Rattle.std.proofs.Common.{refl, ap, sym, ◌∙◌, None}
-use Rattle.flat_code.specs.Codes.{function_at}
-use Rattle.flat_code.specs.ProgramView.{program_code}
-use Rattle.chunk_budget.specs.Least.{least_in}
-use Rattle.chunk_budget.specs.Tests.{low_site}
+use Rattle.chunk_budget.proofs.Common.{refl, ap, sym, ◌∙◌, None, function_at, program_code, least_in, low_site}
 use Rattle.chunk_budget.proofs.LeastLemmas.{below_more}
 use Rattle.chunk_budget.proofs.sites.least_of_sites.Goals as goal
 

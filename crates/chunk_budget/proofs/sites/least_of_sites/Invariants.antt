@@ -1,8 +1,4 @@
-use Rattle.std.proofs.Common.{◌≡◌, None}
-use Rattle.flat_code.specs.ProgramView.{program_code}
-use Rattle.chunk_budget.specs.Known.{IsKnown}
-use Rattle.chunk_budget.specs.Least.{least_below}
-use Rattle.chunk_budget.specs.Tests.{low_site}
+use Rattle.chunk_budget.proofs.Common.{◌≡◌, None, program_code, IsKnown, least_below, low_site}
 use Rattle.chunk_budget.proofs.sites.least_of_sites.Given as goal
 
 abbrev pub invariant-loop-function : goal.invariant-loop-function

@@ -1,45 +1,12 @@
 -- `allocate` asks for room, which its owner holds beside the deed. Assumes `Logic`.
-use Rattle.std.proofs.Common.{◌≡◌, ℕ, ◌+◌, ◌*◌, ◌^◌, ◌<◌, List, [], ◌∷◌, ◌++◌, refl, arith, lit<, w64, Ok, Err, true, false}
-use mir.Syntax.{Ty, Fn, Args, a_type, dcons, dnil}
-use mir.Val.{Val, vint, vptr, vcons, vnil, vstruct}
-use mir.MapTy.{inst_fn}
-use base.Logic.{SProp, emp, id⊢}
-use base.Fml.{Lft, Share, ftrue, flft, froom}
-use prog.Capped.{capped_is}
-use prog.Wp.{Env, WpFn}
-use contract.BorrowLft.{◌⊑◌, ⊑_trans}
-use contract.Monad.{fact, fact_i}
-use contract.Running.{tables}
-use types.Kit.{‵, raw, ◌⊛◌, later, prop, at_ret, ◌$◌, ◌∵◌, !, qed, by, move, drop, use0, use1, use2, use3, split, join, regoal, rewrite, fsplit, fjoin, flt_i, await}
-use types.Part.{whole, agg}
+use Rattle.chunk_pool.proofs.Common.{◌≡◌, ℕ, ◌+◌, ◌*◌, ◌^◌, ◌<◌, List, [], ◌∷◌, ◌++◌, refl, arith, lit<, w64, Ok, Err, true, false, Ty, Fn, Args, a_type, dcons, dnil, Val, vint, vptr, vcons, vnil, vstruct, inst_fn, SProp, emp, id⊢, Lft, Share, ftrue, flft, froom, capped_is, Env, WpFn, ◌⊑◌, ⊑_trans, fact, fact_i, tables, ‵, raw, ◌⊛◌, later, prop, at_ret, ◌$◌, ◌∵◌, !, qed, by, move, drop, use0, use1, use2, use3, split, join, regoal, rewrite, fsplit, fjoin, flt_i, await, whole, agg, stop, fld, lit, of_opd, bin, no_more, and_then, first, switches_on, exec, returns, enter, alloc_all, pass_all, free_all, look_at, get, get_in, get_tag, sets, sets_last, lands_as, env, RattleType, owns, Ptr, block_ptr, param, bounded, layout, types_at, type_at, plain, usize, RefOf, yes, nothing, heard, owned, Struct, Struct-Makes, Tuple, alive, calls_at, Stays, stay_dropped, walk_of, Goes-dropped, Al, seen, Answer-typed, Takes, at_takes, Answered, Takes-goes, Takes-gives, answers, after, head, arm_body, fm, Good, proved_at, leaves, Wp, after_seq, at_return, words_type}
 use types.Match.{live, vrt, in_variant}
-use types.Run.{stop, fld, lit, of_opd, bin, no_more, and_then, first, switches_on, exec, returns, enter}
-use types.ByLocal.{alloc_all, pass_all, free_all, look_at, get, get_in, get_tag, sets, sets_last, lands_as, env}
-use denote.RattleType.{RattleType, owns}
-use denote.RawPtr.{Ptr, block_ptr}
 use denote.Laws.{Is}
-use denote.Param.{param, bounded, layout}
-use denote.Signature.{types_at, type_at, plain}
-use denote.Builtin.{usize, RefOf}
-use denote.Exit.{yes}
-use denote.Steps.{nothing, heard, owned}
-use denote.Struct.Struct.{Struct, Struct-Makes}
 use denote.Struct.Declared as Declared
-use denote.Struct.Tuple.{Tuple}
-use denote.Triple.Entry.{alive}
-use denote.Triple.Call.{calls_at}
-use denote.Triple.Walked.{Stays, stay_dropped, walk_of, Goes-dropped}
-use Rattle.core.proofs.alloc.Calls.{Al, seen, Answer-typed, Takes, at_takes, Answered, Takes-goes, Takes-gives, answers}
-use Rattle.core.proofs.alloc.Shapes.{after, head, arm_body}
-use Rattle.core.proofs.atomic.Steps.{fm}
-use Rattle.core.proofs.cell.Inside.{Good}
 use Rattle.core.specs.contracts.alloc.AllocError as refusal
-use Rattle.std.proofs.raw_atomic.Walks.{proved_at, leaves}
 use Rattle.std_alloc.proofs.ResultValues.{ok_of, err_of}
 use Rattle.std_alloc.proofs.RcSteps.{first_Good}
-use prog.Wp.{Wp, after_seq, at_return}
 use types.Kit.{Post as After, any_q}
-use Rattle.chunk_pool.specs.Block.{words_type}
 use Rattle.chunk_pool.specs.contracts.block.Start as start
 use Rattle.chunk_pool.specs.contracts.block.Words as words
 use Rattle.chunk_pool.specs.contracts.block.Deed as deed

@@ -1,37 +1,6 @@
 -- `deallocate` gives back the room of the words, with the right to do so. Assumes `Logic`.
-use Rattle.std.proofs.Common.{◌≡◌, ℕ, ◌*◌, ◌^◌, ◌<◌, List, [], ◌∷◌, ◌++◌, length, refl, sym, ap, ◌∙◌, subst, arith, lit<, w64}
-use mir.Syntax.{Ty, Fn, Args, a_type, dcons, dnil}
-use mir.Val.{Val, vint, vptr, vunit}
-use mir.MapTy.{inst_fn}
-use base.Logic.{SProp, never, id⊢}
-use base.Fml.{Lft, Share, ftrue, flft, froom}
+use Rattle.chunk_pool.proofs.Common.{◌≡◌, ℕ, ◌*◌, ◌^◌, ◌<◌, List, [], ◌∷◌, ◌++◌, length, refl, sym, ap, ◌∙◌, subst, arith, lit<, w64, Ty, Fn, Args, a_type, dcons, dnil, Val, vint, vptr, vunit, inst_fn, SProp, never, id⊢, Lft, Share, ftrue, flft, froom, ty_unit, has_ty, WT, capped_is, Env, WpFn, ◌⊑◌, ⊑_trans, fact, tables, ‵, raw, ◌⊛◌, given, later, prop, at_ret, ◌$◌, ◌∵◌, !, qed, by, move, drop, use1, split, join, group, learn, rewrite, regoal, fsplit, fjoin, flt_l, feq_i, await, whole, sub, stop, fld, lit, unit_lit, of_opd, bin, no_more, and_then, first, blocks, exec, returns, enter, alloc_all, pass_all, free_all, look_at, get, get_in, sets, lands_last, env, RattleType, owns, Ptr, block_ptr, in_a_block, usize, RefOf, yes, param, bounded, plain, types_at, nothing, heard, alive, calls_at_last, Stays, stay_dropped, walk_of, Goes-dropped, Al, seen, Goes-blank, Gives, at_gives, Gives-goes, Gives-Gives, after, fm, proved_at, leaves, words_type, words_own}
 use lib.Dec.{T as Is_true}
-use mir.Syntax.{ty_unit}
-use mir.Val.{has_ty, WT}
-use prog.Capped.{capped_is}
-use prog.Wp.{Env, WpFn}
-use contract.BorrowLft.{◌⊑◌, ⊑_trans}
-use contract.Monad.{fact}
-use contract.Running.{tables}
-use types.Kit.{‵, raw, ◌⊛◌, given, later, prop, at_ret, ◌$◌, ◌∵◌, !, qed, by, move, drop, use1, split, join, group, learn, rewrite, regoal, fsplit, fjoin, flt_l, feq_i, await}
-use types.Part.{whole, sub}
-use types.Run.{stop, fld, lit, unit_lit, of_opd, bin, no_more, and_then, first, blocks, exec, returns, enter}
-use types.ByLocal.{alloc_all, pass_all, free_all, look_at, get, get_in, sets, lands_last, env}
-use denote.RattleType.{RattleType, owns}
-use denote.RawPtr.{Ptr, block_ptr, in_a_block}
-use denote.Builtin.{usize, RefOf}
-use denote.Exit.{yes}
-use denote.Param.{param, bounded}
-use denote.Signature.{plain, types_at}
-use denote.Steps.{nothing, heard}
-use denote.Triple.Entry.{alive}
-use denote.Triple.Call.{calls_at_last}
-use denote.Triple.Walked.{Stays, stay_dropped, walk_of, Goes-dropped}
-use Rattle.core.proofs.alloc.Calls.{Al, seen, Goes-blank, Gives, at_gives, Gives-goes, Gives-Gives}
-use Rattle.core.proofs.alloc.Shapes.{after}
-use Rattle.core.proofs.atomic.Steps.{fm}
-use Rattle.std.proofs.raw_atomic.Walks.{proved_at, leaves}
-use Rattle.chunk_pool.specs.Block.{words_type, words_own}
 use Rattle.chunk_pool.specs.contracts.block.Start as start
 use Rattle.chunk_pool.specs.contracts.block.Words as words
 use Rattle.chunk_pool.specs.contracts.block.Deed as deed

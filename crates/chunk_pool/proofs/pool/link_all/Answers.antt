@@ -1,5 +1,4 @@
-use Rattle.std.proofs.Common.{◌≡◌, ℕ, ◌+◌, sym, ◌∙◌, ap, subst, set, arith}
-use Rattle.chunk_pool.specs.Pool.{start_in}
+use Rattle.chunk_pool.proofs.Common.{◌≡◌, ℕ, ◌+◌, sym, ◌∙◌, ap, subst, set, arith, start_in}
 use Rattle.chunk_pool.proofs.Shapes.{words_in-some}
 use Rattle.chunk_pool.proofs.RegionLaws.{IsLinkedTo, linked_none, linked_more, linked_all}
 use Rattle.chunk_pool.proofs.pool.link_all.Goals as goal

@@ -1,6 +1,4 @@
-use Rattle.std.proofs.Common.{ap, arith}
-use Rattle.stack_certificate.specs.declared.functions.FunctionFact.{FunctionFact}
-use Rattle.stack_certificate.proofs.PushedLemmas.{map-pushed}
+use Rattle.codegen_link.proofs.Common.{ap, arith, FunctionFact, map-pushed}
 use Rattle.codegen_link.proofs.areas.entries.Goals as goal
 
 pub loop-fact-preserved : goal.loop-fact-preserved

@@ -1,5 +1,4 @@
-use Rattle.std.proofs.Common.{◌≡◌, take, replicate}
-use Rattle.std.specs.Prelude.{flat_map}
+use Rattle.codegen_link.proofs.Common.{◌≡◌, take, replicate, flat_map}
 use Rattle.codegen_link.proofs.areas.global_words.Given as goal
 
 abbrev pub invariant-loop-global : goal.invariant-loop-global

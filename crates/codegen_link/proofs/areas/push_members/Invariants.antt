@@ -1,5 +1,4 @@
-use Rattle.std.proofs.Common.{◌≡◌, ◌++◌, map, take}
-use Rattle.codegen_link.specs.Emission.{entry_in}
+use Rattle.codegen_link.proofs.Common.{◌≡◌, ◌++◌, map, take, entry_in}
 use Rattle.codegen_link.proofs.areas.push_members.Given as goal
 
 abbrev pub invariant-loop-member : goal.invariant-loop-member

@@ -1,6 +1,4 @@
-use Rattle.std.proofs.Common.{map, arith, ap, ◌∙◌}
-use Rattle.codegen_link.specs.Emission.{entry_in}
-use Rattle.stack_certificate.proofs.PushedLemmas.{flat-pushed}
+use Rattle.codegen_link.proofs.Common.{map, arith, ap, ◌∙◌, entry_in, flat-pushed}
 use Rattle.codegen_link.proofs.areas.table_words.Goals as goal
 
 pub loop-members-preserved : goal.loop-members-preserved

@@ -1,6 +1,4 @@
-use Rattle.std.proofs.Common.{◌≡◌, map, take}
-use Rattle.std.specs.Prelude.{flat_map}
-use Rattle.codegen_link.specs.Emission.{entry_in}
+use Rattle.codegen_link.proofs.Common.{◌≡◌, map, take, flat_map, entry_in}
 use Rattle.codegen_link.proofs.areas.table_words.Given as goal
 
 abbrev pub invariant-loop-members : goal.invariant-loop-members

@@ -1,7 +1,4 @@
-use Rattle.std.proofs.Common.{◌<◌, length, ap, subst, arith}
-use Rattle.flat_code.specs.ProgramView.{program_code}
-use Rattle.stack_certificate.proofs.PushedLemmas.{numbered-pushed}
-use Rattle.codegen_link.specs.Layout.{fact_of}
+use Rattle.codegen_link.proofs.Common.{◌<◌, length, ap, subst, arith, program_code, numbered-pushed, fact_of}
 use Rattle.codegen_link.proofs.AddressLemmas.{few-functions, words-next, words-within}
 use Rattle.codegen_link.proofs.facts.facts_of.Goals as goal
 

@@ -1,7 +1,4 @@
-use Rattle.std.proofs.Common.{◌≡◌, map}
-use Rattle.std.specs.List.{range_with_len}
-use Rattle.flat_code.specs.ProgramView.{program_code}
-use Rattle.codegen_link.specs.Layout.{fact_of, words_to}
+use Rattle.codegen_link.proofs.Common.{◌≡◌, map, range_with_len, program_code, fact_of, words_to}
 use Rattle.codegen_link.proofs.facts.facts_of.Given as goal
 
 abbrev pub invariant-loop-function : goal.invariant-loop-function

@@ -1,8 +1,4 @@
-use Rattle.std.proofs.Common.{◌≡◌, ℕ, ◌+◌, ◌*◌, ◌<◌, List, ◌++◌, ◌∷◌, [], drop, length, arith, append_assoc, ap, sym, ◌∙◌}
-use Rattle.std.specs.Prelude.{slice_index}
-use Rattle.std.proofs.lemmas.List.{at_drop_more}
-use Rattle.std.proofs.lemmas.List.Sums.{sum_by_more}
-use Rattle.codegen_link.specs.Layout.{places_from}
+use Rattle.codegen_link.proofs.Common.{◌≡◌, ℕ, ◌+◌, ◌*◌, ◌<◌, List, ◌++◌, ◌∷◌, [], drop, length, arith, append_assoc, ap, sym, ◌∙◌, slice_index, at_drop_more, sum_by_more, places_from}
 use Rattle.codegen_link.proofs.facts.places.Goals as goal
 
 -- the next place goes from what is to be made to what is made

@@ -1,6 +1,4 @@
-use Rattle.std.proofs.Common.{◌≡◌, ◌*◌, ◌++◌, drop, take}
-use Rattle.std.specs.Prelude.{sum}
-use Rattle.codegen_link.specs.Layout.{places_from}
+use Rattle.codegen_link.proofs.Common.{◌≡◌, ◌*◌, ◌++◌, drop, take, sum, places_from}
 use Rattle.codegen_link.proofs.facts.places.Given as goal
 
 abbrev pub invariant-loop-words : goal.invariant-loop-words

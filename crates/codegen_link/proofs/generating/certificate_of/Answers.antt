@@ -1,5 +1,4 @@
-use Rattle.std.proofs.Common.{arith}
-use Rattle.flat_code.specs.ProgramView.{program_code}
+use Rattle.codegen_link.proofs.Common.{arith, program_code}
 use Rattle.codegen_link.proofs.AddressLemmas.{few-functions}
 use Rattle.codegen_link.proofs.generating.certificate_of.Goals as goal
 

@@ -1,6 +1,4 @@
-use Rattle.std.proofs.Common.{◌≤◌, arith}
-use Rattle.flat_code.specs.ProgramView.{program_code}
-use Rattle.codegen_link.specs.Layout.{code_words}
+use Rattle.codegen_link.proofs.Common.{◌≤◌, arith, program_code, code_words}
 use Rattle.codegen_link.proofs.ValidLemmas.{valid}
 use Rattle.codegen_link.proofs.generating.generate.Goals as goal
 

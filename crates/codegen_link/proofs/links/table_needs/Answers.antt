@@ -1,6 +1,4 @@
-use Rattle.std.proofs.Common.{slice_index, arith, ap, ◌∙◌}
-use Rattle.call_graph.specs.Callees.{greatest}
-use Rattle.stack_certificate.proofs.PushedLemmas.{map-pushed}
+use Rattle.codegen_link.proofs.Common.{slice_index, arith, ap, ◌∙◌, greatest, map-pushed}
 use Rattle.codegen_link.proofs.links.table_needs.Goals as goal
 
 pub loop-members-preserved : goal.loop-members-preserved

@@ -1,9 +1,4 @@
-use Rattle.std.proofs.Common.{◌≡◌, ap, sym, ◌∙◌, arith}
-use Rattle.flat_code.specs.Codes.{function_at, operation_at}
-use Rattle.flat_code.specs.ProgramView.{program_code}
-use Rattle.stack_certificate.specs.Templates.{begin, kind_of, size, size_at}
-use Rattle.stack_certificate.proofs.AddressLemmas.{words_step}
-use Rattle.stack_certificate.proofs.PushedLemmas.{numbered-pushed}
+use Rattle.codegen_link.proofs.Common.{◌≡◌, ap, sym, ◌∙◌, arith, function_at, operation_at, program_code, begin, kind_of, size, size_at, words_step, numbered-pushed}
 use Rattle.codegen_link.proofs.AddressLemmas.{ahead}
 use Rattle.codegen_link.proofs.SiteLemmas.{kind-link}
 use Rattle.codegen_link.proofs.settings.begins.Goals as goal

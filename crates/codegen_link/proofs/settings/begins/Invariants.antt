@@ -1,7 +1,4 @@
-use Rattle.std.proofs.Common.{◌≡◌, ◌+◌, ◌*◌, ◌≤◌, ◌^◌, map}
-use Rattle.std.specs.List.{range_with_len}
-use Rattle.flat_code.specs.ProgramView.{program_code}
-use Rattle.stack_certificate.specs.Templates.{begin}
+use Rattle.codegen_link.proofs.Common.{◌≡◌, ◌+◌, ◌*◌, ◌≤◌, ◌^◌, map, range_with_len, program_code, begin}
 use Rattle.codegen_link.proofs.settings.begins.Given as goal
 
 abbrev pub invariant-loop-op : goal.invariant-loop-op

@@ -1,8 +1,4 @@
-use Rattle.std.proofs.Common.{length, ap, ◌∙◌, arith}
-use Rattle.std.specs.Prelude.{slice_index}
-use Rattle.std.proofs.lemmas.List.FromFn.{length-map-range_with_len, get_or-map-range_with_len}
-use Rattle.flat_code.specs.ProgramView.{program_code}
-use Rattle.stack_certificate.specs.Certificates.{global_address}
+use Rattle.codegen_link.proofs.Common.{length, ap, ◌∙◌, arith, slice_index, length-map-range_with_len, get_or-map-range_with_len, program_code, global_address}
 use Rattle.codegen_link.proofs.settings.global_address.Goals as goal
 
 pub bounds-as_slice-g : goal.bounds-as_slice-g

@@ -1,10 +1,4 @@
-use Rattle.std.proofs.Common.{length, ap, sym, subst, ◌∙◌, arith}
-use Rattle.std.specs.Prelude.{slice_index}
-use Rattle.std.proofs.lemmas.List.FromFn.{length-map-range_with_len, get_or-map-range_with_len}
-use Rattle.flat_code.specs.Codes.{function_at}
-use Rattle.flat_code.specs.ProgramView.{program_code}
-use Rattle.stack_certificate.specs.Templates.{begin}
-use Rattle.codegen_link.specs.Emission.{JumpsInside}
+use Rattle.codegen_link.proofs.Common.{length, ap, sym, subst, ◌∙◌, arith, slice_index, length-map-range_with_len, get_or-map-range_with_len, function_at, program_code, begin, JumpsInside}
 use Rattle.codegen_link.proofs.AddressLemmas.{goes-is, setting-is}
 use Rattle.codegen_link.proofs.SiteLemmas.{kind-link}
 use Rattle.codegen_link.proofs.settings.setting.Goals as goal

@@ -1,9 +1,4 @@
-use Rattle.std.proofs.Common.{◌++◌, [], take, sym, ap, ◌∙◌, append_assoc}
-use Rattle.std.specs.Prelude.{filter_map}
-use Rattle.std.specs.List.{cons_option}
-use Rattle.flat_code.specs.Codes.{function_at}
-use Rattle.flat_code.specs.ProgramView.{program_code}
-use Rattle.codegen_link.specs.Links.{site_fact}
+use Rattle.codegen_link.proofs.Common.{◌++◌, [], take, sym, ap, ◌∙◌, append_assoc, filter_map, cons_option, function_at, program_code, site_fact}
 use Rattle.codegen_link.proofs.AddressLemmas.{names-at}
 use Rattle.codegen_link.proofs.StepLemmas.{filter-step}
 use Rattle.codegen_link.proofs.sites.push_sites.Goals as goal

@@ -1,8 +1,4 @@
-use Rattle.std.proofs.Common.{◌≡◌, ◌++◌, take}
-use Rattle.std.specs.Prelude.{filter_map}
-use Rattle.flat_code.specs.Codes.{function_at}
-use Rattle.flat_code.specs.ProgramView.{program_code}
-use Rattle.codegen_link.specs.Links.{site_fact}
+use Rattle.codegen_link.proofs.Common.{◌≡◌, ◌++◌, take, filter_map, function_at, program_code, site_fact}
 use Rattle.codegen_link.proofs.sites.push_sites.Given as goal
 
 abbrev pub invariant-loop-op : goal.invariant-loop-op

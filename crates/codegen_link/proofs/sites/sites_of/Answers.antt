@@ -1,9 +1,4 @@
-use Rattle.std.proofs.Common.{rules}
-use Rattle.std.specs.List.Sorted.{IsNonDecreasingBy, IsPermutation}
-use Rattle.std.proofs.lemmas.List.Sorted.{IsNonDecreasingBy-from_sort_by_key}
-use Rattle.flat_code.specs.ProgramView.{program_code}
-use Rattle.stack_certificate.specs.declared.sites.SiteFact.{SiteFact}
-use Rattle.codegen_link.specs.Links.{site_facts}
+use Rattle.codegen_link.proofs.Common.{rules, IsNonDecreasingBy, IsPermutation, IsNonDecreasingBy-from_sort_by_key, program_code, SiteFact, site_facts}
 use Rattle.codegen_link.proofs.SiteLemmas.{rising}
 use Rattle.codegen_link.proofs.sites.sites_of.Goals as goal
 

@@ -1,9 +1,4 @@
-use Rattle.std.proofs.Common.{[], ◌<◌, false, length, refl, subst}
-use Rattle.std.specs.Prelude.{filter_map}
-use Rattle.flat_code.specs.declared.functions.FlatFunction.{FlatFunction}
-use Rattle.flat_code.specs.ProgramView.{program_code}
-use Rattle.stack_certificate.proofs.PushedLemmas.{flat-pushed}
-use Rattle.codegen_link.specs.Links.{site_fact}
+use Rattle.codegen_link.proofs.Common.{[], ◌<◌, false, length, refl, subst, filter_map, FlatFunction, program_code, flat-pushed, site_fact}
 use Rattle.codegen_link.proofs.sites.unsorted_sites.Goals as goal
 
 pub loop-function-preserved : goal.loop-function-preserved

@@ -1,7 +1,4 @@
-use Rattle.std.proofs.Common.{◌≡◌, take}
-use Rattle.std.specs.Prelude.{filter_map, flat_map}
-use Rattle.flat_code.specs.ProgramView.{program_code}
-use Rattle.codegen_link.specs.Links.{site_fact}
+use Rattle.codegen_link.proofs.Common.{◌≡◌, take, filter_map, flat_map, program_code, site_fact}
 use Rattle.codegen_link.proofs.sites.unsorted_sites.Given as goal
 
 abbrev pub invariant-loop-function : goal.invariant-loop-function

@@ -1,9 +1,4 @@
-use Rattle.std.proofs.Common.{◌≡◌, ℕ, sym, ap, ◌∙◌, arith}
-use Rattle.flat_code.specs.declared.operations.Op.{Op}
-use Rattle.flat_code.specs.Codes.{function_at}
-use Rattle.flat_code.specs.ProgramView.{program_code}
-use Rattle.stack_certificate.specs.Templates.{size, size_at}
-use Rattle.codegen_link.specs.Links.{link}
+use Rattle.codegen_link.proofs.Common.{◌≡◌, ℕ, sym, ap, ◌∙◌, arith, Op, function_at, program_code, size, size_at, link}
 use Rattle.codegen_link.proofs.StepLemmas.{sum-step, grows}
 use Rattle.codegen_link.proofs.sizes.function_size.Goals as goal
 

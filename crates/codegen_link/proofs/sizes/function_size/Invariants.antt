@@ -1,9 +1,4 @@
-use Rattle.std.proofs.Common.{◌≡◌, ◌+◌, ◌*◌, ◌≤◌, ◌^◌, take}
-use Rattle.std.specs.Prelude.{sum_by}
-use Rattle.flat_code.specs.Codes.{function_at}
-use Rattle.flat_code.specs.ProgramView.{program_code}
-use Rattle.stack_certificate.specs.Templates.{size}
-use Rattle.codegen_link.specs.Links.{link}
+use Rattle.codegen_link.proofs.Common.{◌≡◌, ◌+◌, ◌*◌, ◌≤◌, ◌^◌, take, sum_by, function_at, program_code, size, link}
 use Rattle.codegen_link.proofs.sizes.function_size.Given as goal
 
 abbrev pub invariant-loop-op : goal.invariant-loop-op

@@ -1,6 +1,4 @@
-use Rattle.std.proofs.Common.{◌+◌, [], length, ap, add-one, arith}
-use Rattle.flat_code.specs.ProgramView.{program_code}
-use Rattle.codegen_link.specs.Layout.{function_code, functions_before}
+use Rattle.codegen_link.proofs.Common.{◌+◌, [], length, ap, add-one, arith, program_code, function_code, functions_before}
 use Rattle.codegen_link.proofs.AddressLemmas.{few-functions}
 use Rattle.codegen_link.proofs.StepLemmas.{next-words}
 use Rattle.codegen_link.proofs.words.code_of.Goals as goal

@@ -1,12 +1,4 @@
-use Rattle.std.proofs.Common.{◌+◌, ◌++◌, length, ap, sym, subst, ◌∙◌, add-one, append_assoc, arith}
-use Rattle.flat_code.specs.Codes.{function_at, operation_at}
-use Rattle.flat_code.specs.ProgramView.{program_code}
-use Rattle.stack_certificate.specs.declared.functions.FunctionFact.{FunctionFact}
-use Rattle.stack_certificate.specs.declared.settings.Setting.{Setting}
-use Rattle.stack_certificate.specs.Certificates.{fact_at}
-use Rattle.stack_certificate.specs.Templates.{prologue, template}
-use Rattle.flat_code.specs.declared.functions.FlatFunction.{FlatFunction}
-use Rattle.codegen_link.specs.Layout.{operations_before}
+use Rattle.codegen_link.proofs.Common.{◌+◌, ◌++◌, length, ap, sym, subst, ◌∙◌, add-one, append_assoc, arith, function_at, operation_at, program_code, FunctionFact, Setting, fact_at, prologue, template, FlatFunction, operations_before}
 use Rattle.codegen_link.proofs.AddressLemmas.{here-small, params-placed, prologue-fit, template-fits-at, to-small}
 use Rattle.codegen_link.proofs.FactLemmas.{facts-count, is-for}
 use Rattle.codegen_link.proofs.InstructionLemmas.{Fit}

@@ -1,11 +1,4 @@
-use Rattle.std.proofs.Common.{◌≡◌, length, ap, sym, subst, ◌∙◌, arith}
-use Rattle.std.specs.Prelude.{slice_get}
-use Rattle.flat_code.specs.Codes.{function_at, operation_at}
-use Rattle.flat_code.specs.ProgramView.{program_code}
-use Rattle.stack_certificate.specs.declared.settings.Setting.{Setting}
-use Rattle.stack_certificate.specs.Certificates.{fact_at}
-use Rattle.stack_certificate.specs.InstructionWords.{IsWordOf}
-use Rattle.stack_certificate.specs.Templates.{row_at, size_at, template}
+use Rattle.codegen_link.proofs.Common.{◌≡◌, length, ap, sym, subst, ◌∙◌, arith, slice_get, function_at, operation_at, program_code, Setting, fact_at, IsWordOf, row_at, size_at, template}
 use Rattle.codegen_link.proofs.AddressLemmas.{length-template}
 use Rattle.codegen_link.proofs.StepLemmas.{some-word, emitted, whole}
 use Rattle.codegen_link.proofs.words.push_operation.Goals as goal

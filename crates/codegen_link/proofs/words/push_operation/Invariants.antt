@@ -1,7 +1,4 @@
-use Rattle.std.proofs.Common.{◌≡◌, ◌++◌, map, take}
-use Rattle.rv_code.specs.Table.{encoding}
-use Rattle.flat_code.specs.ProgramView.{program_code}
-use Rattle.stack_certificate.specs.Templates.{template}
+use Rattle.codegen_link.proofs.Common.{◌≡◌, ◌++◌, map, take, encoding, program_code, template}
 use Rattle.codegen_link.proofs.words.push_operation.Given as goal
 
 abbrev pub invariant-loop-word : goal.invariant-loop-word

@@ -1,6 +1,4 @@
-use Rattle.std.proofs.Common.{arith}
-use Rattle.stack_certificate.specs.Templates.{prologue}
-use Rattle.stack_certificate.proofs.SizeLemmas.{length-prologue}
+use Rattle.codegen_link.proofs.Common.{arith, prologue, length-prologue}
 use Rattle.codegen_link.proofs.StepLemmas.{some-word, emitted, whole}
 use Rattle.codegen_link.proofs.words.push_prologue.Goals as goal
 

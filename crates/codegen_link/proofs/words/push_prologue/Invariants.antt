@@ -1,6 +1,4 @@
-use Rattle.std.proofs.Common.{◌≡◌, ◌++◌, map, take}
-use Rattle.rv_code.specs.Table.{encoding}
-use Rattle.stack_certificate.specs.Templates.{prologue}
+use Rattle.codegen_link.proofs.Common.{◌≡◌, ◌++◌, map, take, encoding, prologue}
 use Rattle.codegen_link.proofs.words.push_prologue.Given as goal
 
 abbrev pub invariant-loop-word : goal.invariant-loop-word

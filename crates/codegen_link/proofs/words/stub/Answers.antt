@@ -1,5 +1,4 @@
-use Rattle.std.proofs.Common.{[], arith}
-use Rattle.stack_certificate.specs.Templates.{end_stub}
+use Rattle.codegen_link.proofs.Common.{[], arith, end_stub}
 use Rattle.codegen_link.proofs.RowLemmas.{stub-fits}
 use Rattle.codegen_link.proofs.StepLemmas.{some-word, emitted, whole}
 use Rattle.codegen_link.proofs.words.stub.Goals as goal

@@ -1,10 +1,11 @@
 use Rattle.std.proofs.Common.{refl}
 use Rattle.std.proofs.lemmas.Result.{err_from_is_err_and}
+use Rattle.std.proofs.KnownBytes.{Keeps-refl}
 use Rattle.c_tree.specs.ProgramView.{program_tree}
 use Rattle.command_outcomes.specs.Done.{Outside, outside_by}
 use Rattle.command_audit.specs.Audits.{Audits, AuditsProgram}
 use Rattle.command_outcomes.specs.Steps.{IsStatus}
-use Rattle.command_outcomes.proofs.Ending.{ends-follow, stopped, keeps-itself}
+use Rattle.command_outcomes.proofs.Ending.{ends-follow, stopped}
 use Rattle.command_audit.proofs.Auditing.{audit-follows}
 use Rattle.command_audit.proofs.audit_command.do_audit.Goals as goal
 
@@ -17,7 +18,7 @@ returns-in_err-loaded g c =
     let step = c.in_err-loaded.ensures in
     rw (p.1, p.2) (stopped IsStatus (Audits before.files before.left a.source.now a.log.now a.options) before after c.in_err-loaded.field-0.0 step.files
     step.stores
-    (keeps-itself before.left) refl (keeps-itself before.taken) refl (step.answer before.left a.options))
+    (Keeps-refl before.left) refl (Keeps-refl before.taken) refl (step.answer before.left a.options))
 
 pub returns : goal.returns
 returns g c =

@@ -1,7 +1,4 @@
-use Rattle.std.proofs.Common.{◌≡◌, ◌∙◌, ◌∷◌, [], ◌+◌, ◌≤◌, sym, Some, None, arith}
-use Rattle.std.proofs.lemmas.Bool.Decides.{Decides-eqb}
-use Rattle.std.proofs.lemmas.Slice.Eq.{strip_prefix_is}
-use Rattle.cap_text.specs.Decimals.{canonical_decimal}
+use Rattle.command_words.proofs.Common.{◌≡◌, ◌∙◌, ◌∷◌, [], ◌+◌, ◌≤◌, sym, Some, None, arith, Decides-eqb, strip_prefix_is, canonical_decimal}
 use Rattle.command_words.proofs.Decimals.{cap_text_is, cap_parts}
 use Rattle.command_words.proofs.numbers.cap.Goals as goal
 use Rattle.command_words.proofs.numbers.cap.Goals.{then-digit-lt49-via-then-digit-lt49, then-digit-lt49-via-else-digit-lt49+then-digit-gt55}

@@ -1,4 +1,4 @@
-use Rattle.clap.specs.Words.{first_value, found_of}
+use Rattle.command_words.proofs.Common.{first_value, found_of}
 use Rattle.command_words.proofs.Chosen.{no_extra}
 use Rattle.command_words.proofs.option_values.extra_bytes.Goals as goal
 

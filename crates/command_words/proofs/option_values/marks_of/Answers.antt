@@ -1,4 +1,4 @@
-use Rattle.clap.specs.Words.{first_value, found_of}
+use Rattle.command_words.proofs.Common.{first_value, found_of}
 use Rattle.command_words.proofs.Chosen.{if_none, no_low}
 use Rattle.command_words.proofs.option_values.marks_of.Goals as goal
 

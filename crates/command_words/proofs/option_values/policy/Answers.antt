@@ -1,4 +1,4 @@
-use Rattle.clap.specs.Words.{first_value, found_of}
+use Rattle.command_words.proofs.Common.{first_value, found_of}
 use Rattle.command_words.proofs.Chosen.{if_none, marks_of_policy, room_of_policy}
 use Rattle.command_words.proofs.option_values.policy.Goals as goal
 

@@ -1,5 +1,4 @@
-use Rattle.std.proofs.Common.{ap, map, ◌∙◌}
-use Rattle.std.specs.String.{string_bytes}
+use Rattle.command_words.proofs.Common.{ap, map, ◌∙◌, string_bytes}
 use Rattle.command_words.proofs.Answered.{parsed, refused}
 use Rattle.command_words.proofs.parser.parse.Goals as goal
 

@@ -1,4 +1,4 @@
-use Rattle.command_words.specs.Parse.{option_rule}
+use Rattle.command_words.proofs.Common.{option_rule}
 use Rattle.command_words.proofs.Chain.{all_arguments, more_arguments}
 use Rattle.command_words.proofs.parser.with_options.Goals as goal
 

@@ -1,6 +1,5 @@
-use Rattle.std.proofs.Common.{◌≡◌, fold, take}
 use Rattle.clap.specs.Words.{app_of}
-use Rattle.command_words.specs.Parse.{with_option}
+use Rattle.command_words.proofs.Common.{◌≡◌, fold, take, with_option}
 use Rattle.command_words.proofs.parser.with_options.Given as goal
 
 -- the options so far were added

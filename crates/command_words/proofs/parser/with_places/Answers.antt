@@ -1,4 +1,4 @@
-use Rattle.clap.specs.Simple.{new_rule}
+use Rattle.command_words.proofs.Common.{new_rule}
 use Rattle.command_words.proofs.Chain.{all_arguments, more_arguments}
 use Rattle.command_words.proofs.parser.with_places.Goals as goal
 

@@ -1,6 +1,5 @@
-use Rattle.std.proofs.Common.{◌≡◌, fold, take}
 use Rattle.clap.specs.Words.{app_of}
-use Rattle.command_words.specs.Parse.{with_place}
+use Rattle.command_words.proofs.Common.{◌≡◌, fold, take, with_place}
 use Rattle.command_words.proofs.parser.with_places.Given as goal
 
 -- the positional words so far were added

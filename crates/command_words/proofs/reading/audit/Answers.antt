@@ -1,4 +1,4 @@
-use Rattle.clap.specs.Words.{first_value, found_of}
+use Rattle.command_words.proofs.Common.{first_value, found_of}
 use Rattle.command_words.proofs.Chosen.{if_none, no_two}
 use Rattle.command_words.proofs.reading.audit.Goals as goal
 

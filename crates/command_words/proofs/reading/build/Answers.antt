@@ -1,6 +1,4 @@
-use Rattle.std.proofs.Common.{refl}
-use Rattle.std.specs.Prelude.{codes}
-use Rattle.clap.specs.Words.{first_value, found_of}
+use Rattle.command_words.proofs.Common.{refl, codes, first_value, found_of}
 use Rattle.command_words.proofs.Chosen.{if_none, no_three}
 use Rattle.command_words.proofs.reading.build.Goals as goal
 

@@ -1,7 +1,4 @@
-use Rattle.std.proofs.Common.{◌↔◌, drop}
-use Rattle.clap.specs.Words.{first_value, found_of}
-use Rattle.command_words.specs.Asked.{LacksAll}
-use Rattle.command_words.specs.OptionTable.{names_of}
+use Rattle.command_words.proofs.Common.{◌↔◌, drop, first_value, found_of, LacksAll, names_of}
 use Rattle.command_words.proofs.reading.lacks_all.Given as goal
 
 -- none of the options is given just where none of those is that are left

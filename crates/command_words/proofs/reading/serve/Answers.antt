@@ -1,5 +1,4 @@
-use Rattle.std.specs.Prelude.{codes}
-use Rattle.clap.specs.Words.{first_value, found_of}
+use Rattle.command_words.proofs.Common.{codes, first_value, found_of}
 use Rattle.command_words.proofs.Chosen.{if_none, no_pool, no_serve}
 use Rattle.command_words.proofs.reading.serve.Goals as goal
 

@@ -1,7 +1,4 @@
-use Rattle.std.proofs.Common.{◌↔◌, map, drop}
-use Rattle.std.specs.List.{AllByRecursion}
-use Rattle.std.specs.String.{string_bytes}
-use Rattle.command_words.specs.Parse.{IsWord}
+use Rattle.command_words.proofs.Common.{◌↔◌, map, drop, AllByRecursion, string_bytes, IsWord}
 use Rattle.command_words.proofs.refusals.are_readable.Given as goal
 
 -- all words are as they should be just where those that are left are

@@ -1,5 +1,4 @@
-use Rattle.std.proofs.Common.{◌∙◌, refl, sym}
-use Rattle.std.proofs.lemmas.Slice.Eq.{bytes_eq-Decides}
+use Rattle.command_words.proofs.Common.{◌∙◌, refl, sym, bytes_eq-Decides}
 use Rattle.command_words.proofs.Named.{named}
 use Rattle.command_words.proofs.refusals.is_named.Goals as goal
 

@@ -1,6 +1,4 @@
-use Rattle.std.proofs.Common.{◌↔◌, drop}
-use Rattle.command_words.specs.OptionTable.{names_of}
-use Rattle.command_words.specs.Said.{IsOneOf}
+use Rattle.command_words.proofs.Common.{◌↔◌, drop, names_of, IsOneOf}
 use Rattle.command_words.proofs.refusals.is_named.Given as goal
 
 -- the word is the name of an option just where it is that of one which is left

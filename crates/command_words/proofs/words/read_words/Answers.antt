@@ -1,9 +1,5 @@
-use Rattle.std.proofs.Common.{◌≡◌, ap, sym, subst, map, refl, Err}
-use Rattle.std.specs.String.{string_bytes}
-use Rattle.clap.specs.Words.{first_value, found_of}
-use Rattle.command_words.specs.WordList.{request_of}
+use Rattle.command_words.proofs.Common.{◌≡◌, ap, sym, subst, map, refl, Err, string_bytes, first_value, found_of, request_of, IsReadable}
 use Rattle.command_words.specs.declared.commands.WordsError.TheVariants.{NotWords}
-use Rattle.command_words.specs.Parse.{IsReadable}
 use Rattle.command_words.proofs.Lists.{whole_list, list_asks, asked_list}
 use Rattle.command_words.proofs.words.read_words.Goals as goal
 

@@ -1,6 +1,4 @@
-use Rattle.std.proofs.Common.{length}
-use Rattle.call_graph.specs.Graph.{IsSiteOf}
-use Rattle.call_graph.proofs.ListLemmas.{all-at}
+use Rattle.cycle_break.proofs.Common.{length, IsSiteOf, all-at}
 use Rattle.cycle_break.proofs.back.later_sites.Goals as goal
 
 pub greatest_of_target-latest-requires-clause-target : goal.greatest_of_target-latest-requires-clause-target

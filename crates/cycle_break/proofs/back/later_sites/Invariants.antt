@@ -1,5 +1,4 @@
-use Rattle.std.proofs.Common.{◌≡◌, map, filter, take, nat_le, slice_index}
-use Rattle.call_graph.specs.Callees.{callees, greatest}
+use Rattle.cycle_break.proofs.Common.{◌≡◌, map, filter, take, nat_le, slice_index, callees, greatest}
 use Rattle.cycle_break.proofs.back.later_sites.Given as goal
 
 abbrev pub invariant-loop-site : goal.invariant-loop-site

@@ -1,5 +1,4 @@
-use Rattle.std.proofs.Common.{length, ◌-◌}
-use Rattle.cycle_break.specs.Trail.{AreMarkedBelow}
+use Rattle.cycle_break.proofs.Common.{length, ◌-◌, AreMarkedBelow}
 use Rattle.cycle_break.proofs.callees.first_unmarked.Given as goal
 
 abbrev pub invariant-loop-place : goal.invariant-loop-place

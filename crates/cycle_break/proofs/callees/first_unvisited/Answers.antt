@@ -1,7 +1,5 @@
-use Rattle.std.proofs.Common.{◌≡◌, not, find, get_or, [], ◌∙◌, sym, ap, arith}
-use Rattle.std.proofs.lemmas.List.{get_or_read}
+use Rattle.cycle_break.proofs.Common.{◌≡◌, not, find, get_or, [], ◌∙◌, sym, ap, arith, get_or_read, is_marked}
 use Rattle.std.proofs.lemmas.Option.{slice_get_past, slice_get-get_or}
-use Rattle.cycle_break.specs.Trail.{is_marked}
 use Rattle.cycle_break.proofs.SeenLemmas.{table-within}
 use Rattle.cycle_break.proofs.callees.first_unvisited.Goals as goal
 

@@ -1,8 +1,4 @@
-use Rattle.std.proofs.Common.{◌≡◌, ◌<◌, ◌+◌, ◌-◌, [], ◌∷◌, length, reverse, sym, ap, ◌∙◌, subst, arith}
-use Rattle.call_graph.specs.Graph.{function_count}
-use Rattle.cycle_break.specs.Walk.{numbers_from}
-use Rattle.call_graph.specs.Lists.{has}
-use Rattle.cycle_break.specs.BottomUp.{IsBottomUp}
+use Rattle.cycle_break.proofs.Common.{◌≡◌, ◌<◌, ◌+◌, ◌-◌, [], ◌∷◌, length, reverse, sym, ap, ◌∙◌, subst, arith, function_count, numbers_from, has, IsBottomUp}
 use Rattle.cycle_break.proofs.BottomUpLemmas.{whole_walk-up}
 use Rattle.cycle_break.proofs.WalkLemmas.{whole_walk-is}
 use Rattle.cycle_break.proofs.OrderLemmas.{numbers-more, left_after, left_after-more, all-reversed}

@@ -1,7 +1,4 @@
-use Rattle.std.proofs.Common.{◌≡◌, ◌-◌, reverse, []}
-use Rattle.call_graph.specs.Graph.{function_count}
-use Rattle.cycle_break.specs.Trail.{come, IsMarked, IsSeen}
-use Rattle.cycle_break.specs.Walk.{into_each, walk, whole_walk, numbers_from}
+use Rattle.cycle_break.proofs.Common.{◌≡◌, ◌-◌, reverse, [], function_count, come, IsMarked, IsSeen, into_each, walk, whole_walk, numbers_from}
 use Rattle.cycle_break.proofs.order.leaving_order.Given as goal
 
 abbrev pub invariant-loop-function : goal.invariant-loop-function

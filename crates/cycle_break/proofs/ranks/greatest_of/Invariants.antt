@@ -1,5 +1,4 @@
-use Rattle.std.proofs.Common.{◌≡◌, max, drop, slice_index}
-use Rattle.call_graph.specs.Callees.{greatest}
+use Rattle.cycle_break.proofs.Common.{◌≡◌, max, drop, slice_index, greatest}
 use Rattle.cycle_break.proofs.ranks.greatest_of.Given as goal
 
 abbrev pub invariant-loop-function : goal.invariant-loop-function

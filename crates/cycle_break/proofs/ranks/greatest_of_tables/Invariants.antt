@@ -1,5 +1,4 @@
-use Rattle.std.proofs.Common.{◌≡◌, map, take, slice_index}
-use Rattle.call_graph.specs.Callees.{greatest}
+use Rattle.cycle_break.proofs.Common.{◌≡◌, map, take, slice_index, greatest}
 use Rattle.cycle_break.proofs.ranks.greatest_of_tables.Given as goal
 
 abbrev pub invariant-loop-members : goal.invariant-loop-members

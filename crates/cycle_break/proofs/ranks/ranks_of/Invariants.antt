@@ -1,5 +1,4 @@
-use Rattle.std.proofs.Common.{◌≡◌, ◌≤◌, ◌<◌, ℕ, length, drop, get_or, vec_len}
-use Rattle.cycle_break.specs.Trail.{place_from}
+use Rattle.cycle_break.proofs.Common.{◌≡◌, ◌≤◌, ◌<◌, ℕ, length, drop, get_or, vec_len, place_from}
 use Rattle.cycle_break.proofs.ranks.ranks_of.Given as goal
 
 abbrev pub invariant-loop-place : goal.invariant-loop-place

@@ -1,11 +1,4 @@
-use Rattle.std.proofs.Common.{◌≡◌, ◌<◌, ◌+◌, ◌-◌, suc, not, Some, None, find, [], ◌∷◌, length, get_or, reverse, sym, ◌∙◌, arith, rules}
-use Rattle.std.proofs.lemmas.List.{get_or_read}
-use Rattle.call_graph.specs.Callees.{callees}
-use Rattle.call_graph.specs.Graph.{IsSiteOf}
-use Rattle.call_graph.specs.Index.{LeadsTo}
-use Rattle.call_graph.proofs.ListLemmas.{all-at}
-use Rattle.call_graph.proofs.IndexLemmas.{no_site}
-use Rattle.cycle_break.specs.Trail.{is_marked}
+use Rattle.cycle_break.proofs.Common.{◌≡◌, ◌<◌, ◌+◌, ◌-◌, suc, not, Some, None, find, [], ◌∷◌, length, get_or, reverse, sym, ◌∙◌, arith, rules, get_or_read, callees, IsSiteOf, LeadsTo, all-at, no_site, is_marked}
 use Rattle.cycle_break.proofs.PathLemmas.{IsOnWay-first, IsOnWay-enter, IsOnWay-on, IsOnWay-over, work-enter, unmarked-found}
 use Rattle.cycle_break.proofs.SeenLemmas.{IsSeen-mark}
 use Rattle.cycle_break.proofs.walking.walk_from.Goals as goal

@@ -1,6 +1,4 @@
-use Rattle.std.proofs.Common.{length, reverse, []}
-use Rattle.cycle_break.specs.Trail.{come, IsSeen}
-use Rattle.cycle_break.specs.Walk.{walk}
+use Rattle.cycle_break.proofs.Common.{length, reverse, [], come, IsSeen, walk}
 use Rattle.cycle_break.proofs.PathLemmas.{IsOnWay, work}
 use Rattle.cycle_break.proofs.walking.walk_from.Given as goal
 

@@ -1,4 +1,4 @@
-use Rattle.c_parse.proofs.NestedWhole.{items_whole, items_none}
+use Rattle.decisions.proofs.Common.{items_whole, items_none}
 use Rattle.decisions.proofs.NestedInTree.{first_nested}
 use Rattle.decisions.proofs.nested_calls.first_nested_call.Goals as goal
 

@@ -1,4 +1,4 @@
-use Rattle.c_parse.proofs.ForWhole.{for_parts_whole, for_parts_none}
+use Rattle.decisions.proofs.Common.{for_parts_whole, for_parts_none}
 use Rattle.decisions.proofs.NestedFors.{first_nested_for}
 use Rattle.decisions.proofs.nested_calls.first_nested_call_in_fors.Goals as goal
 

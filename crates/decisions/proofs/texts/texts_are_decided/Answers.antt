@@ -1,5 +1,4 @@
-use Rattle.std.proofs.Common.{◌≡◌, ℕ}
-use Rattle.lawful_reading.proofs.Deciding.{decided_by, text_same}
+use Rattle.decisions.proofs.Common.{decided_by, text_same}
 use Rattle.decisions.proofs.Decisions.{begins_decided, decimal_decided}
 use Rattle.decisions.proofs.texts.texts_are_decided.Goals as goal
 

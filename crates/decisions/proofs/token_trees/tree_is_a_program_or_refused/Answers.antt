@@ -1,5 +1,4 @@
-use Rattle.std.proofs.Common.{inl, inr}
-use Rattle.scope_rules.specs.Items.{program_of}
+use Rattle.decisions.proofs.Common.{inl, inr, program_of}
 use Rattle.decisions.proofs.Scoping.{free_or_refused, resolved}
 use Rattle.decisions.proofs.token_trees.tree_is_a_program_or_refused.Goals as goal
 

@@ -1,5 +1,4 @@
-use Rattle.std.proofs.Common.{◌≡◌, map, take}
-use Rattle.rv_code.specs.Decoding.{decoding}
+use Rattle.decoded_code.proofs.Common.{◌≡◌, map, take, decoding}
 use Rattle.decoded_code.proofs.lists.decode_all.Given as goal
 
 abbrev pub invariant-loop-word : goal.invariant-loop-word

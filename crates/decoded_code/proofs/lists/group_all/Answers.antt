@@ -1,7 +1,5 @@
-use Rattle.std.proofs.Common.{◌≡◌, ◌+◌, ◌-◌, refl, sym, subst, arith}
-use Rattle.std.specs.Prelude.{slice_index_or}
+use Rattle.decoded_code.proofs.Common.{◌≡◌, ◌+◌, ◌-◌, refl, sym, subst, arith, slice_index_or, Ready}
 use Rattle.std.proofs.lemmas.Option.{slice_get-get_or}
-use Rattle.decoded_code.specs.declared.ready.Ready.{Ready}
 use Rattle.decoded_code.specs.declared.ready.Kind.TheVariants as kind
 use Rattle.decoded_code.proofs.Groups.{AreGrouped, one_grouped, all_grouped, length_set}
 use Rattle.decoded_code.proofs.lists.group_all.Goals as goal

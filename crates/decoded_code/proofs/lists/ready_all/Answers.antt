@@ -1,5 +1,4 @@
-use Rattle.std.proofs.Common.{◌≡◌, ℕ, length, sym, ap, subst, ◌∙◌, arith}
-use Rattle.decoded_code.specs.Ready.{AreEachReady, AreReady}
+use Rattle.decoded_code.proofs.Common.{◌≡◌, ℕ, length, sym, ap, subst, ◌∙◌, arith, AreEachReady, AreReady}
 use Rattle.decoded_code.proofs.Groups.{whole}
 use Rattle.cap_word.specs.Word.{add}
 use Rattle.decoded_code.proofs.MoreReady.{one_more}

@@ -1,5 +1,4 @@
-use Rattle.std.proofs.Common.{◌≡◌, ◌%◌, ◌^◌}
-use Rattle.decoded_code.specs.Ready.{AreEachReady, place_at}
+use Rattle.decoded_code.proofs.Common.{◌≡◌, ◌%◌, ◌^◌, AreEachReady, place_at}
 use Rattle.decoded_code.proofs.lists.ready_all.Given as goal
 
 abbrev pub invariant-loop-word : goal.invariant-loop-word

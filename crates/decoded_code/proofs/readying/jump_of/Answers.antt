@@ -1,11 +1,6 @@
-use Rattle.std.proofs.Common.{◌≡◌, ℕ, Some, sym, ap, ◌∙◌}
 use Rattle.cap_word.specs.Word as word
 use Rattle.rv_code.specs.declared.instructions.Instr.TheVariants as instr
-use Rattle.rv_machine.specs.Bytes.{Nothing}
-use Rattle.rv_machine.specs.Effect.{effect}
-use Rattle.rv_machine.specs.Registers.{write}
-use Rattle.rv_machine.specs.Rows.{Machine, Goes, next, relative}
-use Rattle.decoded_code.specs.Ready.{done, place_at}
+use Rattle.decoded_code.proofs.Common.{◌≡◌, ℕ, Some, sym, ap, ◌∙◌, Nothing, effect, write, Machine, Goes, next, relative, done, place_at}
 use Rattle.decoded_code.proofs.Jumps.{jumps_at}
 use Rattle.decoded_code.proofs.readying.jump_of.Goals as goal
 

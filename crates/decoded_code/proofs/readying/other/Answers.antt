@@ -1,5 +1,4 @@
-use Rattle.std.proofs.Common.{arith}
-use Rattle.decoded_code.specs.Ready.{done}
+use Rattle.decoded_code.proofs.Common.{arith, done}
 use Rattle.decoded_code.proofs.readying.other.Goals as goal
 
 pub returns : goal.returns

@@ -1,7 +1,4 @@
-use Rattle.std.proofs.Common.{◌≡◌, IfSome, sym, subst, Some, arith}
-use Rattle.rv_machine.specs.Step.{started, decoded}
-use Rattle.decoded_code.specs.Ready.{ready_effect}
-use Rattle.decoded_code.specs.declared.ready.Ready.{Ready}
+use Rattle.decoded_code.proofs.Common.{◌≡◌, IfSome, sym, subst, Some, arith, started, decoded, ready_effect, Ready}
 use Rattle.decoded_code.proofs.readying.reading.Goals as goal
 
 pub returns : goal.returns

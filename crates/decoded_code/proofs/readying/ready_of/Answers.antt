@@ -1,10 +1,5 @@
-use Rattle.std.proofs.Common.{ℕ, not, eqb, ltb, bit_xor, Some, sym, ap, ◌∙◌}
 use Rattle.cap_word.specs.Word as word
-use Rattle.rv_code.specs.declared.instructions.Instr.{Instr}
-use Rattle.rv_machine.specs.Effect.{effect}
-use Rattle.rv_machine.specs.Registers.{read}
-use Rattle.rv_machine.specs.Rows.{sets, loads, jumps, word_loaded, word_stored}
-use Rattle.decoded_code.specs.Ready.{done, even}
+use Rattle.decoded_code.proofs.Common.{ℕ, not, eqb, ltb, bit_xor, Some, sym, ap, ◌∙◌, Instr, effect, read, sets, loads, jumps, word_loaded, word_stored, done, even}
 use Rattle.decoded_code.proofs.Jumps.{branches_at}
 use Rattle.decoded_code.proofs.readying.ready_of.Goals as goal
 

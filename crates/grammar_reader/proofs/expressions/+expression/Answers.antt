@@ -1,19 +1,9 @@
-use Rattle.std.proofs.Common.{ℕ, ◌≡◌, ◌∙◌, ◌∷◌, [], List, map, length, vec_len, nat_eq, refl, subst, arith, Bool, true}
 use Rattle.std.proofs.lemmas.Bool.Decides.{nat_tests}
-use Rattle.std.proofs.lemmas.List.{map-append}
-use Rattle.std.proofs.lemmas.Result.{IfOk-at_ok, IfErr-at_err, IfOk-weaker, IfErr-weaker, err_from_is_err_and}
-use Rattle.std.specs.Prelude.{Box}
+use Rattle.grammar_reader.proofs.Common.{ℕ, ◌≡◌, ◌∙◌, ◌∷◌, [], List, map, length, vec_len, nat_eq, refl, subst, arith, Bool, true, map-append, IfOk-at_ok, IfErr-at_err, IfOk-weaker, IfErr-weaker, err_from_is_err_and, Box, Token, RawExprTree, RawConditional, Infix, RawExpr, name_tree, raw_expr_tree, raw_expr_trees, raw_chained, raw_operand_tree, raw_expr_tree-Number, raw_expr_tree-Name, raw_expr_tree-Element, raw_expr_tree-Unary, raw_expr_tree-Parenthesized, raw_expr_tree-Chain, raw_expr_tree-Conditional, raw_expr_tree-Call, raw_expr_tree-TableCall, Refused, NoPrefix, ReadsExpr, ReadsConditional, ReadsBinary}
 use Rattle.std.specs.declared.alloc.Global.{Global}
-use Rattle.c_lex.specs.declared.tokens.Token.{Token}
-use Rattle.c_tree.specs.RawTrees.{RawExprTree, RawConditional}
-use Rattle.c_tree.specs.declared.operators.Infix.{Infix}
-use Rattle.c_tree.specs.declared.raw_expressions.RawExpr.{RawExpr}
-use Rattle.c_tree.specs.RawViews.{name_tree, raw_expr_tree, raw_expr_trees, raw_chained}
-use Rattle.c_tree.proofs.RawExprEquations.{raw_operand_tree, raw_expr_tree-Number, raw_expr_tree-Name, raw_expr_tree-Element, raw_expr_tree-Unary, raw_expr_tree-Parenthesized, raw_expr_tree-Chain, raw_expr_tree-Conditional, raw_expr_tree-Call, raw_expr_tree-TableCall}
 use Rattle.c_grammar.specs.Machine as tasks
-use Rattle.grammar_reader.specs.Steps.{Refused, NoPrefix, ReadsExpr, ReadsConditional, ReadsBinary}
-use Rattle.grammar_reader.proofs.Paths.{exit}
-use Rattle.grammar_reader.proofs.SignTests.{is_sign, other_sign, no_other_sign, not_that_sign}
+use Rattle.grammar_reader.proofs.Paths.{exit, sign_is, sign_other}
+use Rattle.grammar_reader.proofs.SignTests.{no_other_sign, not_that_sign}
 use Rattle.grammar_reader.proofs.ExprRules as rules
 use Rattle.grammar_reader.proofs.OperandRules as operands
 use Rattle.grammar_reader.proofs.BracketRules as brackets
@@ -303,59 +293,59 @@ arguments-returns-in_err-inside-clause-refused_simple t c =
 pub arguments-returns-then-eq-clause-read : goal.arguments-returns-then-eq-clause-read
 arguments-returns-then-eq-clause-read t c =
     rw c.new-arguments.ensures.items
-    (brackets.arguments_none c.args.text.bytes.now c.args.text.end c.args.depth c.in_ok-inside.inside c.args.cursor.now.tokens.now c.open.new.self.tokens.now c.pass.new.self.tokens.now c.requires.fits c.requires.parenthesis c.in_ok-inside.ensures.taken c.in_ok-inside.ensures.fits (is_sign c.sign.ensures c.if-eq.ensures)
+    (brackets.arguments_none c.args.text.bytes.now c.args.text.end c.args.depth c.in_ok-inside.inside c.args.cursor.now.tokens.now c.open.new.self.tokens.now c.pass.new.self.tokens.now c.requires.fits c.requires.parenthesis c.in_ok-inside.ensures.taken c.in_ok-inside.ensures.fits (sign_is c.sign.ensures c.if-eq.ensures)
     c.pass.ensures)
 
 pub arguments-returns-in_err-expression-clause-refused : goal.arguments-returns-in_err-expression-clause-refused
 arguments-returns-in_err-expression-clause-refused t c =
     let p = err_from_is_err_and c.from_residual-in_err-expression.result c.from_residual-in_err-expression.ensures.1 in
     rw (p.1, p.2)
-    (brackets.arguments_first_refused c.args.text.end c.args.depth c.in_ok-inside.inside tasks.AfterName c.args.cursor.now.tokens.now c.open.new.self.tokens.now c.in_err-expression.field-0.0 brackets.Called.primary c.requires.parenthesis c.in_ok-inside.ensures.taken c.in_ok-inside.ensures.fits (other_sign c.sign.ensures c.if-eq.ensures) c.in_err-expression.ensures.refused)
+    (brackets.arguments_first_refused c.args.text.end c.args.depth c.in_ok-inside.inside tasks.AfterName c.args.cursor.now.tokens.now c.open.new.self.tokens.now c.in_err-expression.field-0.0 brackets.Called.primary c.requires.parenthesis c.in_ok-inside.ensures.taken c.in_ok-inside.ensures.fits (sign_other c.sign.ensures c.if-eq.ensures) c.in_err-expression.ensures.refused)
 
 pub arguments-returns-in_err-expression-clause-refused_simple : goal.arguments-returns-in_err-expression-clause-refused_simple
 arguments-returns-in_err-expression-clause-refused_simple t c =
     let p = err_from_is_err_and c.from_residual-in_err-expression.result c.from_residual-in_err-expression.ensures.1 in
     rw (p.1, p.2)
-    (brackets.arguments_first_refused c.args.text.end c.args.depth c.in_ok-inside.inside tasks.AfterSimpleName c.args.cursor.now.tokens.now c.open.new.self.tokens.now c.in_err-expression.field-0.0 brackets.Called.simple c.requires.parenthesis c.in_ok-inside.ensures.taken c.in_ok-inside.ensures.fits (other_sign c.sign.ensures c.if-eq.ensures) c.in_err-expression.ensures.refused)
+    (brackets.arguments_first_refused c.args.text.end c.args.depth c.in_ok-inside.inside tasks.AfterSimpleName c.args.cursor.now.tokens.now c.open.new.self.tokens.now c.in_err-expression.field-0.0 brackets.Called.simple c.requires.parenthesis c.in_ok-inside.ensures.taken c.in_ok-inside.ensures.fits (sign_other c.sign.ensures c.if-eq.ensures) c.in_err-expression.ensures.refused)
 
 pub arguments-loop-cursor-init : goal.arguments-loop-cursor-init
 arguments-loop-cursor-init t c =
     rw (c.in_ok-push.ensures.items, c.new-arguments.ensures.items)
     (brackets.arguments_first c.args.text.bytes.now c.args.text.end c.args.depth c.in_ok-inside.inside c.args.cursor.now.tokens.now c.open.new.self.tokens.now c.expression.new.cursor.tokens.now (raw_expr_tree c.in_ok-expression.field-0) c.requires.parenthesis c.in_ok-inside.ensures.taken c.in_ok-inside.ensures.fits
-    (other_sign c.sign.ensures c.if-eq.ensures) c.in_ok-expression.ensures.read)
+    (sign_other c.sign.ensures c.if-eq.ensures) c.in_ok-expression.ensures.read)
 
 pub arguments-loop-cursor-preserved : goal.arguments-loop-cursor-preserved
 arguments-loop-cursor-preserved t c =
     rw (c.in_ok-push-2.ensures.items, map-append)
     (brackets.arguments_more c.args.text.bytes.now c.args.text.end c.args.depth c.in_ok-inside.inside c.args.cursor.now.tokens.now c.loop-cursor.cursor.tokens.now c.pass-in-loop-cursor.new.self.tokens.now c.expression-in-loop-cursor.new.cursor.tokens.now (map raw_expr_tree c.loop-cursor.arguments.items) (raw_expr_tree c.in_ok-expression-2.field-0)
-    c.in_ok-inside.ensures.taken.0 c.in_ok-inside.ensures.fits c.loop-cursor.invariant (is_sign c.sign-in-loop-cursor.ensures c.loop-cursor-test.ensures) c.pass-in-loop-cursor.ensures c.in_ok-expression-2.ensures.read)
+    c.in_ok-inside.ensures.taken.0 c.in_ok-inside.ensures.fits c.loop-cursor.invariant (sign_is c.sign-in-loop-cursor.ensures c.loop-cursor-test.ensures) c.pass-in-loop-cursor.ensures c.in_ok-expression-2.ensures.read)
 
 pub arguments-returns-in_err-expression-2-clause-refused : goal.arguments-returns-in_err-expression-2-clause-refused
 arguments-returns-in_err-expression-2-clause-refused t c =
     let p = err_from_is_err_and c.from_residual-in_err-expression-2.result c.from_residual-in_err-expression-2.ensures.1 in
     rw (p.1, p.2)
     ((brackets.arguments_more_refused c.args.text.bytes.now c.args.text.end c.args.depth c.in_ok-inside.inside c.args.cursor.now.tokens.now c.loop-cursor.cursor.tokens.now c.pass-in-loop-cursor.new.self.tokens.now (map raw_expr_tree c.loop-cursor.arguments.items) c.in_err-expression-2.field-0.0
-    c.in_ok-inside.ensures.taken.0 c.in_ok-inside.ensures.fits c.loop-cursor.invariant (is_sign c.sign-in-loop-cursor.ensures c.loop-cursor-test.ensures) c.pass-in-loop-cursor.ensures c.in_err-expression-2.ensures.refused).0)
+    c.in_ok-inside.ensures.taken.0 c.in_ok-inside.ensures.fits c.loop-cursor.invariant (sign_is c.sign-in-loop-cursor.ensures c.loop-cursor-test.ensures) c.pass-in-loop-cursor.ensures c.in_err-expression-2.ensures.refused).0)
 
 pub arguments-returns-in_err-expression-2-clause-refused_simple : goal.arguments-returns-in_err-expression-2-clause-refused_simple
 arguments-returns-in_err-expression-2-clause-refused_simple t c =
     let p = err_from_is_err_and c.from_residual-in_err-expression-2.result c.from_residual-in_err-expression-2.ensures.1 in
     rw (p.1, p.2)
     ((brackets.arguments_more_refused c.args.text.bytes.now c.args.text.end c.args.depth c.in_ok-inside.inside c.args.cursor.now.tokens.now c.loop-cursor.cursor.tokens.now c.pass-in-loop-cursor.new.self.tokens.now (map raw_expr_tree c.loop-cursor.arguments.items) c.in_err-expression-2.field-0.0
-    c.in_ok-inside.ensures.taken.0 c.in_ok-inside.ensures.fits c.loop-cursor.invariant (is_sign c.sign-in-loop-cursor.ensures c.loop-cursor-test.ensures) c.pass-in-loop-cursor.ensures c.in_err-expression-2.ensures.refused).1)
+    c.in_ok-inside.ensures.taken.0 c.in_ok-inside.ensures.fits c.loop-cursor.invariant (sign_is c.sign-in-loop-cursor.ensures c.loop-cursor-test.ensures) c.pass-in-loop-cursor.ensures c.in_err-expression-2.ensures.refused).1)
 
 pub arguments-returns-in_err-take-clause-refused : goal.arguments-returns-in_err-take-clause-refused
 arguments-returns-in_err-take-clause-refused t c =
     let p = err_from_is_err_and c.from_residual-in_err-take.result c.from_residual-in_err-take.ensures.1 in
     rw (p.1, p.2)
-    ((brackets.arguments_open_end c.args.text.bytes.now c.args.text.end c.args.depth c.args.cursor.now.tokens.now c.loop-cursor.cursor.tokens.now (map raw_expr_tree c.loop-cursor.arguments.items) c.in_err-take.field-0.0 c.loop-cursor.invariant (other_sign c.sign-in-loop-cursor.ensures c.loop-cursor-test.ensures) c.in_err-take.ensures.other
+    ((brackets.arguments_open_end c.args.text.bytes.now c.args.text.end c.args.depth c.args.cursor.now.tokens.now c.loop-cursor.cursor.tokens.now (map raw_expr_tree c.loop-cursor.arguments.items) c.in_err-take.field-0.0 c.loop-cursor.invariant (sign_other c.sign-in-loop-cursor.ensures c.loop-cursor-test.ensures) c.in_err-take.ensures.other
     c.in_err-take.ensures.place).0)
 
 pub arguments-returns-in_err-take-clause-refused_simple : goal.arguments-returns-in_err-take-clause-refused_simple
 arguments-returns-in_err-take-clause-refused_simple t c =
     let p = err_from_is_err_and c.from_residual-in_err-take.result c.from_residual-in_err-take.ensures.1 in
     rw (p.1, p.2)
-    ((brackets.arguments_open_end c.args.text.bytes.now c.args.text.end c.args.depth c.args.cursor.now.tokens.now c.loop-cursor.cursor.tokens.now (map raw_expr_tree c.loop-cursor.arguments.items) c.in_err-take.field-0.0 c.loop-cursor.invariant (other_sign c.sign-in-loop-cursor.ensures c.loop-cursor-test.ensures) c.in_err-take.ensures.other
+    ((brackets.arguments_open_end c.args.text.bytes.now c.args.text.end c.args.depth c.args.cursor.now.tokens.now c.loop-cursor.cursor.tokens.now (map raw_expr_tree c.loop-cursor.arguments.items) c.in_err-take.field-0.0 c.loop-cursor.invariant (sign_other c.sign-in-loop-cursor.ensures c.loop-cursor-test.ensures) c.in_err-take.ensures.other
     c.in_err-take.ensures.place).1)
 
 pub arguments-returns-clause-read : goal.arguments-returns-clause-read

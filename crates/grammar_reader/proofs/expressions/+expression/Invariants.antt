@@ -1,7 +1,4 @@
-use Rattle.std.proofs.Common.{◌+◌, ◌-◌, ◌*◌, map, length}
-use Rattle.c_tree.specs.RawViews.{raw_expr_tree}
-use Rattle.c_tree.proofs.RawExprEquations.{raw_operand_tree}
-use Rattle.grammar_reader.specs.Steps.{ReadingRepeated, ReadingArguments}
+use Rattle.grammar_reader.proofs.Common.{◌+◌, ◌-◌, ◌*◌, map, length, raw_expr_tree, raw_operand_tree, ReadingRepeated, ReadingArguments}
 use Rattle.grammar_reader.proofs.expressions.+expression.Given as goal
 
 -- thirty-two times the tokens that are left, and a rank: who calls another at the same token has the higher one

@@ -1,5 +1,4 @@
-use Rattle.std.proofs.Common.{refl}
-use Rattle.std.proofs.lemmas.List.{map-append}
+use Rattle.grammar_reader.proofs.Common.{refl, map-append}
 use Rattle.grammar_reader.proofs.Paths.{exit, sign_is, sign_other}
 use Rattle.grammar_reader.proofs.GlobalRules.{globals_first_refused, globals_first, globals_more, globals_no_name, globals_more_refused, globals_open_end, globals_read}
 use Rattle.grammar_reader.proofs.globals.globals.Goals as goal

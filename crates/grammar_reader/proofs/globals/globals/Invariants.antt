@@ -1,6 +1,4 @@
-use Rattle.std.proofs.Common.{map, length}
-use Rattle.c_tree.specs.RawViews.{name_tree, raw_item_tree}
-use Rattle.grammar_reader.specs.ItemSteps.{ReadingGlobals}
+use Rattle.grammar_reader.proofs.Common.{map, length, name_tree, raw_item_tree, ReadingGlobals}
 use Rattle.grammar_reader.proofs.globals.globals.Given as goal
 
 abbrev pub invariant-loop-cursor : goal.invariant-loop-cursor

@@ -1,13 +1,5 @@
-use Rattle.std.proofs.Common.{ℕ, ◌∙◌, ◌∷◌, [], List, map, ap, true}
-use Rattle.std.proofs.lemmas.List.{map-append}
-use Rattle.std.proofs.lemmas.Result.{IfOk-weaker, IfErr-weaker}
-use Rattle.c_lex.specs.declared.tokens.Token.{Token}
-use Rattle.c_tree.specs.declared.raw_items.RawItem.{RawItem}
-use Rattle.c_tree.specs.RawTrees.{NameTree}
-use Rattle.c_tree.specs.RawViews.{name_tree, raw_item_tree}
+use Rattle.grammar_reader.proofs.Common.{ℕ, ◌∙◌, ◌∷◌, [], List, map, ap, true, map-append, IfOk-weaker, IfErr-weaker, Token, RawItem, NameTree, name_tree, raw_item_tree, Refused, RefusedListed, ReadsFunction, ReadsTable}
 use Rattle.c_grammar.specs.Machine as tasks
-use Rattle.grammar_reader.specs.Steps.{Refused}
-use Rattle.grammar_reader.specs.ItemSteps.{RefusedListed, ReadsFunction, ReadsTable}
 use Rattle.grammar_reader.proofs.Paths.{exit, sign_other}
 use Rattle.grammar_reader.proofs.HeldValues.{next_pushed, unless_memory}
 use Rattle.grammar_reader.proofs.ItemRules.{after_int_table, after_int_no_name, after_int_function, after_int_function_refused, after_int_globals, after_int_globals_refused}

@@ -1,8 +1,5 @@
-use Rattle.std.proofs.Common.{◌∷◌, []}
-use Rattle.std.proofs.lemmas.Result.{IfOk-weaker, IfErr-weaker}
+use Rattle.grammar_reader.proofs.Common.{◌∷◌, [], IfOk-weaker, IfErr-weaker, Refused, RefusedListed}
 use Rattle.c_grammar.specs.Machine as tasks
-use Rattle.grammar_reader.specs.Steps.{Refused}
-use Rattle.grammar_reader.specs.ItemSteps.{RefusedListed}
 use Rattle.grammar_reader.proofs.Paths.{exit}
 use Rattle.grammar_reader.proofs.SignTests.{not_that_sign}
 use Rattle.grammar_reader.proofs.ItemRules.{after_void_no_name, after_void_no_parameters, after_void_function, after_void_function_refused}

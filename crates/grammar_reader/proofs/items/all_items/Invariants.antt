@@ -1,6 +1,4 @@
-use Rattle.std.proofs.Common.{map, length}
-use Rattle.c_tree.specs.RawViews.{raw_item_tree}
-use Rattle.grammar_reader.specs.ItemSteps.{ReadingItems}
+use Rattle.grammar_reader.proofs.Common.{map, length, raw_item_tree, ReadingItems}
 use Rattle.grammar_reader.proofs.items.all_items.Given as goal
 
 abbrev pub invariant-loop-text : goal.invariant-loop-text

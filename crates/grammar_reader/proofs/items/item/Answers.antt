@@ -1,12 +1,5 @@
-use Rattle.std.proofs.Common.{ℕ, ◌∙◌, ◌∷◌, [], List, map, ap}
-use Rattle.std.proofs.lemmas.List.{map-append}
-use Rattle.std.proofs.lemmas.Result.{IfOk-weaker, IfErr-weaker}
-use Rattle.c_lex.specs.declared.tokens.Token.{Token}
-use Rattle.c_tree.specs.declared.raw_items.RawItem.{RawItem}
-use Rattle.c_tree.specs.RawViews.{raw_item_tree}
+use Rattle.grammar_reader.proofs.Common.{ℕ, ◌∙◌, ◌∷◌, [], List, map, ap, map-append, IfOk-weaker, IfErr-weaker, Token, RawItem, raw_item_tree, Refused, RefusedItems, ReadsAfterVoid}
 use Rattle.c_grammar.specs.Machine as tasks
-use Rattle.grammar_reader.specs.Steps.{Refused}
-use Rattle.grammar_reader.specs.ItemSteps.{RefusedItems, ReadsAfterVoid}
 use Rattle.grammar_reader.proofs.HeldValues.{next_pushed, unless_memory}
 use Rattle.grammar_reader.proofs.ItemRules.{item_int, item_int_refused, item_void, item_void_refused, item_other}
 use Rattle.grammar_reader.proofs.items.item.Goals as goal

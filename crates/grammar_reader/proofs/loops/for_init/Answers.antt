@@ -1,4 +1,4 @@
-use Rattle.std.proofs.lemmas.Result.{IfOk-weaker, IfErr-weaker}
+use Rattle.grammar_reader.proofs.Common.{IfOk-weaker, IfErr-weaker}
 use Rattle.grammar_reader.proofs.Paths.{arm_is}
 use Rattle.grammar_reader.proofs.LoopRules.{init_none, init_locals, init_locals_refused}
 use Rattle.grammar_reader.proofs.loops.for_init.Goals as goal

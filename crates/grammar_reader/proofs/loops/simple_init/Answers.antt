@@ -1,5 +1,4 @@
-use Rattle.std.proofs.Common.{◌≡◌, [], ◌∷◌, ap, ◌∙◌}
-use Rattle.std.proofs.lemmas.Result.{IfOk-weaker, IfErr-weaker}
+use Rattle.grammar_reader.proofs.Common.{◌≡◌, [], ◌∷◌, ap, ◌∙◌, IfOk-weaker, IfErr-weaker}
 use Rattle.c_tree.specs.declared.raw_statements.RawSimple.{RawSimple}
 use Rattle.grammar_reader.proofs.Paths.{exit}
 use Rattle.grammar_reader.proofs.LoopRules.{init_refused, init_open_end, init_read}

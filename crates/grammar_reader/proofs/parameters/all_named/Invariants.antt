@@ -1,7 +1,4 @@
-use Rattle.std.proofs.Common.{◌≡◌, map, drop}
-use Rattle.std.specs.Prelude.{option_map}
-use Rattle.c_tree.specs.RawViews.{name_tree}
-use Rattle.grammar_reader.specs.ItemSteps.{all_have_names}
+use Rattle.grammar_reader.proofs.Common.{◌≡◌, map, drop, option_map, name_tree, all_have_names}
 use Rattle.grammar_reader.proofs.parameters.all_named.Given as goal
 
 abbrev pub invariant-loop-param : goal.invariant-loop-param

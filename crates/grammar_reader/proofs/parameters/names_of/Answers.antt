@@ -1,9 +1,5 @@
-use Rattle.std.proofs.Common.{◌≡◌, ◌∙◌, ◌∷◌, ◌++◌, [], List, Option, Some, None, map, append-nil, sym, ap}
-use Rattle.std.specs.Prelude.{option_map}
-use Rattle.std.proofs.lemmas.List.{map-append}
+use Rattle.grammar_reader.proofs.Common.{◌≡◌, ◌∙◌, ◌∷◌, ◌++◌, [], List, Option, Some, None, map, append-nil, sym, ap, option_map, map-append, name_tree, names_in}
 use Rattle.c_tree.specs.declared.raw_expressions.Name.{Name}
-use Rattle.c_tree.specs.RawViews.{name_tree}
-use Rattle.grammar_reader.specs.ItemSteps.{names_in}
 use Rattle.grammar_reader.proofs.ParameterRules.{names_append}
 use Rattle.grammar_reader.proofs.parameters.names_of.Goals as goal
 

@@ -1,4 +1,4 @@
-use Rattle.std.proofs.lemmas.List.{map-append}
+use Rattle.grammar_reader.proofs.Common.{map-append}
 use Rattle.grammar_reader.proofs.Paths.{exit, sign_is, sign_other}
 use Rattle.grammar_reader.proofs.ParameterRules.{list_first_refused, list_first, list_more, list_more_refused, list_open_end, list_read}
 use Rattle.grammar_reader.proofs.parameters.parameter_list.Goals as goal

@@ -1,7 +1,4 @@
-use Rattle.std.proofs.Common.{map, length}
-use Rattle.std.specs.Prelude.{option_map}
-use Rattle.c_tree.specs.RawViews.{name_tree}
-use Rattle.grammar_reader.specs.ItemSteps.{ReadingParameters}
+use Rattle.grammar_reader.proofs.Common.{map, length, option_map, name_tree, ReadingParameters}
 use Rattle.grammar_reader.proofs.parameters.parameter_list.Given as goal
 
 abbrev pub invariant-loop-cursor : goal.invariant-loop-cursor

@@ -1,8 +1,5 @@
-use Rattle.std.proofs.Common.{◌∷◌, []}
-use Rattle.std.proofs.lemmas.Result.{IfOk-weaker, IfErr-weaker}
+use Rattle.grammar_reader.proofs.Common.{◌∷◌, [], IfOk-weaker, IfErr-weaker, Refused, RefusedListed}
 use Rattle.c_grammar.specs.Machine as tasks
-use Rattle.grammar_reader.specs.Steps.{Refused}
-use Rattle.grammar_reader.specs.ItemSteps.{RefusedListed}
 use Rattle.grammar_reader.proofs.Paths.{exit}
 use Rattle.grammar_reader.proofs.ParameterRules.{parameters_none, parameters_void_open, parameters_void, parameters_list, parameters_list_refused}
 use Rattle.grammar_reader.proofs.parameters.parameters.Goals as goal

@@ -1,4 +1,4 @@
-use Rattle.c_tree.proofs.RawStmtEquations.{raw_stmt_tree-Continue}
+use Rattle.grammar_reader.proofs.Common.{raw_stmt_tree-Continue}
 use Rattle.grammar_reader.proofs.Paths.{exit}
 use Rattle.grammar_reader.proofs.PlainRules.{Jump, jump_open_end, jump_read}
 use Rattle.grammar_reader.proofs.plain_statements.continue_statement.Goals as goal

@@ -1,4 +1,4 @@
-use Rattle.std.proofs.lemmas.Result.{IfOk-weaker}
+use Rattle.grammar_reader.proofs.Common.{IfOk-weaker}
 use Rattle.grammar_reader.proofs.Paths.{exit}
 use Rattle.grammar_reader.proofs.PlainRules.{declarations_refused, declarations_read}
 use Rattle.grammar_reader.proofs.plain_statements.declarations.Goals as goal

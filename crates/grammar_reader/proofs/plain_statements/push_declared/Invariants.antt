@@ -1,6 +1,4 @@
-use Rattle.std.proofs.Common.{◌≡◌, ◌++◌, map}
-use Rattle.c_tree.specs.RawTrees.{RawDo}
-use Rattle.c_tree.specs.RawViews.{raw_simple_tree, raw_stmt_tree}
+use Rattle.grammar_reader.proofs.Common.{◌≡◌, ◌++◌, map, RawDo, raw_simple_tree, raw_stmt_tree}
 use Rattle.grammar_reader.proofs.plain_statements.push_declared.Given as goal
 
 abbrev pub invariant-loop-simple : goal.invariant-loop-simple

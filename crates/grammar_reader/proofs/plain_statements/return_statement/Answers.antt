@@ -1,4 +1,4 @@
-use Rattle.c_tree.proofs.RawStmtEquations.{raw_stmt_tree-Return}
+use Rattle.grammar_reader.proofs.Common.{raw_stmt_tree-Return}
 use Rattle.grammar_reader.proofs.Paths.{exit}
 use Rattle.grammar_reader.proofs.PlainRules.{return_refused, return_read}
 use Rattle.grammar_reader.proofs.plain_statements.return_statement.Goals as goal

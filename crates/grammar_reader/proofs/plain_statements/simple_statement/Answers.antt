@@ -1,4 +1,4 @@
-use Rattle.c_tree.proofs.RawStmtEquations.{raw_stmt_tree-Simple}
+use Rattle.grammar_reader.proofs.Common.{raw_stmt_tree-Simple}
 use Rattle.grammar_reader.proofs.Paths.{exit}
 use Rattle.grammar_reader.proofs.PlainRules.{simple_refused, simple_open_end, simple_read}
 use Rattle.grammar_reader.proofs.plain_statements.simple_statement.Goals as goal

@@ -1,14 +1,5 @@
-use Rattle.std.proofs.Common.{ℕ, List, [], ◌∷◌, subst, sym}
-use Rattle.std.proofs.lemmas.Result.{IfOk-at_ok, IfErr-at_err}
-use Rattle.c_lex.specs.declared.tokens.Token.{Token}
-use Rattle.c_tree.specs.declared.raw_expressions.RawExpr.{RawExpr}
-use Rattle.c_tree.specs.RawTrees.{RawSetElement, RawTableCalling}
-use Rattle.c_tree.specs.RawViews.{name_tree, raw_expr_tree}
-use Rattle.c_grammar.specs.Machine.{Expr, Parenthesized}
-use Rattle.grammar_reader.specs.Steps.{Refused, ReadsExpr, ReadsParenthesized}
-use Rattle.grammar_reader.specs.StmtSteps.{ReadsIndexed}
-use Rattle.grammar_reader.proofs.Paths.{exit}
-use Rattle.grammar_reader.proofs.SignTests.{is_sign, other_sign}
+use Rattle.grammar_reader.proofs.Common.{ℕ, List, [], ◌∷◌, subst, sym, IfOk-at_ok, IfErr-at_err, Token, RawExpr, RawSetElement, RawTableCalling, name_tree, raw_expr_tree, Expr, Parenthesized, Refused, ReadsExpr, ReadsParenthesized, ReadsIndexed}
+use Rattle.grammar_reader.proofs.Paths.{exit, sign_is, sign_other}
 use Rattle.grammar_reader.proofs.SimpleRules.{indexed_call, indexed_call_refused, indexed_no_assign, indexed_set_refused, indexed_set}
 use Rattle.grammar_reader.proofs.simples.indexed.Goals as goal
 
@@ -21,7 +12,7 @@ ReadsValue source end depth before after e = ReadsExpr source end depth before (
 pub returns-in_err-called-clause-refused : goal.returns-in_err-called-clause-refused
 returns-in_err-called-clause-refused c =
     let refused = IfErr-at_err (Refused c.args.text.end c.args.depth (Parenthesized ∷ []) c.args.cursor.now.tokens.now) c.in_err-called.ensures.refused c.parenthesized.ensures.refused in
-    exit _ _ c.from_residual-in_err-called.ensures.1 (indexed_call_refused c.args.text.end c.args.depth c.args.cursor.now.tokens.now c.in_err-called.field-0.0 (is_sign c.sign.ensures c.if-eq.ensures) refused)
+    exit _ _ c.from_residual-in_err-called.ensures.1 (indexed_call_refused c.args.text.end c.args.depth c.args.cursor.now.tokens.now c.in_err-called.field-0.0 (sign_is c.sign.ensures c.if-eq.ensures) refused)
 
 pub returns-then-eq-clause-read : goal.returns-then-eq-clause-read
 returns-then-eq-clause-read c =
@@ -41,7 +32,7 @@ returns-then-eq-clause-read c =
 pub returns-in_err-target-clause-refused : goal.returns-in_err-target-clause-refused
 returns-in_err-target-clause-refused c =
     exit _ _ c.from_residual-in_err-target.ensures.1
-    (indexed_no_assign c.args.text.end c.args.depth c.args.cursor.now.tokens.now c.in_err-target.field-0.0 (other_sign c.sign.ensures c.if-eq.ensures) c.in_err-target.ensures.other c.in_err-target.ensures.place)
+    (indexed_no_assign c.args.text.end c.args.depth c.args.cursor.now.tokens.now c.in_err-target.field-0.0 (sign_other c.sign.ensures c.if-eq.ensures) c.in_err-target.ensures.other c.in_err-target.ensures.place)
 
 pub returns-in_err-target-2-clause-refused : goal.returns-in_err-target-2-clause-refused
 returns-in_err-target-2-clause-refused c =

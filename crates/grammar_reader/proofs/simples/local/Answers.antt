@@ -1,6 +1,4 @@
-use Rattle.std.proofs.Common.{◌∙◌}
-use Rattle.std.proofs.lemmas.Result.{err_from_is_err_and}
-use Rattle.c_tree.specs.RawViews.{name_tree, raw_expr_tree}
+use Rattle.grammar_reader.proofs.Common.{◌∙◌, err_from_is_err_and, name_tree, raw_expr_tree}
 use Rattle.grammar_reader.proofs.LocalRules.{local_no_name, local_size_refused, local_array, local_value_refused, local_with, local_scalar}
 use Rattle.grammar_reader.proofs.simples.local.Goals as goal
 

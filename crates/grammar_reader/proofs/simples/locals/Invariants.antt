@@ -1,6 +1,4 @@
-use Rattle.std.proofs.Common.{map, length}
-use Rattle.c_tree.specs.RawViews.{raw_simple_tree}
-use Rattle.grammar_reader.specs.StmtSteps.{ReadingLocals}
+use Rattle.grammar_reader.proofs.Common.{map, length, raw_simple_tree, ReadingLocals}
 use Rattle.grammar_reader.proofs.simples.locals.Given as goal
 
 abbrev pub invariant-loop-cursor : goal.invariant-loop-cursor

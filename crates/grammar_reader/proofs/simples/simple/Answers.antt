@@ -1,6 +1,4 @@
-use Rattle.std.proofs.Common.{◌∙◌}
-use Rattle.std.proofs.lemmas.Result.{err_from_is_err_and}
-use Rattle.c_tree.specs.RawViews.{name_tree, raw_expr_tree, raw_expr_trees}
+use Rattle.grammar_reader.proofs.Common.{◌∙◌, err_from_is_err_and, name_tree, raw_expr_tree, raw_expr_trees}
 use Rattle.grammar_reader.proofs.SimpleRules.{simple_call, simple_no_assign, simple_set_refused, simple_set}
 use Rattle.grammar_reader.proofs.simples.simple.Goals as goal
 

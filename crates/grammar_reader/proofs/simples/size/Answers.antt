@@ -1,4 +1,4 @@
-use Rattle.std.proofs.lemmas.Result.{err_from_is_err_and}
+use Rattle.grammar_reader.proofs.Common.{err_from_is_err_and}
 use Rattle.grammar_reader.proofs.LocalRules.{size_not_opened, size_no_number_refused, size_open_end_refused, size_read}
 use Rattle.grammar_reader.proofs.simples.size.Goals as goal
 

@@ -1,15 +1,7 @@
-use Rattle.std.proofs.Common.{ℕ, List, [], ◌∷◌, map, ap, ◌∙◌}
-use Rattle.std.proofs.lemmas.List.{map-append}
-use Rattle.std.proofs.lemmas.Result.{IfOk-at_ok, IfOk-weaker, IfErr-weaker}
-use Rattle.c_lex.specs.declared.tokens.Token.{Token}
+use Rattle.grammar_reader.proofs.Common.{ℕ, List, [], ◌∷◌, map, ap, ◌∙◌, map-append, IfOk-at_ok, IfOk-weaker, IfErr-weaker, Token, raw_stmt_tree, raw_stmt_tree-Empty, raw_stmt_tree-Block, raw_stmt_tree-If, raw_stmt_tree-IfElse, raw_stmt_tree-While, raw_stmt_tree-For, Body, Refused, ReadsBody}
 use Rattle.c_tree.specs.declared.raw_statements.RawStmt.{RawStmt}
-use Rattle.c_tree.specs.RawViews.{raw_stmt_tree}
-use Rattle.c_tree.proofs.RawStmtEquations.{raw_stmt_tree-Empty, raw_stmt_tree-Block, raw_stmt_tree-If, raw_stmt_tree-IfElse, raw_stmt_tree-While, raw_stmt_tree-For}
-use Rattle.c_grammar.specs.Machine.{Body}
-use Rattle.grammar_reader.specs.Steps.{Refused}
-use Rattle.grammar_reader.specs.BodySteps.{ReadsBody}
-use Rattle.grammar_reader.proofs.SignTests.{other_sign, no_other_sign, not_that_sign}
-use Rattle.grammar_reader.proofs.Paths.{exit, arm_is, arm_other}
+use Rattle.grammar_reader.proofs.SignTests.{no_other_sign, not_that_sign}
+use Rattle.grammar_reader.proofs.Paths.{exit, arm_is, arm_other, sign_other}
 use Rattle.grammar_reader.proofs.HeldValues.{next_pushed, unless_memory}
 use Rattle.grammar_reader.proofs.BodyRules as rules
 use Rattle.grammar_reader.proofs.BodyRules.{Construct}
@@ -66,7 +58,7 @@ block-returns-in-Err-clause-refused t c = rules.block_more_refused _ _ _ _ _ _ _
 pub block_item-returns-clause-refused : goal.block_item-returns-clause-refused
 block_item-returns-clause-refused t c =
     IfErr-weaker c.push_next.result _ _
-    (λ error h. unless_memory (Refused c.args.text.end c.args.depth (Body ∷ []) c.args.cursor.now.tokens.now) c.statement.result error h c.statement.ensures.refused (λ r. rules.item_refused _ _ _ _ c.requires.some (other_sign c.sign.ensures c.if-eq.ensures) r))
+    (λ error h. unless_memory (Refused c.args.text.end c.args.depth (Body ∷ []) c.args.cursor.now.tokens.now) c.statement.result error h c.statement.ensures.refused (λ r. rules.item_refused _ _ _ _ c.requires.some (sign_other c.sign.ensures c.if-eq.ensures) r))
     c.push_next.ensures.refused
 
 pub block_item-returns-clause-read : goal.block_item-returns-clause-read
@@ -74,7 +66,7 @@ block_item-returns-clause-read t c =
     IfOk-weaker c.push_next.result _ _
     (λ u h.
     let p = next_pushed (ReadsStmt c.args.text.bytes.now c.args.text.end c.args.depth c.args.cursor.now.tokens.now c.statement.new.cursor.tokens.now) c.statement.result _ _ h c.statement.ensures.read in
-    rules.item_read _ _ _ _ _ _ _ _ c.requires.some (other_sign c.sign.ensures c.if-eq.ensures) p.2
+    rules.item_read _ _ _ _ _ _ _ _ c.requires.some (sign_other c.sign.ensures c.if-eq.ensures) p.2
     (ap (map raw_stmt_tree) p.1 ∙ map-append raw_stmt_tree c.args.stmts.now.items (p.0 ∷ [])))
     c.push_next.ensures.pushed
 

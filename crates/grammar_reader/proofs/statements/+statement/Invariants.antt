@@ -1,6 +1,4 @@
-use Rattle.std.proofs.Common.{◌+◌, ◌*◌, map, length}
-use Rattle.c_tree.specs.RawViews.{raw_stmt_tree}
-use Rattle.grammar_reader.specs.BodySteps.{ReadingBlock}
+use Rattle.grammar_reader.proofs.Common.{◌+◌, ◌*◌, map, length, raw_stmt_tree, ReadingBlock}
 use Rattle.grammar_reader.proofs.statements.+statement.Given as goal
 
 -- four times the tokens that are left, and a rank: who calls another at the same token has the higher one

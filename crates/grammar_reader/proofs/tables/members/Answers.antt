@@ -1,4 +1,4 @@
-use Rattle.std.proofs.lemmas.List.{map-append}
+use Rattle.grammar_reader.proofs.Common.{map-append}
 use Rattle.grammar_reader.proofs.Paths.{exit, sign_is, sign_other}
 use Rattle.grammar_reader.proofs.TableRules.{members_no_brace, members_no_name, members_first, members_more_no_name, members_more, members_open_end, members_read}
 use Rattle.grammar_reader.proofs.tables.members.Goals as goal

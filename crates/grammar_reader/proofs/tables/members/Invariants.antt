@@ -1,6 +1,4 @@
-use Rattle.std.proofs.Common.{map, length}
-use Rattle.c_tree.specs.RawViews.{name_tree}
-use Rattle.grammar_reader.specs.ItemSteps.{ReadingMembers}
+use Rattle.grammar_reader.proofs.Common.{map, length, name_tree, ReadingMembers}
 use Rattle.grammar_reader.proofs.tables.members.Given as goal
 
 abbrev pub invariant-loop-cursor : goal.invariant-loop-cursor

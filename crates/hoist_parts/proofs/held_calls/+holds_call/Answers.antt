@@ -1,6 +1,4 @@
-use Rattle.std.proofs.Common.{map, refl}
-use Rattle.c_tree.specs.RawViews.{raw_expr_tree}
-use Rattle.c_tree.proofs.RawExprEquations.{raw_operand_tree, raw_expr_tree-Chain}
+use Rattle.hoist_parts.proofs.Common.{map, refl, raw_expr_tree, raw_operand_tree, raw_expr_tree-Chain}
 use Rattle.hoist_parts.proofs.HeldChains.{chained_held}
 use Rattle.hoist_parts.proofs.held_calls.+holds_call.Goals as goal
 

@@ -1,7 +1,4 @@
-use Rattle.std.proofs.Common.{◌≡◌, map, drop}
-use Rattle.c_tree.specs.RawViews.{raw_expr_tree}
-use Rattle.c_tree.proofs.RawExprEquations.{raw_operand_tree}
-use Rattle.hoist_parts.specs.Calls.{holds_call}
+use Rattle.hoist_parts.proofs.Common.{◌≡◌, map, drop, raw_expr_tree, raw_operand_tree, holds_call}
 use Rattle.hoist_parts.proofs.HeldChains.{chain_held}
 use Rattle.hoist_parts.proofs.held_calls.+holds_call.Given as goal
 

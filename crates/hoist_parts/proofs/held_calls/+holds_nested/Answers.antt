@@ -1,8 +1,4 @@
-use Rattle.std.proofs.Common.{◌≡◌, ◌∙◌, [], map, vec_len, sym, ap, subst}
-use Rattle.c_tree.specs.RawTrees.{RawExprTree}
-use Rattle.c_tree.specs.RawViews.{raw_expr_tree, raw_chained}
-use Rattle.c_tree.proofs.RawExprEquations.{raw_operand_tree, raw_expr_tree-Chain}
-use Rattle.hoist_parts.specs.Calls.{holds_call, holds_nested}
+use Rattle.hoist_parts.proofs.Common.{◌≡◌, ◌∙◌, [], map, vec_len, sym, ap, subst, RawExprTree, raw_expr_tree, raw_chained, raw_operand_tree, raw_expr_tree-Chain, holds_call, holds_nested}
 use Rattle.hoist_parts.proofs.HeldChains.{some_mapped, some_chain, joined_nested}
 use Rattle.hoist_parts.proofs.held_calls.+holds_nested.Goals as goal
 

@@ -1,8 +1,4 @@
-use Rattle.std.proofs.Common.{◌≡◌, ◌∙◌, [], false, map, vec_len, sym, ap, subst}
-use Rattle.c_tree.specs.RawTrees.{RawExprTree}
-use Rattle.c_tree.specs.RawViews.{raw_expr_tree, raw_chained}
-use Rattle.c_tree.proofs.RawExprEquations.{raw_operand_tree, raw_expr_tree-Chain}
-use Rattle.hoist_parts.specs.Calls.{is_left_alone}
+use Rattle.hoist_parts.proofs.Common.{◌≡◌, ◌∙◌, [], false, map, vec_len, sym, ap, subst, RawExprTree, raw_expr_tree, raw_chained, raw_operand_tree, raw_expr_tree-Chain, is_left_alone}
 use Rattle.hoist_parts.proofs.HeldChains.{some_mapped, some_chain, joined_alone}
 use Rattle.hoist_parts.proofs.held_calls.+is_left_alone.Goals as goal
 

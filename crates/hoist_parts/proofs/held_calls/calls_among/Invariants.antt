@@ -1,5 +1,4 @@
-use Rattle.std.proofs.Common.{◌≡◌, ◌≤◌, ◌+◌, drop}
-use Rattle.c_tree.specs.RawViews.{raw_expr_trees}
+use Rattle.hoist_parts.proofs.Common.{◌≡◌, ◌≤◌, ◌+◌, drop, raw_expr_trees}
 use Rattle.hoist_parts.specs.Arguments.{calls_among}
 use Rattle.hoist_parts.proofs.held_calls.calls_among.Given as goal
 

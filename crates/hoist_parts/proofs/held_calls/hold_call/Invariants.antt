@@ -1,6 +1,4 @@
-use Rattle.std.proofs.Common.{◌≡◌, ◌||◌, drop}
-use Rattle.c_tree.specs.RawViews.{raw_expr_trees}
-use Rattle.hoist_parts.specs.Calls.{hold_call}
+use Rattle.hoist_parts.proofs.Common.{◌≡◌, ◌||◌, drop, raw_expr_trees, hold_call}
 use Rattle.hoist_parts.proofs.held_calls.hold_call.Given as goal
 
 abbrev pub invariant-loop-expr : goal.invariant-loop-expr

@@ -1,4 +1,4 @@
-use Rattle.hoist_rules.specs.Receivers.{so_far, then_all}
+use Rattle.hoist_rules.proofs.Common.{so_far, then_all}
 use Rattle.hoist_rules.proofs.functions.hoist_body.Goals as goal
 
 pub returns : goal.returns

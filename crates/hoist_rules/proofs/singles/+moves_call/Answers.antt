@@ -1,10 +1,4 @@
-use Rattle.std.proofs.Common.{◌≡◌, ◌∙◌, [], map, vec_len, sym, ap, subst}
-use Rattle.c_tree.specs.RawTrees.{RawExprTree}
-use Rattle.c_tree.specs.RawViews.{raw_expr_tree, raw_chained}
-use Rattle.c_tree.proofs.RawExprEquations.{raw_operand_tree, raw_expr_tree-Chain}
-use Rattle.hoist_parts.specs.Calls.{holds_call}
-use Rattle.hoist_parts.proofs.HeldChains.{some_mapped, some_chain}
-use Rattle.hoist_rules.specs.Singles.{moves_call}
+use Rattle.hoist_rules.proofs.Common.{◌≡◌, ◌∙◌, [], map, vec_len, sym, ap, subst, RawExprTree, raw_expr_tree, raw_chained, raw_operand_tree, raw_expr_tree-Chain, holds_call, some_mapped, some_chain, moves_call}
 use Rattle.hoist_rules.proofs.MovedCalls.{joined_moves}
 use Rattle.hoist_rules.proofs.singles.+moves_call.Goals as goal
 

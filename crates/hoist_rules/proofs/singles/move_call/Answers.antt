@@ -1,6 +1,4 @@
-use Rattle.std.proofs.Common.{ap, ◌∙◌}
-use Rattle.std.specs.Prelude.{nat_lt}
-use Rattle.c_tree.specs.RawViews.{raw_expr_trees}
+use Rattle.hoist_rules.proofs.Common.{ap, ◌∙◌, nat_lt, raw_expr_trees}
 use Rattle.hoist_rules.proofs.MovedCalls.{moved_rest, moved_all, moved_none}
 use Rattle.hoist_rules.proofs.singles.move_call.Goals as goal
 use Rattle.hoist_rules.proofs.singles.move_call.Goals.{else-stays-via-then-stays+else-arguments-gt0, else-stays-via-else-stays}

@@ -1,6 +1,6 @@
 use Rattle.std.proofs.Common.{ℕ, ◌+◌, ◌-◌, ◌*◌, ◌/◌, ◌%◌, ◌<◌, ◌^◌, sym, subst, arith, Fits, w32}
+use Rattle.segment_run.proofs.Scales.{scale_is, byte_below}
 use Rattle.rv_machine.proofs.WordBytes.{word_with-below}
-use Rattle.machine_rows.proofs.WordRows.{scale_is, byte_below}
 use Rattle.machine_rows.proofs.word_ram.put_byte.Goals as goal
 
 pub overflow_mul-result-2 : goal.overflow_mul-result-2

@@ -1,14 +1,5 @@
-use Rattle.std.proofs.Common.{refl}
-use Rattle.cap_word.specs.Word.{word_of, add}
-use Rattle.rv_code.specs.Decoding.{jump_register, branch, load, store, shift, with_immediate, base, alternate, multiply, with_register, fence, system, decoding}
-use Rattle.rv_machine.specs.Bytes.{half_at, word_at, with_half, with_word, half_is_writable, word_is_writable}
-use Rattle.rv_machine.specs.Effect.{effect}
-use Rattle.rv_machine.specs.Rows.{passes, sets, jumps, branches, word_loaded, loads, word_stored}
-use Rattle.rv_machine.specs.Step.{instruction_at, started, outcome}
-use Rattle.machine_world.specs.Areas.{spot_of}
-use Rattle.machine_world.specs.Local.{local_step}
+use Rattle.machine_world.proofs.Common.{refl, word_of, add, jump_register, branch, load, store, shift, with_immediate, base, alternate, multiply, with_register, fence, system, decoding, half_at, word_at, with_half, with_word, half_is_writable, word_is_writable, effect, passes, sets, jumps, branches, word_loaded, loads, word_stored, instruction_at, started, outcome, spot_of, local_step, words_in, start_in, chunk_in, taken_for}
 use Rattle.machine_world.proofs.examples.local_examples.Goals as goal
-use Rattle.chunk_pool.specs.Pool.{words_in, start_in, chunk_in, taken_for}
 
 pub returns-clause-puts : goal.returns-clause-puts
 unfolding local_step outcome instruction_at started effect passes sets jumps branches word_loaded loads word_stored half_at word_at with_half with_word half_is_writable word_is_writable spot_of words_in start_in chunk_in taken_for word_of add jump_register branch load store shift with_immediate base alternate multiply with_register fence system decoding

@@ -1,19 +1,8 @@
 -- The runs are computed; the frames are put together fact by fact.
-use Rattle.std.proofs.Common.{refl, lit<, lit≤}
-use Rattle.cap_word.specs.Word.{word_of, add, sub, slt, flag, signed}
-use Rattle.rv_code.specs.Decoding.{jump_register, branch, load, store, shift, with_immediate, base, alternate, multiply, with_register, fence, system, decoding}
+use Rattle.machine_world.proofs.Common.{refl, lit<, lit≤, word_of, add, sub, slt, flag, signed, jump_register, branch, load, store, shift, with_immediate, base, alternate, multiply, with_register, fence, system, decoding, half_at, word_at, with_half, with_word, half_is_writable, word_is_writable, effect, passes, sets, jumps, branches, word_loaded, loads, word_stored, instruction_at, started, outcome, spot_of, local_step, start_world, step, words_in, start_in, chunk_in, taken_for}
 use Rattle.rv_code.specs.Table.{encoding}
-use Rattle.rv_machine.specs.Bytes.{half_at, word_at, with_half, with_word, half_is_writable, word_is_writable}
-use Rattle.rv_machine.specs.Effect.{effect}
-use Rattle.rv_machine.specs.Rows.{passes, sets, jumps, branches, word_loaded, loads, word_stored}
-use Rattle.rv_machine.specs.Step.{instruction_at, started, outcome}
-use Rattle.machine_world.specs.Areas.{spot_of}
-use Rattle.machine_world.specs.Local.{local_step}
-use Rattle.machine_world.specs.Runs.{start_world}
-use Rattle.machine_world.specs.Threads.{step}
 use Rattle.machine_world.proofs.DescendingFrames.{main_in_place, caller_in_place, entered_frames}
 use Rattle.machine_world.proofs.linked.linked_example.Goals as goal
-use Rattle.chunk_pool.specs.Pool.{words_in, start_in, chunk_in, taken_for}
 
 pub returns-clause-code : goal.returns-clause-code
 unfolding encoding

@@ -1,18 +1,11 @@
-use Rattle.std.proofs.Common.{◌≡◌, ℕ, zero, suc, ◌+◌, ◌<◌, refl, lit<, arith}
-use Rattle.cap_word.specs.Word.{sub, slt, flag, signed, word_of}
+use Rattle.machine_world.proofs.Common.{◌≡◌, ℕ, zero, suc, ◌+◌, ◌<◌, refl, lit<, arith, sub, slt, flag, signed, word_of, checked, at_entry, main_frame, caller_frame, read, a0, standing, entry_frame, start_in}
 use Rattle.cap_word.specs.Rows.{word_at}
 use Rattle.c_mean.specs.Examples.{recursion}
-use Rattle.machine_world.specs.Descending.{checked, at_entry, main_frame, caller_frame}
 use Rattle.machine_world.specs.DescendingSource.{waiting_f, waiting_main, call_in_f, call_in_main, entering}
-use Rattle.rv_machine.specs.Registers.{read}
-use Rattle.stack_certificate.specs.Registers.{a0}
-use Rattle.machine_world.specs.Keys.{standing}
 use Rattle.machine_world.specs.Rests.{AtStart}
 use Rattle.machine_world.specs.StandsFor.{HoldsNames, IsWaitingFrame, IsStartingFrame}
-use Rattle.machine_world.specs.Descending.{entry_frame}
 use Rattle.machine_world.proofs.DescendingFrames.{entered_frames}
 use Rattle.machine_world.proofs.sources.source_example.Goals as goal
-use Rattle.chunk_pool.specs.Pool.{start_in}
 
 pub returns-clause-entered : goal.returns-clause-entered
 unfolding sub slt flag signed word_of

@@ -1,8 +1,4 @@
-use Rattle.std.proofs.Common.{◌≡◌, refl}
-use Rattle.std.proofs.lemmas.Bool.{cond_both}
-use Rattle.c_mean.specs.Kept.{LeavesOtherQueues}
-use Rattle.c_mean.specs.ModelledCalls.{is_dropped, with_delivery}
-use Rattle.machine_world.specs.Threads.{World}
+use Rattle.machine_world.proofs.Common.{◌≡◌, refl, cond_both, LeavesOtherQueues, is_dropped, with_delivery, World}
 use Rattle.machine_world.proofs.ActionLaws.{LeavesOtherQueues-self, LeavesOtherQueues-with_delivery}
 use Rattle.machine_world.proofs.AloneLaws.{KeepsChunk-step}
 use Rattle.machine_world.proofs.OtherThreads.{KeepsThread-step}

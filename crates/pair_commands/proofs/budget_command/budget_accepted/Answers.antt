@@ -1,8 +1,4 @@
-use Rattle.std.proofs.Common.{inl, inr, ap}
-use Rattle.accepted_pairs.specs.Accepting.{accepted_tree}
-use Rattle.command_files.proofs.Follows.{stop-follows}
-use Rattle.command_outcomes.specs.Outcome.{printed}
-use Rattle.pair_commands.specs.Budgets.{BudgetsPair, IsCycleRefused}
+use Rattle.pair_commands.proofs.Common.{inl, inr, ap, accepted_tree, stop-follows, printed, BudgetsPair, IsCycleRefused}
 use Rattle.pair_commands.proofs.budget_command.budget_accepted.Goals as goal
 
 pub returns-in-Ok-text_of : goal.returns-in-Ok-text_of

@@ -1,8 +1,4 @@
-use Rattle.std.proofs.Common.{ℕ}
-use Rattle.std.specs.Global.{Vec}
-use Rattle.std.proofs.lemmas.Result.{err_from_is_err_and}
-use Rattle.command_outcomes.specs.Outcome.{printed}
-use Rattle.pair_commands.specs.Budgets.{BudgetsPair}
+use Rattle.pair_commands.proofs.Common.{ℕ, Vec, err_from_is_err_and, printed, BudgetsPair}
 use Rattle.pair_commands.proofs.Reading.{after-pair, unread-stops}
 use Rattle.pair_commands.proofs.budget_command.budget_bytes.Goals as goal
 

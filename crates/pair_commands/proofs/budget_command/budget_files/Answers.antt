@@ -1,10 +1,4 @@
-use Rattle.std.proofs.Common.{ℕ}
-use Rattle.std.specs.Global.{Vec}
-use Rattle.std.proofs.lemmas.Result.{err_from_is_err_and}
-use Rattle.command_files.specs.Loads.{AfterThree}
-use Rattle.command_outcomes.specs.Outcome.{printed}
-use Rattle.pair_commands.specs.Budgets.{BudgetsBytes}
-use Rattle.command_files.proofs.Follows.{Nothing, three-follow, shelf-stop-follows, after-three}
+use Rattle.pair_commands.proofs.Common.{ℕ, Vec, err_from_is_err_and, AfterThree, printed, BudgetsBytes, Nothing, three-follow, shelf-stop-follows, after-three}
 use Rattle.pair_commands.proofs.budget_command.budget_files.Goals as goal
 
 pub returns-in_err-files-clause-answer : goal.returns-in_err-files-clause-answer

@@ -1,4 +1,4 @@
-use Rattle.c_tree.specs.ProgramView.{program_tree}
+use Rattle.pair_commands.proofs.Common.{program_tree}
 use Rattle.pair_commands.proofs.Budgeted.{budget-of, unbudgeted}
 use Rattle.pair_commands.proofs.budget_command.budget_pair.Goals as goal
 

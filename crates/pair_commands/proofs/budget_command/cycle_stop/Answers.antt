@@ -1,10 +1,5 @@
-use Rattle.std.proofs.Common.{◌≡◌, ◌<◌, ◌++◌, ◌∷◌, [], ℕ, List, length, arith, sym, ap, ◌∙◌}
-use Rattle.std.specs.Prelude.{slice_index_or}
-use Rattle.c_tree.specs.ProgramView.{program_tree}
-use Rattle.c_lower.specs.ProgramCode.{lowered}
+use Rattle.pair_commands.proofs.Common.{◌≡◌, ◌<◌, ◌++◌, ◌∷◌, [], ℕ, List, length, arith, sym, ap, ◌∙◌, slice_index_or, program_tree, lowered, cycle_words, refused}
 use Rattle.call_cycles.proofs.OrderLemmas.{cycle-within}
-use Rattle.command_outcomes.specs.CauseLines.{cycle_words}
-use Rattle.command_outcomes.specs.Outcome.{refused}
 use Rattle.pair_commands.proofs.Analyses.{functions-count, name-of}
 use Rattle.pair_commands.proofs.budget_command.cycle_stop.Goals as goal
 

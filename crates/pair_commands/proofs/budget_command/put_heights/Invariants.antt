@@ -1,5 +1,4 @@
-use Rattle.std.proofs.Common.{◌≡◌, ◌++◌, drop}
-use Rattle.pair_commands.specs.Budgets.{height_lines}
+use Rattle.pair_commands.proofs.Common.{◌≡◌, ◌++◌, drop, height_lines}
 use Rattle.pair_commands.proofs.budget_command.put_heights.Given as goal
 
 abbrev pub invariant-loop-function : goal.invariant-loop-function

@@ -1,9 +1,5 @@
-use Rattle.std.proofs.Common.{inl}
-use Rattle.c_tree.specs.ProgramView.{program_tree}
-use Rattle.machine_meaning.proofs.Formed.{formed}
-use Rattle.pair_commands.specs.BuildsFiles.{BuildsProgram, IsUnbuilt}
+use Rattle.pair_commands.proofs.Common.{inl, program_tree, formed, BuildsProgram, IsUnbuilt, stop-follows}
 use Rattle.pair_commands.proofs.Built.{pair-built}
-use Rattle.command_files.proofs.Follows.{stop-follows}
 use Rattle.one_plan.proofs.Limits.{image-fits, certificate-fits}
 use Rattle.pair_commands.proofs.build_command.build_program.Goals as goal
 

@@ -1,10 +1,5 @@
-use Rattle.std.proofs.lemmas.Result.{err_from_is_err_and}
-use Rattle.pair_commands.specs.declared.build_command.Products.{Products}
+use Rattle.pair_commands.proofs.Common.{err_from_is_err_and, Products, NoMore, AfterLoad, AfterSource, Builds, BuildsProgram, stored_products, after-load, load-follows, shelf-stop-follows}
 use Rattle.command_outcomes.specs.declared.documents.Document.TheVariants as document
-use Rattle.command_outcomes.specs.Outcome.{NoMore}
-use Rattle.command_files.specs.Loads.{AfterLoad, AfterSource}
-use Rattle.pair_commands.specs.BuildsFiles.{Builds, BuildsProgram, stored_products}
-use Rattle.command_files.proofs.Follows.{after-load, load-follows, shelf-stop-follows}
 use Rattle.pair_commands.proofs.build_command.build_source.Goals as goal
 
 pub returns-in_err-source-clause-answer : goal.returns-in_err-source-clause-answer

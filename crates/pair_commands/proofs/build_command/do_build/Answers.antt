@@ -1,9 +1,4 @@
-use Rattle.std.proofs.Common.{◌≡◌, ◌≢◌, ◌∙◌, ℕ, List, [], ◌∷◌, Err, refl, subst}
-use Rattle.std.proofs.lemmas.Result.{err_from_is_err_and}
-use Rattle.pair_commands.specs.BuildsFiles.{Builds, stored_products}
-use Rattle.command_outcomes.specs.Done.{Outside, WhereTold, AreStored, outside_beside}
-use Rattle.command_outcomes.specs.Steps.{AreStores, IsPrinted, IsStatus}
-use Rattle.command_outcomes.proofs.Ending.{keeps-itself, stopped, stores-cut, printed-ends, stored-after, stores-after}
+use Rattle.pair_commands.proofs.Common.{◌≡◌, ◌≢◌, ◌∙◌, ℕ, List, [], ◌∷◌, Err, refl, subst, err_from_is_err_and, Builds, stored_products, Outside, WhereTold, AreStored, outside_beside, AreStores, IsPrinted, IsStatus, stopped, stores-cut, printed-ends, stored-after, stores-after, Keeps-refl}
 use Rattle.pair_commands.proofs.build_command.do_build.Goals as goal
 
 pub returns-in_err-products : goal.returns-in_err-products
@@ -13,7 +8,7 @@ returns-in_err-products g c = λ left reads.
     let before : Outside = outside_beside F.files F.load_faults F.store_faults left reads K.taken K.faults a.shelf.now a.out.now in
     let after : Outside = outside_beside F.files F.load_faults F.store_faults left reads K.taken K.faults shelf a.out.now in
     let step = c.in_err-products.ensures in
-    rw (p.1, p.2) (stopped IsStatus (Builds before.files a.source.now a.image.now a.certificate.now a.options) before after c.in_err-products.field-0.0 step.files step.stores (keeps-itself left) refl (keeps-itself before.taken) refl (step.answer a.image.now a.certificate.now))
+    rw (p.1, p.2) (stopped IsStatus (Builds before.files a.source.now a.image.now a.certificate.now a.options) before after c.in_err-products.field-0.0 step.files step.stores (Keeps-refl left) refl (Keeps-refl before.taken) refl (step.answer a.image.now a.certificate.now))
 
 pub returns-in_err-store_both : goal.returns-in_err-store_both
 returns-in_err-store_both g c = λ left reads.
@@ -31,7 +26,7 @@ returns-in_err-store_both g c = λ left reads.
     let stored : Stores c.as_slice.result.now c.as_slice-2.result.now = step.stored in
     let half = subst (λ x. Stores x c.as_slice-2.result.now) c.as_slice.ensures.value stored in
     let stores = subst (λ y. Stores c.in_ok-products.products.image.items y) c.as_slice-2.ensures.value half in
-    rw (p.1, p.2) (stores-cut (Builds before.files a.source.now a.image.now a.certificate.now a.options) before after outcome stop is.0 some (keeps-itself left) (keeps-itself before.taken) (step.loads ∙ is.1) refl refl
+    rw (p.1, p.2) (stores-cut (Builds before.files a.source.now a.image.now a.certificate.now a.options) before after outcome stop is.0 some (Keeps-refl left) (Keeps-refl before.taken) (step.loads ∙ is.1) refl refl
     (stores-after outcome.stores before.files (F.files loaded) after.files before.stores (F.store_faults loaded) after.stores (Err stop) first.files first.stores stores))
 
 pub returns : goal.returns
@@ -49,5 +44,5 @@ returns g c = λ left reads.
     let stores = subst (λ y. Stored c.in_ok-products.products.image.items y) c.as_slice-2.ensures.value half in
     let Printed : List ℕ → Type 0 = λ text. IsPrinted 0 text (K.taken a.out.now) (K.taken c.print.new.out) (K.faults a.out.now) (K.faults c.print.new.out) c.print.result in
     let told : Printed c.as_slice-3.result.now = c.print.ensures in
-    printed-ends (Builds before.files a.source.now a.image.now a.certificate.now a.options) before after outcome c.print.result is.0 refl refl (keeps-itself left)
+    printed-ends (Builds before.files a.source.now a.image.now a.certificate.now a.options) before after outcome c.print.result is.0 refl refl (Keeps-refl left)
     (stored-after outcome.stores before.files (F.files loaded) after.files first.files stores.0) (step.loads ∙ is.1) (stores.1 ∙ first.stores) refl (subst Printed c.as_slice-3.ensures.value told)

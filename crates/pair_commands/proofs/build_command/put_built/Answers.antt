@@ -1,5 +1,4 @@
-use Rattle.std.proofs.Common.{[], ◌∷◌, length}
-use Rattle.std.specs.Prelude.{codes}
+use Rattle.pair_commands.proofs.Common.{[], ◌∷◌, length, codes}
 use Rattle.cap_text.specs.Decimals.{canonical_decimal}
 use Rattle.command_outcomes.proofs.Appended.{seven-pieces}
 use Rattle.pair_commands.proofs.build_command.put_built.Goals as goal

@@ -1,5 +1,4 @@
-use Rattle.std.proofs.lemmas.Result.{err_from_is_err_and}
-use Rattle.pair_commands.specs.Checks.{ChecksPair, verdict_outcome}
+use Rattle.pair_commands.proofs.Common.{err_from_is_err_and, ChecksPair, verdict_outcome}
 use Rattle.pair_commands.proofs.Reading.{after-pair, unread-stops}
 use Rattle.pair_commands.proofs.check_command.check_bytes.Goals as goal
 

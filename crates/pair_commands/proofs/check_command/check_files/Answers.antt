@@ -1,7 +1,4 @@
-use Rattle.std.proofs.lemmas.Result.{err_from_is_err_and}
-use Rattle.command_files.specs.Loads.{AfterThree}
-use Rattle.pair_commands.specs.Checks.{ChecksBytes, verdict_outcome}
-use Rattle.command_files.proofs.Follows.{Nothing, three-follow, shelf-stop-follows, after-three}
+use Rattle.pair_commands.proofs.Common.{err_from_is_err_and, AfterThree, ChecksBytes, verdict_outcome, Nothing, three-follow, shelf-stop-follows, after-three}
 use Rattle.pair_commands.proofs.check_command.check_files.Goals as goal
 
 pub returns-in_err-files-clause-answer : goal.returns-in_err-files-clause-answer

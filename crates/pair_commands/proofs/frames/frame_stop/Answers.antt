@@ -1,9 +1,4 @@
-use Rattle.std.proofs.Common.{◌≡◌, ◌<◌, ◌++◌, ◌∷◌, [], ℕ, List, length, arith, sym, ap, ◌∙◌}
-use Rattle.std.specs.Prelude.{slice_index_or}
-use Rattle.c_tree.specs.ProgramView.{program_tree}
-use Rattle.c_lower.specs.ProgramCode.{lowered}
-use Rattle.command_outcomes.specs.CauseLines.{frame_words}
-use Rattle.command_outcomes.specs.Outcome.{refused}
+use Rattle.pair_commands.proofs.Common.{◌≡◌, ◌<◌, ◌++◌, ◌∷◌, [], ℕ, List, length, arith, sym, ap, ◌∙◌, slice_index_or, program_tree, lowered, frame_words, refused}
 use Rattle.pair_commands.proofs.Analyses.{frame-there, functions-count, name-of}
 use Rattle.pair_commands.proofs.frames.frame_stop.Goals as goal
 

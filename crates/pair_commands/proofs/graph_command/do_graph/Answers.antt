@@ -1,9 +1,4 @@
-use Rattle.std.proofs.Common.{refl}
-use Rattle.std.proofs.lemmas.Result.{err_from_is_err_and}
-use Rattle.command_outcomes.specs.Done.{Outside, outside_beside}
-use Rattle.pair_commands.specs.Graphs.{Graphs}
-use Rattle.command_outcomes.specs.Steps.{IsStatus}
-use Rattle.command_outcomes.proofs.Ending.{stopped, printed-now, keeps-itself}
+use Rattle.pair_commands.proofs.Common.{refl, err_from_is_err_and, Outside, outside_beside, Graphs, IsStatus, stopped, printed-now, Keeps-refl}
 use Rattle.pair_commands.proofs.graph_command.do_graph.Goals as goal
 
 pub returns-in_err-text : goal.returns-in_err-text
@@ -13,7 +8,7 @@ returns-in_err-text g c = λ left reads.
     let before : Outside = outside_beside F.files F.load_faults F.store_faults left reads K.taken K.faults a.shelf.now a.out.now in
     let after : Outside = outside_beside F.files F.load_faults F.store_faults left reads K.taken K.faults shelf a.out.now in
     let step = c.in_err-text.ensures in
-    rw (p.1, p.2) (stopped IsStatus (Graphs before.files a.source.now a.options.max_path) before after c.in_err-text.field-0.0 step.files step.stores (keeps-itself left) refl (keeps-itself before.taken) refl step.answer)
+    rw (p.1, p.2) (stopped IsStatus (Graphs before.files a.source.now a.options.max_path) before after c.in_err-text.field-0.0 step.files step.stores (Keeps-refl left) refl (Keeps-refl before.taken) refl step.answer)
 
 pub returns : goal.returns
 returns g c = λ left reads.
@@ -23,5 +18,5 @@ returns g c = λ left reads.
     let text = c.in_ok-text.text in
     let step = c.in_ok-text.ensures in
     let is = step.answer in
-    printed-now (Graphs before.files a.source.now a.options.max_path) before after 0 text.items c.print.result is.0 step.files (keeps-itself left) is.1 step.stores refl
+    printed-now (Graphs before.files a.source.now a.options.max_path) before after 0 text.items c.print.result is.0 step.files (Keeps-refl left) is.1 step.stores refl
     (rw c.as_slice.ensures.value at c.print.ensures)

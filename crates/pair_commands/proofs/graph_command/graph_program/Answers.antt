@@ -1,11 +1,4 @@
-use Rattle.std.proofs.Common.{inr, refl}
-use Rattle.std.proofs.lemmas.Result.{MatchResult-weaker}
-use Rattle.c_tree.specs.ProgramView.{program_tree}
-use Rattle.c_lower.specs.ProgramCode.{lowered}
-use Rattle.stack_build.proofs.Frames.{frames-fit}
-use Rattle.pair_commands.specs.Graphs.{GraphsProgram}
-use Rattle.command_outcomes.specs.Outcome.{Outcome}
-use Rattle.command_files.proofs.Follows.{stop-follows}
+use Rattle.pair_commands.proofs.Common.{inr, refl, MatchResult-weaker, program_tree, lowered, frames-fit, GraphsProgram, Outcome, stop-follows}
 use Rattle.pair_commands.proofs.graph_command.graph_program.Goals as goal
 
 pub returns : goal.returns

@@ -1,10 +1,5 @@
-use Rattle.std.proofs.Common.{ℕ}
-use Rattle.std.specs.Global.{Vec}
-use Rattle.command_outcomes.specs.Outcome.{printed}
-use Rattle.command_files.specs.Loads.{AfterSource}
-use Rattle.pair_commands.specs.Graphs.{GraphsProgram}
+use Rattle.pair_commands.proofs.Common.{ℕ, Vec, printed, AfterSource, GraphsProgram, after-load}
 use Rattle.command_outcomes.specs.declared.documents.Document.TheVariants as document
-use Rattle.command_files.proofs.Follows.{after-load}
 use Rattle.pair_commands.proofs.graph_command.graph_source.Goals as goal
 
 pub returns-clause-answer : goal.returns-clause-answer

@@ -1,10 +1,4 @@
-use Rattle.std.proofs.Common.{◌<◌, ◌∙◌, ℕ, List, length, sym, subst}
-use Rattle.std.specs.List.{AllByRecursion}
-use Rattle.std.specs.List.Sorted.{IsStrictlyIncreasing}
-use Rattle.c_tree.specs.ProgramView.{program_tree}
-use Rattle.c_lower.specs.ProgramCode.{lowered}
-use Rattle.call_graph.specs.declared.sites.GraphSite.{GraphSite}
-use Rattle.call_graph.specs.Graph.{CallGraphState}
+use Rattle.pair_commands.proofs.Common.{◌<◌, ◌∙◌, ℕ, List, length, sym, subst, AllByRecursion, IsStrictlyIncreasing, program_tree, lowered, GraphSite, CallGraphState}
 use Rattle.pair_commands.proofs.Analyses.{callers-there, back-rises, functions-count, same-names}
 use Rattle.pair_commands.proofs.graph_command.text_of.Goals as goal
 

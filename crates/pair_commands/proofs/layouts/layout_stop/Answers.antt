@@ -1,13 +1,7 @@
-use Rattle.std.proofs.Common.{◌≡◌, ◌⊎◌, Some, None, inl, inr, refl, subst}
-use Rattle.c_tree.specs.ProgramView.{program_tree}
-use Rattle.c_lower.specs.ProgramCode.{lowered}
-use Rattle.stack_build.specs.Builds.{frame_refusal, IsTooLarge}
+use Rattle.pair_commands.proofs.Common.{◌≡◌, ◌⊎◌, Some, None, inl, inr, refl, subst, program_tree, lowered, frame_refusal, IsTooLarge, IsUnbuilt, IsFrameRefused, stop-follows}
 use Rattle.stack_build.specs.declared.refusals.BuildError.{BuildError}
 use Rattle.stack_build.specs.declared.refusals.BuildError.TheVariants as errors
-use Rattle.pair_commands.specs.BuildsFiles.{IsUnbuilt}
-use Rattle.pair_commands.specs.Graphs.{IsFrameRefused}
 use Rattle.pair_commands.proofs.Built.{frame-of, code-of}
-use Rattle.command_files.proofs.Follows.{stop-follows}
 use Rattle.pair_commands.proofs.layouts.layout_stop.Goals as goal
 
 pub frame_stop-requires : goal.frame_stop-requires

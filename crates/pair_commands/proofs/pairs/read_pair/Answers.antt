@@ -1,12 +1,4 @@
-use Rattle.std.proofs.Common.{inl, subst, sym}
-use Rattle.std.proofs.lemmas.Result.{err_from_is_err_and, MatchResult-weaker}
-use Rattle.c_tree.specs.ProgramView.{program_tree}
-use Rattle.c_tree.specs.declared.programs.Program.{Program}
-use Rattle.stack_image.specs.declared.images.Image.{Image}
-use Rattle.command_files.specs.Loads.{AfterSource, AfterImage, AfterCertificate, IsSourceText, IsImageText}
-use Rattle.command_outcomes.specs.Outcome.{NoMore}
-use Rattle.command_files.proofs.Follows.{stop-follows, source-follows, image-follows}
-use Rattle.pair_commands.specs.Pairs.{AfterPair, Unread}
+use Rattle.pair_commands.proofs.Common.{inl, subst, sym, err_from_is_err_and, MatchResult-weaker, program_tree, Program, Image, AfterSource, AfterImage, AfterCertificate, IsSourceText, IsImageText, NoMore, stop-follows, source-follows, image-follows, AfterPair, Unread}
 use Rattle.pair_commands.proofs.pairs.read_pair.Goals as goal
 
 pub returns-in_err-program : goal.returns-in_err-program

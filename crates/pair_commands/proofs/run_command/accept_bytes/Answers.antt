@@ -1,5 +1,4 @@
-use Rattle.std.proofs.lemmas.Result.{err_from_is_err_and, MatchResult-weaker}
-use Rattle.pair_commands.specs.Runs.{RunsPair}
+use Rattle.pair_commands.proofs.Common.{err_from_is_err_and, MatchResult-weaker, RunsPair}
 use Rattle.pair_commands.proofs.Reading.{of-pair, stop-of-pair, unread-stops}
 use Rattle.pair_commands.proofs.run_command.accept_bytes.Goals as goal
 

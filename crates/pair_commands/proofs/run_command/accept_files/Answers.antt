@@ -1,9 +1,4 @@
-use Rattle.std.proofs.Common.{◌≤◌}
-use Rattle.std.proofs.lemmas.Result.{err_from_is_err_and}
-use Rattle.accepted_pairs.specs.Acceptance.{Acceptance}
-use Rattle.command_files.specs.Loads.{AfterThree}
-use Rattle.pair_commands.specs.Runs.{RunsBytes, pool_bytes}
-use Rattle.command_files.proofs.Follows.{Nothing, three-follow, shelf-stop-follows}
+use Rattle.pair_commands.proofs.Common.{◌≤◌, err_from_is_err_and, Acceptance, AfterThree, RunsBytes, pool_bytes, Nothing, three-follow, shelf-stop-follows}
 use Rattle.pair_commands.proofs.Leading.{leads-after-three}
 use Rattle.pair_commands.proofs.run_command.accept_files.Goals as goal
 

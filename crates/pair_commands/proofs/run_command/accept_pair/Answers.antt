@@ -1,4 +1,4 @@
-use Rattle.c_tree.specs.ProgramView.{program_tree}
+use Rattle.pair_commands.proofs.Common.{program_tree}
 use Rattle.pair_commands.proofs.Leading.{pair-of, unaccepted}
 use Rattle.pair_commands.proofs.run_command.accept_pair.Goals as goal
 

@@ -1,9 +1,4 @@
-use Rattle.std.proofs.Common.{inl, refl}
-use Rattle.c_tree.specs.ProgramView.{program_tree}
-use Rattle.machine_meaning.proofs.Formed.{formed}
-use Rattle.pair_commands.specs.BuildsFiles.{IsUnbuilt}
-use Rattle.pair_commands.specs.Runs.{ServesProgram}
-use Rattle.command_files.proofs.Follows.{stop-follows}
+use Rattle.pair_commands.proofs.Common.{inl, refl, program_tree, formed, IsUnbuilt, ServesProgram, stop-follows}
 use Rattle.pair_commands.proofs.Leading.{laid-out-leads, laid-out-chunk}
 use Rattle.pair_commands.proofs.OneBuild.{code-fits}
 use Rattle.pair_commands.proofs.run_command.accept_program.Goals as goal

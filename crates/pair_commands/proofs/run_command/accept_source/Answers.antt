@@ -1,11 +1,5 @@
-use Rattle.std.proofs.Common.{◌≡◌}
-use Rattle.std.proofs.lemmas.Result.{err_from_is_err_and}
-use Rattle.accepted_pairs.specs.Acceptance.{Acceptance}
+use Rattle.pair_commands.proofs.Common.{◌≡◌, err_from_is_err_and, Acceptance, NoMore, AfterLoad, AfterSource, Serves, ServesProgram, load-follows, shelf-stop-follows}
 use Rattle.command_outcomes.specs.declared.documents.Document.TheVariants as document
-use Rattle.command_outcomes.specs.Outcome.{NoMore}
-use Rattle.command_files.specs.Loads.{AfterLoad, AfterSource}
-use Rattle.pair_commands.specs.Runs.{Serves, ServesProgram}
-use Rattle.command_files.proofs.Follows.{load-follows, shelf-stop-follows}
 use Rattle.pair_commands.proofs.Leading.{leads-after-load}
 use Rattle.pair_commands.proofs.run_command.accept_source.Goals as goal
 

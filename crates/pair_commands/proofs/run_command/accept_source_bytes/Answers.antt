@@ -1,10 +1,4 @@
-use Rattle.std.proofs.Common.{inl}
-use Rattle.std.proofs.lemmas.Result.{err_from_is_err_and, MatchResult-weaker}
-use Rattle.c_tree.specs.ProgramView.{program_tree}
-use Rattle.command_outcomes.specs.Outcome.{NoMore}
-use Rattle.command_files.specs.Loads.{AfterSource}
-use Rattle.pair_commands.specs.Runs.{ServesProgram}
-use Rattle.command_files.proofs.Follows.{stop-follows, source-follows}
+use Rattle.pair_commands.proofs.Common.{inl, err_from_is_err_and, MatchResult-weaker, program_tree, NoMore, AfterSource, ServesProgram, stop-follows, source-follows}
 use Rattle.pair_commands.proofs.run_command.accept_source_bytes.Goals as goal
 
 pub returns-in_err-program : goal.returns-in_err-program

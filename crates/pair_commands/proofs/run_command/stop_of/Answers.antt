@@ -1,8 +1,5 @@
-use Rattle.std.proofs.Common.{refl, sym, subst}
-use Rattle.certificate_check.specs.declared.checking.CheckError.{CheckError}
+use Rattle.pair_commands.proofs.Common.{refl, sym, subst, CheckError, Refused, IsUnaccepted}
 use Rattle.command_outcomes.specs.declared.stops.Cause.TheVariants as cause
-use Rattle.command_outcomes.specs.declared.stops.Stop.TheVariants.{Refused}
-use Rattle.pair_commands.specs.RunSteps.{IsUnaccepted}
 use Rattle.pair_commands.proofs.run_command.stop_of.Goals as goal
 
 pub returns-in-Rejected : goal.returns-in-Rejected

@@ -1,5 +1,4 @@
-use Rattle.std.proofs.Common.{◌≡◌}
-use Rattle.ready_tree.specs.Needs.{fits_first}
+use Rattle.ready_tree.proofs.Common.{◌≡◌, fits_first}
 use Rattle.ready_tree.proofs.amounts.fits_some.Given as goal
 
 abbrev pub invariant-loop-resource : goal.invariant-loop-resource

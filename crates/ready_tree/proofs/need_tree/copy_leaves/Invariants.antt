@@ -1,6 +1,4 @@
-use Rattle.std.proofs.Common.{◌≡◌, ℕ, ◌<◌, length}
-use Rattle.ready_tree.specs.Nodes.{AreJoined}
-use Rattle.ready_tree.specs.NeedTrees.{needs_of}
+use Rattle.ready_tree.proofs.Common.{◌≡◌, ℕ, ◌<◌, length, AreJoined, needs_of}
 use Rattle.ready_tree.proofs.need_tree.copy_leaves.Given as goal
 
 abbrev pub invariant-loop-queue : goal.invariant-loop-queue

@@ -1,5 +1,4 @@
-use Rattle.std.proofs.Common.{◌-◌, ◌≤◌, ◌<◌, ◌*◌}
-use Rattle.ready_tree.specs.Nodes.{IsLevel}
+use Rattle.ready_tree.proofs.Common.{◌-◌, ◌≤◌, ◌<◌, ◌*◌, IsLevel}
 use Rattle.ready_tree.proofs.nodes.leaves_for.Given as goal
 
 abbrev pub invariant-loop-leaves : goal.invariant-loop-leaves

@@ -1,7 +1,4 @@
-use Rattle.std.proofs.Common.{◌≡◌, ℕ, ◌*◌, ◌/◌, ◌+◌, ◌<◌, ◌≤◌, length, arith, ◌∙◌}
-use Rattle.std.proofs.lemmas.List.{get_or-set_other, length-set}
-use Rattle.ready_tree.specs.Needs.{IsJoin}
-use Rattle.ready_tree.specs.Nodes.{node_at, no_needs}
+use Rattle.ready_tree.proofs.Common.{◌≡◌, ℕ, ◌*◌, ◌/◌, ◌+◌, ◌<◌, ◌≤◌, length, arith, ◌∙◌, get_or-set_other, length-set, IsJoin, node_at, no_needs}
 use Rattle.ready_tree.proofs.NodeLaws.{step_up}
 use Rattle.ready_tree.proofs.nodes.renew_above.Goals as goal
 

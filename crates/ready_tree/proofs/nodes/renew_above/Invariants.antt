@@ -1,5 +1,4 @@
-use Rattle.std.proofs.Common.{◌≡◌, ℕ, ◌/◌, ◌<◌, ◌≤◌, length}
-use Rattle.ready_tree.specs.Nodes.{AreJoinedBut, node_at}
+use Rattle.ready_tree.proofs.Common.{◌≡◌, ℕ, ◌/◌, ◌<◌, ◌≤◌, length, AreJoinedBut, node_at}
 use Rattle.ready_tree.proofs.nodes.renew_above.Given as goal
 
 abbrev pub invariant-loop-node : goal.invariant-loop-node

@@ -1,5 +1,4 @@
-use Rattle.std.proofs.Common.{◌∙◌, sym, arith}
-use Rattle.ready_tree.specs.Entries.{may_go}
+use Rattle.ready_tree.proofs.Common.{◌∙◌, sym, arith, may_go}
 use Rattle.ready_tree.proofs.PlaceLaws.{first_is, first_none}
 use Rattle.ready_tree.proofs.places.first_met.Goals as goal
 

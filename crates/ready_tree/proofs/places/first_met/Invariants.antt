@@ -1,5 +1,4 @@
-use Rattle.std.proofs.Common.{◌≡◌, ℕ, ◌<◌, false, length}
-use Rattle.ready_tree.specs.Entries.{place_at, may_go}
+use Rattle.ready_tree.proofs.Common.{◌≡◌, ℕ, ◌<◌, false, length, place_at, may_go}
 use Rattle.ready_tree.proofs.places.first_met.Given as goal
 
 abbrev pub invariant-loop-place : goal.invariant-loop-place

@@ -1,6 +1,5 @@
-use Rattle.std.proofs.Common.{rules, ap, arith, ◌∙◌, ◌≡◌, length}
 use Rattle.std.proofs.lemmas.Fn.{filter_same}
-use Rattle.ready_tree.specs.Entries.{entries_of, is_taken}
+use Rattle.ready_tree.proofs.Common.{rules, ap, arith, ◌∙◌, ◌≡◌, length, entries_of, is_taken}
 use Rattle.ready_tree.proofs.PlaceLaws.{entries_gathered, full_gathered}
 use Rattle.ready_tree.proofs.places.gather.Goals as goal
 

@@ -1,6 +1,4 @@
-use Rattle.std.proofs.Common.{◌∙◌, ◌++◌, [], ◌∷◌, List, ap, sym, arith}
-use Rattle.ready_tree.specs.declared.entries.Entry.{Entry}
-use Rattle.ready_tree.specs.Entries.{entries_of, place_at}
+use Rattle.ready_tree.proofs.Common.{◌∙◌, ◌++◌, [], ◌∷◌, List, ap, sym, arith, Entry, entries_of, place_at}
 use Rattle.ready_tree.proofs.PlaceLaws.{entries_take, entries_more, more_full}
 use Rattle.ready_tree.proofs.places.gathered.Goals as goal
 

@@ -1,6 +1,4 @@
-use Rattle.std.proofs.Common.{◌≡◌, length, take}
-use Rattle.ready_tree.specs.Entries.{entries_of}
-use Rattle.ready_tree.specs.Trees.{IsAboveIf, HasPlaces}
+use Rattle.ready_tree.proofs.Common.{◌≡◌, length, take, entries_of, IsAboveIf, HasPlaces}
 use Rattle.ready_tree.proofs.places.gathered.Given as goal
 
 abbrev pub invariant-loop-place : goal.invariant-loop-place

@@ -1,7 +1,5 @@
-use Rattle.std.proofs.Common.{◌≡◌, ◌∙◌, ◌++◌, ◌∷◌, [], Option, Some, ap, sym}
 use Rattle.std.proofs.lemmas.Result.{on_ok_weaker}
-use Rattle.ready_tree.specs.declared.entries.Entry.{Entry}
-use Rattle.ready_tree.specs.Entries.{entries_of}
+use Rattle.ready_tree.proofs.Common.{◌≡◌, ◌∙◌, ◌++◌, ◌∷◌, [], Option, Some, ap, sym, Entry, entries_of}
 use Rattle.ready_tree.proofs.PlaceLaws.{entries_push}
 use Rattle.ready_tree.proofs.places.keep.Goals as goal
 

@@ -1,6 +1,4 @@
-use Rattle.std.proofs.Common.{◌≡◌, ◌-◌, ◌<◌, ◌≤◌, ◌*◌, ◌/◌, length, take}
-use Rattle.ready_tree.specs.Trees.{IsAboveIf, HasRoom}
-use Rattle.ready_tree.specs.NeedTrees.{AreJoinedIf}
+use Rattle.ready_tree.proofs.Common.{◌≡◌, ◌-◌, ◌<◌, ◌≤◌, ◌*◌, ◌/◌, length, take, IsAboveIf, HasRoom, AreJoinedIf}
 use Rattle.ready_tree.proofs.places.rebuild.Given as goal
 
 abbrev pub invariant-loop-end : goal.invariant-loop-end

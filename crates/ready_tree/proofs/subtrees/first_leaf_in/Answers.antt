@@ -1,6 +1,4 @@
-use Rattle.std.proofs.Common.{◌≡◌, ◌<◌, ◌*◌, false, sym, ap, ◌∙◌, arith}
-use Rattle.ready_tree.specs.Needs.{is_some_met}
-use Rattle.ready_tree.specs.Nodes.{node_at}
+use Rattle.ready_tree.proofs.Common.{◌≡◌, ◌<◌, ◌*◌, false, sym, ap, ◌∙◌, arith, is_some_met, node_at}
 use Rattle.ready_tree.proofs.NextLaws.{reached_left, reached_leaf, reached_right, reached_there}
 use Rattle.ready_tree.proofs.subtrees.first_leaf_in.Goals as goal
 

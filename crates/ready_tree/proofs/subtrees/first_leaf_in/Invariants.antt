@@ -1,5 +1,4 @@
-use Rattle.std.proofs.Common.{◌≡◌, ◌-◌}
-use Rattle.ready_tree.specs.Next.{IsReached}
+use Rattle.ready_tree.proofs.Common.{◌≡◌, ◌-◌, IsReached}
 use Rattle.ready_tree.proofs.subtrees.first_leaf_in.Given as goal
 
 abbrev pub invariant-loop-half : goal.invariant-loop-half

@@ -1,7 +1,4 @@
-use Rattle.std.proofs.Common.{sym, subst}
-use Rattle.flat_code.specs.ProgramView.{program_code}
-use Rattle.certificate_rules.specs.Rules.{V1}
-use Rattle.rule_failures.specs.First.{IsFirstSpot}
+use Rattle.rule_failures.proofs.Common.{sym, subst, program_code, V1, IsFirstSpot}
 use Rattle.rule_failures.proofs.FitLemmas.{count_spot, fit_spot, same_functions}
 use Rattle.rule_failures.proofs.fit.first_unfit.Goals as goal
 

@@ -1,7 +1,4 @@
-use Rattle.std.proofs.Common.{◌≡◌, ℕ, ◌<◌, length}
-use Rattle.flat_code.specs.Codes.{function_at}
-use Rattle.flat_code.specs.ProgramView.{program_code}
-use Rattle.stack_certificate.specs.Certificates.{fact_at}
+use Rattle.rule_failures.proofs.Common.{◌≡◌, ℕ, ◌<◌, length, function_at, program_code, fact_at}
 use Rattle.rule_failures.proofs.fit.first_without_places.Given as goal
 
 abbrev pub invariant-loop-f : goal.invariant-loop-f

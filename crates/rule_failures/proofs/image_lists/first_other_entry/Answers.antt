@@ -1,7 +1,4 @@
-use Rattle.std.proofs.Common.{ℕ, ap, sym, refl, arith, ◌∙◌, Some, map}
-use Rattle.std.specs.Prelude.{option_map}
-use Rattle.std.proofs.lemmas.Option.{slice_get-map, slice_get-get_or}
-use Rattle.stack_certificate.specs.Certificates.{fact_at}
+use Rattle.rule_failures.proofs.Common.{ℕ, ap, sym, refl, arith, ◌∙◌, Some, map, option_map, slice_get-map, slice_get-get_or, fact_at}
 use Rattle.rule_failures.proofs.PieceLemmas.{word_more}
 use Rattle.rule_failures.proofs.image_lists.first_other_entry.Goals as goal
 

@@ -1,6 +1,4 @@
-use Rattle.std.proofs.Common.{◌≡◌, ℕ, ◌+◌, ◌<◌, map}
-use Rattle.std.specs.Prelude.{slice_get}
-use Rattle.stack_certificate.specs.Certificates.{fact_at}
+use Rattle.rule_failures.proofs.Common.{◌≡◌, ℕ, ◌+◌, ◌<◌, map, slice_get, fact_at}
 use Rattle.rule_failures.proofs.image_lists.first_other_entry.Given as goal
 
 abbrev pub invariant-loop-k : goal.invariant-loop-k

@@ -1,5 +1,4 @@
-use Rattle.std.proofs.Common.{◌≡◌, ℕ, ◌+◌, ◌<◌}
-use Rattle.std.specs.Prelude.{slice_get, replicate}
+use Rattle.rule_failures.proofs.Common.{◌≡◌, ℕ, ◌+◌, ◌<◌, slice_get, replicate}
 use Rattle.rule_failures.proofs.image_lists.first_other_start.Given as goal
 
 abbrev pub invariant-loop-k : goal.invariant-loop-k

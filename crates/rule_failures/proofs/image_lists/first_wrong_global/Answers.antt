@@ -1,11 +1,5 @@
-use Rattle.std.proofs.Common.{◌≡◌, ◌<◌, ◌≤◌, ◌+◌, ℕ, List, length, take, sym, ap, ◌∙◌, subst, arith, Some, None}
-use Rattle.std.specs.Prelude.{replicate, slice_get, slice_index_or, sum_by, nat_lt, if◌then◌else◌}
-use Rattle.std.proofs.lemmas.List.{get_or_default, length-replicate, take_all}
-use Rattle.flat_code.specs.ProgramView.{program_code}
+use Rattle.rule_failures.proofs.Common.{◌≡◌, ◌<◌, ◌≤◌, ◌+◌, ℕ, List, length, take, sym, ap, ◌∙◌, subst, arith, Some, None, replicate, slice_get, slice_index_or, sum_by, nat_lt, if◌then◌else◌, get_or_default, length-replicate, take_all, program_code, sum_room, sum_step, V12, starting_words, IsFirst}
 use Rattle.flat_code.specs.declared.programs.FlatGlobal.{FlatGlobal}
-use Rattle.stack_certificate.proofs.AddressLemmas.{sum_room, sum_step}
-use Rattle.certificate_rules.specs.Rules.{V12, starting_words}
-use Rattle.rule_failures.specs.First.{IsFirst}
 use Rattle.rule_failures.proofs.FirstLemmas.{first_same}
 use Rattle.rule_failures.proofs.PieceLemmas.{differs_in, agrees_more, differs_behind, sized_whole}
 use Rattle.rule_failures.proofs.image_lists.first_wrong_global.Goals as goal

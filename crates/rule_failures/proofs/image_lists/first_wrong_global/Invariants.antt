@@ -1,7 +1,4 @@
-use Rattle.std.proofs.Common.{◌≡◌, ℕ, ◌<◌, take}
-use Rattle.std.specs.Prelude.{slice_get, sum_by}
-use Rattle.flat_code.specs.ProgramView.{program_code}
-use Rattle.certificate_rules.specs.Rules.{starting_words}
+use Rattle.rule_failures.proofs.Common.{◌≡◌, ℕ, ◌<◌, take, slice_get, sum_by, program_code, starting_words}
 use Rattle.rule_failures.proofs.image_lists.first_wrong_global.Given as goal
 
 abbrev pub invariant-loop-global : goal.invariant-loop-global

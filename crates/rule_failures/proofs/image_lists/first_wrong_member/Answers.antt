@@ -1,11 +1,4 @@
-use Rattle.std.proofs.Common.{◌≡◌, ◌<◌, ◌≤◌, ◌+◌, ℕ, List, length, map, take, sym, ap, ◌∙◌, subst, arith, Some, None}
-use Rattle.std.specs.Prelude.{slice_get, slice_index_or, sum_by, nat_lt, if◌then◌else◌}
-use Rattle.std.proofs.lemmas.List.{length-map, take_all}
-use Rattle.flat_code.specs.ProgramView.{program_code}
-use Rattle.stack_certificate.specs.Certificates.{fact_at}
-use Rattle.stack_certificate.proofs.AddressLemmas.{sum_room, sum_step}
-use Rattle.certificate_rules.specs.Rules.{V8, member_entries}
-use Rattle.rule_failures.specs.First.{IsFirst, IsFirstOther}
+use Rattle.rule_failures.proofs.Common.{◌≡◌, ◌<◌, ◌≤◌, ◌+◌, ℕ, List, length, map, take, sym, ap, ◌∙◌, subst, arith, Some, None, slice_get, slice_index_or, sum_by, nat_lt, if◌then◌else◌, length-map, take_all, program_code, fact_at, sum_room, sum_step, V8, member_entries, IsFirst, IsFirstOther}
 use Rattle.rule_failures.proofs.FirstLemmas.{first_same}
 use Rattle.rule_failures.proofs.PieceLemmas.{differs_in, agrees_more, differs_behind, sized_whole}
 use Rattle.rule_failures.proofs.image_lists.first_wrong_member.Goals as goal

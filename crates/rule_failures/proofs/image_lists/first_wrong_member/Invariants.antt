@@ -1,7 +1,4 @@
-use Rattle.std.proofs.Common.{◌≡◌, ℕ, ◌<◌, length, take}
-use Rattle.std.specs.Prelude.{slice_get, sum_by}
-use Rattle.flat_code.specs.ProgramView.{program_code}
-use Rattle.certificate_rules.specs.Rules.{member_entries}
+use Rattle.rule_failures.proofs.Common.{◌≡◌, ℕ, ◌<◌, length, take, slice_get, sum_by, program_code, member_entries}
 use Rattle.rule_failures.proofs.image_lists.first_wrong_member.Given as goal
 
 abbrev pub invariant-loop-table : goal.invariant-loop-table

@@ -1,5 +1,4 @@
-use Rattle.std.proofs.Common.{◌≡◌, ℕ, ◌<◌, ◌≤◌, true, false}
-use Rattle.rule_failures.specs.Marks.{is_marked}
+use Rattle.rule_failures.proofs.Common.{◌≡◌, ℕ, ◌<◌, ◌≤◌, true, false, is_marked}
 use Rattle.rule_failures.proofs.marks.mark_run.Given as goal
 
 abbrev pub invariant-loop-word : goal.invariant-loop-word

@@ -1,11 +1,4 @@
-use Rattle.std.proofs.Common.{◌≡◌, ℕ, ◌<◌, length, refl, sym, ap, ◌∙◌, arith, subst}
-use Rattle.std.specs.Prelude.{◌||◌, slice_index, slice_index_or}
-use Rattle.std.specs.List.{list_any}
-use Rattle.std.specs.List.Sorted.{IsStrictlyIncreasing}
-use Rattle.std.proofs.lemmas.Bool.{false≢true}
-use Rattle.flat_code.specs.ProgramView.{program_code}
-use Rattle.certificate_rules.specs.Sites.{certified_site, fact_numbers, is_site}
-use Rattle.rule_failures.specs.Marks.{is_marked}
+use Rattle.rule_failures.proofs.Common.{◌≡◌, ℕ, ◌<◌, length, refl, sym, ap, ◌∙◌, arith, subst, ◌||◌, slice_index, slice_index_or, list_any, IsStrictlyIncreasing, false≢true, program_code, certified_site, fact_numbers, is_site, is_marked}
 use Rattle.rule_failures.proofs.NamedLemmas.{right_in, right_more, noted_function, names_all, seen_all}
 use Rattle.rule_failures.proofs.named_sites.names_each.Goals as goal
 

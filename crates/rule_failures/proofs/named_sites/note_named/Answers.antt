@@ -1,5 +1,4 @@
-use Rattle.std.proofs.Common.{refl}
-use Rattle.std.proofs.lemmas.Bool.{false≢true}
+use Rattle.rule_failures.proofs.Common.{refl, false≢true}
 use Rattle.rule_failures.proofs.NamedLemmas.{not_named, named_right, named_wrong, noted_one}
 use Rattle.rule_failures.proofs.named_sites.note_named.Goals as goal
 

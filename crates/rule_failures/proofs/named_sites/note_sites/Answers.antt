@@ -1,6 +1,4 @@
-use Rattle.std.proofs.Common.{refl, arith}
-use Rattle.std.proofs.lemmas.Bool.{false≢true}
-use Rattle.std.proofs.lemmas.Option.{slice_get_within}
+use Rattle.rule_failures.proofs.Common.{refl, arith, false≢true, slice_get_within}
 use Rattle.rule_failures.proofs.NamedLemmas.{one_unnamed, named_more, noted_more}
 use Rattle.rule_failures.proofs.named_sites.note_sites.Goals as goal
 

@@ -1,10 +1,4 @@
-use Rattle.std.proofs.Common.{◌≡◌, ℕ, ◌<◌, length, take, Some}
-use Rattle.std.specs.Prelude.{◌||◌, slice_get, slice_index}
-use Rattle.std.specs.List.{list_any}
-use Rattle.flat_code.specs.declared.operations.Op.{Op}
-use Rattle.certificate_rules.specs.Sites.{certified_site, fact_numbers, is_site}
-use Rattle.rule_failures.specs.Named.{IsNamedRight}
-use Rattle.rule_failures.specs.Marks.{is_marked}
+use Rattle.rule_failures.proofs.Common.{◌≡◌, ℕ, ◌<◌, length, take, Some, ◌||◌, slice_get, slice_index, list_any, Op, certified_site, fact_numbers, is_site, IsNamedRight, is_marked}
 use Rattle.rule_failures.proofs.named_sites.note_sites.Given as goal
 
 abbrev pub invariant-loop-op : goal.invariant-loop-op

@@ -1,5 +1,4 @@
-use Rattle.std.proofs.Common.{arith}
-use Rattle.std.proofs.lemmas.Bool.{false≢true}
+use Rattle.rule_failures.proofs.Common.{arith, false≢true}
 use Rattle.accepted_pairs.proofs.RisingLemmas.{not_rising, rising_more}
 use Rattle.rule_failures.proofs.named_sites.rises.Goals as goal
 

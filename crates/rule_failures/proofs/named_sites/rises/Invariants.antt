@@ -1,6 +1,4 @@
-use Rattle.std.proofs.Common.{ℕ, ◌+◌, ◌<◌}
-use Rattle.std.specs.Prelude.{slice_index}
-use Rattle.certificate_rules.specs.Sites.{fact_numbers}
+use Rattle.rule_failures.proofs.Common.{ℕ, ◌+◌, ◌<◌, slice_index, fact_numbers}
 use Rattle.rule_failures.proofs.named_sites.rises.Given as goal
 
 abbrev pub invariant-loop-k : goal.invariant-loop-k

@@ -1,9 +1,4 @@
-use Rattle.std.proofs.Common.{◌≡◌, ◌+◌, ℕ, length, refl, ap, ◌∙◌, arith, below_more, inl, inr}
-use Rattle.std.proofs.lemmas.Bool.{cases_lt, false≢true}
-use Rattle.flat_code.specs.Codes.{function_at}
-use Rattle.flat_code.specs.ProgramView.{program_code}
-use Rattle.stack_certificate.specs.Templates.{words_before}
-use Rattle.certificate_rules.specs.Rules.{V6}
+use Rattle.rule_failures.proofs.Common.{◌≡◌, ◌+◌, ℕ, length, refl, ap, ◌∙◌, arith, below_more, inl, inr, cases_lt, false≢true, function_at, program_code, words_before, V6}
 use Rattle.rule_failures.proofs.CodeLemmas.{operation_not, operation_holds, over_holds}
 use Rattle.rule_failures.proofs.operations.first_astray.Goals as goal
 

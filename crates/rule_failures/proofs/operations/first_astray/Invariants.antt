@@ -1,6 +1,4 @@
-use Rattle.std.proofs.Common.{ℕ, ◌<◌}
-use Rattle.flat_code.specs.ProgramView.{program_code}
-use Rattle.certificate_rules.specs.Rules.{V6}
+use Rattle.rule_failures.proofs.Common.{ℕ, ◌<◌, program_code, V6}
 use Rattle.rule_failures.proofs.operations.first_astray.Given as goal
 
 abbrev pub invariant-loop-op : goal.invariant-loop-op

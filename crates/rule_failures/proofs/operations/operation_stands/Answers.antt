@@ -1,8 +1,4 @@
-use Rattle.std.proofs.Common.{◌<◌, length, refl, arith}
-use Rattle.std.proofs.lemmas.Bool.{false≢true}
-use Rattle.std.proofs.lemmas.Option.{slice_get_within}
-use Rattle.flat_code.specs.ProgramView.{program_code}
-use Rattle.stack_certificate.specs.Templates.{template}
+use Rattle.rule_failures.proofs.Common.{◌<◌, length, refl, arith, false≢true, slice_get_within, program_code, template}
 use Rattle.rule_failures.proofs.CodeLemmas.{operation_there, template_size, word_stands, word_not, words_more}
 use Rattle.rule_failures.proofs.operations.operation_stands.Goals as goal
 

@@ -1,9 +1,4 @@
-use Rattle.std.proofs.Common.{◌≡◌, ℕ, ◌+◌, ◌*◌, ◌<◌, Some}
-use Rattle.std.specs.Prelude.{slice_get}
-use Rattle.rv_code.specs.declared.instructions.Instr.{Instr}
-use Rattle.flat_code.specs.ProgramView.{program_code}
-use Rattle.stack_certificate.specs.Templates.{begin, template}
-use Rattle.certificate_rules.specs.Ranges.{Stands}
+use Rattle.rule_failures.proofs.Common.{◌≡◌, ℕ, ◌+◌, ◌*◌, ◌<◌, Some, slice_get, Instr, program_code, begin, template, Stands}
 use Rattle.rule_failures.proofs.operations.operation_stands.Given as goal
 
 abbrev pub invariant-loop-word : goal.invariant-loop-word

@@ -1,8 +1,4 @@
-use Rattle.std.proofs.Common.{◌≡◌, length, List, ℕ, refl, sym, ap, ◌∙◌, subst, arith, below_more, inl, inr}
-use Rattle.std.specs.Prelude.{slice_index}
-use Rattle.std.proofs.lemmas.Bool.{cases_lt, false≢true}
-use Rattle.certificate_rules.specs.Rules.{IsPlaced, frame_places, frame_words}
-use Rattle.rule_failures.specs.Marks.{AreMarked}
+use Rattle.rule_failures.proofs.Common.{◌≡◌, length, List, ℕ, refl, sym, ap, ◌∙◌, subst, arith, below_more, inl, inr, slice_index, cases_lt, false≢true, IsPlaced, frame_places, frame_words, AreMarked}
 use Rattle.rule_failures.proofs.FrameLemmas.{place_of, words_of, place_of_ra, words_of_ra, taken_as, placed_as}
 use Rattle.rule_failures.proofs.places.first_untaken.Goals as goal
 

@@ -1,7 +1,4 @@
-use Rattle.std.proofs.Common.{◌≡◌, ℕ, ◌/◌, ◌<◌, length}
-use Rattle.std.specs.Prelude.{slice_index}
-use Rattle.certificate_rules.specs.Rules.{frame_places, frame_words, IsPlaced}
-use Rattle.rule_failures.specs.Marks.{AreMarked}
+use Rattle.rule_failures.proofs.Common.{◌≡◌, ℕ, ◌/◌, ◌<◌, length, slice_index, frame_places, frame_words, IsPlaced, AreMarked}
 use Rattle.rule_failures.proofs.places.first_untaken.Given as goal
 
 abbrev pub invariant-loop-x : goal.invariant-loop-x

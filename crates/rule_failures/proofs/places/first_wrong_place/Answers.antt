@@ -1,6 +1,5 @@
-use Rattle.std.proofs.Common.{ap, ◌∙◌}
 use Rattle.rule_failures.proofs.FrameLemmas.{v4_first}
-use Rattle.flat_code.specs.ProgramView.{program_code}
+use Rattle.rule_failures.proofs.Common.{ap, ◌∙◌, program_code}
 use Rattle.rule_failures.proofs.places.first_wrong_place.Goals as goal
 
 pub placed_fact_of-fact-requires-clause-certificate : goal.placed_fact_of-fact-requires-clause-certificate

@@ -1,7 +1,4 @@
-use Rattle.std.proofs.Common.{length, sym, ap, ◌∙◌, arith, inl, inr}
-use Rattle.std.proofs.lemmas.Bool.{cases_lt}
-use Rattle.flat_code.specs.ProgramView.{program_code}
-use Rattle.certificate_rules.specs.Rules.{V2}
+use Rattle.rule_failures.proofs.Common.{length, sym, ap, ◌∙◌, arith, inl, inr, cases_lt, program_code, V2}
 use Rattle.rule_failures.proofs.RangeLemmas.{counts_of, code_few, v2_past, v2_more}
 use Rattle.rule_failures.proofs.FirstLemmas.{spot_in}
 use Rattle.rule_failures.proofs.ranges.first_over_ranges.Goals as goal

@@ -1,9 +1,5 @@
-use Rattle.std.proofs.Common.{◌≡◌, ℕ, ◌<◌, length}
-use Rattle.flat_code.specs.ProgramView.{program_code}
+use Rattle.rule_failures.proofs.Common.{◌≡◌, ℕ, ◌<◌, length, program_code, fact_at, V2, AreMarked}
 use Rattle.stack_image.specs.Addresses.{code_start}
-use Rattle.stack_certificate.specs.Certificates.{fact_at}
-use Rattle.certificate_rules.specs.Rules.{V2}
-use Rattle.rule_failures.specs.Marks.{AreMarked}
 use Rattle.rule_failures.proofs.ranges.first_over_ranges.Given as goal
 
 abbrev pub invariant-loop-f : goal.invariant-loop-f

@@ -1,8 +1,4 @@
-use Rattle.std.proofs.Common.{true, length, refl, ap, arith, below_more, inl, inr}
-use Rattle.std.proofs.lemmas.Bool.{cases_lt, false≢true}
-use Rattle.flat_code.specs.ProgramView.{program_code}
-use Rattle.stack_certificate.specs.Templates.{prologue}
-use Rattle.certificate_rules.specs.Rules.{V5}
+use Rattle.rule_failures.proofs.Common.{true, length, refl, ap, arith, below_more, inl, inr, cases_lt, false≢true, program_code, prologue, V5}
 use Rattle.rule_failures.proofs.CodeLemmas.{few_params, stands_there, stands_not, prologue_fails, prologue_holds, prologue_past}
 use Rattle.rule_failures.proofs.words.first_wrong_prologue_word.Goals as goal
 

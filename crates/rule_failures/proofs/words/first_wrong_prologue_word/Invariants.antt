@@ -1,6 +1,4 @@
-use Rattle.std.proofs.Common.{ℕ, ◌<◌}
-use Rattle.flat_code.specs.ProgramView.{program_code}
-use Rattle.certificate_rules.specs.Rules.{V5}
+use Rattle.rule_failures.proofs.Common.{ℕ, ◌<◌, program_code, V5}
 use Rattle.rule_failures.proofs.words.first_wrong_prologue_word.Given as goal
 
 abbrev pub invariant-loop-word : goal.invariant-loop-word

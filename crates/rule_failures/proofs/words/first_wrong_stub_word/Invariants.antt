@@ -1,5 +1,4 @@
-use Rattle.std.proofs.Common.{ℕ, ◌<◌}
-use Rattle.certificate_rules.specs.Rules.{V7}
+use Rattle.rule_failures.proofs.Common.{ℕ, ◌<◌, V7}
 use Rattle.rule_failures.proofs.words.first_wrong_stub_word.Given as goal
 
 abbrev pub invariant-loop-word : goal.invariant-loop-word

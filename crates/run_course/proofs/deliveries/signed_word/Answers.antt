@@ -1,5 +1,4 @@
-use Rattle.std.proofs.Common.{◌∙◌, w32, FitsSigned, rules}
-use Rattle.std.proofs.lemmas.Int.{to_z-of_z}
+use Rattle.run_course.proofs.Common.{◌∙◌, w32, FitsSigned, rules, to_z-of_z}
 use Rattle.cap_word.proofs.WordLemmas.{to_z-signed}
 use Rattle.run_course.proofs.deliveries.signed_word.Goals as goal
 

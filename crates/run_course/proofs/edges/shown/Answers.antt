@@ -1,6 +1,4 @@
-use Rattle.std.proofs.Common.{◌≡◌, ◌≤◌, ◌<◌, ◌+◌, ◌∙◌, ℕ, ℤ, List, FitsSigned, get_or, rules, arith, sym, subst}
-use Rattle.std.specs.Int.{w128}
-use Rattle.std.proofs.lemmas.Int.{to_z-of_z}
+use Rattle.run_course.proofs.Common.{◌≡◌, ◌≤◌, ◌<◌, ◌+◌, ◌∙◌, ℕ, ℤ, List, FitsSigned, get_or, rules, arith, sym, subst, w128, to_z-of_z}
 use Rattle.run_course.proofs.Edged.{IsShown, shown_skip, shown_more, shown_end, cap_is}
 use Rattle.run_course.proofs.edges.shown.Goals as goal
 use Rattle.run_course.proofs.edges.shown.Goals.{then-cap-ne0, else-cap-ne0}

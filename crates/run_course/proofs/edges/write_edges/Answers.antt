@@ -1,12 +1,4 @@
-use Rattle.std.proofs.Common.{◌≡◌, ◌∙◌, ◌+◌, [], ◌∷◌, ◌++◌, List, Err, take, drop, refl, sym, subst}
-use Rattle.std.proofs.lemmas.List.{take_all}
-use Rattle.std.proofs.lemmas.Result.{err_from_is_err_and}
-use Rattle.blocking_graph.specs.declared.edges.EdgeLine.{EdgeLine}
-use Rattle.schedule_log.specs.EntryText.{entry_text, log_text}
-use Rattle.run_course.specs.declared.ends.Failure.{Failure}
-use Rattle.run_course.specs.Counts.{CountsPart}
-use Rattle.run_course.specs.Lines.{edge_lines}
-use Rattle.run_course.specs.Output.{Grows, PutsText, output_of}
+use Rattle.run_course.proofs.Common.{◌≡◌, ◌∙◌, ◌+◌, [], ◌∷◌, ◌++◌, List, Err, take, drop, refl, sym, subst, take_all, err_from_is_err_and, EdgeLine, entry_text, log_text, Failure, CountsPart, edge_lines, Grows, PutsText, output_of}
 use Rattle.run_course.proofs.Edged.{none_put, lines_parts, line_put, begun_more, counts_on}
 use Rattle.run_course.proofs.edges.write_edges.Goals as goal
 

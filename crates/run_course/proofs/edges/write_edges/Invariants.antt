@@ -1,8 +1,4 @@
-use Rattle.std.proofs.Common.{◌≡◌, take}
-use Rattle.std.specs.Prelude.{None}
-use Rattle.schedule_log.specs.EntryText.{log_text}
-use Rattle.run_course.specs.Lines.{edge_lines}
-use Rattle.run_course.specs.Output.{Grows, output_of}
+use Rattle.run_course.proofs.Common.{◌≡◌, take, None, log_text, edge_lines, Grows, output_of}
 use Rattle.run_course.proofs.edges.write_edges.Given as goal
 
 abbrev pub invariant-loop-edge : goal.invariant-loop-edge

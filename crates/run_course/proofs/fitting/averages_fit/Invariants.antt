@@ -1,6 +1,4 @@
-use Rattle.std.proofs.Common.{FitsSigned, take}
-use Rattle.std.specs.Int.{w128}
-use Rattle.std.specs.List.{AllByRecursion}
+use Rattle.run_course.proofs.Common.{FitsSigned, take, w128, AllByRecursion}
 use Rattle.run_course.proofs.fitting.averages_fit.Given as goal
 
 abbrev pub invariant-loop-average : goal.invariant-loop-average

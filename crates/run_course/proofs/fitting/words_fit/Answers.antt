@@ -1,5 +1,4 @@
-use Rattle.std.proofs.Common.{ℕ, ◌^◌, ◌<◌, subst, arith}
-use Rattle.std.proofs.lemmas.List.{get_or_default}
+use Rattle.run_course.proofs.Common.{ℕ, ◌^◌, ◌<◌, subst, arith, get_or_default}
 use Rattle.std.proofs.lemmas.List.Elements.{recursion_from_All}
 use Rattle.run_course.proofs.fitting.words_fit.Goals as goal
 

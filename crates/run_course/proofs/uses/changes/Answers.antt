@@ -1,5 +1,4 @@
-use Rattle.std.proofs.lemmas.Int.{to_z-of_z}
-use Rattle.std.proofs.Common.{w64, FitsSigned, rules, ◌≢◌, ◌<◌, length, arith, ◌∙◌, below_more, get_or-set_other, get_or-set_same, length-set}
+use Rattle.run_course.proofs.Common.{w64, FitsSigned, rules, ◌≢◌, ◌<◌, length, arith, ◌∙◌, below_more, get_or-set_other, get_or-set_same, length-set, to_z-of_z}
 use Rattle.run_course.proofs.uses.changes.Goals as goal
 
 pub loop-place-preserved : goal.loop-place-preserved

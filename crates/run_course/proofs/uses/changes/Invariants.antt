@@ -1,5 +1,4 @@
-use Rattle.std.proofs.Common.{◌≡◌, ℕ, ◌<◌, get_or, length}
-use Rattle.std.specs.Prelude.{pos, ◌-ℤ◌, slice_index_or}
+use Rattle.run_course.proofs.Common.{◌≡◌, ℕ, ◌<◌, get_or, length, pos, ◌-ℤ◌, slice_index_or}
 use Rattle.run_course.proofs.uses.changes.Given as goal
 
 abbrev pub invariant-loop-place : goal.invariant-loop-place

@@ -1,5 +1,4 @@
-use Rattle.std.proofs.Common.{◌≡◌, ℕ, ◌<◌, ◌≤◌, get_or, length}
-use Rattle.thread_core.specs.Worlds.{cap_in, used_in}
+use Rattle.run_course.proofs.Common.{◌≡◌, ℕ, ◌<◌, ◌≤◌, get_or, length, cap_in, used_in}
 use Rattle.run_course.proofs.uses.uses_of.Given as goal
 
 abbrev pub invariant-loop-resource : goal.invariant-loop-resource

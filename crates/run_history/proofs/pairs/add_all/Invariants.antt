@@ -1,6 +1,4 @@
-use Rattle.std.proofs.Common.{◌≡◌, ℕ, take}
-use Rattle.run_history.specs.Answers.{answers_at, answers_from}
-use Rattle.run_history.specs.Pairs.{clocks_of}
+use Rattle.run_history.proofs.Common.{◌≡◌, ℕ, take, answers_at, answers_from, clocks_of}
 use Rattle.run_history.proofs.pairs.add_all.Given as goal
 
 abbrev pub invariant-loop-request : goal.invariant-loop-request

@@ -1,9 +1,6 @@
-use Rattle.std.proofs.Common.{rules, ◌≡◌, ◌∙◌, ℕ, Option, Some, None, take, sym, ap, w32, Global, to_z-of_z}
 use Rattle.run_history.proofs.Paired.{first_of}
-use Rattle.std.specs.BTreeMap.{get}
-use Rattle.std.specs.Ordering.{int_cmp}
+use Rattle.run_history.proofs.Common.{rules, ◌≡◌, ◌∙◌, ℕ, Option, Some, None, take, sym, ap, w32, Global, to_z-of_z, get, int_cmp, waiting_of}
 use Rattle.std.specs.declared.collections.VecDeque.{VecDeque}
-use Rattle.run_history.specs.Pairs.{waiting_of}
 use Rattle.run_history.proofs.pairs.take_oldest.Goals as goal
 
 pub returns-in-Some-clause-oldest : goal.returns-in-Some-clause-oldest

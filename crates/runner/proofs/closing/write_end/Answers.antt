@@ -1,20 +1,7 @@
-use Rattle.std.proofs.Common.{◌≡◌, ◌∙◌, [], ◌∷◌, ◌++◌, List, ℕ, Err, refl, sym, ap, subst}
-use Rattle.std.proofs.lemmas.Result.{err_from_is_err_and}
-use Rattle.cap_io.specs.Writes.{Puts}
-use Rattle.schedule_log.specs.EntryText.{entry_text, log_text}
-use Rattle.schedule_log.specs.declared.entries.Entry.{Entry}
-use Rattle.schedule_log.specs.declared.entries.StopLine.{StopLine}
+use Rattle.runner.proofs.Common.{◌≡◌, ◌∙◌, [], ◌∷◌, ◌++◌, List, ℕ, Err, refl, sym, ap, subst, err_from_is_err_and, Puts, entry_text, log_text, Entry, StopLine, Failure, CountsPart, edge_lines, end_lines, Grows, IsFitText, TakesPart, output_of, stop_line, fit_anyway, fit_on, grows_on, part_on, finished, free_count}
 use Rattle.schedule_log.proofs.Written.{prefix_none}
-use Rattle.run_course.specs.declared.ends.Failure.{Failure}
-use Rattle.run_course.specs.Counts.{CountsPart}
-use Rattle.run_course.specs.Lines.{edge_lines, end_lines}
-use Rattle.run_course.specs.Output.{Grows, IsFitText, TakesPart, output_of}
-use Rattle.run_course.specs.Steps.{stop_line}
 use Rattle.run_course.proofs.Edged.{puts_begun, end_text_of, counts_on}
-use Rattle.run_course.proofs.FitTexts.{fit_anyway, fit_on}
-use Rattle.run_course.proofs.Joined.{grows_on, part_on, finished}
 use Rattle.runner.proofs.closing.write_end.Goals as goal
-use Rattle.chunk_pool.specs.Pool.{free_count}
 
 pub returns-in_default-clause-bytes : goal.returns-in_default-clause-bytes
 returns-in_default-clause-bytes g c = prefix_none _ _

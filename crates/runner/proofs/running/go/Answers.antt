@@ -1,22 +1,7 @@
-use Rattle.std.proofs.Common.{◌≡◌, ◌++◌, List, Option, Ok, Err, sym, ap, subst}
-use Rattle.std.specs.Io.KnownBytes.{Appends}
-use Rattle.blocking_graph.specs.Graph.{GraphState}
-use Rattle.blocking_graph.specs.declared.edges.EdgeLine.{EdgeLine}
-use Rattle.cap_io.specs.Writes.{Puts}
-use Rattle.schedule_log.specs.EntryText.{log_text}
-use Rattle.schedule_log.specs.Writing.{WriterState}
-use Rattle.runner.specs.Answers.{IsRunEnd}
-use Rattle.run_course.specs.Lines.{end_lines}
-use Rattle.run_course.specs.Output.{IsFitText, output_of}
-use Rattle.run_course.specs.Rules.{rule_of}
-use Rattle.run_course.specs.Sound.{IsSound}
-use Rattle.run_course.specs.Steps.{stop_line}
-use Rattle.run_course.specs.declared.ends.Failure.{Failure}
-use Rattle.run_course.specs.declared.ends.Halt.{Halt}
+use Rattle.runner.proofs.Common.{◌≡◌, ◌++◌, List, Option, Ok, Err, sym, ap, subst, Appends, GraphState, EdgeLine, Puts, log_text, WriterState, IsRunEnd, end_lines, IsFitText, output_of, rule_of, IsSound, stop_line, Failure, Halt, free_count}
 use Rattle.runner.specs.declared.ends.RunEnd.{RunEnd}
 use Rattle.runner.proofs.Rounds.{Ends, RunsOn, runs_first, stands_somehow, runs_step, run_fails, run_comes, run_unwritten, run_memory}
 use Rattle.runner.proofs.running.go.Goals as goal
-use Rattle.chunk_pool.specs.Pool.{free_count}
 
 pub returns-in_default-clause-answer : goal.returns-in_default-clause-answer
 returns-in_default-clause-answer g c = λ s at.

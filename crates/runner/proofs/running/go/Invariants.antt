@@ -1,8 +1,4 @@
-use Rattle.std.proofs.Common.{◌≡◌}
-use Rattle.std.specs.Prelude.{None}
-use Rattle.run_course.specs.Output.{output_of}
-use Rattle.run_course.specs.Ranks.{rank}
-use Rattle.run_course.specs.Rules.{rule_of}
+use Rattle.runner.proofs.Common.{◌≡◌, None, output_of, rank, rule_of}
 use Rattle.runner.proofs.Rounds.{RunsOn}
 use Rattle.runner.proofs.running.go.Given as goal
 

@@ -1,10 +1,7 @@
-use Rattle.std.proofs.Common.{[], sym, ap, subst}
-use Rattle.lawful_log.specs.Setup.{Setup}
+use Rattle.runner.proofs.Common.{[], sym, ap, subst, Setup, IsAtStartBy, HasNothing, rule_of}
 use Rattle.rule_state.specs.Strides.{StridesState}
 use Rattle.rule_state.specs.declared.rules.RuleState.TheVariants.{Stride}
 use Rattle.stride_rule.specs.State.{StrideState}
-use Rattle.run_course.specs.Starts.{IsAtStartBy}
-use Rattle.run_course.specs.Rules.{HasNothing, rule_of}
 use Rattle.runner.proofs.running.run_stride.Goals as goal
 
 pub new-strides-requires : goal.new-strides-requires

@@ -1,9 +1,4 @@
-use Rattle.std.proofs.Common.{◌≡◌, ◌∙◌, false, None, Option, sym, subst, arith}
-use Rattle.event_trace.specs.declared.events.Event.{Event}
-use Rattle.choice_rules.specs.Clock.{is_due}
-use Rattle.run_course.specs.Output.{output_of}
-use Rattle.run_course.specs.Stands.{IsAtChoice, IsAtPoint}
-use Rattle.run_course.proofs.PartSteps.{holds_on_ok, part_counts, part_ends, part_falls, part_unrefused}
+use Rattle.runner.proofs.Common.{◌≡◌, ◌∙◌, false, None, Option, sym, subst, arith, Event, is_due, output_of, IsAtChoice, IsAtPoint, holds_on_ok, part_counts, part_ends, part_falls, part_unrefused}
 use Rattle.runner.proofs.Pointed.{not_due_none, not_due_event, waited}
 use Rattle.runner.proofs.stepping.go_on.Goals as goal
 use Rattle.runner.proofs.stepping.go_on.Goals.{in-Some+else-event-clock, in_default}

@@ -1,18 +1,5 @@
-use Rattle.std.proofs.Common.{◌≡◌, ◌∙◌, List, Option, Err, length, refl, sym, ap, subst}
-use Rattle.std.proofs.lemmas.List.{nil_from_length}
-use Rattle.std.proofs.lemmas.Result.{err_from_is_err_and}
-use Rattle.machine_world.specs.Threads.{Thread}
-use Rattle.run_course.specs.Output.{output_of}
-use Rattle.run_course.specs.declared.ends.Failure.{Failure}
-use Rattle.run_course.specs.declared.ends.Halt.{Halt}
-use Rattle.run_course.specs.Counts.{CountsStep}
-use Rattle.run_course.specs.Kept.{Kept}
-use Rattle.run_course.specs.Ranks.{rank, FallsTo}
-use Rattle.run_course.specs.Rest.{Rest, Unasked}
-use Rattle.run_course.specs.Stands.{StandsBetween}
-use Rattle.run_course.specs.Steps.{StepEnds}
+use Rattle.runner.proofs.Common.{◌≡◌, ◌∙◌, List, Option, Err, length, refl, sym, ap, subst, nil_from_length, err_from_is_err_and, Thread, output_of, Failure, Halt, CountsStep, Kept, rank, FallsTo, Rest, Unasked, StandsBetween, StepEnds, to_between}
 use Rattle.runner.proofs.LookedOn.{forget, unasked, unrefused, done_halts, refused_halts, read_fails, at_point, from_before, look_failed, part_counts, look_falls, falls_from}
-use Rattle.run_course.proofs.Parts.{to_between}
 use Rattle.runner.proofs.StepLemmas.{keeps_same}
 use Rattle.runner.proofs.stepping.point.Goals as goal
 

@@ -1,6 +1,4 @@
-use Rattle.std.proofs.Common.{◌∙◌, ℕ, Option, ap, sym}
-use Rattle.thread_core.specs.Worlds.{Held}
-use Rattle.runner.specs.Waits.{earlier}
+use Rattle.runner.proofs.Common.{◌∙◌, ℕ, Option, ap, sym, Held, earlier}
 use Rattle.run_course.proofs.Pointed.{resting}
 use Rattle.runner.proofs.StepLemmas.{keeps_same}
 use Rattle.runner.proofs.Waited.{is_later, is_possible, moves, idles, keeps_wait}

@@ -1,8 +1,6 @@
 -- Jumps and branches leave the memory.
-use Rattle.std.proofs.Common.{ℕ, Option, true, ap}
-use Rattle.rv_machine.specs.Bytes.{put_byte}
+use Rattle.rv_machine.proofs.Common.{ℕ, Option, true, ap, put_byte, machine}
 use Rattle.rv_machine.specs.RowEffect.{row_effect}
-use Rattle.rv_machine.specs.Step.{machine}
 use Rattle.rv_machine.proofs.Quiet.{memory_after-jumps, memory_after-branches}
 use Rattle.rv_machine.proofs.execution.execute.Goals as goal
 

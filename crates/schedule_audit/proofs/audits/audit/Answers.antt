@@ -1,7 +1,5 @@
-use Rattle.std.proofs.Common.{[]}
 use Rattle.c_tree.specs.ProgramView.{program_tree}
-use Rattle.lawful_reading.specs.Given.{Given}
-use Rattle.lawful_reading.specs.State.{start_of}
+use Rattle.schedule_audit.proofs.Common.{[], Given, start_of}
 use Rattle.schedule_reading.specs.Limits.{given_of}
 use Rattle.schedule_audit.proofs.Judged.{begun}
 use Rattle.schedule_audit.proofs.audits.audit.Goals as goal

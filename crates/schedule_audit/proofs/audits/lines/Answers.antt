@@ -1,11 +1,6 @@
-use Rattle.std.proofs.Common.{◌≡◌, ◌∙◌, ◌+◌, ◌-◌, Result, Ok, List, ℕ, Option, ap, arith, drop, length, refl, subst, sym, take}
-use Rattle.std.proofs.lemmas.Bool.{false≢true}
+use Rattle.schedule_audit.proofs.Common.{◌≡◌, ◌∙◌, ◌+◌, ◌-◌, Result, Ok, List, ℕ, Option, ap, arith, drop, length, refl, subst, sym, take, false≢true, IsJudged, Kept, Failure, Ruling}
 use Rattle.std.proofs.lemmas.List.{take_rest}
 use Rattle.schedule_reading.specs.declared.reading.End.TheVariants as end
-use Rattle.schedule_audit.specs.Judging.{IsJudged}
-use Rattle.schedule_reading.specs.Kept.{Kept}
-use Rattle.schedule_reading.specs.declared.rulings.Failure.{Failure}
-use Rattle.schedule_reading.specs.declared.rulings.Ruling.{Ruling}
 use Rattle.schedule_reading.specs.declared.rulings.Ruling.TheVariants as ruling
 use Rattle.schedule_audit.proofs.Judged.{empty_is, empty_not, end_is, fewer_left, lawful_end, line_late, line_on, line_refused, still_stands, unlawful_end}
 use Rattle.schedule_audit.proofs.audits.lines.Goals as goal

@@ -1,7 +1,4 @@
-use Rattle.std.proofs.Common.{◌≡◌, ◌+◌, ◌≤◌, length}
-use Rattle.lawful_reading.specs.Given.{Given}
-use Rattle.schedule_audit.specs.Judging.{IsReadTo}
-use Rattle.schedule_reading.specs.Stands.{StandsSomehow}
+use Rattle.schedule_audit.proofs.Common.{◌≡◌, ◌+◌, ◌≤◌, length, Given, IsReadTo, StandsSomehow}
 use Rattle.schedule_audit.proofs.audits.lines.Given as goal
 
 abbrev pub invariant-loop-end : goal.invariant-loop-end

@@ -1,11 +1,5 @@
-use Rattle.std.proofs.Common.{◌∙◌, ℤ, None, Some, ap, refl, subst, sym, FitsSigned, of_z, to_z, rules}
 use Rattle.std.specs.Int.{w128}
-use Rattle.std.proofs.lemmas.Int.{to_z-of_z}
-use Rattle.schedule_log.specs.declared.entries.Entry.{Entry}
-use Rattle.schedule_reading.specs.Closing.{WithinSomehow}
-use Rattle.schedule_reading.specs.Kept.{Kept}
-use Rattle.schedule_reading.specs.Rulings.{StandsBetweenSomehow}
-use Rattle.schedule_reading.proofs.Delivered.{counts_alone}
+use Rattle.schedule_audit.proofs.Common.{◌∙◌, ℤ, None, Some, ap, refl, subst, sym, FitsSigned, of_z, to_z, rules, to_z-of_z, Entry, WithinSomehow, Kept, StandsBetweenSomehow, counts_alone}
 use Rattle.schedule_audit.proofs.Lined.{between_somehow, no_end, none_taken, point_line, rules_as, segment_line, segment_memory, some_taken, taken_is, within_somehow}
 use Rattle.schedule_audit.proofs.audits.take_entry.Goals as goal
 

@@ -1,6 +1,4 @@
-use Rattle.std.proofs.Common.{◌∙◌, ℤ, ap, sym, w32, FitsSigned, of_z, to_z, rules}
-use Rattle.std.proofs.lemmas.Int.{to_z-of_z}
-use Rattle.schedule_log.specs.declared.entries.Entry.{Entry}
+use Rattle.schedule_audit.proofs.Common.{◌∙◌, ℤ, ap, sym, w32, FitsSigned, of_z, to_z, rules, to_z-of_z, Entry}
 use Rattle.schedule_audit.proofs.Lined.{refused_within, within_as}
 use Rattle.schedule_audit.proofs.audits.take_in_segment.Goals as goal
 

@@ -1,12 +1,4 @@
-use Rattle.std.proofs.Common.{◌≡◌, true, false, Some, Result, Ok, ap, ◌∙◌, subst, sym}
-use Rattle.schedule_log.specs.declared.entries.StopLine.{StopLine}
-use Rattle.schedule_reading.specs.declared.rulings.Failure.{Failure}
-use Rattle.schedule_reading.specs.declared.rulings.Ruling.{Ruling}
-use Rattle.schedule_reading.specs.Ending.{RulesCause, RulesCut}
-use Rattle.schedule_reading.specs.Kept.{Kept}
-use Rattle.schedule_reading.specs.Stands.{StandsBy, StandsWithin}
-use Rattle.schedule_reading.proofs.Cutting.{cut_allowed, cut_beyond, cut_not}
-use Rattle.schedule_reading.proofs.Unstopped.{stands_by}
+use Rattle.schedule_audit.proofs.Common.{◌≡◌, true, false, Some, Result, Ok, ap, ◌∙◌, subst, sym, StopLine, Failure, Ruling, RulesCause, RulesCut, Kept, StandsBy, StandsWithin, cut_allowed, cut_beyond, cut_not, stands_by}
 use Rattle.schedule_audit.proofs.ends.cut.Goals as goal
 use Rattle.schedule_audit.proofs.ends.cut.Goals.{in-Allowed, in-Refused, in-OutOfSteps}
 

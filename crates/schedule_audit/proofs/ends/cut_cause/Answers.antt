@@ -1,9 +1,5 @@
-use Rattle.std.proofs.Common.{Ok, sym, subst}
 use Rattle.cap_word.specs.declared.stops.Stop.{Stop}
-use Rattle.schedule_reading.specs.declared.rulings.Ruling.{Ruling}
-use Rattle.schedule_reading.specs.Ending.{RulesCause}
-use Rattle.schedule_reading.proofs.Cutting.{cause_crowd, cause_trap}
-use Rattle.schedule_reading.proofs.Ended.{fuel_spent}
+use Rattle.schedule_audit.proofs.Common.{Ok, sym, subst, Ruling, RulesCause, cause_crowd, cause_trap, fuel_spent}
 use Rattle.schedule_audit.proofs.ends.cut_cause.Goals as goal
 
 pub returns-in-Trap-clause-rules : goal.returns-in-Trap-clause-rules

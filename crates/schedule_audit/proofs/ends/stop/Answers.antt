@@ -1,9 +1,4 @@
-use Rattle.std.proofs.Common.{◌≡◌, true, false, Ok, refl, ◌∙◌, subst, sym}
-use Rattle.schedule_reading.specs.declared.rulings.Ruling.{Ruling}
-use Rattle.schedule_reading.specs.Ending.{RulesStop}
-use Rattle.schedule_reading.specs.Kept.{Kept}
-use Rattle.schedule_reading.specs.Stands.{IsTold}
-use Rattle.schedule_reading.proofs.Ended.{going_on, none_left, some_left, stop_early, stop_ends, stop_not}
+use Rattle.schedule_audit.proofs.Common.{◌≡◌, true, false, Ok, refl, ◌∙◌, subst, sym, Ruling, RulesStop, Kept, IsTold, going_on, none_left, some_left, stop_early, stop_ends, stop_not}
 use Rattle.schedule_audit.proofs.ends.stop.Goals as goal
 
 pub returns-then-not-over-clause-rules : goal.returns-then-not-over-clause-rules

@@ -1,7 +1,4 @@
-use Rattle.std.proofs.Common.{sym, subst}
-use Rattle.schedule_log.specs.declared.entries.StopLine.{StopLine}
-use Rattle.schedule_reading.specs.Ending.{RulesStop}
-use Rattle.schedule_reading.proofs.Ended.{cut_counts, cut_stop}
+use Rattle.schedule_audit.proofs.Common.{sym, subst, StopLine, RulesStop, cut_counts, cut_stop}
 use Rattle.schedule_audit.proofs.ends.stop_cause.Goals as goal
 
 pub returns-in-Done-clause-rules : goal.returns-in-Done-clause-rules

@@ -1,13 +1,6 @@
-use Rattle.std.proofs.Common.{Result, Ok, sym, ap, ◌∙◌, subst}
-use Rattle.std.proofs.lemmas.Result.{err_from_is_err_and}
+use Rattle.schedule_audit.proofs.Common.{Result, Ok, sym, ap, ◌∙◌, subst, err_from_is_err_and, Happening, Failure, Ruling, HasProceeded, RulesTrap, trap_late, trap_not, trap_ruled}
 use denote.Enum.Bare.{same_false, same_true}
 use Rattle.cap_word.specs.contracts.traps.TrapKind.{the_type}
-use Rattle.schedule_reading.specs.declared.events.Happening.{Happening}
-use Rattle.schedule_reading.specs.declared.rulings.Failure.{Failure}
-use Rattle.schedule_reading.specs.declared.rulings.Ruling.{Ruling}
-use Rattle.schedule_reading.specs.Closing.{HasProceeded}
-use Rattle.schedule_reading.specs.Ending.{RulesTrap}
-use Rattle.schedule_reading.proofs.Cutting.{trap_late, trap_not, trap_ruled}
 use Rattle.schedule_audit.proofs.ends.trap.Goals as goal
 
 pub returns-in_err-proceed-clause-rules : goal.returns-in_err-proceed-clause-rules

@@ -1,19 +1,9 @@
-use Rattle.std.proofs.Common.{◌≡◌, ◌≤◌, ◌<◌, ◌^◌, ◌+◌, false, true, length, None, Result, Ok, refl, sym, ap, ◌∙◌, subst}
-use Rattle.std.proofs.lemmas.Result.{err_from_is_err_and}
+use Rattle.schedule_audit.proofs.Common.{◌≡◌, ◌≤◌, ◌<◌, ◌^◌, ◌+◌, false, true, length, None, Result, Ok, refl, sym, ap, ◌∙◌, subst, err_from_is_err_and, Entry, Happening, Failure, Ruling, IsAway, HasProceeded, HasRested, MayClose, RulesWithin, Kept, block_other, away_now, fuel_now, keys_now, may_close_now}
 use Rattle.blocking_graph.specs.Graph.{GraphState}
 use Rattle.blocking_graph.specs.Nodes.{keys_with, node_number}
-use Rattle.schedule_log.specs.declared.entries.Entry.{Entry}
-use Rattle.schedule_reading.specs.declared.events.Happening.{Happening}
 use Rattle.schedule_reading.specs.declared.events.Happening.TheVariants as happening
-use Rattle.schedule_reading.specs.declared.rulings.Failure.{Failure}
-use Rattle.schedule_reading.specs.declared.rulings.Ruling.{Ruling}
 use Rattle.thread_exchange.specs.Exchanges.{row_of}
-use Rattle.schedule_reading.specs.Changes.{IsAway}
-use Rattle.schedule_reading.specs.Closing.{HasProceeded, HasRested, MayClose, RulesWithin}
-use Rattle.schedule_reading.specs.Kept.{Kept}
 use Rattle.schedule_reading.proofs.Blocks.{block_allowed, block_late, block_refused}
-use Rattle.schedule_reading.proofs.Others.{block_other}
-use Rattle.schedule_reading.proofs.Ready.{away_now, fuel_now, keys_now, may_close_now}
 use Rattle.schedule_audit.proofs.segments.block.Goals as goal
 
 pub returns-in_err-proceed : goal.returns-in_err-proceed

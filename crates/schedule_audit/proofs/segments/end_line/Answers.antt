@@ -1,19 +1,9 @@
-use Rattle.std.proofs.Common.{◌≡◌, ◌<◌, ◌+◌, false, true, IsSome, Result, Ok, refl, sym, ap, ◌∙◌, subst}
-use Rattle.std.proofs.lemmas.Result.{err_from_is_err_and}
+use Rattle.schedule_audit.proofs.Common.{◌≡◌, ◌<◌, ◌+◌, false, true, IsSome, Result, Ok, refl, sym, ap, ◌∙◌, subst, err_from_is_err_and, Entry, Happening, Failure, Ruling, HasEnded, AllowsWithin, HasProceeded, RulesWithin, closed, Core, Kept, end_other, fuel_now, live_now, may_close_now, there_now}
 use Rattle.blocking_graph.specs.Edges.{count_of}
 use Rattle.choice_rules.specs.Seen.{end_node}
-use Rattle.schedule_log.specs.declared.entries.Entry.{Entry}
 use Rattle.slab.specs.Slab.{get}
-use Rattle.schedule_reading.specs.declared.events.Happening.{Happening}
 use Rattle.schedule_reading.specs.declared.events.Happening.TheVariants as happening
-use Rattle.schedule_reading.specs.declared.rulings.Failure.{Failure}
-use Rattle.schedule_reading.specs.declared.rulings.Ruling.{Ruling}
-use Rattle.schedule_reading.specs.Changes.{HasEnded}
-use Rattle.schedule_reading.specs.Closing.{AllowsWithin, HasProceeded, RulesWithin, closed}
-use Rattle.schedule_reading.specs.Kept.{Core, Kept}
 use Rattle.schedule_reading.proofs.EndLines.{end_allowed, end_late, end_refused}
-use Rattle.schedule_reading.proofs.Others.{end_other}
-use Rattle.schedule_reading.proofs.Ready.{fuel_now, live_now, may_close_now, there_now}
 use Rattle.schedule_audit.proofs.segments.end_line.Goals as goal
 
 pub returns-in_err-proceed : goal.returns-in_err-proceed

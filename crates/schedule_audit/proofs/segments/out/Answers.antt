@@ -1,14 +1,4 @@
-use Rattle.std.proofs.Common.{◌≡◌, ℤ, w32, FitsSigned, rules, false, true, Some, Result, Ok, sym, ap, ◌∙◌, subst}
-use Rattle.std.proofs.lemmas.Int.{to_z-of_z}
-use Rattle.std.proofs.lemmas.Result.{err_from_is_err_and}
-use Rattle.std.specs.Prelude.{◌↔◌, IsTrue}
-use Rattle.schedule_log.specs.declared.entries.Entry.{Entry}
-use Rattle.schedule_reading.specs.declared.events.Happening.{Happening}
-use Rattle.schedule_reading.specs.declared.reading.End.{End}
-use Rattle.schedule_reading.specs.declared.rulings.Failure.{Failure}
-use Rattle.schedule_reading.specs.declared.rulings.Ruling.{Ruling}
-use Rattle.schedule_reading.specs.Closing.{HasProceeded, IsPut, RulesWithin}
-use Rattle.schedule_reading.specs.Kept.{Kept}
+use Rattle.schedule_audit.proofs.Common.{◌≡◌, ℤ, w32, FitsSigned, rules, false, true, Some, Result, Ok, sym, ap, ◌∙◌, subst, to_z-of_z, err_from_is_err_and, ◌↔◌, IsTrue, Entry, Happening, End, Failure, Ruling, HasProceeded, IsPut, RulesWithin, Kept}
 use Rattle.schedule_reading.proofs.Outs.{out_ruled}
 use Rattle.schedule_audit.proofs.OtherOuts.{out_late, out_other}
 use Rattle.schedule_audit.proofs.segments.out.Goals as goal

@@ -1,13 +1,6 @@
-use Rattle.std.proofs.Common.{◌≡◌, ◌-◌, false, true, Result, sym, subst, arith}
 use Rattle.c_mean.specs.World.{Segment}
-use Rattle.lawful_reading.specs.Given.{Given}
-use Rattle.lawful_reading.specs.State.{State}
-use Rattle.schedule_reading.specs.declared.events.Happening.{Happening}
-use Rattle.schedule_reading.specs.declared.rulings.Failure.{Failure}
-use Rattle.schedule_reading.specs.Closing.{HasProceeded}
+use Rattle.schedule_audit.proofs.Common.{◌≡◌, ◌-◌, false, true, Result, sym, subst, arith, Given, State, Happening, Failure, HasProceeded, Kept, has_proceeded, may_run}
 use Rattle.schedule_reading.specs.Coming.{CrowdsFirst, HasHappened, KeepsBut, MayRun, RunsSomehow}
-use Rattle.schedule_reading.specs.Kept.{Kept}
-use Rattle.schedule_reading.proofs.Proceeding.{has_proceeded, may_run}
 use Rattle.schedule_audit.proofs.segments.proceed.Goals as goal
 
 pub happen-happened-requires : goal.happen-happened-requires

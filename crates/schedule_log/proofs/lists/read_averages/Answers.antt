@@ -1,7 +1,4 @@
-use Rattle.std.proofs.Common.{◌≡◌, ℤ, List, take, map, FitsSigned, sym, ◌∙◌}
-use Rattle.std.specs.Int.{w128}
-use Rattle.cap_text.specs.Decimals.{canonical_integer}
-use Rattle.schedule_log.specs.EntryRanges.{FitsAverages}
+use Rattle.schedule_log.proofs.Common.{◌≡◌, ℤ, List, take, map, FitsSigned, sym, ◌∙◌, w128, canonical_integer, FitsAverages}
 use Rattle.schedule_log.proofs.ListsRead.{if_none, no_next, some_fields}
 use Rattle.schedule_log.proofs.lists.read_averages.Goals as goal
 

@@ -1,7 +1,4 @@
-use Rattle.std.proofs.Common.{◌≡◌, ◌-◌, ◌≤◌, ◌++◌, map, take, length, FitsSigned}
-use Rattle.std.specs.Int.{w128}
-use Rattle.std.specs.List.{AllByRecursion}
-use Rattle.cap_text.specs.Decimals.{canonical_integer}
+use Rattle.schedule_log.proofs.Common.{◌≡◌, ◌-◌, ◌≤◌, ◌++◌, map, take, length, FitsSigned, w128, AllByRecursion, canonical_integer}
 use Rattle.schedule_log.proofs.lists.read_averages.Given as goal
 
 abbrev pub invariant-loop-values : goal.invariant-loop-values

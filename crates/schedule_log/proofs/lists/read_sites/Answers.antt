@@ -1,6 +1,4 @@
-use Rattle.std.proofs.Common.{◌≡◌, ℕ, List, ◌<◌, ◌^◌, take, map, sym, ◌∙◌}
-use Rattle.cap_text.specs.Decimals.{canonical_decimal}
-use Rattle.schedule_log.specs.EntryRanges.{FitsKey}
+use Rattle.schedule_log.proofs.Common.{◌≡◌, ℕ, List, ◌<◌, ◌^◌, take, map, sym, ◌∙◌, canonical_decimal, FitsKey}
 use Rattle.schedule_log.proofs.ListsRead.{if_none, no_next, some_fields}
 use Rattle.schedule_log.proofs.lists.read_sites.Goals as goal
 

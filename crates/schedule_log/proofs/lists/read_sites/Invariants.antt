@@ -1,6 +1,4 @@
-use Rattle.std.proofs.Common.{◌≡◌, ◌-◌, ◌<◌, ◌≤◌, ◌^◌, ◌++◌, map, take, length}
-use Rattle.std.specs.List.{AllByRecursion}
-use Rattle.cap_text.specs.Decimals.{canonical_decimal}
+use Rattle.schedule_log.proofs.Common.{◌≡◌, ◌-◌, ◌<◌, ◌≤◌, ◌^◌, ◌++◌, map, take, length, AllByRecursion, canonical_decimal}
 use Rattle.schedule_log.proofs.lists.read_sites.Given as goal
 
 abbrev pub invariant-loop-sites : goal.invariant-loop-sites

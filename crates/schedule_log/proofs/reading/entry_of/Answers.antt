@@ -1,5 +1,4 @@
-use Rattle.std.proofs.Common.{◌≡◌, [], length, sym, ap, ◌∙◌, arith}
-use Rattle.cap_text.specs.Pieces.{pieces}
+use Rattle.schedule_log.proofs.Common.{◌≡◌, [], length, sym, ap, ◌∙◌, arith, pieces}
 use Rattle.cap_text.proofs.PieceSteps.{some_pieces}
 use Rattle.schedule_log.proofs.EntryPieces.{entry_found, no_entry}
 use Rattle.schedule_log.proofs.reading.entry_of.Goals as goal

@@ -1,7 +1,5 @@
-use Rattle.std.proofs.Common.{◌≡◌, ℕ, ap, subst}
-use Rattle.std.specs.Prelude.{None}
+use Rattle.schedule_log.proofs.Common.{◌≡◌, ℕ, ap, subst, None, WriterState}
 use Rattle.schedule_log.specs.Puts.{CountsPut}
-use Rattle.schedule_log.specs.Writing.{WriterState}
 use Rattle.schedule_log.proofs.Written.{put_finished}
 use Rattle.schedule_log.proofs.writing.put_alone.Goals as goal
 

@@ -1,5 +1,4 @@
-use Rattle.std.proofs.Common.{pos, get_or, rules, FitsSigned}
-use Rattle.std.specs.Int.{w128}
+use Rattle.schedule_log.proofs.Common.{pos, get_or, rules, FitsSigned, w128}
 use Rattle.schedule_log.proofs.Pushed.{averages_step, writes_wide}
 use Rattle.schedule_log.proofs.Written.{writes_step}
 use Rattle.schedule_log.proofs.writing.write_averages.Goals as goal

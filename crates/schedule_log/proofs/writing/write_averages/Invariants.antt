@@ -1,7 +1,4 @@
-use Rattle.std.proofs.Common.{map, take}
-use Rattle.cap_text.specs.Decimals.{canonical_integer}
-use Rattle.schedule_log.specs.EntryText.{after_blanks}
-use Rattle.schedule_log.specs.Writing.{Writes, log_state}
+use Rattle.schedule_log.proofs.Common.{map, take, canonical_integer, after_blanks, Writes, log_state}
 use Rattle.schedule_log.proofs.writing.write_averages.Given as goal
 
 abbrev pub invariant-loop-value : goal.invariant-loop-value

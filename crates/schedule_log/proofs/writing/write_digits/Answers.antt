@@ -1,6 +1,4 @@
-use Rattle.std.proofs.Common.{◌≡◌, ◌∙◌}
-use Rattle.cap_text.specs.Decimals.{canonical_integer}
-use Rattle.cap_text.proofs.DecimalLaws.{passed_integer_is}
+use Rattle.schedule_log.proofs.Common.{◌≡◌, ◌∙◌, canonical_integer, passed_integer_is}
 use Rattle.schedule_log.proofs.writing.write_digits.Goals as goal
 
 pub returns : goal.returns

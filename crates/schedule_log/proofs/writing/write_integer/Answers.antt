@@ -1,8 +1,4 @@
-use Rattle.std.proofs.Common.{◌∷◌, ap, sym}
-use Rattle.std.specs.Prelude.{ℤ}
-use Rattle.std.specs.Int.{w128}
-use Rattle.std.proofs.lemmas.Int.{to_z-of_z}
-use Rattle.cap_text.specs.Decimals.{canonical_integer}
+use Rattle.schedule_log.proofs.Common.{◌∷◌, ap, sym, ℤ, w128, to_z-of_z, canonical_integer}
 use Rattle.schedule_log.proofs.Written.{writes_step}
 use Rattle.schedule_log.proofs.writing.write_integer.Goals as goal
 

@@ -1,6 +1,4 @@
-use Rattle.std.proofs.Common.{take}
-use Rattle.schedule_log.specs.EntryText.{more_sites}
-use Rattle.schedule_log.specs.Writing.{Writes, log_state}
+use Rattle.schedule_log.proofs.Common.{take, more_sites, Writes, log_state}
 use Rattle.schedule_log.proofs.writing.write_sites.Given as goal
 
 abbrev pub invariant-loop-site : goal.invariant-loop-site

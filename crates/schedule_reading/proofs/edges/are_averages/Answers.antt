@@ -1,6 +1,5 @@
-use Rattle.std.proofs.Common.{◌≡◌, ◌≢◌, ◌<◌, ◌+◌, ◌⊎◌, inl, inr, ℕ, pos, length, get_or, false, true, sym, ap, ◌∙◌, subst, arith, rules, FitsSigned}
 use Rattle.std.specs.Int.{w128}
-use Rattle.std.proofs.lemmas.Int.{to_z-of_z}
+use Rattle.schedule_reading.proofs.Common.{◌≡◌, ◌≢◌, ◌<◌, ◌+◌, ◌⊎◌, inl, inr, ℕ, pos, length, get_or, false, true, sym, ap, ◌∙◌, subst, arith, rules, FitsSigned, to_z-of_z}
 use mir.Val.{of_z, to_z}
 use Rattle.schedule_reading.proofs.Averages.{ShownFrom, turn_end, turn_more, turn_other, turn_short, turn_skip}
 use Rattle.schedule_reading.proofs.edges.are_averages.Goals as goal

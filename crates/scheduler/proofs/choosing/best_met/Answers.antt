@@ -1,5 +1,4 @@
-use Rattle.std.proofs.Common.{ℕ, ◌+◌, ◌<◌, refl, slice_index, sym, ◌∙◌}
-use Rattle.scheduler.specs.Scores.{score}
+use Rattle.scheduler.proofs.Common.{ℕ, ◌+◌, ◌<◌, refl, slice_index, sym, ◌∙◌, score}
 use Rattle.scheduler.proofs.ChoiceLemmas.{IsBestOf-taken, IsBestOf-passed, IsBestOf-ineligible, IsLawfulChoice-best, ranked}
 use Rattle.scheduler.proofs.CoverLemmas.{all_seen, seen_before}
 use Rattle.scheduler.proofs.choosing.best_met.Goals as goal

@@ -1,8 +1,4 @@
-use Rattle.std.proofs.Common.{ℕ, ◌<◌, ◌-◌, ◌^◌, Bool, slice_index}
-use Rattle.cap_word.specs.declared.threads.ThreadId.{ThreadId}
-use Rattle.scheduler.specs.Queues.{AreExact, entries_in}
-use Rattle.scheduler.specs.Scores.{score}
-use Rattle.scheduler.specs.Search.{IsBestOf}
+use Rattle.scheduler.proofs.Common.{ℕ, ◌<◌, ◌-◌, ◌^◌, Bool, slice_index, ThreadId, AreExact, entries_in, score, IsBestOf}
 use Rattle.scheduler.proofs.choosing.best_met.Given as goal
 
 abbrev pub invariant-loop-node : goal.invariant-loop-node

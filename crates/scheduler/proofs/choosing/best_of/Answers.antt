@@ -1,15 +1,7 @@
-use Rattle.std.proofs.Common.{◌≡◌, Some, IsSome, Option, List, [], slice_index, refl, sym, ap, ◌∙◌, subst, find, rules}
-use Rattle.std.specs.BTreeMap.{get}
+use Rattle.scheduler.proofs.Common.{◌≡◌, Some, IsSome, Option, List, [], slice_index, refl, sym, ap, ◌∙◌, subst, find, rules, get, nat_cmp, Entry, entries_of, is_eligible, places_of, threads_of, score, IsFound, IsPassed}
 use Rattle.std.specs.Cmp.{nat_cmp_total}
 use Rattle.std.specs.Map.Iter.{deref_pair}
-use Rattle.std.specs.Ordering.{nat_cmp}
 use Rattle.std.proofs.lemmas.Map.Iter.{btree_map_turn, rest_all, rest_more}
-use Rattle.ready_tree.specs.declared.entries.Entry.{Entry}
-use Rattle.ready_tree.specs.Entries.{entries_of}
-use Rattle.scheduler.specs.LawfulChoice.{is_eligible}
-use Rattle.scheduler.specs.Queues.{places_of, threads_of}
-use Rattle.scheduler.specs.Scores.{score}
-use Rattle.scheduler.specs.Search.{IsFound, IsPassed}
 use Rattle.scheduler.proofs.ChoiceLemmas.{IsBestOf-taken, IsBestOf-passed, IsBestOf-ineligible, IsLawfulChoice-best, passed_before, ranked}
 use Rattle.scheduler.proofs.choosing.best_of.Goals as goal
 

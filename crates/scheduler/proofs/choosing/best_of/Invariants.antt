@@ -1,7 +1,4 @@
-use Rattle.std.proofs.Common.{slice_index}
-use Rattle.scheduler.specs.LawfulChoice.{is_eligible}
-use Rattle.scheduler.specs.Scores.{score}
-use Rattle.scheduler.specs.Search.{IsBestOf, IsPassed}
+use Rattle.scheduler.proofs.Common.{slice_index, is_eligible, score, IsBestOf, IsPassed}
 use Rattle.scheduler.proofs.choosing.best_of.Given as goal
 
 abbrev pub invariant-loop-node : goal.invariant-loop-node

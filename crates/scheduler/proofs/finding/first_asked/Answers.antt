@@ -1,7 +1,4 @@
-use Rattle.std.proofs.Common.{◌≡◌, true, ap, sym, ◌∙◌, arith}
-use Rattle.scheduler.specs.LawfulChoice.{is_eligible}
-use Rattle.scheduler.specs.Queues.{passes_at}
-use Rattle.ready_tree.specs.Entries.{place_at}
+use Rattle.scheduler.proofs.Common.{◌≡◌, true, ap, sym, ◌∙◌, arith, is_eligible, passes_at, place_at}
 use Rattle.ready_tree.proofs.PlaceLaws.{first_is, first_none}
 use Rattle.scheduler.proofs.finding.first_asked.Goals as goal
 

@@ -1,7 +1,4 @@
-use Rattle.std.proofs.Common.{◌≡◌, ℕ, ◌<◌, false}
-use Rattle.ready_tree.specs.Entries.{place_at}
-use Rattle.scheduler.specs.LawfulChoice.{is_eligible}
-use Rattle.scheduler.specs.Queues.{passes_at}
+use Rattle.scheduler.proofs.Common.{◌≡◌, ℕ, ◌<◌, false, place_at, is_eligible, passes_at}
 use Rattle.scheduler.proofs.finding.first_asked.Given as goal
 
 abbrev pub invariant-loop-place : goal.invariant-loop-place

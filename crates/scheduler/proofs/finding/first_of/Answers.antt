@@ -1,4 +1,4 @@
-use Rattle.scheduler.specs.LawfulChoice.{is_eligible}
+use Rattle.scheduler.proofs.Common.{is_eligible}
 use Rattle.scheduler.proofs.finding.first_of.Goals as goal
 
 pub returns : goal.returns

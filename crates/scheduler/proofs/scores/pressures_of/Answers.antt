@@ -1,6 +1,4 @@
-use Rattle.std.proofs.Common.{◌≢◌, ◌<◌, length, slice_index, arith, ◌∙◌, below_more, get_or-set_other, get_or-set_same, length-set}
-use Rattle.blocking_graph.specs.Edges.{prediction}
-use Rattle.resource_monitor.specs.Monitor.{pressure_at}
+use Rattle.scheduler.proofs.Common.{◌≢◌, ◌<◌, length, slice_index, arith, ◌∙◌, below_more, get_or-set_other, get_or-set_same, length-set, prediction, pressure_at}
 use Rattle.scheduler.proofs.ScoreLemmas.{score_of_first-same}
 use Rattle.scheduler.proofs.scores.pressures_of.Goals as goal
 

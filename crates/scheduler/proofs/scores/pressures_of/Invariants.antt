@@ -1,5 +1,4 @@
-use Rattle.std.proofs.Common.{◌≡◌, ℕ, ◌<◌, ◌≤◌, get_or, length}
-use Rattle.resource_monitor.specs.Monitor.{pressure_at}
+use Rattle.scheduler.proofs.Common.{◌≡◌, ℕ, ◌<◌, ◌≤◌, get_or, length, pressure_at}
 use Rattle.scheduler.proofs.scores.pressures_of.Given as goal
 
 abbrev pub invariant-loop-resource : goal.invariant-loop-resource

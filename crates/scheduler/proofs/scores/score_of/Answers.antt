@@ -1,8 +1,5 @@
-use Rattle.std.proofs.Common.{◌≡◌, ◌≤◌, ◌+◌, ◌*◌, ◌^◌, ℤ, ◌+ℤ◌, unsigned_abs, slice_index, to_z, ap, sym, ◌∙◌, arith}
-use Rattle.std.specs.Int.{w128}
-use Rattle.blocking_graph.specs.Edges.{prediction}
-use Rattle.scheduler.specs.Scores.{score_of_first}
-use Rattle.scheduler.proofs.ScoreLemmas.{computed_sum, sum-le, score_of_first-more, score_of_first-none}
+use Rattle.scheduler.proofs.Common.{◌≡◌, ◌≤◌, ◌+◌, ◌*◌, ◌^◌, ℤ, ◌+ℤ◌, unsigned_abs, slice_index, to_z, ap, sym, ◌∙◌, arith, w128, prediction, score_of_first, sum-le}
+use Rattle.scheduler.proofs.ScoreLemmas.{computed_sum, score_of_first-more, score_of_first-none}
 use Rattle.scheduler.proofs.scores.score_of.Goals as goal
 
 pub expected_strain-total-requires-clause-most : goal.expected_strain-total-requires-clause-most

@@ -1,6 +1,4 @@
-use Rattle.std.proofs.Common.{◌≡◌, ◌≤◌, ◌*◌, ◌^◌, unsigned_abs, slice_index}
-use Rattle.blocking_graph.specs.Edges.{prediction}
-use Rattle.scheduler.specs.Scores.{score_of_first}
+use Rattle.scheduler.proofs.Common.{◌≡◌, ◌≤◌, ◌*◌, ◌^◌, unsigned_abs, slice_index, prediction, score_of_first}
 use Rattle.scheduler.proofs.scores.score_of.Given as goal
 
 abbrev pub invariant-loop-resource : goal.invariant-loop-resource

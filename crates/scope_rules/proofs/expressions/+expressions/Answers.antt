@@ -1,11 +1,5 @@
-use Rattle.std.proofs.Common.{◌≡◌, ◌∷◌, ◌++◌, ◌+◌, drop, append_assoc}
-use Rattle.c_tree.specs.RawViews.{raw_expr_tree}
-use Rattle.c_tree.proofs.RawExprEquations.{raw_expr_tree-Chain, raw_expr_tree-Conditional}
-use Rattle.c_tree.proofs.ExprEquations.{expr_tree-Chain}
-use Rattle.scope_rules.specs.Expressions.{expr_faults}
+use Rattle.scope_rules.proofs.Common.{◌≡◌, ◌∷◌, ◌++◌, ◌+◌, drop, append_assoc, raw_expr_tree, raw_expr_tree-Chain, raw_expr_tree-Conditional, expr_tree-Chain, expr_faults, operands_faults, drop_at}
 use Rattle.scope_rules.proofs.Least.{least_of_append, least_of_then}
-use Rattle.scope_rules.specs.Operands.{operands_faults}
-use Rattle.scope_rules.proofs.Cuts.{drop_at}
 use Rattle.scope_rules.proofs.Chains.{chain_of, chain_faults, operand_trees_map, operand_pushed}
 use Rattle.scope_rules.proofs.HeldValues.{pushed_pair_fact}
 use Rattle.scope_rules.proofs.expressions.+expressions.Goals as goal

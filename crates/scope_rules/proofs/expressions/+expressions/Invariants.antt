@@ -1,6 +1,4 @@
-use Rattle.std.proofs.Common.{◌≡◌, ◌++◌, drop}
-use Rattle.scope_rules.specs.Faults.{least_of}
-use Rattle.scope_rules.specs.Operands.{operand_trees, operands_of, operands_faults}
+use Rattle.scope_rules.proofs.Common.{◌≡◌, ◌++◌, drop, least_of, operand_trees, operands_of, operands_faults}
 use Rattle.scope_rules.proofs.expressions.+expressions.Given as goal
 
 abbrev pub invariant-operands-loop-operator : goal.invariant-operands-loop-operator

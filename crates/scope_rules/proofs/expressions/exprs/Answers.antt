@@ -1,9 +1,5 @@
-use Rattle.std.proofs.Common.{◌≡◌, ◌∷◌, ◌+◌, map, drop, append_assoc}
-use Rattle.c_tree.specs.RawViews.{raw_expr_tree}
-use Rattle.c_tree.specs.Views.{expr_tree}
-use Rattle.scope_rules.specs.Expressions.{expr_faults, exprs_faults}
+use Rattle.scope_rules.proofs.Common.{◌≡◌, ◌∷◌, ◌+◌, map, drop, append_assoc, raw_expr_tree, expr_tree, expr_faults, exprs_faults, drop_at}
 use Rattle.scope_rules.proofs.Least.{least_of_append}
-use Rattle.scope_rules.proofs.Cuts.{drop_at}
 use Rattle.scope_rules.proofs.HeldValues.{pushed_view, pushed_fact}
 use Rattle.scope_rules.proofs.expressions.exprs.Goals as goal
 

@@ -1,8 +1,4 @@
-use Rattle.std.proofs.Common.{◌≡◌, ◌++◌, drop, map}
-use Rattle.c_tree.specs.Views.{expr_tree}
-use Rattle.c_tree.specs.RawViews.{raw_expr_tree}
-use Rattle.scope_rules.specs.Faults.{least_of}
-use Rattle.scope_rules.specs.Expressions.{exprs_of, exprs_faults}
+use Rattle.scope_rules.proofs.Common.{◌≡◌, ◌++◌, drop, map, expr_tree, raw_expr_tree, least_of, exprs_of, exprs_faults}
 use Rattle.scope_rules.proofs.expressions.exprs.Given as goal
 
 abbrev pub invariant-loop-argument : goal.invariant-loop-argument

@@ -1,7 +1,4 @@
-use Rattle.std.proofs.Common.{◌<◌, length, map, rules}
-use Rattle.std.proofs.lemmas.List.{length-map}
-use Rattle.c_tree.specs.RawViews.{raw_expr_tree}
-use Rattle.c_tree.proofs.RawExprEquations.{raw_expr_tree-Chain, raw_operand_tree}
+use Rattle.scope_rules.proofs.Common.{◌<◌, length, map, rules, length-map, raw_expr_tree, raw_expr_tree-Chain, raw_operand_tree}
 use Rattle.scope_rules.proofs.NeitherForms.{chained_neither}
 use Rattle.scope_rules.proofs.forms.+form_of.Goals as goal
 

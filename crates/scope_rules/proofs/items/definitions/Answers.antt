@@ -1,5 +1,5 @@
 use Rattle.std.proofs.Common.{◌≡◌, ◌∷◌, ◌+◌, drop}
-use Rattle.scope_rules.proofs.Cuts.{drop_at}
+use Rattle.c_tree.proofs.Cuts.{drop_at}
 use Rattle.scope_rules.proofs.items.definitions.Goals as goal
 
 pub loop-item-preserved : goal.loop-item-preserved

@@ -1,6 +1,4 @@
-use Rattle.std.proofs.Common.{◌≡◌, drop}
-use Rattle.c_tree.specs.RawViews.{raw_item_trees}
-use Rattle.scope_rules.specs.Items.{with_definitions, definitions}
+use Rattle.scope_rules.proofs.Common.{◌≡◌, drop, raw_item_trees, with_definitions, definitions}
 use Rattle.scope_rules.proofs.items.definitions.Given as goal
 
 abbrev pub invariant-loop-item : goal.invariant-loop-item

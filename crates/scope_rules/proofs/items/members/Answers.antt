@@ -1,10 +1,4 @@
-use Rattle.std.proofs.Common.{◌≡◌, ◌∷◌, ◌+◌, map, drop, append_assoc}
-use Rattle.c_tree.specs.RawViews.{name_tree}
-use Rattle.scope_rules.specs.Names.{find}
-use Rattle.scope_rules.specs.Meanings.{is_member}
-use Rattle.scope_rules.specs.Expressions.{use_faults}
-use Rattle.scope_rules.specs.Items.{members_faults}
-use Rattle.scope_rules.proofs.Cuts.{drop_at}
+use Rattle.scope_rules.proofs.Common.{◌≡◌, ◌∷◌, ◌+◌, map, drop, append_assoc, name_tree, find, is_member, use_faults, members_faults, drop_at}
 use Rattle.scope_rules.proofs.Least.{least_of_append}
 use Rattle.scope_rules.proofs.items.members.Goals as goal
 

@@ -1,7 +1,4 @@
-use Rattle.std.proofs.Common.{◌≡◌, ◌++◌, drop, map}
-use Rattle.c_tree.specs.RawViews.{name_tree}
-use Rattle.scope_rules.specs.Faults.{least_of}
-use Rattle.scope_rules.specs.Items.{members_faults, members_of}
+use Rattle.scope_rules.proofs.Common.{◌≡◌, ◌++◌, drop, map, name_tree, least_of, members_faults, members_of}
 use Rattle.scope_rules.proofs.items.members.Given as goal
 
 abbrev pub invariant-loop-name : goal.invariant-loop-name

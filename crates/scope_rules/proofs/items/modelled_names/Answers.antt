@@ -1,11 +1,4 @@
-use Rattle.std.proofs.Common.{◌≡◌, ◌∷◌, ◌+◌, List, drop, get_or, sym, ap, ◌∙◌}
-use Rattle.std.proofs.lemmas.List.{get_or_default}
-use Rattle.cap_word.specs.ModelledCalls.{all_calls, name_of}
-use Rattle.cap_word.specs.declared.modelled_calls.ModelledCall.{ModelledCall}
-use Rattle.scope_rules.specs.Items.{with_calls}
-use Rattle.scope_rules.specs.Names.{Binding}
-use Rattle.scope_rules.specs.declared.meanings.Meaning.{Meaning}
-use Rattle.scope_rules.proofs.Cuts.{drop_at}
+use Rattle.scope_rules.proofs.Common.{◌≡◌, ◌∷◌, ◌+◌, List, drop, get_or, sym, ap, ◌∙◌, get_or_default, all_calls, name_of, ModelledCall, with_calls, Binding, Meaning, drop_at}
 use Rattle.scope_rules.proofs.items.modelled_names.Goals as goal
 
 pub loop-call-preserved : goal.loop-call-preserved

@@ -1,6 +1,4 @@
-use Rattle.std.proofs.Common.{◌≡◌, [], drop}
-use Rattle.cap_word.specs.ModelledCalls.{all_calls}
-use Rattle.scope_rules.specs.Items.{with_calls}
+use Rattle.scope_rules.proofs.Common.{◌≡◌, [], drop, all_calls, with_calls}
 use Rattle.scope_rules.proofs.items.modelled_names.Given as goal
 
 abbrev pub invariant-loop-call : goal.invariant-loop-call

@@ -1,8 +1,4 @@
-use Rattle.std.proofs.Common.{◌≡◌, ◌∷◌, ◌+◌, subst, sym, map, drop, length}
-use Rattle.std.specs.Prelude.{option_map}
-use Rattle.c_tree.specs.RawViews.{name_tree}
-use Rattle.scope_rules.specs.Items.{param_faults, param_bound, prototype_faults}
-use Rattle.scope_rules.proofs.Cuts.{drop_at}
+use Rattle.scope_rules.proofs.Common.{◌≡◌, ◌∷◌, ◌+◌, subst, sym, map, drop, length, option_map, name_tree, param_faults, param_bound, prototype_faults, drop_at}
 use Rattle.scope_rules.proofs.Least.{least_of_append}
 use Rattle.scope_rules.proofs.Scopes.{Extends, then_extends, param_extends}
 use Rattle.scope_rules.proofs.items.prototype_names.Goals as goal

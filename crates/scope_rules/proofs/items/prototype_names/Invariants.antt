@@ -1,8 +1,4 @@
-use Rattle.std.proofs.Common.{◌≡◌, drop, map, length}
-use Rattle.std.specs.Prelude.{option_map}
-use Rattle.c_tree.specs.RawViews.{name_tree}
-use Rattle.scope_rules.specs.Faults.{least_of}
-use Rattle.scope_rules.specs.Items.{prototype_faults}
+use Rattle.scope_rules.proofs.Common.{◌≡◌, drop, map, length, option_map, name_tree, least_of, prototype_faults}
 use Rattle.scope_rules.proofs.Scopes.{Extends}
 use Rattle.scope_rules.proofs.items.prototype_names.Given as goal
 

@@ -1,5 +1,4 @@
-use Rattle.std.proofs.Common.{◌≡◌, ◌≤◌, ◌+◌, drop, sum, map}
-use Rattle.c_tree.specs.Temporaries.{capped}
+use Rattle.scope_rules.proofs.Common.{◌≡◌, ◌≤◌, ◌+◌, drop, sum, map, capped}
 use Rattle.scope_rules.proofs.limits.global_words.Given as goal
 
 abbrev pub invariant-loop-global : goal.invariant-loop-global

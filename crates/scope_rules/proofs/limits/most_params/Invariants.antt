@@ -1,6 +1,4 @@
-use Rattle.std.proofs.Common.{◌≡◌, max, drop, map}
-use Rattle.c_tree.specs.Views.{function_tree}
-use Rattle.scope_rules.specs.Limits.{most_params}
+use Rattle.scope_rules.proofs.Common.{◌≡◌, max, drop, map, function_tree, most_params}
 use Rattle.scope_rules.proofs.limits.most_params.Given as goal
 
 abbrev pub invariant-loop-function : goal.invariant-loop-function

@@ -1,6 +1,4 @@
-use Rattle.std.proofs.Common.{◌≡◌, ◌≤◌, ◌+◌, drop, sum, map, length}
-use Rattle.c_tree.specs.Temporaries.{capped}
-use Rattle.c_tree.specs.Views.{table_row}
+use Rattle.scope_rules.proofs.Common.{◌≡◌, ◌≤◌, ◌+◌, drop, sum, map, length, capped, table_row}
 use Rattle.scope_rules.proofs.limits.table_members.Given as goal
 
 abbrev pub invariant-loop-table : goal.invariant-loop-table

@@ -1,5 +1,4 @@
-use Rattle.std.proofs.Common.{◌≡◌, ◌≤◌, ◌+◌, drop, sum}
-use Rattle.c_tree.specs.Temporaries.{capped}
+use Rattle.scope_rules.proofs.Common.{◌≡◌, ◌≤◌, ◌+◌, drop, sum, capped}
 use Rattle.scope_rules.proofs.limits.words.Given as goal
 
 abbrev pub invariant-loop-size : goal.invariant-loop-size

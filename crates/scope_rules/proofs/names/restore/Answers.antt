@@ -1,5 +1,4 @@
-use Rattle.std.proofs.Common.{sym, subst}
-use Rattle.scope_rules.specs.Names.{Changes}
+use Rattle.scope_rules.proofs.Common.{sym, subst, Changes}
 use Rattle.scope_rules.proofs.names.restore.Goals as goal
 use Rattle.scope_rules.proofs.names.restore.Goals.{in-Ok, in-Err}
 

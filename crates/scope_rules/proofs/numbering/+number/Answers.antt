@@ -1,13 +1,7 @@
 use borrow.Enum.Known.{ValuesAt}
 use borrow.Enum.Total.{values_o, values_o_at, values_d, values_d_at}
-use Rattle.std.proofs.Common.{refl, ap, map, sym, ◌∙◌, arith}
-use Rattle.std.specs.Prelude.{option_map}
-use Rattle.c_tree.specs.declared.statements.Stmt.{Stmt}
+use Rattle.scope_rules.proofs.Common.{refl, ap, map, sym, ◌∙◌, arith, option_map, Stmt, ForParts, simple_tree, stmt_tree, in_order, stmt_tree-If, stmt_tree-IfElse, stmt_tree-While, stmt_tree-For, simple_numbered, stmt_numbered}
 use Rattle.c_tree.specs.contracts.statements.Stmt.{enum}
-use Rattle.c_tree.specs.declared.statements.ForParts.{ForParts}
-use Rattle.c_tree.specs.Views.{simple_tree, stmt_tree, in_order}
-use Rattle.c_tree.proofs.StmtEquations.{stmt_tree-If, stmt_tree-IfElse, stmt_tree-While, stmt_tree-For}
-use Rattle.scope_rules.specs.Numbered.{simple_numbered, stmt_numbered}
 use Rattle.scope_rules.proofs.MappedLists.{changed_more, changed_all, left_more}
 use Rattle.scope_rules.proofs.NumberedLists.{numbered_in_order, if_numbered, if_else_numbered, while_numbered, for_numbered}
 use Rattle.scope_rules.proofs.numbering.+number.Goals as goal

@@ -1,6 +1,4 @@
-use Rattle.std.proofs.Common.{◌≡◌, map}
-use Rattle.c_tree.specs.Views.{stmt_tree}
-use Rattle.scope_rules.specs.Numbered.{stmt_numbered}
+use Rattle.scope_rules.proofs.Common.{◌≡◌, map, stmt_tree, stmt_numbered}
 use Rattle.scope_rules.proofs.MappedLists.{changed_to}
 use Rattle.scope_rules.proofs.numbering.+number.Given as goal
 

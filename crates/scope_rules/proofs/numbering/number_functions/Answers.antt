@@ -1,6 +1,4 @@
-use Rattle.std.proofs.Common.{sym, ap, ◌∙◌, arith}
-use Rattle.c_tree.specs.Views.{function_tree}
-use Rattle.scope_rules.specs.Numbered.{function_numbered}
+use Rattle.scope_rules.proofs.Common.{sym, ap, ◌∙◌, arith, function_tree, function_numbered}
 use Rattle.scope_rules.proofs.MappedLists.{changed_more, changed_all}
 use Rattle.scope_rules.proofs.numbering.number_functions.Goals as goal
 

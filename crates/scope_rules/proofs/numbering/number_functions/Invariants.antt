@@ -1,6 +1,4 @@
-use Rattle.std.proofs.Common.{◌≡◌, map}
-use Rattle.c_tree.specs.Views.{function_tree}
-use Rattle.scope_rules.specs.Numbered.{function_numbered}
+use Rattle.scope_rules.proofs.Common.{◌≡◌, map, function_tree, function_numbered}
 use Rattle.scope_rules.proofs.MappedLists.{changed_to}
 use Rattle.scope_rules.proofs.numbering.number_functions.Given as goal
 

@@ -1,6 +1,4 @@
-use Rattle.std.proofs.Common.{sym, ap, ◌∙◌, arith}
-use Rattle.c_tree.specs.Views.{simple_tree}
-use Rattle.scope_rules.specs.Numbered.{simple_numbered}
+use Rattle.scope_rules.proofs.Common.{sym, ap, ◌∙◌, arith, simple_tree, simple_numbered}
 use Rattle.scope_rules.proofs.MappedLists.{changed_more, changed_all}
 use Rattle.scope_rules.proofs.numbering.number_simples.Goals as goal
 

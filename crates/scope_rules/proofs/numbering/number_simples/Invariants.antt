@@ -1,6 +1,4 @@
-use Rattle.std.proofs.Common.{◌≡◌, map}
-use Rattle.c_tree.specs.Views.{simple_tree}
-use Rattle.scope_rules.specs.Numbered.{simple_numbered}
+use Rattle.scope_rules.proofs.Common.{◌≡◌, map, simple_tree, simple_numbered}
 use Rattle.scope_rules.proofs.MappedLists.{changed_to}
 use Rattle.scope_rules.proofs.numbering.number_simples.Given as goal
 

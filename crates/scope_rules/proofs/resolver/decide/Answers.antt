@@ -1,7 +1,4 @@
-use Rattle.std.proofs.Common.{subst}
-use Rattle.c_tree.specs.RawProgramView.{raw_program_tree}
-use Rattle.scope_rules.specs.Outcomes.{IsResolved}
-use Rattle.scope_rules.specs.Reading.{HaveRead}
+use Rattle.scope_rules.proofs.Common.{subst, raw_program_tree, IsResolved, HaveRead}
 use Rattle.scope_rules.proofs.Made.{made_as, memory_refused}
 use Rattle.scope_rules.proofs.resolver.decide.Goals as goal
 

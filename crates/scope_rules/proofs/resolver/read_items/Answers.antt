@@ -1,8 +1,4 @@
-use Rattle.std.proofs.Common.{◌∙◌, ap, None}
-use Rattle.c_tree.specs.RawViews.{raw_item_trees}
-use Rattle.scope_rules.specs.Faults.{least_of}
-use Rattle.scope_rules.specs.Items.{items_after, items_faults}
-use Rattle.scope_rules.specs.ItemViews.{sofar_of}
+use Rattle.scope_rules.proofs.Common.{◌∙◌, ap, None, raw_item_trees, least_of, items_after, items_faults, sofar_of}
 use Rattle.scope_rules.proofs.ReadItems.{read_all}
 use Rattle.scope_rules.proofs.resolver.read_items.Goals as goal
 

@@ -1,6 +1,4 @@
-use Rattle.std.proofs.Common.{◌∙◌, sym}
-use Rattle.c_tree.specs.RawProgramView.{raw_program_tree}
-use Rattle.c_tree.specs.ProgramView.{program_tree}
+use Rattle.scope_rules.proofs.Common.{◌∙◌, sym, raw_program_tree, program_tree}
 use Rattle.scope_rules.proofs.OneOutcome.{never_both, only_memory, this_or_memory}
 use Rattle.scope_rules.proofs.resolver.resolve.Goals as goal
 

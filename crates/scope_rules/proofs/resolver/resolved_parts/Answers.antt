@@ -1,8 +1,4 @@
-use Rattle.std.proofs.Common.{◌≡◌, ◌∙◌, refl, sym, ap, subst}
-use Rattle.c_tree.specs.WellScoped.{IsWellScoped}
-use Rattle.scope_rules.specs.Meanings.{function_of}
-use Rattle.scope_rules.specs.ItemViews.{sofar_of}
-use Rattle.scope_rules.specs.Outcomes.{IsResolved, IsRefused}
+use Rattle.scope_rules.proofs.Common.{◌≡◌, ◌∙◌, refl, sym, ap, subst, IsWellScoped, function_of, sofar_of, IsResolved, IsRefused}
 use Rattle.scope_rules.proofs.LeastFaults.{refused}
 use Rattle.scope_rules.proofs.Exceeded.{tree_from}
 use Rattle.scope_rules.proofs.Resolved.{no_main, over_limit, is_resolved, is_well_scoped}

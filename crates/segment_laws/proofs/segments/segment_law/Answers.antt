@@ -1,10 +1,9 @@
-use Rattle.machine_world.specs.Places.{Checked}
+use Rattle.segment_laws.proofs.Common.{Checked, running_on}
 use Rattle.segment_laws.proofs.ValidCalls.{CallFacts-valid}
 use Rattle.segment_laws.proofs.ValidFacts.{CodeFacts-valid}
 use Rattle.segment_laws.proofs.Needs.{NeedsFit-valid}
 use Rattle.segment_laws.proofs.Reaching.{runs_alike}
 use Rattle.segment_laws.proofs.FromRest.{rest_arrives}
-use Rattle.segment_laws.specs.Alike.{running_on}
 use Rattle.segment_laws.proofs.segments.segment_law.Goals as goal
 
 pub returns : goal.returns

@@ -1,5 +1,4 @@
-use Rattle.std.proofs.Common.{ℕ, ◌^◌, ◌<◌, subst, arith}
-use Rattle.std.proofs.lemmas.List.{get_or_default}
+use Rattle.segment_run.proofs.Common.{ℕ, ◌^◌, ◌<◌, subst, arith, get_or_default}
 use Rattle.segment_run.proofs.contexts.are_words.Goals as goal
 
 pub returns : goal.returns

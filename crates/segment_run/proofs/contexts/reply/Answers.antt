@@ -1,5 +1,4 @@
-use Rattle.accepted_pairs.specs.Accepting.{accepted_tree}
-use Rattle.segment_run.specs.Contexts.{checked_of, code_of, core_of}
+use Rattle.segment_run.proofs.Common.{accepted_tree, checked_of, code_of, core_of}
 use Rattle.segment_run.proofs.Retiring.{reply_rests, reply_waits}
 use Rattle.segment_run.proofs.contexts.reply.Goals as goal
 

@@ -1,4 +1,4 @@
-use Rattle.segment_run.specs.Contexts.{core_of}
+use Rattle.segment_run.proofs.Common.{core_of}
 use Rattle.segment_run.proofs.Retiring.{retire_rests, retire_waits}
 use Rattle.segment_run.proofs.contexts.retire.Goals as goal
 

@@ -1,8 +1,4 @@
-use Rattle.std.proofs.Common.{sym, subst}
-use Rattle.machine_world.specs.Areas.{Areas}
-use Rattle.segment_laws.specs.Ways.{Owns}
-use Rattle.segment_run.specs.Kept.{areas_of}
-use Rattle.segment_run.specs.Turns.{thread_of}
+use Rattle.segment_run.proofs.Common.{sym, subst, Areas, Owns, areas_of, thread_of}
 use Rattle.segment_run.proofs.Linking.{front_held}
 use Rattle.segment_run.proofs.links.end.Goals as goal
 

@@ -1,18 +1,8 @@
-use Rattle.std.proofs.Common.{◌≡◌, ◌+◌, ℕ, refl, sym, ap, subst, ◌∙◌, arith, set, ◌<◌}
-use Rattle.cap_word.specs.Runs.{Goes, Stops}
+use Rattle.segment_run.proofs.Common.{◌≡◌, ◌+◌, ℕ, refl, sym, ap, subst, ◌∙◌, arith, set, ◌<◌, Goes, Stops, count-most, read, Areas, TpIsFront, NoRoom, linked, linked_on, with_header, Owns, areas_of, thread_of, words_of-payload}
 use Rattle.chunk_pool.specs.Pool.{Pool, with_word, place_of, bytes_of, FitsNone}
-use Rattle.chunk_pool.proofs.PoolLaws.{count-most}
 use Rattle.segment_run.proofs.Taking.{takes_for, takes_none}
-use Rattle.rv_machine.specs.Registers.{read}
-use Rattle.machine_world.specs.Areas.{Areas}
-use Rattle.machine_world.specs.InPlace.{TpIsFront}
-use Rattle.machine_world.specs.Local.{NoRoom, linked, linked_on, with_header}
-use Rattle.segment_laws.specs.Ways.{Owns}
-use Rattle.segment_run.specs.Kept.{areas_of}
-use Rattle.segment_run.specs.Turns.{thread_of}
 use Rattle.segment_run.proofs.Linking.{front_of, depth_below, link_goes}
 use Rattle.segment_run.proofs.links.link.Goals as goal
-use Rattle.chunk_pool.proofs.ShapeLaws.{words_of-payload}
 
 pub overflow_add-thread-3 : goal.overflow_add-thread-3
 overflow_add-thread-3 c =

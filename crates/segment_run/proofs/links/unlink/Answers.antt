@@ -1,16 +1,6 @@
-use Rattle.std.proofs.Common.{◌≡◌, ◌-◌, ◌≤◌, refl, sym, ap, subst, ◌∙◌, set, arith}
-use Rattle.cap_word.specs.Runs.{Goes}
-use Rattle.chunk_pool.specs.Pool.{after_give, chunk_at}
-use Rattle.machine_world.specs.Areas.{Areas}
-use Rattle.machine_world.specs.InPlace.{HeadersName, TpIsFront}
-use Rattle.machine_world.specs.Local.{unlinked}
-use Rattle.segment_laws.specs.Ways.{Owns}
-use Rattle.segment_run.specs.Contexts.{chunk_below}
-use Rattle.segment_run.specs.Kept.{areas_of}
-use Rattle.segment_run.specs.Turns.{thread_of}
+use Rattle.segment_run.proofs.Common.{◌≡◌, ◌-◌, ◌≤◌, refl, sym, ap, subst, ◌∙◌, set, arith, Goes, after_give, chunk_at, Areas, HeadersName, TpIsFront, unlinked, Owns, chunk_below, areas_of, thread_of, words_of-payload}
 use Rattle.segment_run.proofs.Linking.{HasFront, front_of, front_held, unlink_goes, next_found, innermost_held}
 use Rattle.segment_run.proofs.links.unlink.Goals as goal
-use Rattle.chunk_pool.proofs.ShapeLaws.{words_of-payload}
 
 pub read-tp-requires-clause-id_in_range : goal.read-tp-requires-clause-id_in_range
 read-tp-requires-clause-id_in_range c =

@@ -1,4 +1,4 @@
-use Rattle.segment_run.specs.Contexts.{checked_of}
+use Rattle.segment_run.proofs.Common.{checked_of}
 use Rattle.segment_run.proofs.Standing.{entry_stands, entry_of}
 use Rattle.segment_run.proofs.lookups.function_with_entry.Goals as goal
 

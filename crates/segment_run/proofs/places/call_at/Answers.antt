@@ -1,16 +1,4 @@
-use Rattle.std.proofs.Common.{◌≡◌, ◌∙◌, ℕ, ◌<◌, List, length, get_or, ap, arith, Some}
-use Rattle.c_lower.specs.ProgramCode.{lowered}
-use Rattle.accepted_pairs.specs.Accepting.{accepted_tree}
-use Rattle.flat_code.specs.Codes.{FlatCode, function_at, site_of}
-use Rattle.flat_code.specs.declared.functions.FlatFunction.{FlatFunction}
-use Rattle.flat_code.specs.declared.operations.Op.{Op}
-use Rattle.certificate_rules.specs.Validity.{IsValid}
-use Rattle.machine_world.specs.Places.{Checked, InOperation, IsAt}
-use Rattle.segment_run.specs.Contexts.{checked_of}
-use Rattle.accepted_pairs.specs.CodeLists.{StandsIn}
-use Rattle.segment_run.specs.Walking.{IsInCall}
-use Rattle.stack_certificate.specs.declared.certificates.Certificate.{Certificate}
-use Rattle.stack_image.specs.declared.images.Image.{Image}
+use Rattle.segment_run.proofs.Common.{◌≡◌, ◌∙◌, ℕ, ◌<◌, List, length, get_or, ap, arith, Some, lowered, accepted_tree, FlatCode, function_at, site_of, FlatFunction, Op, IsValid, Checked, InOperation, IsAt, checked_of, StandsIn, IsInCall, Certificate, Image}
 use Rattle.segment_run.proofs.Standing.{stands_in, one_function, has_word, read_operation, read_site, read_at}
 use Rattle.segment_run.proofs.places.call_at.Goals as goal
 

@@ -1,17 +1,7 @@
-use Rattle.std.proofs.Common.{◌≡◌, ◌∙◌, ℕ, ◌+◌, ◌-◌, ◌/◌, ◌<◌, ◌≤◌, length, ap, subst, sym, arith}
-use Rattle.c_lower.specs.ProgramCode.{lowered}
-use Rattle.accepted_pairs.specs.Accepting.{accepted_tree}
-use Rattle.flat_code.specs.Codes.{FlatCode, function_at}
-use Rattle.flat_code.specs.declared.functions.FlatFunction.{FlatFunction}
-use Rattle.machine_meaning.proofs.Formed.{formed}
-use Rattle.machine_world.specs.Places.{InOperation, IsAt}
+use Rattle.accepted_pairs.proofs.SomeAt.{some_at}
+use Rattle.segment_run.proofs.Common.{◌≡◌, ◌∙◌, ℕ, ◌+◌, ◌-◌, ◌/◌, ◌<◌, ◌≤◌, length, ap, subst, sym, arith, lowered, accepted_tree, FlatCode, function_at, FlatFunction, formed, InOperation, IsAt, fact_at, words_before, Certificate, FunctionFact, checked_of}
 use Rattle.stack_certificate.proofs.PlaceLemmas.{function_formed}
-use Rattle.stack_certificate.specs.Certificates.{fact_at}
-use Rattle.stack_certificate.specs.Templates.{words_before}
-use Rattle.stack_certificate.specs.declared.certificates.Certificate.{Certificate}
-use Rattle.stack_certificate.specs.declared.functions.FunctionFact.{FunctionFact}
-use Rattle.segment_run.specs.Contexts.{checked_of}
-use Rattle.segment_run.proofs.Standing.{same_count, first_words, has_word, one_operation, not_past, some_at}
+use Rattle.segment_run.proofs.Standing.{same_count, first_words, has_word, one_operation, not_past}
 use Rattle.segment_run.proofs.places.operation_with.Goals as goal
 
 pub fact_of-requires : goal.fact_of-requires

@@ -1,7 +1,4 @@
-use Rattle.std.proofs.Common.{◌-◌, ◌^◌, ◌<◌, ◌≤◌, length}
-use Rattle.flat_code.specs.Codes.{function_at}
-use Rattle.segment_run.specs.Contexts.{checked_of}
-use Rattle.stack_certificate.specs.Templates.{words_before}
+use Rattle.segment_run.proofs.Common.{◌-◌, ◌^◌, ◌<◌, ◌≤◌, length, function_at, checked_of, words_before}
 use Rattle.segment_run.proofs.places.operation_with.Given as goal
 
 -- the word is not before the lower operation, and before the upper one

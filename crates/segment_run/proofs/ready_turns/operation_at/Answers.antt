@@ -1,4 +1,4 @@
-use Rattle.std.proofs.lemmas.Option.{slice_get-get_or}
+use Rattle.segment_run.proofs.Common.{slice_get-get_or}
 use Rattle.segment_run.proofs.ReadyTurns.{in_list, is_ready}
 use Rattle.segment_run.proofs.ready_turns.operation_at.Goals as goal
 

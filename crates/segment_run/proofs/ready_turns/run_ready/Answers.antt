@@ -1,6 +1,4 @@
-use Rattle.std.proofs.Common.{refl, sym, subst}
-use Rattle.segment_run.specs.Contexts.{checked_of, code_of}
-use Rattle.segment_run.specs.Turns.{thread_of, IsUnderWay}
+use Rattle.segment_run.proofs.Common.{refl, sym, subst, checked_of, code_of, thread_of, IsUnderWay}
 use Rattle.segment_run.specs.declared.ready_turns.Progress.{Progress}
 use Rattle.segment_run.proofs.Instructions.{stands_at}
 use Rattle.segment_run.proofs.ReadyRuns.{run_of, begins}

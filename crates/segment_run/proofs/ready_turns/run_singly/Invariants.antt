@@ -1,4 +1,4 @@
-use Rattle.segment_run.specs.ReadyRuns.{Run, IsIn}
+use Rattle.segment_run.proofs.Common.{Run, IsIn}
 use Rattle.segment_run.proofs.ready_turns.run_singly.Given as goal
 
 abbrev pub invariant-loop-stand : goal.invariant-loop-stand

@@ -1,5 +1,4 @@
-use Rattle.std.proofs.Common.{ℕ, ◌≡◌, ◌+◌, ◌-◌, refl, sym, subst, arith}
-use Rattle.segment_run.specs.ReadyTurns.{IsKindAt}
+use Rattle.segment_run.proofs.Common.{ℕ, ◌≡◌, ◌+◌, ◌-◌, refl, sym, subst, arith, IsKindAt}
 use Rattle.segment_run.proofs.ReadyRuns.{standing, unchanged}
 use Rattle.segment_run.proofs.ready_turns.triple.Goals as goal
 

@@ -1,10 +1,5 @@
-use Rattle.std.proofs.Common.{◌≡◌, ℕ, List, refl, Some, sym, ap, subst, ◌∙◌}
-use Rattle.machine_world.specs.Areas.{byte_at}
-use Rattle.rv_machine.specs.Bytes.{Nothing}
-use Rattle.rv_machine.specs.Registers.{write}
+use Rattle.segment_run.proofs.Common.{◌≡◌, ℕ, List, refl, Some, sym, ap, subst, ◌∙◌, byte_at, Nothing, write, ready_effect, place_at, even, branches_to, machine_at, GoesOn}
 use Rattle.rv_machine.specs.Rows.{Goes, next, sets, jumps, loads, word_loaded, word_stored}
-use Rattle.decoded_code.specs.Ready.{ready_effect, place_at, even, branches_to}
-use Rattle.segment_run.specs.ReadyTurns.{machine_at, GoesOn}
 use Rattle.segment_run.proofs.ReadyTurns.{by_kind, set_went, load_goes, load_went, store_goes, store_went, jump_went, branch_went}
 use Rattle.segment_run.proofs.ready_turns.turn.Goals as goal
 

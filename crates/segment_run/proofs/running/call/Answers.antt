@@ -1,10 +1,4 @@
-use Rattle.std.proofs.Common.{refl, ap, subst, ◌∙◌}
-use Rattle.stack_certificate.specs.Registers.{a0, a1, a2}
-use Rattle.machine_world.specs.Local.{Starts, system_call}
-use Rattle.rv_machine.specs.Registers.{read}
-use Rattle.segment_run.specs.Contexts.{checked_of}
-use Rattle.segment_run.specs.Safe.{IsSafeMove, AsksAt}
-use Rattle.segment_run.specs.Turns.{thread_of}
+use Rattle.segment_run.proofs.Common.{refl, ap, subst, ◌∙◌, a0, a1, a2, Starts, system_call, read, checked_of, IsSafeMove, AsksAt, thread_of}
 use Rattle.segment_run.proofs.Calls.{spawned_entry, at_spawn, last_chunk}
 use Rattle.segment_run.proofs.running.call.Goals as goal
 

@@ -1,8 +1,4 @@
-use Rattle.std.proofs.Common.{◌-◌, refl, sym, subst, ◌∙◌, arith}
-use Rattle.machine_world.specs.Local.{Local, local_step, system_call}
-use Rattle.segment_run.specs.Contexts.{checked_of, code_of}
-use Rattle.segment_run.specs.Safe.{IsSafeMove}
-use Rattle.segment_run.specs.Turns.{thread_of, IsUnderWay}
+use Rattle.segment_run.proofs.Common.{◌-◌, refl, sym, subst, ◌∙◌, arith, Local, local_step, system_call, checked_of, code_of, IsSafeMove, thread_of, IsUnderWay}
 use Rattle.segment_run.proofs.Instructions.{went, asked, failed, stands_at}
 use Rattle.segment_run.proofs.UnderWay.{safe_now, goes_on, stays_safe, way_then}
 use Rattle.segment_run.proofs.running.run_to_call.Goals as goal

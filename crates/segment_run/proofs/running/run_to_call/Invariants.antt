@@ -1,5 +1,4 @@
-use Rattle.segment_run.specs.Contexts.{checked_of, code_of}
-use Rattle.segment_run.specs.Turns.{thread_of, IsUnderWay}
+use Rattle.segment_run.proofs.Common.{checked_of, code_of, thread_of, IsUnderWay}
 use Rattle.segment_run.proofs.running.run_to_call.Given as goal
 
 abbrev pub invariant-loop-left : goal.invariant-loop-left

@@ -1,5 +1,4 @@
-use Rattle.accepted_pairs.specs.Accepting.{accepted_tree}
-use Rattle.machine_meaning.proofs.Formed.{formed}
+use Rattle.segment_run.proofs.Common.{accepted_tree, formed}
 use Rattle.segment_run.proofs.segments.are_sound.Goals as goal
 
 pub returns-clause-formed : goal.returns-clause-formed

@@ -1,7 +1,6 @@
-use Rattle.segment_run.specs.Contexts.{checked_of, local_of}
+use Rattle.segment_run.proofs.Common.{checked_of, local_of, accepted_tree}
 use Rattle.segment_run.proofs.Whole.{form_of, keeps_chunks, are_of, runs_as}
 use Rattle.segment_run.proofs.FromSource.{stays_safe, source_answer}
-use Rattle.accepted_pairs.specs.Accepting.{accepted_tree}
 use Rattle.segment_run.proofs.segments.run_segment.Goals as goal
 
 pub run_turns-segment-requires-clause-form : goal.run_turns-segment-requires-clause-form

@@ -1,6 +1,4 @@
-use Rattle.std.proofs.Common.{ℕ, ◌-◌, Option, IfSome, IsNone, refl, sym, subst, arith}
-use Rattle.segment_run.specs.Contexts.{checked_of, code_of}
-use Rattle.segment_run.specs.Turns.{thread_of, IsAtEcall, KeepsCounts}
+use Rattle.segment_run.proofs.Common.{ℕ, ◌-◌, Option, IfSome, IsNone, refl, sym, subst, arith, checked_of, code_of, thread_of, IsAtEcall, KeepsCounts}
 use Rattle.segment_run.specs.declared.segments.Segment.TheVariants as answer
 use Rattle.segment_run.proofs.UnderWay.{safe_now, way_then, stays_safe, goes_on, counts_ended, ends_here}
 use Rattle.segment_run.proofs.segments.run_turns.Goals as goal

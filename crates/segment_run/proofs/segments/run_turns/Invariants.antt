@@ -1,5 +1,4 @@
-use Rattle.segment_run.specs.Contexts.{checked_of, code_of}
-use Rattle.segment_run.specs.Turns.{thread_of, IsUnderWay}
+use Rattle.segment_run.proofs.Common.{checked_of, code_of, thread_of, IsUnderWay}
 use Rattle.segment_run.proofs.segments.run_turns.Given as goal
 
 abbrev pub invariant-loop-fuel : goal.invariant-loop-fuel

@@ -1,7 +1,4 @@
-use Rattle.std.proofs.Common.{refl}
-use Rattle.accepted_pairs.specs.Accepting.{accepted_tree}
-use Rattle.c_lower.specs.ProgramCode.{lowered}
-use Rattle.machine_meaning.proofs.Formed.{formed}
+use Rattle.segment_run.proofs.Common.{refl, accepted_tree, lowered, formed}
 use Rattle.segment_run.proofs.FewWords.{few_globals, few_tables}
 use Rattle.segment_run.proofs.sizes.sizes_law.Goals as goal
 

@@ -1,21 +1,10 @@
-use Rattle.std.proofs.Common.{◌≡◌, ℕ, [], sym, ap, ◌∙◌, subst, ◌<◌, arith, Option, Some, None, true, false}
-use Rattle.std.specs.Prelude.{◌↔◌, IsNone}
+use Rattle.segment_run.proofs.Common.{◌≡◌, ℕ, [], sym, ap, ◌∙◌, subst, ◌<◌, arith, Option, Some, None, true, false, ◌↔◌, IsNone, accepted_tree, Local, with_header, checked_of, code_of, AreOf, IsReady, areas_of, first_arguments, IsStarted, fact_at, Certificate, words_of-payload, Context, Areas}
 use Rattle.c_mean.specs.Frames.{pushed, function_at}
-use Rattle.accepted_pairs.specs.Accepting.{accepted_tree}
 use Rattle.chunk_pool.specs.Pool.{Pool, with_word, Taken, taken_for, IsTaken, FitsNone, shape_of}
-use Rattle.machine_world.specs.Local.{Local, with_header}
 use Rattle.machine_world.specs.StandsFor.{Starts, StandsForThread}
-use Rattle.segment_run.specs.Contexts.{checked_of, code_of, AreOf, IsReady}
-use Rattle.segment_run.specs.Kept.{areas_of}
-use Rattle.segment_run.specs.Starting.{first_arguments, IsStarted}
 use Rattle.segment_run.proofs.NewThread.{made, before, new_ready, new_source, written}
 use Rattle.segment_run.proofs.Taking.{takes_for, takes_none, shape-take, AreOf-same}
-use Rattle.stack_certificate.specs.Certificates.{fact_at}
-use Rattle.stack_certificate.specs.declared.certificates.Certificate.{Certificate}
 use Rattle.segment_run.proofs.starting.start.Goals as goal
-use Rattle.chunk_pool.proofs.ShapeLaws.{words_of-payload}
-use Rattle.segment_run.specs.declared.contexts.Context.{Context}
-use Rattle.machine_world.specs.Areas.{Areas}
 
 -- ---- where no free chunk fits
 

@@ -1,9 +1,4 @@
-use Rattle.std.proofs.Common.{◌≡◌, ◌∙◌, ℕ, List, ap, sym, subst, refl, arith, Ok}
-use Rattle.accepted_pairs.specs.Accepting.{accepted_tree}
-use Rattle.rv_code.specs.declared.instructions.Instr.{Instr}
-use Rattle.rv_machine.specs.Step.{instruction_at}
-use Rattle.segment_run.specs.Contexts.{core_of}
-use Rattle.stack_image.specs.declared.images.Image.{Image}
+use Rattle.segment_run.proofs.Common.{◌≡◌, ◌∙◌, ℕ, List, ap, sym, subst, refl, arith, Ok, accepted_tree, Instr, instruction_at, core_of, Image}
 use Rattle.segment_run.proofs.Behind.{behind_call, at_ecall, aligned_low}
 use Rattle.segment_run.proofs.walking.ecall_of.Goals as goal
 

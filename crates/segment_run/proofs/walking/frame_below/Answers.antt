@@ -1,10 +1,4 @@
-use Rattle.std.proofs.Common.{◌≡◌, ℕ, ◌+◌, ◌<◌, ◌∷◌, Some, length, sym, ap, subst, ◌∙◌, arith}
-use Rattle.accepted_pairs.specs.Accepting.{accepted_tree}
-use Rattle.chunk_pool.specs.Pool.{end_of, chunk_at}
-use Rattle.segment_run.specs.Contexts.{checked_of}
-use Rattle.stack_certificate.specs.Certificates.{fact_at}
-use Rattle.stack_certificate.specs.declared.certificates.Certificate.{Certificate}
-use Rattle.stack_certificate.specs.declared.functions.FunctionFact.{FunctionFact}
+use Rattle.segment_run.proofs.Common.{◌≡◌, ℕ, ◌+◌, ◌<◌, ◌∷◌, Some, length, sym, ap, subst, ◌∙◌, arith, accepted_tree, end_of, chunk_at, checked_of, fact_at, Certificate, FunctionFact}
 use Rattle.segment_run.proofs.Reading.{lies, ends_chunk, ends_before, next_chunk, same_chunk, read_next}
 use Rattle.segment_run.proofs.walking.frame_below.Goals as goal
 

@@ -1,7 +1,4 @@
-use Rattle.std.proofs.Common.{◌≡◌, ◌∙◌, ◌<◌, ◌-◌, ◌/◌, length, ap, sym, Some, None}
-use Rattle.std.specs.Prelude.{slice_get}
-use Rattle.std.proofs.lemmas.Bool.{ltb-true}
-use Rattle.std.proofs.lemmas.Option.{slice_get-get_or}
+use Rattle.segment_run.proofs.Common.{◌≡◌, ◌∙◌, ◌<◌, ◌-◌, ◌/◌, length, ap, sym, Some, None, slice_get, ltb-true, slice_get-get_or}
 use Rattle.segment_run.proofs.Fetching.{ecall_read, past_code}
 use Rattle.segment_run.proofs.walking.is_ecall.Goals as goal
 

@@ -1,9 +1,4 @@
-use Rattle.std.proofs.Common.{◌≡◌, ℕ, ◌+◌, ◌-◌, ◌/◌, ◌<◌, List, length, get_or, sym, ap, subst, ◌∙◌, arith}
-use Rattle.accepted_pairs.specs.Accepting.{accepted_tree}
-use Rattle.segment_run.specs.Contexts.{checked_of}
-use Rattle.stack_certificate.specs.Certificates.{fact_at}
-use Rattle.stack_certificate.specs.declared.certificates.Certificate.{Certificate}
-use Rattle.stack_certificate.specs.declared.functions.FunctionFact.{FunctionFact}
+use Rattle.segment_run.proofs.Common.{◌≡◌, ℕ, ◌+◌, ◌-◌, ◌/◌, ◌<◌, List, length, get_or, sym, ap, subst, ◌∙◌, arith, accepted_tree, checked_of, fact_at, Certificate, FunctionFact}
 use Rattle.segment_run.proofs.Reading.{lies, payload_length, returns_is}
 use Rattle.segment_run.proofs.walking.return_of.Goals as goal
 

@@ -1,10 +1,4 @@
-use Rattle.std.proofs.Common.{◌≡◌, ℕ, ◌-◌, List, ◌∷◌, Some, refl, sym, ap, subst, ◌∙◌, arith, inl, inr}
-use Rattle.std.proofs.lemmas.List.{length-set}
-use Rattle.accepted_pairs.specs.Accepting.{accepted_tree}
-use Rattle.machine_world.specs.InPlace.{Frame, chain_below}
-use Rattle.machine_world.specs.Keys.{key_of, sites_of}
-use Rattle.segment_run.specs.Contexts.{checked_of, core_of}
-use Rattle.segment_run.specs.Walking.{IsInCall, IsReadOf, IsAround}
+use Rattle.segment_run.proofs.Common.{◌≡◌, ℕ, ◌-◌, List, ◌∷◌, Some, refl, sym, ap, subst, ◌∙◌, arith, inl, inr, length-set, accepted_tree, Frame, chain_below, key_of, sites_of, checked_of, core_of, IsInCall, IsReadOf, IsAround}
 use Rattle.segment_run.proofs.Walks.{around_of, around_call, next_call, last_returns, not_last, first_key, next_walked, key_last, key_full, source_key, low_return}
 use Rattle.segment_run.proofs.walking.walk.Goals as goal
 
@@ -32,7 +26,6 @@ loop-count-init c = (
       let certificate = c.args.accepted.now.certificate in
       let scoped = c.args.accepted.now.program.well_scoped in
       let valid = c.are_sound.ensures.valid in
-      let checked = checked_of c.args.accepted.now in
       let pool = c.args.pool.now in
       let context = c.args.context.now in
       let call = around_call program image certificate scoped valid pool context c.ecall_of-ecall.result f i frames around
@@ -43,11 +36,6 @@ loop-count-init c = (
 
 pub return_of-returns-requires-clause-there : goal.return_of-returns-requires-clause-there
 return_of-returns-requires-clause-there c =
-    let program = accepted_tree c.args.accepted.now in
-    let image = c.args.accepted.now.image in
-    let certificate = c.args.accepted.now.certificate in
-    let scoped = c.args.accepted.now.program.well_scoped in
-    let valid = c.are_sound.ensures.valid in
     let checked = checked_of c.args.accepted.now in
     let pool = c.args.pool.now in
     let context = c.args.context.now in
@@ -106,7 +94,6 @@ frame_below-frame-requires-clause-there c =
     let returns = c.return_of-returns.ensures walked.chain walked.at walked.below walked.is_read in
     let next = not_last program image certificate scoped valid pool c.loop-count.frame walked.chain walked.at walked.below walked.is_read (λ stub. c.if-returns-eq-END_STUB.false (returns ∙ stub)) in
     let is : IsReadOf checked pool c.loop-count.frame walked.chain walked.at (next.0 ∷ next.1) = subst (λ (frames : List Frame). IsReadOf checked pool c.loop-count.frame walked.chain walked.at frames) next.2 walked.is_read in
-    let comes = next_call program image certificate scoped valid pool c.loop-count.frame walked.chain walked.at next.0 next.1 is in
     (walked.chain, walked.at, next.0, next.1, is)
 
 pub loop-count-preserved : goal.loop-count-preserved
@@ -120,7 +107,6 @@ loop-count-preserved c = (
       let valid = c.are_sound.ensures.valid in
       let checked = checked_of c.args.accepted.now in
       let pool = c.args.pool.now in
-      let context = c.args.context.now in
       let walked = c.loop-count.invariant.1 f i frames around in
       let returns = c.return_of-returns.ensures walked.chain walked.at walked.below walked.is_read in
       let next = not_last program image certificate scoped valid pool c.loop-count.frame walked.chain walked.at walked.below walked.is_read (λ stub. c.if-returns-eq-END_STUB.false (returns ∙ stub)) in

@@ -1,6 +1,4 @@
-use Rattle.std.proofs.Common.{◌≡◌, length}
-use Rattle.segment_run.specs.Contexts.{checked_of, core_of}
-use Rattle.segment_run.specs.Walking.{AreWalked}
+use Rattle.segment_run.proofs.Common.{◌≡◌, length, checked_of, core_of, AreWalked}
 use Rattle.segment_run.proofs.walking.walk.Given as goal
 
 abbrev pub invariant-loop-count : goal.invariant-loop-count

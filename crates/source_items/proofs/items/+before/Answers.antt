@@ -1,9 +1,5 @@
-use Rattle.std.proofs.Common.{◌≡◌, ℕ, ◌+◌, ◌-◌, ◌<◌, length, sym, ap, ◌∙◌, subst, arith}
-use Rattle.c_tree.specs.declared.statements.Stmt.{Stmt}
-use Rattle.c_tree.specs.Views.{stmt_tree}
-use Rattle.c_tree.proofs.StmtEquations.{stmt_tree-For}
+use Rattle.source_items.proofs.Common.{◌≡◌, ◌+◌, ◌-◌, ◌<◌, length, sym, ap, ◌∙◌, subst, arith, Stmt, stmt_tree, stmt_tree-For, IsLoop, IsScoped, to_do}
 use Rattle.c_mean.specs.ToDo as todo
-use Rattle.source_items.specs.Items.{IsLoop, IsScoped, to_do}
 use Rattle.source_items.proofs.Loops.{body-scoped}
 use Rattle.source_items.proofs.Stacks.{before-cut, scoped-at}
 use Rattle.source_items.proofs.items.+before.Goals as goal

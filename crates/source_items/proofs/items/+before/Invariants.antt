@@ -1,8 +1,5 @@
-use Rattle.std.proofs.Common.{◌≡◌, ◌≤◌, ℕ, Bool, List, length, drop}
-use Rattle.c_tree.specs.Views.{stmt_trees}
-use Rattle.c_tree.specs.WellScoped.{AreStmtsScoped, Context}
+use Rattle.source_items.proofs.Common.{◌≡◌, ◌≤◌, ℕ, Bool, List, length, drop, stmt_trees, AreStmtsScoped, Context, AreItems, to_do}
 use Rattle.c_mean.specs.ToDo as todo
-use Rattle.source_items.specs.Items.{AreItems, to_do}
 use Rattle.source_items.proofs.items.+before.Given as goal
 
 abbrev pub invariant-push_stmts-loop-left : goal.invariant-push_stmts-loop-left

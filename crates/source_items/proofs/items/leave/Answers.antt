@@ -1,6 +1,4 @@
-use Rattle.std.proofs.Common.{Bor}
-use Rattle.c_tree.specs.Views.{stmt_tree}
-use Rattle.c_tree.specs.declared.statements.Stmt.{Stmt}
+use Rattle.source_items.proofs.Common.{Bor, stmt_tree, Stmt}
 use Rattle.source_items.proofs.Stacks.{taken-left}
 use Rattle.source_items.proofs.items.leave.Goals as goal
 

@@ -1,5 +1,4 @@
-use Rattle.std.proofs.Common.{ap, ◌∙◌}
-use Rattle.source_items.specs.Items.{to_do}
+use Rattle.source_items.proofs.Common.{ap, ◌∙◌, to_do}
 use Rattle.source_items.proofs.Stacks.{to_do-push}
 use Rattle.source_items.proofs.items.push.Goals as goal
 

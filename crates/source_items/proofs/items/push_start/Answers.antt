@@ -1,10 +1,5 @@
-use Rattle.std.proofs.Common.{◌≡◌, ℕ, map, suc, ◌-◌, ◌<◌, List, ◌∷◌, length, sym, ap, ◌∙◌, arith}
-use Rattle.std.specs.Prelude.{slice_index_or}
-use Rattle.std.proofs.lemmas.List.{length-map}
-use Rattle.c_tree.specs.Trees.{SimpleTree, DeclareScalar}
-use Rattle.c_tree.specs.Views.{simple_tree, stmt_tree}
+use Rattle.source_items.proofs.Common.{◌≡◌, map, suc, ◌-◌, ◌<◌, List, ◌∷◌, length, sym, ap, ◌∙◌, arith, slice_index_or, length-map, SimpleTree, DeclareScalar, simple_tree, stmt_tree, to_do, start_of}
 use Rattle.c_mean.specs.ToDo as todo
-use Rattle.source_items.specs.Items.{to_do, start_of}
 use Rattle.source_items.proofs.Stacks.{start-cut}
 use Rattle.source_items.proofs.items.push_start.Goals as goal
 

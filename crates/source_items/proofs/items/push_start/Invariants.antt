@@ -1,8 +1,5 @@
-use Rattle.std.proofs.Common.{◌≡◌, ◌≤◌, ◌++◌, length, drop, map}
-use Rattle.c_tree.specs.Views.{simple_tree, stmt_tree}
-use Rattle.c_tree.specs.WellScoped.{Context}
+use Rattle.source_items.proofs.Common.{◌≡◌, ◌≤◌, ◌++◌, length, drop, map, simple_tree, stmt_tree, Context, AreItems, IsScoped, to_do}
 use Rattle.c_mean.specs.ToDo as todo
-use Rattle.source_items.specs.Items.{AreItems, IsScoped, to_do}
 use Rattle.source_items.proofs.items.push_start.Given as goal
 
 abbrev pub invariant-loop-left : goal.invariant-loop-left

@@ -1,8 +1,4 @@
-use Rattle.std.proofs.Common.{sym, ap, ◌∙◌}
-use Rattle.std.specs.Prelude.{slice_get}
-use Rattle.c_tree.specs.Trees.{StmtTree}
-use Rattle.c_tree.specs.Views.{simple_tree, stmt_tree}
-use Rattle.c_tree.proofs.StmtEquations.{stmt_tree-For}
+use Rattle.source_items.proofs.Common.{sym, ap, ◌∙◌, slice_get, StmtTree, simple_tree, stmt_tree, stmt_tree-For}
 use Rattle.source_items.specs.Items as parts
 use Rattle.source_items.proofs.Stacks.{get-item}
 use Rattle.source_items.proofs.items.start_of.Goals as goal

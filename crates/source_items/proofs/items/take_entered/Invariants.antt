@@ -1,6 +1,4 @@
-use Rattle.std.proofs.Common.{◌≡◌, vec_len}
-use Rattle.c_tree.specs.WellScoped.{Context}
-use Rattle.source_items.specs.Items.{AreItems, entered, to_do}
+use Rattle.source_items.proofs.Common.{◌≡◌, vec_len, Context, AreItems, entered, to_do}
 use Rattle.source_items.proofs.items.take_entered.Given as goal
 
 abbrev pub invariant-loop-item : goal.invariant-loop-item

@@ -1,7 +1,5 @@
-use Rattle.std.proofs.Common.{List, [], ◌∷◌, ◌≡◌, refl, subst}
-use Rattle.std.specs.Prelude.{MatchOption}
+use Rattle.source_items.proofs.Common.{List, [], ◌∷◌, ◌≡◌, refl, subst, MatchOption, AreItems, IsItem, item_of, to_do}
 use Rattle.c_mean.specs.ToDo as todo
-use Rattle.source_items.specs.Items.{AreItems, IsItem, item_of, to_do}
 use Rattle.source_items.proofs.Stacks.{taken-item, taken-mark, kept-pop}
 use Rattle.source_items.proofs.items.take_item.Goals as goal
 

@@ -1,8 +1,5 @@
-use Rattle.std.proofs.Common.{◌≡◌, ℕ, suc, ◌-◌, [], ◌++◌, List, take, subst, ap, ◌∙◌, arith, refl}
-use Rattle.source_items.specs.Items.{IsPassing}
-use Rattle.source_items.specs.declared.items.Item.{Item}
-use Rattle.source_items.specs.declared.items.Part.{Part}
-use Rattle.source_items.proofs.Stacks.{IsPlainPart, passing-plain, passing-enter, passing-back, taken-back, passed-all}
+use Rattle.source_items.proofs.Common.{◌≡◌, ℕ, suc, ◌-◌, [], ◌++◌, List, take, subst, ap, ◌∙◌, arith, IsPassing, Item}
+use Rattle.source_items.proofs.Stacks.{passing-plain, passing-enter, passing-back, taken-back, passed-all}
 use Rattle.source_items.proofs.items.take_to_back.Goals as goal
 
 pub loop-item-preserved-in-Enter : goal.loop-item-preserved-in-Enter

@@ -1,6 +1,4 @@
-use Rattle.std.proofs.Common.{◌+◌, ◌≤◌, length, vec_len}
-use Rattle.c_tree.specs.WellScoped.{Context}
-use Rattle.source_items.specs.Items.{AreItems, IsPassing}
+use Rattle.source_items.proofs.Common.{◌+◌, ◌≤◌, vec_len, Context, AreItems, IsPassing}
 use Rattle.source_items.proofs.items.take_to_back.Given as goal
 
 abbrev pub invariant-loop-item : goal.invariant-loop-item

@@ -1,5 +1,4 @@
-use Rattle.std.proofs.Common.{refl}
-use Rattle.c_mean.proofs.LayoutLemmas.{element_is, element_beyond}
+use Rattle.source_items.proofs.Common.{refl, element_is, element_beyond}
 use Rattle.source_items.proofs.rows.element_of.Goals as goal
 
 pub returns-then-index-rows : goal.returns-then-index-rows

@@ -1,4 +1,4 @@
-use Rattle.c_mean.proofs.LayoutLemmas.{scalar_is}
+use Rattle.source_items.proofs.Common.{scalar_is}
 use Rattle.source_items.proofs.rows.word_of.Goals as goal
 
 pub returns : goal.returns

@@ -1,16 +1,6 @@
-use Rattle.std.proofs.Common.{◌≡◌, ◌+◌, ◌∷◌, List, ◌∙◌, map, drop, rules, sym, ap}
-use Rattle.std.specs.Prelude.{Ok, Err}
+use Rattle.source_items.proofs.Common.{◌≡◌, ◌+◌, ◌∷◌, List, ◌∙◌, map, drop, rules, sym, ap, Ok, Err, Expr, Infix, expr_tree, chained, chain_value, drop_at, operand_tree, expr_tree-Chain, rows_of, value, first_trap, first_value, later_trap, chain_in_range}
 use Rattle.cap_word.specs.declared.traps.TrapKind.{TrapKind}
-use Rattle.c_tree.specs.declared.expressions.Expr.{Expr}
 use Rattle.c_tree.specs.declared.expressions.Expr.{the_lemmas as expr_lemmas}
-use Rattle.c_tree.specs.declared.operators.Infix.{Infix}
-use Rattle.c_tree.specs.Views.{expr_tree, chained}
-use Rattle.c_mean.specs.Chains.{chain_value}
-use Rattle.c_tree.proofs.Cuts.{drop_at}
-use Rattle.c_tree.proofs.ExprEquations.{operand_tree, expr_tree-Chain}
-use Rattle.c_mean.specs.Layout.{rows_of}
-use Rattle.c_mean.specs.Values.{value}
-use Rattle.c_mean.proofs.ChainLemmas.{first_trap, first_value, later_trap, chain_in_range}
 use Rattle.source_items.proofs.values.+operand.Goals as goal
 
 pub composed-operand-requires-in-Chain : goal.composed-operand-requires-in-Chain

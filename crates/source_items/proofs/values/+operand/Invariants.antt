@@ -1,10 +1,4 @@
-use Rattle.std.proofs.Common.{◌≡◌, map, drop}
-use Rattle.std.specs.Prelude.{Ok}
-use Rattle.c_tree.specs.Views.{expr_tree}
-use Rattle.source_items.specs.Rows.{rows_in}
-use Rattle.c_mean.specs.Values.{value}
-use Rattle.c_mean.specs.Chains.{chain_value}
-use Rattle.c_mean.proofs.ChainLemmas.{OperandsInRange}
+use Rattle.source_items.proofs.Common.{◌≡◌, map, drop, Ok, expr_tree, rows_in, value, chain_value, OperandsInRange}
 use Rattle.source_items.proofs.values.+operand.Given as goal
 
 abbrev pub invariant-composed-loop-operator : goal.invariant-composed-loop-operator

@@ -1,10 +1,4 @@
-use Rattle.std.proofs.Common.{◌≡◌, [], ◌∷◌, List, length, map, arith, sym, ap, ◌∙◌}
-use Rattle.c_tree.specs.declared.expressions.Expr.{Expr}
-use Rattle.c_tree.specs.declared.operators.Infix.{Infix}
-use Rattle.c_tree.specs.Views.{expr_tree, chained}
-use Rattle.c_tree.proofs.ExprEquations.{operand_tree, expr_tree-Chain}
-use Rattle.c_mean.specs.Values.{value}
-use Rattle.source_items.specs.Rows.{rows_in}
+use Rattle.source_items.proofs.Common.{◌≡◌, [], ◌∷◌, List, length, map, arith, sym, ap, ◌∙◌, Expr, Infix, expr_tree, chained, operand_tree, expr_tree-Chain, value, rows_in}
 use Rattle.source_items.proofs.Pairs.{one-element, pair-value, pair-in-range}
 use Rattle.source_items.proofs.values.short_value.Goals as goal
 

@@ -1,4 +1,4 @@
-use Rattle.source_items.specs.Rows.{rows_in}
+use Rattle.source_runs.proofs.Common.{rows_in}
 use Rattle.source_runs.proofs.Ranges.{only-value}
 use Rattle.source_runs.proofs.calls.one.Goals as goal
 

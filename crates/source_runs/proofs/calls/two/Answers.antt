@@ -1,8 +1,4 @@
-use Rattle.std.proofs.Common.{[], ap, sym, ◌∙◌}
-use Rattle.std.specs.Prelude.{Ok}
-use Rattle.c_tree.specs.Views.{expr_tree}
-use Rattle.c_mean.specs.Values.{Value, value, with_first}
-use Rattle.source_items.specs.Rows.{rows_in}
+use Rattle.source_runs.proofs.Common.{[], ap, sym, ◌∙◌, Ok, expr_tree, Value, value, with_first, rows_in}
 use Rattle.source_runs.proofs.Ranges.{values-two}
 use Rattle.source_runs.proofs.calls.two.Goals as goal
 

@@ -1,8 +1,4 @@
-use Rattle.std.proofs.Common.{◌≡◌, ◌+◌, ◌-◌, ◌++◌, ℕ, length, take, get_or, ap, ◌∙◌, refl}
-use Rattle.std.specs.Prelude.{replicate}
-use Rattle.c_tree.specs.declared.facts.GlobalFact.{GlobalFact}
-use Rattle.std.proofs.lemmas.List.{take_all}
-use Rattle.c_mean.specs.Layout.{rows_of, widths_of}
+use Rattle.source_runs.proofs.Common.{◌≡◌, ◌+◌, ◌-◌, ◌++◌, ℕ, length, take, get_or, ap, ◌∙◌, refl, replicate, GlobalFact, take_all, rows_of, widths_of}
 use Rattle.source_runs.proofs.Words.{first-count, first-resized, first-rows, first_of}
 use Rattle.source_runs.proofs.layout.first_words.Goals as goal
 

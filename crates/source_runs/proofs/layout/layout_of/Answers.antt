@@ -1,7 +1,4 @@
-use Rattle.std.proofs.Common.{◌+◌, ℕ, List, length, ap, ◌∙◌, arith}
-use Rattle.std.specs.Prelude.{sum, slice_index}
-use Rattle.std.proofs.lemmas.List.{length_push, take_all}
-use Rattle.c_mean.proofs.LayoutLemmas.{sum-take-le, sum_next, sum_next-le}
+use Rattle.source_runs.proofs.Common.{◌+◌, ℕ, List, length, ap, ◌∙◌, arith, sum, slice_index, length_push, take_all, sum-take-le, sum_next, sum_next-le}
 use Rattle.source_runs.proofs.Functions.{starts-more}
 use Rattle.source_runs.proofs.layout.layout_of.Goals as goal
 

@@ -1,5 +1,4 @@
-use Rattle.std.proofs.Common.{◌≡◌, ◌<◌, ℕ, length, take}
-use Rattle.std.specs.Prelude.{sum, slice_index}
+use Rattle.source_runs.proofs.Common.{◌≡◌, ◌<◌, ℕ, length, take, sum, slice_index}
 use Rattle.source_runs.proofs.layout.layout_of.Given as goal
 
 abbrev pub invariant-loop-width : goal.invariant-loop-width

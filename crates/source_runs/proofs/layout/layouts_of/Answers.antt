@@ -1,6 +1,4 @@
-use Rattle.std.proofs.Common.{◌<◌, ◌^◌, ℕ, List, subst, sym}
-use Rattle.std.specs.Prelude.{sum}
-use Rattle.source_runs.specs.Layouts.{IsLayout}
+use Rattle.source_runs.proofs.Common.{◌<◌, ◌^◌, ℕ, List, subst, sym, sum, IsLayout}
 use Rattle.source_runs.proofs.Functions.{layouts-more, small-at}
 use Rattle.source_runs.proofs.layout.layouts_of.Goals as goal
 

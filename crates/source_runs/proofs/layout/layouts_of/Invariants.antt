@@ -1,6 +1,4 @@
-use Rattle.std.proofs.Common.{map, take}
-use Rattle.c_tree.specs.Views.{function_tree}
-use Rattle.source_runs.specs.Layouts.{AreLayouts}
+use Rattle.source_runs.proofs.Common.{map, take, function_tree, AreLayouts}
 use Rattle.source_runs.proofs.layout.layouts_of.Given as goal
 
 abbrev pub invariant-loop-function : goal.invariant-loop-function

@@ -1,6 +1,4 @@
-use Rattle.std.proofs.Common.{◌≡◌, ◌++◌, ◌∷◌, [], ℕ, List, get_or, ap, sym, ◌∙◌}
-use Rattle.std.proofs.lemmas.List.{map_more, take_all}
-use Rattle.c_tree.specs.declared.facts.GlobalFact.{GlobalFact}
+use Rattle.source_runs.proofs.Common.{◌≡◌, ◌++◌, ◌∷◌, [], ℕ, List, get_or, ap, sym, ◌∙◌, map_more, take_all, GlobalFact}
 use Rattle.c_mean.specs.Layout as rows
 use Rattle.source_runs.proofs.layout.widths_of.Goals as goal
 

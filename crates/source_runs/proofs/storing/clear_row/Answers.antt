@@ -1,6 +1,4 @@
-use Rattle.std.proofs.Common.{◌+◌, arith, ◌∙◌, length-set}
-use Rattle.c_mean.proofs.LayoutLemmas.{width_is}
-use Rattle.c_mean.specs.Layout.{rows_of}
+use Rattle.source_runs.proofs.Common.{◌+◌, arith, ◌∙◌, length-set, width_is, rows_of}
 use Rattle.source_runs.proofs.Words.{cleared-more, filled-all, rows_length}
 use Rattle.source_runs.proofs.storing.clear_row.Goals as goal
 

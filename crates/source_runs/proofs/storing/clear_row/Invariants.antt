@@ -1,6 +1,4 @@
-use Rattle.std.proofs.Common.{◌≡◌, ◌<◌, ℕ, List, length, take}
-use Rattle.std.specs.Prelude.{sum, slice_index}
-use Rattle.c_mean.specs.Layout.{rows_of}
+use Rattle.source_runs.proofs.Common.{◌≡◌, ◌<◌, ℕ, List, length, take, sum, slice_index, rows_of}
 use Rattle.source_runs.proofs.Words.{filled}
 use Rattle.source_runs.proofs.storing.clear_row.Given as goal
 

@@ -1,8 +1,4 @@
-use Rattle.std.proofs.Common.{◌≡◌, ◌∙◌, sym, ap, subst}
-use Rattle.c_tree.specs.ProgramView.{program_tree}
-use Rattle.call_graph.specs.Graph.{CallGraphState}
-use Rattle.c_lower.specs.ProgramCode.{lowered}
-use Rattle.stack_build.specs.Builds.{IsPlacedBy}
+use Rattle.stack_build.proofs.Common.{◌≡◌, ◌∙◌, sym, ap, subst, program_tree, CallGraphState, lowered, IsPlacedBy}
 use Rattle.stack_build.proofs.Together.{same-graph}
 use Rattle.stack_build.proofs.analysis.analyse.Goals as goal
 

@@ -1,9 +1,6 @@
-use Rattle.std.proofs.Common.{sym, subst}
-use Rattle.c_lower.specs.ProgramCode.{lowered}
-use Rattle.c_tree.specs.ProgramView.{program_tree}
+use Rattle.stack_build.proofs.Common.{sym, subst, lowered, program_tree, IsLaidOut}
 use Rattle.stack_certificate.specs.declared.certificates.Certificate.{Certificate}
 use Rattle.stack_image.specs.declared.images.Image.{Image}
-use Rattle.stack_build.specs.Builds.{IsLaidOut}
 use Rattle.stack_build.proofs.building.build.Goals as goal
 
 pub unreachable-requires : goal.unreachable-requires

@@ -1,12 +1,7 @@
-use Rattle.std.proofs.Common.{◌≡◌, subst}
-use Rattle.std.specs.Prelude.{None}
+use Rattle.stack_build.proofs.Common.{◌≡◌, subst, None, program_tree, lowered, FlatCode, frame_refusal, IsPlacedBy, IsLaidOut}
 use Rattle.std.proofs.lemmas.Result.{err_from_is_err_and}
-use Rattle.c_tree.specs.ProgramView.{program_tree}
-use Rattle.c_lower.specs.ProgramCode.{lowered}
-use Rattle.flat_code.specs.Codes.{FlatCode}
 use Rattle.flat_code.specs.ProgramView.{program_code}
 use Rattle.certificate_rules.specs.Validity.{IsValid}
-use Rattle.stack_build.specs.Builds.{frame_refusal, IsPlacedBy, IsLaidOut}
 use Rattle.stack_build.proofs.Frames.{frames-fit}
 use Rattle.stack_build.proofs.Plans.{plan-for}
 use Rattle.stack_build.proofs.building.lay_out.Goals as goal

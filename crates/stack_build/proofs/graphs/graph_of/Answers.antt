@@ -1,20 +1,10 @@
-use Rattle.std.proofs.Common.{◌≤◌, ◌^◌, ◌∙◌, List, length, map, ap, subst, arith}
-use Rattle.std.specs.List.{AllByRecursion}
+use Rattle.stack_build.proofs.Common.{◌≤◌, ◌^◌, ◌∙◌, List, length, map, ap, subst, arith, AllByRecursion, program_tree, function_tree, lowered_function, lowered, FlatFunction, weight_of, GraphSite, call_sites_from, IsUnsortedGraph, weights_of}
 use Rattle.std.specs.List.Sorted.{IsPermutation}
 use Rattle.std.proofs.lemmas.List.{length-map}
-use Rattle.c_tree.specs.ProgramView.{program_tree}
 use Rattle.c_tree.specs.Trees.{ProgramTree}
-use Rattle.c_tree.specs.Views.{function_tree}
 use Rattle.c_tree.specs.WellScoped.{IsWellScoped}
-use Rattle.c_lower.specs.ProgramCode.{lowered_function, lowered}
 use Rattle.c_lower.proofs.FormedPrograms.{program_formed, all_small, all_few, all_words}
-use Rattle.flat_code.specs.declared.functions.FlatFunction.{FlatFunction}
-use Rattle.flat_code.specs.Weight.{weight_of}
-use Rattle.call_graph.specs.declared.sites.GraphSite.{GraphSite}
-use Rattle.call_graph.specs.FlatCalls.{call_sites_from}
-use Rattle.call_graph.specs.Graph.{IsUnsortedGraph}
 use Rattle.call_graph.proofs.FlatLemmas.{flat-graph}
-use Rattle.stack_plan.specs.Plans.{weights_of}
 use Rattle.stack_build.proofs.graphs.graph_of.Goals as goal
 
 -- the lowered program's functions have a graph, once each has at most 2^32 operations

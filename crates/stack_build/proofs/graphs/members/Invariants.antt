@@ -1,5 +1,4 @@
-use Rattle.std.proofs.Common.{◌≡◌, ◌++◌, map, drop}
-use Rattle.c_tree.specs.Views.{table_row}
+use Rattle.stack_build.proofs.Common.{◌≡◌, ◌++◌, map, drop, table_row}
 use Rattle.stack_build.proofs.graphs.members.Given as goal
 
 abbrev pub invariant-loop-table : goal.invariant-loop-table

@@ -1,10 +1,5 @@
-use Rattle.std.proofs.Common.{◌≡◌, ◌≤◌, ◌^◌, ◌++◌, length, map, drop, sum}
-use Rattle.std.specs.List.{AllByRecursion}
+use Rattle.stack_build.proofs.Common.{◌≡◌, ◌≤◌, ◌^◌, ◌++◌, length, map, drop, sum, AllByRecursion, function_tree, function_sizes, lowered_function, weight_of, call_sites_from}
 use Rattle.c_tree.specs.Temporaries.{function_temporaries}
-use Rattle.c_tree.specs.Views.{function_tree}
-use Rattle.c_lower.specs.ProgramCode.{function_sizes, lowered_function}
-use Rattle.flat_code.specs.Weight.{weight_of}
-use Rattle.call_graph.specs.FlatCalls.{call_sites_from}
 use Rattle.stack_build.proofs.graphs.weigh.Given as goal
 
 abbrev pub invariant-loop-function : goal.invariant-loop-function

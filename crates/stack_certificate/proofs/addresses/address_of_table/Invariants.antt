@@ -1,5 +1,4 @@
-use Rattle.std.proofs.Common.{◌≡◌, take, length}
-use Rattle.std.specs.Prelude.{sum_by}
+use Rattle.stack_certificate.proofs.Common.{◌≡◌, take, length, sum_by}
 use Rattle.stack_certificate.proofs.addresses.address_of_table.Given as goal
 
 abbrev pub invariant-loop-i : goal.invariant-loop-i

@@ -1,10 +1,5 @@
-use Rattle.std.proofs.Common.{◌≡◌, ◌+◌, ◌*◌, ◌<◌, List, length, map, ap, sym, ◌∙◌, arith}
-use Rattle.std.specs.Prelude.{slice_index_or}
-use Rattle.std.specs.List.{range_with_len}
-use Rattle.std.proofs.lemmas.List.Sums.{sum_by_more}
+use Rattle.stack_certificate.proofs.Common.{◌≡◌, ◌+◌, ◌*◌, ◌<◌, List, length, map, ap, sym, ◌∙◌, arith, slice_index_or, range_with_len, sum_by_more, program_code, global_address}
 use Rattle.flat_code.specs.declared.programs.FlatGlobal.{FlatGlobal}
-use Rattle.flat_code.specs.ProgramView.{program_code}
-use Rattle.stack_certificate.specs.Certificates.{global_address}
 use Rattle.stack_certificate.proofs.PushedLemmas.{numbered-pushed}
 use Rattle.stack_certificate.proofs.addresses.global_addresses.Goals as goal
 

@@ -1,8 +1,4 @@
-use Rattle.std.proofs.Common.{◌≡◌, map, take}
-use Rattle.std.specs.Prelude.{sum_by}
-use Rattle.std.specs.List.{range_with_len}
-use Rattle.flat_code.specs.ProgramView.{program_code}
-use Rattle.stack_certificate.specs.Certificates.{global_address}
+use Rattle.stack_certificate.proofs.Common.{◌≡◌, map, take, sum_by, range_with_len, program_code, global_address}
 use Rattle.stack_certificate.proofs.addresses.global_addresses.Given as goal
 
 abbrev pub invariant-loop-global : goal.invariant-loop-global

@@ -1,8 +1,4 @@
-use Rattle.std.proofs.Common.{◌≡◌, ◌+◌, ◌*◌, ◌<◌, List, ℕ, length, map, ap, ◌∙◌, arith}
-use Rattle.std.specs.Prelude.{slice_index_or}
-use Rattle.std.specs.List.{range_with_len}
-use Rattle.flat_code.specs.ProgramView.{program_code}
-use Rattle.stack_certificate.specs.Certificates.{table_address}
+use Rattle.stack_certificate.proofs.Common.{◌≡◌, ◌+◌, ◌*◌, ◌<◌, List, ℕ, length, map, ap, ◌∙◌, arith, slice_index_or, range_with_len, program_code, table_address}
 use Rattle.stack_certificate.proofs.AddressLemmas.{sum_room, sum_step}
 use Rattle.stack_certificate.proofs.PushedLemmas.{numbered-pushed}
 use Rattle.stack_certificate.proofs.addresses.table_addresses.Goals as goal

@@ -1,8 +1,4 @@
-use Rattle.std.proofs.Common.{◌≡◌, map, take, length}
-use Rattle.std.specs.Prelude.{sum_by}
-use Rattle.std.specs.List.{range_with_len}
-use Rattle.flat_code.specs.ProgramView.{program_code}
-use Rattle.stack_certificate.specs.Certificates.{table_address}
+use Rattle.stack_certificate.proofs.Common.{◌≡◌, map, take, length, sum_by, range_with_len, program_code, table_address}
 use Rattle.stack_certificate.proofs.addresses.table_addresses.Given as goal
 
 abbrev pub invariant-loop-table : goal.invariant-loop-table

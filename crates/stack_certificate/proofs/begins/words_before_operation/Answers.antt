@@ -1,7 +1,4 @@
-use Rattle.std.proofs.Common.{◌≡◌, ◌+◌, arith, ap, ◌∙◌}
-use Rattle.flat_code.specs.Codes.{function_at, operation_at}
-use Rattle.flat_code.specs.ProgramView.{program_code}
-use Rattle.stack_certificate.specs.Templates.{kind_of, size_at, words_before}
+use Rattle.stack_certificate.proofs.Common.{◌≡◌, ◌+◌, arith, ap, ◌∙◌, function_at, operation_at, program_code, kind_of, size_at, words_before}
 use Rattle.stack_certificate.proofs.AddressLemmas.{words_step}
 use Rattle.stack_certificate.proofs.begins.words_before_operation.Goals as goal
 

@@ -1,6 +1,4 @@
-use Rattle.std.proofs.Common.{◌≡◌, ◌+◌, ◌*◌, ◌≤◌, ◌^◌}
-use Rattle.flat_code.specs.ProgramView.{program_code}
-use Rattle.stack_certificate.specs.Templates.{words_before}
+use Rattle.stack_certificate.proofs.Common.{◌≡◌, ◌+◌, ◌*◌, ◌≤◌, ◌^◌, program_code, words_before}
 use Rattle.stack_certificate.proofs.begins.words_before_operation.Given as goal
 
 abbrev pub invariant-loop-i : goal.invariant-loop-i

@@ -1,8 +1,5 @@
-use Rattle.std.proofs.Common.{◌+◌, length, sym, ap, ◌∙◌}
 use Rattle.rv_code.proofs.Inverse.{decoding-encoding}
-use Rattle.flat_code.specs.Codes.{function_at, operation_at}
-use Rattle.stack_certificate.specs.Certificates.{fact_at}
-use Rattle.stack_certificate.specs.Templates.{begin, kind_of, row_at, setting, setting_at, size, size_at, words_before}
+use Rattle.stack_certificate.proofs.Common.{◌+◌, length, sym, ap, ◌∙◌, function_at, operation_at, fact_at, begin, kind_of, row_at, setting, setting_at, size, size_at, words_before}
 use Rattle.stack_certificate.proofs.AddressLemmas.{words_step}
 use Rattle.stack_certificate.proofs.SizeLemmas.{length-prologue, length-row, stride}
 use Rattle.stack_certificate.proofs.laws.template_laws.Goals as goal

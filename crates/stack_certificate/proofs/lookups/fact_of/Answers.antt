@@ -1,5 +1,4 @@
-use Rattle.std.proofs.Common.{ap, ◌∙◌}
-use Rattle.std.specs.Prelude.{slice_index_or}
+use Rattle.stack_certificate.proofs.Common.{ap, ◌∙◌, slice_index_or}
 use Rattle.stack_certificate.proofs.PlaceLemmas.{any_default}
 use Rattle.stack_certificate.proofs.lookups.fact_of.Goals as goal
 

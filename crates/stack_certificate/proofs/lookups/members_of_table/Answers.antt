@@ -1,5 +1,4 @@
-use Rattle.std.proofs.Common.{◌≡◌, ◌+◌, ◌≤◌, length, take, arith, ap, ◌∙◌}
-use Rattle.std.specs.Prelude.{slice_index_or, sum_by}
+use Rattle.stack_certificate.proofs.Common.{◌≡◌, ◌+◌, ◌≤◌, length, take, arith, ap, ◌∙◌, slice_index_or, sum_by}
 use Rattle.stack_certificate.proofs.AddressLemmas.{sum_room}
 use Rattle.stack_certificate.proofs.lookups.members_of_table.Goals as goal
 

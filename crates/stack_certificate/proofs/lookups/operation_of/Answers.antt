@@ -1,9 +1,4 @@
-use Rattle.std.proofs.Common.{◌≡◌, length, sym, ap, subst, ◌∙◌, refl}
-use Rattle.std.specs.Prelude.{slice_get, slice_index_or}
-use Rattle.flat_code.specs.Codes.{function_at}
-use Rattle.flat_code.specs.ProgramView.{program_code}
-use Rattle.flat_code.specs.WellFormed.{IsOperation, context_of}
-use Rattle.stack_certificate.specs.Places.{HavePlaces}
+use Rattle.stack_certificate.proofs.Common.{◌≡◌, length, sym, ap, subst, ◌∙◌, refl, slice_get, slice_index_or, function_at, program_code, IsOperation, context_of, HavePlaces}
 use Rattle.stack_certificate.proofs.PlaceLemmas.{operation_formed, operation_places}
 use Rattle.stack_certificate.proofs.lookups.operation_of.Goals as goal
 

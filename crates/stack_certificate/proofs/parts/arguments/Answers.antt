@@ -1,5 +1,4 @@
-use Rattle.std.proofs.Common.{arith}
-use Rattle.std.proofs.lemmas.Grind.{common_steps}
+use Rattle.stack_certificate.proofs.Common.{arith, common_steps}
 use Rattle.stack_certificate.proofs.PartLemmas.{arguments_step}
 use Rattle.stack_certificate.proofs.parts.arguments.Goals as goal
 

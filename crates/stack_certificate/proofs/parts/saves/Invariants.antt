@@ -1,7 +1,5 @@
-use Rattle.std.proofs.Common.{◌≡◌, ◌+◌, ◌++◌, length, map}
-use Rattle.stack_certificate.specs.Fits.{checked}
+use Rattle.stack_certificate.proofs.Common.{◌≡◌, ◌+◌, ◌++◌, length, map, checked, a0}
 use Rattle.stack_certificate.specs.Parts as parts
-use Rattle.stack_certificate.specs.Registers.{a0}
 use Rattle.stack_certificate.proofs.parts.saves.Given as goal
 
 abbrev pub invariant-loop-k : goal.invariant-loop-k

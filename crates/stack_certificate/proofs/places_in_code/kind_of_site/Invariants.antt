@@ -1,5 +1,4 @@
-use Rattle.std.proofs.Common.{◌≡◌, drop}
-use Rattle.stack_certificate.specs.Certificates.{kind_in}
+use Rattle.stack_certificate.proofs.Common.{◌≡◌, drop, kind_in}
 use Rattle.stack_certificate.proofs.places_in_code.kind_of_site.Given as goal
 
 abbrev pub invariant-loop-fact : goal.invariant-loop-fact

@@ -1,4 +1,4 @@
-use Rattle.stack_certificate.specs.Templates.{prologue}
+use Rattle.stack_certificate.proofs.Common.{prologue}
 use Rattle.stack_certificate.proofs.words.prologue_word.Goals as goal
 
 pub returns : goal.returns

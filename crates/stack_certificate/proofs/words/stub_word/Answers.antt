@@ -1,4 +1,4 @@
-use Rattle.stack_certificate.specs.Templates.{end_stub}
+use Rattle.stack_certificate.proofs.Common.{end_stub}
 use Rattle.stack_certificate.proofs.words.stub_word.Goals as goal
 
 pub returns : goal.returns

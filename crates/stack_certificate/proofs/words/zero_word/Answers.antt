@@ -1,9 +1,6 @@
-use Rattle.std.proofs.Common.{◌≡◌, ◌+◌, ◌*◌, arith, sym, ◌∙◌, ap, pos}
-use Rattle.rv_code.specs.declared.instructions.Instr.{Instr}
-use Rattle.stack_certificate.specs.Fits.{checked}
+use Rattle.stack_certificate.proofs.Common.{◌≡◌, ◌+◌, ◌*◌, arith, sym, ◌∙◌, ap, pos, Instr, checked, zero_, sp}
 use Rattle.stack_certificate.proofs.SlotLemmas.{no_store, place_over}
 use Rattle.stack_certificate.proofs.WordLemmas.{zero-past, zero-over, zero-word}
-use Rattle.stack_certificate.specs.Registers.{zero_, sp}
 use Rattle.stack_certificate.proofs.words.zero_word.Goals as goal
 
 pub returns-then-word-size : goal.returns-then-word-size

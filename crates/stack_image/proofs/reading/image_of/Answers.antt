@@ -1,4 +1,4 @@
-use Rattle.std.proofs.lemmas.List.{take_rest}
+use Rattle.stack_image.proofs.Common.{take_rest}
 use Rattle.stack_image.proofs.ImageLemmas.{read_in_order}
 use Rattle.stack_image.proofs.reading.image_of.Goals as goal
 

@@ -1,5 +1,4 @@
-use Rattle.std.proofs.Common.{◌≡◌}
-use Rattle.stack_image.specs.Reading.{words_of}
+use Rattle.stack_image.proofs.Common.{◌≡◌, words_of}
 use Rattle.stack_image.proofs.reading.push_words.Given as goal
 
 abbrev pub invariant-loop-place : goal.invariant-loop-place

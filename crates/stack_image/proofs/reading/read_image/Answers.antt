@@ -1,7 +1,4 @@
-use Rattle.std.proofs.Common.{◌∙◌, sym, ap, subst, arith}
-use Rattle.stack_image.specs.Spelling.{spelling, IsWithinLimits, HoldsWords}
-use Rattle.stack_image.specs.Refusal.{refusal_of}
-use Rattle.stack_image.specs.Reading.{image_of}
+use Rattle.stack_image.proofs.Common.{◌∙◌, sym, ap, subst, arith, spelling, IsWithinLimits, HoldsWords, refusal_of, image_of}
 use Rattle.stack_image.proofs.WordBytes.{IsBytes}
 use Rattle.stack_image.proofs.NoRefusal.{refused_by_nothing}
 use Rattle.stack_image.proofs.Spelled.{spelled, image_of-limits, image_of-words}

@@ -1,5 +1,4 @@
-use Rattle.std.proofs.Common.{◌≡◌, ◌++◌, take}
-use Rattle.stack_image.specs.Spelling.{words}
+use Rattle.stack_image.proofs.Common.{◌≡◌, ◌++◌, take, words}
 use Rattle.stack_image.proofs.writing.put_words.Given as goal
 
 abbrev pub invariant-loop-word : goal.invariant-loop-word

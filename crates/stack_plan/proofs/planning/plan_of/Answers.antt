@@ -1,8 +1,5 @@
-use Rattle.std.proofs.Common.{◌∙◌, map, ap}
-use Rattle.flat_code.specs.declared.functions.FlatFunction.{FlatFunction}
+use Rattle.stack_plan.proofs.Common.{◌∙◌, map, ap, FlatFunction, weight_of, IsGraphOf}
 use Rattle.flat_code.specs.ProgramView.{program_code}
-use Rattle.flat_code.specs.Weight.{weight_of}
-use Rattle.stack_plan.specs.Plans.{IsGraphOf}
 use Rattle.stack_plan.proofs.planning.plan_of.Goals as goal
 
 pub returns-in-Ok-clause-enough : goal.returns-in-Ok-clause-enough

@@ -1,6 +1,4 @@
-use Rattle.std.proofs.Common.{subst}
-use Rattle.call_graph.specs.Graph.{IsCallGraph}
-use Rattle.checkpoint_place.specs.Refusal.{refusal_from}
+use Rattle.stack_plan.proofs.Common.{subst, IsCallGraph, refusal_from}
 use Rattle.stack_plan.proofs.Enough.{not-refused, enough}
 use Rattle.stack_plan.proofs.planning.plan_of_graph.Goals as goal
 

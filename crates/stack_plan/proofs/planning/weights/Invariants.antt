@@ -1,6 +1,4 @@
-use Rattle.std.proofs.Common.{◌≡◌, ◌≤◌, ◌^◌, ◌++◌, map, drop, sum}
-use Rattle.std.specs.List.{AllByRecursion}
-use Rattle.flat_code.specs.Weight.{weight_of}
+use Rattle.stack_plan.proofs.Common.{◌≡◌, ◌≤◌, ◌^◌, ◌++◌, map, drop, sum, AllByRecursion, weight_of}
 use Rattle.stack_plan.proofs.planning.weights.Given as goal
 
 abbrev pub invariant-loop-function : goal.invariant-loop-function

@@ -1,5 +1,4 @@
-use Rattle.std.proofs.Common.{ℕ, ◌<◌, ◌/◌, length}
-use Rattle.stride_rule.specs.Summaries.{Includes, summary_at}
+use Rattle.stride_rule.proofs.Common.{ℕ, ◌<◌, ◌/◌, length, Includes, summary_at}
 use Rattle.stride_rule.proofs.levels.renew_level.Given as goal
 
 abbrev pub invariant-loop-index : goal.invariant-loop-index

@@ -1,6 +1,4 @@
-use Rattle.std.proofs.Common.{ℕ, ◌<◌, ◌/◌, length}
-use Rattle.stride_rule.specs.Rows.{row_at}
-use Rattle.stride_rule.specs.Summaries.{Covers, summary_at}
+use Rattle.stride_rule.proofs.Common.{ℕ, ◌<◌, ◌/◌, length, row_at, Covers, summary_at}
 use Rattle.stride_rule.proofs.levels.renew_small.Given as goal
 
 abbrev pub invariant-loop-index : goal.invariant-loop-index

@@ -1,8 +1,4 @@
-use Rattle.std.proofs.Common.{◌≡◌, ◌≢◌, ◌<◌, ℕ, length, subst, sym, ⊎_elim, arith, rules}
-use Rattle.std.proofs.lemmas.Bool.{cases_eq}
-use Rattle.std.proofs.lemmas.List.{get_or_default}
-use Rattle.stride_rule.specs.declared.summaries.Summary.{Summary}
-use Rattle.stride_rule.specs.Summaries.{Includes, summary_at}
+use Rattle.stride_rule.proofs.Common.{◌≡◌, ◌≢◌, ◌<◌, ℕ, length, subst, sym, ⊎_elim, arith, rules, cases_eq, get_or_default, Summary, Includes, summary_at}
 use Rattle.stride_rule.proofs.SummaryLemmas.{includes_trans}
 use Rattle.stride_rule.proofs.levels.summary_of_level.Goals as goal
 

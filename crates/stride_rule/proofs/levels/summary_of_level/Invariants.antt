@@ -1,5 +1,4 @@
-use Rattle.std.proofs.Common.{ℕ, ◌<◌, ◌≤◌}
-use Rattle.stride_rule.specs.Summaries.{Includes, summary_at}
+use Rattle.stride_rule.proofs.Common.{ℕ, ◌<◌, ◌≤◌, Includes, summary_at}
 use Rattle.stride_rule.proofs.levels.summary_of_level.Given as goal
 
 abbrev pub invariant-loop-other : goal.invariant-loop-other

@@ -1,7 +1,4 @@
-use Rattle.std.proofs.Common.{◌≡◌, ◌≢◌, ℕ, subst, sym, ⊎_elim, arith, rules}
-use Rattle.std.proofs.lemmas.Bool.{cases_eq}
-use Rattle.stride_rule.specs.Rows.{row_at}
-use Rattle.stride_rule.specs.Summaries.{Covers}
+use Rattle.stride_rule.proofs.Common.{◌≡◌, ◌≢◌, ℕ, subst, sym, ⊎_elim, arith, rules, cases_eq, row_at, Covers}
 use Rattle.stride_rule.proofs.SummaryLemmas.{includes_covers}
 use Rattle.stride_rule.proofs.levels.summary_of_places.Goals as goal
 

@@ -1,6 +1,5 @@
-use Rattle.std.proofs.Common.{rules, ap, ◌∙◌}
 use Rattle.std.proofs.lemmas.Fn.{filter_same}
-use Rattle.stride_rule.specs.Rows.{clients_of, is_there, needs_in}
+use Rattle.stride_rule.proofs.Common.{rules, ap, ◌∙◌, clients_of, is_there, needs_in}
 use Rattle.stride_rule.proofs.RowLemmas.{clients_gathered, gathered-shorter, needs_gathered}
 use Rattle.stride_rule.proofs.places.gather.Goals as goal
 

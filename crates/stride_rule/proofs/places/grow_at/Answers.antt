@@ -1,5 +1,4 @@
-use Rattle.std.proofs.Common.{◌+◌, ◌≤◌, ◌^◌, ◌∙◌, None, sym, arith}
-use Rattle.std.proofs.lemmas.List.{get_or_default}
+use Rattle.stride_rule.proofs.Common.{◌+◌, ◌≤◌, ◌^◌, ◌∙◌, None, sym, arith, get_or_default}
 use Rattle.stride_rule.proofs.RowLemmas.{row_passes}
 use Rattle.stride_rule.proofs.places.grow_at.Goals as goal
 

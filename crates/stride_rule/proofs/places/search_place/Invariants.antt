@@ -1,5 +1,4 @@
-use Rattle.std.proofs.Common.{◌≡◌, ℕ, ◌<◌, false, length}
-use Rattle.stride_rule.specs.Rows.{is_of, row_at}
+use Rattle.stride_rule.proofs.Common.{◌≡◌, ℕ, ◌<◌, false, length, is_of, row_at}
 use Rattle.stride_rule.proofs.places.search_place.Given as goal
 
 abbrev pub invariant-loop-place : goal.invariant-loop-place

@@ -1,6 +1,5 @@
-use Rattle.std.proofs.Common.{◌≡◌, drop, true, None}
 use Rattle.scheduler.specs.LawfulChoice.{is_eligible}
-use Rattle.stride_rule.specs.Search.{found_among}
+use Rattle.stride_rule.proofs.Common.{◌≡◌, drop, true, None, found_among}
 use Rattle.stride_rule.proofs.searching.search.Given as goal
 
 -- what is found so far, with the places that are left, is what is found

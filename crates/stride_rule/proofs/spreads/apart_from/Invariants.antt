@@ -1,5 +1,4 @@
-use Rattle.std.proofs.Common.{◌≡◌, ◌≤◌, drop}
-use Rattle.stride_rule.specs.Spread.{most_among, least_among}
+use Rattle.stride_rule.proofs.Common.{◌≡◌, ◌≤◌, drop, most_among, least_among}
 use Rattle.stride_rule.proofs.spreads.apart_from.Given as goal
 
 abbrev pub invariant-loop-place : goal.invariant-loop-place

@@ -1,6 +1,4 @@
-use Rattle.std.proofs.Common.{◌≡◌, drop}
-use Rattle.stride_rule.specs.Rows.{clients_of}
-use Rattle.stride_rule.specs.Spread.{first_pass}
+use Rattle.stride_rule.proofs.Common.{◌≡◌, drop, clients_of, first_pass}
 use Rattle.stride_rule.proofs.spreads.pass_of_first.Given as goal
 
 -- no client stands before the places that are left

@@ -1,5 +1,4 @@
-use Rattle.std.proofs.Common.{◌∙◌, ap, sym}
-use Rattle.stride_rule.specs.Rows.{clients_of, needs_in}
+use Rattle.stride_rule.proofs.Common.{◌∙◌, ap, sym, clients_of, needs_in}
 use Rattle.stride_rule.proofs.ClientLemmas.{grown-absent, pass-absent}
 use Rattle.stride_rule.proofs.LevelLemmas.{levels_grown}
 use Rattle.stride_rule.proofs.RowLemmas.{absent_rows, clients_grown_at, needs_grown, pass_row}

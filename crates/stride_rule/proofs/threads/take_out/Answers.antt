@@ -1,6 +1,4 @@
-use Rattle.std.proofs.Common.{◌∙◌, ap, None}
-use Rattle.std.proofs.lemmas.List.{length-set}
-use Rattle.stride_rule.specs.Rows.{clients_of, needs_in}
+use Rattle.stride_rule.proofs.Common.{◌∙◌, ap, None, length-set, clients_of, needs_in}
 use Rattle.stride_rule.proofs.ClientLemmas.{without-absent}
 use Rattle.stride_rule.proofs.LevelLemmas.{levels_but}
 use Rattle.stride_rule.proofs.RowLemmas.{absent_rows, clients_emptied, needs-absent, needs_emptied}

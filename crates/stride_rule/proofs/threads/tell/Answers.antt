@@ -1,9 +1,4 @@
-use Rattle.std.proofs.Common.{◌≡◌, ◌∙◌, false, true, ap, None}
-use Rattle.std.proofs.lemmas.List.{length-set}
-use Rattle.std.specs.Prelude.{IsSome}
-use Rattle.stride_rule.specs.declared.clients.Client.{Client}
-use Rattle.stride_rule.specs.Clients.{client_of}
-use Rattle.stride_rule.specs.Rows.{clients_of, needs_in, row_at, row_told}
+use Rattle.stride_rule.proofs.Common.{◌≡◌, ◌∙◌, false, true, ap, None, length-set, IsSome, Client, client_of, clients_of, needs_in, row_at, row_told}
 use Rattle.stride_rule.proofs.LevelLemmas.{levels_but}
 use Rattle.stride_rule.proofs.RowLemmas.{absent_rows, client-absent, clients_told, needs_told}
 use Rattle.stride_rule.proofs.threads.tell.Goals as goal

@@ -1,5 +1,4 @@
-use Rattle.std.proofs.Common.{◌≡◌, ℕ, drop}
-use Rattle.stride_rule.specs.Tickets.{AreTicketsFrom, tickets_of}
+use Rattle.stride_rule.proofs.Common.{◌≡◌, ℕ, drop, AreTicketsFrom, tickets_of}
 use Rattle.stride_rule.proofs.tickets.tickets_for.Given as goal
 
 abbrev pub invariant-loop-thread : goal.invariant-loop-thread

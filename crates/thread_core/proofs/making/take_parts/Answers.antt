@@ -1,9 +1,4 @@
-use Rattle.std.proofs.Common.{sym, subst, ◌∙◌}
-use Rattle.chunk_pool.specs.Pool.{IsPool}
-use Rattle.machine_world.specs.Areas.{Areas}
-use Rattle.machine_world.specs.WellFormed.{AreWords, AreWellFormed}
-use Rattle.segment_run.specs.Contexts.{checked_of}
-use Rattle.thread_core.specs.Making.{start_areas}
+use Rattle.thread_core.proofs.Common.{sym, subst, ◌∙◌, IsPool, Areas, AreWords, AreWellFormed, checked_of, start_areas}
 use Rattle.thread_core.proofs.MakingLaws.{areas_start, areas_are, pool_is}
 use Rattle.thread_core.proofs.making.take_parts.Goals as goal
 

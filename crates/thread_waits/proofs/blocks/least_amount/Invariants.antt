@@ -1,5 +1,4 @@
-use Rattle.std.proofs.Common.{◌≤◌, slice_set}
-use Rattle.thread_waits.specs.Counted.{IsLeastBetween, amount_of}
+use Rattle.thread_waits.proofs.Common.{◌≤◌, slice_set, IsLeastBetween, amount_of}
 use Rattle.thread_waits.proofs.blocks.least_amount.Given as goal
 
 abbrev pub invariant-loop-other : goal.invariant-loop-other

@@ -1,6 +1,4 @@
-use Rattle.std.proofs.Common.{◌*◌, ◌/◌, ◌<◌, ◌≤◌, Option, arith, ap, ◌∙◌, slice_set}
-use Rattle.thread_waits.specs.Counted.{wake_of, number_or}
-use Rattle.thread_waits.specs.declared.waits.Wait.{Wait}
+use Rattle.thread_waits.proofs.Common.{◌*◌, ◌/◌, ◌<◌, ◌≤◌, Option, arith, ap, ◌∙◌, slice_set, wake_of, number_or, Wait}
 use Rattle.thread_waits.proofs.BlockLaws.{one_between}
 use Rattle.thread_waits.proofs.blocks.least_wake.Goals as goal
 

@@ -1,5 +1,4 @@
-use Rattle.std.proofs.Common.{◌≤◌, slice_set}
-use Rattle.thread_waits.specs.Counted.{IsLeastBetween, wake_of}
+use Rattle.thread_waits.proofs.Common.{◌≤◌, slice_set, IsLeastBetween, wake_of}
 use Rattle.thread_waits.proofs.blocks.least_wake.Given as goal
 
 abbrev pub invariant-loop-other : goal.invariant-loop-other

@@ -1,5 +1,4 @@
-use Rattle.std.proofs.Common.{◌≡◌, ℕ, ◌<◌, ◌≤◌, [], length, slice_index_or, slice_set}
-use Rattle.thread_waits.specs.Counted.{IsTreeOf, amount_of}
+use Rattle.thread_waits.proofs.Common.{◌≡◌, ℕ, ◌<◌, ◌≤◌, [], length, slice_index_or, slice_set, IsTreeOf, amount_of}
 use Rattle.thread_waits.proofs.blocks.renew_takers.Given as goal
 
 abbrev pub invariant-loop-r : goal.invariant-loop-r

@@ -1,6 +1,4 @@
-use Rattle.std.proofs.Common.{◌≡◌, Bool, None, cond, false, sym, ◌∙◌, ap}
-use Rattle.thread_waits.specs.Counted.{later_wake, number_or, wake_of}
-use Rattle.thread_waits.specs.Telling.{is_at_message}
+use Rattle.thread_waits.proofs.Common.{◌≡◌, Bool, None, cond, false, sym, ◌∙◌, ap, later_wake, number_or, wake_of, is_at_message}
 use Rattle.thread_waits.proofs.kinds.sleep_number.Goals as goal
 
 pub returns-else-is_at_message : goal.returns-else-is_at_message

@@ -1,5 +1,4 @@
-use Rattle.std.proofs.Common.{◌≡◌, ◌/◌, ◌<◌, ◌≤◌, length}
-use Rattle.thread_waits.specs.Minima.{AreMinimaBut, leaves_in}
+use Rattle.thread_waits.proofs.Common.{◌≡◌, ◌/◌, ◌<◌, ◌≤◌, length, AreMinimaBut, leaves_in}
 use Rattle.thread_waits.proofs.min_tree.renew_above.Given as goal
 
 abbrev pub invariant-loop-node : goal.invariant-loop-node

@@ -1,5 +1,4 @@
-use Rattle.std.proofs.Common.{sym, ◌∙◌, arith}
-use Rattle.std.proofs.lemmas.Nat.Bits.{bit_at-zero}
+use Rattle.thread_waits.proofs.Common.{sym, ◌∙◌, arith, bit_at-zero}
 use Rattle.thread_waits.proofs.NeedBounds.{held_more, held_no_more, shared_one}
 use Rattle.thread_waits.proofs.needs.held_channels.Goals as goal
 use Rattle.thread_waits.proofs.needs.held_channels.Goals.{then-holds_message, else-holds_message}

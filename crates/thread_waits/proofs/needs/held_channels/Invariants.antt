@@ -1,4 +1,4 @@
-use Rattle.c_mean.specs.ModelledCalls.{channel_of, holds_some}
+use Rattle.thread_waits.proofs.Common.{channel_of, holds_some}
 use Rattle.thread_waits.proofs.NeedBounds.{AreHeld}
 use Rattle.thread_waits.proofs.needs.held_channels.Given as goal
 

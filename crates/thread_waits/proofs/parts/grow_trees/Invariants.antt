@@ -1,5 +1,4 @@
-use Rattle.std.proofs.Common.{◌≡◌, ℕ, ◌<◌, ◌≤◌, [], length, slice_index_or}
-use Rattle.thread_waits.specs.Counted.{IsGrown, no_number}
+use Rattle.thread_waits.proofs.Common.{◌≡◌, ℕ, ◌<◌, ◌≤◌, [], length, slice_index_or, IsGrown, no_number}
 use Rattle.thread_waits.proofs.parts.grow_trees.Given as goal
 
 abbrev pub invariant-loop-r : goal.invariant-loop-r

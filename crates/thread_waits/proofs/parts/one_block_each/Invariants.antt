@@ -1,5 +1,4 @@
-use Rattle.std.proofs.Common.{◌≡◌, replicate}
-use Rattle.thread_waits.specs.Counted.{no_number}
+use Rattle.thread_waits.proofs.Common.{◌≡◌, replicate, no_number}
 use Rattle.thread_waits.proofs.parts.one_block_each.Given as goal
 
 abbrev pub invariant-loop-made : goal.invariant-loop-made

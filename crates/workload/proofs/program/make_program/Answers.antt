@@ -1,7 +1,4 @@
-use Rattle.std.proofs.Common.{◌≡◌, List, ℕ, ◌++◌, ap, sym, subst, ◌∙◌}
-use Rattle.c_tree.specs.Trees.{ProgramTree}
-use Rattle.c_scope.specs.SourceText.{ReadsAs}
-use Rattle.workload.specs.Programs.{first_line, worker_line, main_line, program_text}
+use Rattle.workload.proofs.Common.{◌≡◌, List, ℕ, ◌++◌, ap, sym, subst, ◌∙◌, ProgramTree, ReadsAs, first_line, worker_line, main_line, program_text}
 use Rattle.workload.proofs.Reading.{program_read}
 use Rattle.workload.proofs.Written.{chain_begins, program_whole}
 use Rattle.workload.proofs.program.make_program.Goals as goal

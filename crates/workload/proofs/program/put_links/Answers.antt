@@ -1,5 +1,4 @@
-use Rattle.std.proofs.Common.{◌+◌, ◌++◌, ap, ◌∙◌}
-use Rattle.workload.specs.Programs.{link_line}
+use Rattle.workload.proofs.Common.{◌+◌, ◌++◌, ap, ◌∙◌, link_line}
 use Rattle.workload.proofs.Written.{chain_more}
 use Rattle.workload.proofs.program.put_links.Goals as goal
 

@@ -1,5 +1,4 @@
-use Rattle.std.proofs.Common.{◌≡◌}
-use Rattle.workload.specs.Programs.{chain_text}
+use Rattle.workload.proofs.Common.{◌≡◌, chain_text}
 use Rattle.workload.proofs.program.put_links.Given as goal
 
 abbrev pub invariant-loop-m : goal.invariant-loop-m

@@ -1,5 +1,4 @@
-use Rattle.std.proofs.Common.{◌∙◌}
-use Rattle.workload.specs.Traces.{arrival_line}
+use Rattle.workload.proofs.Common.{◌∙◌, arrival_line}
 use Rattle.workload.proofs.Written.{lines_none, lines_more}
 use Rattle.workload.proofs.trace.put_arrivals.Goals as goal
 

@@ -1,5 +1,4 @@
-use Rattle.std.proofs.Common.{◌≡◌, ◌++◌}
-use Rattle.workload.specs.Traces.{arrival_line, lines_below}
+use Rattle.workload.proofs.Common.{◌≡◌, ◌++◌, arrival_line, lines_below}
 use Rattle.workload.proofs.trace.put_arrivals.Given as goal
 
 abbrev pub invariant-loop-j : goal.invariant-loop-j

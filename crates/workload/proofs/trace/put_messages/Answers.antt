@@ -1,5 +1,4 @@
-use Rattle.std.proofs.Common.{◌∙◌}
-use Rattle.workload.specs.Traces.{message_line}
+use Rattle.workload.proofs.Common.{◌∙◌, message_line}
 use Rattle.workload.proofs.Written.{lines_none, lines_more}
 use Rattle.workload.proofs.trace.put_messages.Goals as goal
 

@@ -1,10 +1,4 @@
-use Rattle.std.proofs.Common.{◌≡◌, ◌∙◌, ℕ, ◌-◌, ◌/◌, sym, subst, arith}
-use Rattle.std.specs.Prelude.{slice_index}
-use Rattle.c_lower.specs.ProgramCode.{lowered}
-use Rattle.c_tree.specs.ProgramView.{program_tree}
-use Rattle.std.proofs.lemmas.List.{get_or_default}
-use Rattle.accepted_pairs.specs.Acceptance.{Acceptance}
-use Rattle.accepted_pairs.specs.CodeLists.{StandsIn}
+use Rattle.accepted_pairs.proofs.Common.{◌≡◌, ◌∙◌, ℕ, ◌-◌, ◌/◌, sym, subst, arith, slice_index, lowered, program_tree, get_or_default, Acceptance, StandsIn}
 use Rattle.accepted_pairs.proofs.CodeListLemmas.{place_in_code, named_at}
 use Rattle.accepted_pairs.proofs.accepted.Accepted.function_at.Goals as goal
 

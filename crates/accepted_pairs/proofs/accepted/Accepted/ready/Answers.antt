@@ -1,5 +1,4 @@
-use Rattle.std.proofs.Common.{length, sym, subst}
-use Rattle.accepted_pairs.specs.Acceptance.{Acceptance}
+use Rattle.accepted_pairs.proofs.Common.{length, sym, subst, Acceptance}
 use Rattle.decoded_code.specs.Ready.{AreReady}
 use Rattle.accepted_pairs.proofs.accepted.Accepted.ready.Goals as goal
 

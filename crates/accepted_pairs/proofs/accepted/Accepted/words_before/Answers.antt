@@ -1,10 +1,5 @@
-use Rattle.std.proofs.Common.{◌≡◌, ◌<◌, length, sym, subst, Some}
-use Rattle.std.specs.Prelude.{slice_get}
+use Rattle.accepted_pairs.proofs.Common.{◌≡◌, ◌<◌, length, sym, subst, Some, slice_get, lowered, program_tree, Acceptance, AreWordsBefore}
 use Rattle.std.proofs.lemmas.Option.{slice_get_read}
-use Rattle.c_lower.specs.ProgramCode.{lowered}
-use Rattle.c_tree.specs.ProgramView.{program_tree}
-use Rattle.accepted_pairs.specs.Acceptance.{Acceptance}
-use Rattle.accepted_pairs.specs.Held.{AreWordsBefore}
 use Rattle.accepted_pairs.proofs.accepted.Accepted.words_before.Goals as goal
 
 pub returns : goal.returns

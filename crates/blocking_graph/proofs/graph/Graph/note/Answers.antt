@@ -1,5 +1,4 @@
-use Rattle.std.proofs.Common.{◌<◌, ◌^◌, arith}
-use Rattle.blocking_graph.specs.Edges.{count_of}
+use Rattle.blocking_graph.proofs.Common.{◌<◌, ◌^◌, arith, count_of}
 use Rattle.blocking_graph.proofs.NoteLemmas.{note_kept}
 use Rattle.blocking_graph.proofs.graph.Graph.note.Goals as goal
 

@@ -1,7 +1,4 @@
-use Rattle.std.proofs.Common.{sym}
-use Rattle.std.specs.BTreeMap.{get}
-use Rattle.std.specs.Ordering.{nat_cmp}
-use Rattle.blocking_graph.specs.Edges.{edges_from}
+use Rattle.blocking_graph.proofs.Common.{sym, get, nat_cmp, edges_from}
 use Rattle.blocking_graph.proofs.SumLemmas.{change-le, kept_some}
 use Rattle.blocking_graph.proofs.graph.Graph.predicted.Goals as goal
 

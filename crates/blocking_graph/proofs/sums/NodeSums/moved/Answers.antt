@@ -1,7 +1,4 @@
-use Rattle.std.proofs.Common.{ℤ, length, length-set, ◌≢◌, ◌<◌, ◌≤◌, ◌^◌, below_more, get_or-set_other, get_or-set_same, ◌≡◌, ◌+ℤ◌, ◌-ℤ◌, get_or, pos, unsigned_abs, FitsSigned, rules, arith}
-use Rattle.std.proofs.lemmas.Int.{to_z-of_z, fits_signed_from_abs}
-use Rattle.std.specs.Int.{w128}
-use Rattle.blocking_graph.specs.Sums.{weight, weight_or_0}
+use Rattle.blocking_graph.proofs.Common.{ℤ, length, length-set, ◌≢◌, ◌<◌, ◌≤◌, ◌^◌, below_more, get_or-set_other, get_or-set_same, ◌≡◌, ◌+ℤ◌, ◌-ℤ◌, get_or, pos, unsigned_abs, FitsSigned, rules, arith, to_z-of_z, fits_signed_from_abs, w128, weight, weight_or_0}
 use Rattle.blocking_graph.proofs.sums.NodeSums.moved.Goals as goal
 
 pub loop-resource-preserved : goal.loop-resource-preserved

@@ -1,5 +1,4 @@
-use Rattle.std.proofs.Common.{◌≡◌, ℕ, ◌<◌, ◌+ℤ◌, ◌-ℤ◌, length, get_or, pos}
-use Rattle.blocking_graph.specs.Sums.{weight, weight_or_0}
+use Rattle.blocking_graph.proofs.Common.{◌≡◌, ℕ, ◌<◌, ◌+ℤ◌, ◌-ℤ◌, length, get_or, pos, weight, weight_or_0}
 use Rattle.blocking_graph.proofs.sums.NodeSums.moved.Given as goal
 
 abbrev pub invariant-loop-resource : goal.invariant-loop-resource

@@ -1,7 +1,4 @@
-use Rattle.std.proofs.Common.{sym, ap, subst, ◌∙◌, [], ◌++◌, map}
-use Rattle.c_tree.specs.RawViews.{name_tree, raw_in_order, raw_stmt_trees}
-use Rattle.scope_rules.specs.Making.{IsMaking, made_by}
-use Rattle.hoist_parts.specs.Statements.{all_hoisted}
+use Rattle.c_hoist.proofs.Common.{sym, ap, subst, ◌∙◌, [], ◌++◌, map, name_tree, raw_in_order, raw_stmt_trees, IsMaking, made_by, all_hoisted}
 use Rattle.c_hoist.proofs.Rewriting.{all_statements, places_of_function}
 use Rattle.c_hoist.proofs.nested_text.Rewriting.function.Goals as goal
 

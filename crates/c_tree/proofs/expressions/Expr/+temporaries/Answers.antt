@@ -1,7 +1,4 @@
-use Rattle.std.proofs.Common.{◌≡◌, ◌+◌, ◌∷◌, ℕ, max, ◌∙◌, map, drop, arith}
-use Rattle.c_tree.specs.declared.operators.Infix.{Infix}
-use Rattle.c_tree.specs.Views.{expr_tree}
-use Rattle.c_tree.specs.Temporaries.{capped, expr_temporaries, operand_temporaries}
+use Rattle.c_tree.proofs.Common.{◌≡◌, ◌+◌, ◌∷◌, ℕ, max, ◌∙◌, map, drop, arith, Infix, expr_tree, capped, expr_temporaries, operand_temporaries}
 use Rattle.c_tree.proofs.Cuts.{drop_at}
 use Rattle.c_tree.proofs.ChainTemporaries.{chained_count, chain_count_capped}
 use Rattle.c_tree.proofs.ExprEquations.{operand_tree, expr_tree-Chain}

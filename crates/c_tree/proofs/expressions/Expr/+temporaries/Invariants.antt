@@ -1,6 +1,4 @@
-use Rattle.std.proofs.Common.{◌≡◌, ◌≤◌, map, drop}
-use Rattle.c_tree.specs.Views.{expr_tree}
-use Rattle.c_tree.specs.Temporaries.{capped, expr_temporaries}
+use Rattle.c_tree.proofs.Common.{◌≡◌, ◌≤◌, map, drop, expr_tree, capped, expr_temporaries}
 use Rattle.c_tree.proofs.ChainTemporaries.{chain_count}
 use Rattle.c_tree.proofs.expressions.Expr.+temporaries.Given as goal
 

@@ -1,6 +1,4 @@
-use Rattle.std.proofs.Common.{◌≡◌, ◌<◌, ◌-◌, true, false, not, length, get_or, sym, ap, ◌∙◌, arith}
-use Rattle.std.proofs.lemmas.List.{get_or_read}
-use Rattle.call_graph.specs.Lists.{has}
+use Rattle.call_graph.proofs.Common.{◌≡◌, ◌<◌, ◌-◌, true, false, not, length, get_or, sym, ap, ◌∙◌, arith, get_or_read, has}
 use Rattle.call_graph.proofs.ListLemmas.{all-at}
 use Rattle.call_graph.proofs.IndexLemmas.{IsIndexFrom-kept, IsIndexFrom-skipped, no_site}
 use Rattle.call_graph.proofs.index.CallerIndex.new.Goals as goal

@@ -1,5 +1,4 @@
-use Rattle.std.proofs.Common.{ap, sym, ◌∙◌}
-use Rattle.cap_text.specs.Pieces.{pieces_left}
+use Rattle.cap_text.proofs.Common.{ap, sym, ◌∙◌, pieces_left}
 use Rattle.cap_text.proofs.PieceSteps.{piece_at, last_piece}
 use Rattle.cap_text.proofs.fields.Fields.next.Goals as goal
 

@@ -1,4 +1,4 @@
-use Rattle.std.specs.Int.{w32}
+use Rattle.cap_text.proofs.Common.{w32}
 use Rattle.cap_text.proofs.FieldRefusals.{no_integer}
 use Rattle.cap_text.proofs.fields.Fields.signed.Goals as goal
 

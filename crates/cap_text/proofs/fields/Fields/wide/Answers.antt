@@ -1,4 +1,4 @@
-use Rattle.std.specs.Int.{w128}
+use Rattle.cap_text.proofs.Common.{w128}
 use Rattle.cap_text.proofs.FieldRefusals.{no_integer}
 use Rattle.cap_text.proofs.fields.Fields.wide.Goals as goal
 

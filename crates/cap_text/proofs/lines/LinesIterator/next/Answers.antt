@@ -1,6 +1,4 @@
-use Rattle.std.proofs.Common.{◌≡◌, [], ◌∷◌, ◌+◌, take, sym, ◌∙◌, ap}
-use Rattle.std.proofs.lemmas.List.{take_rest}
-use Rattle.cap_text.specs.TextLines.{lines_of}
+use Rattle.cap_text.proofs.Common.{◌≡◌, [], ◌∷◌, ◌+◌, take, sym, ◌∙◌, ap, take_rest, lines_of}
 use Rattle.cap_text.proofs.LineLaws.{line_at, line_to_end, none_left, some_left, fewer}
 use Rattle.cap_text.proofs.lines.LinesIterator.next.Goals as goal
 

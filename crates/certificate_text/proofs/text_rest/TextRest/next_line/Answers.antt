@@ -1,5 +1,4 @@
-use Rattle.std.proofs.Common.{take, ◌++◌, ◌∷◌, ◌+◌, sym, ◌∙◌, ap}
-use Rattle.std.proofs.lemmas.List.{take_rest}
+use Rattle.certificate_text.proofs.Common.{take, ◌++◌, ◌∷◌, ◌+◌, sym, ◌∙◌, ap, take_rest}
 use Rattle.certificate_text.proofs.LineSplits.{line_at, no_line_at}
 use Rattle.certificate_text.proofs.text_rest.TextRest.next_line.Goals as goal
 

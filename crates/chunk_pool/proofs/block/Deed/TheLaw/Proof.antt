@@ -1,11 +1,8 @@
 -- A `&` to a deed shows nothing. Assumes `Logic`.
-use denote.RattleType.{RattleType}
-use denote.RawPtr.{RawPtr}
+use Rattle.chunk_pool.proofs.Common.{RattleType, RawPtr, nothing_shr_laws, of_Lends, Lends-nothing}
 use denote.Param.Laws.{Laws}
 use denote.Param.Shared.{copy_shared}
-use denote.SharingLaws.{nothing_shr_laws}
 use denote.Struct.Laws.{field_copy}
-use denote.Struct.Lending.{of_Lends, Lends-nothing}
 use Rattle.core.specs.declared.alloc.Allocator.{Ghosts}
 use Rattle.core.specs.contracts.marker.PhantomData as marker
 use Rattle.chunk_pool.specs.contracts.block.Deed as deed

@@ -2,23 +2,10 @@
 use mathlib.Core.List.{List}
 use Prim.Native.Nat.{ℕ, ◌+◌, ◌*◌}
 use lib.ListN.{length}
-use seplogic.Ra.Ura.{Ura}
-use base.Fraction.{full_share}
-use base.Fml.{Lft, ffalse, froom}
-use types.Logic.{Logic}
-use mir.Syntax.{w32}
-use denote.Builtin.{u32}
+use Rattle.chunk_pool.proofs.Common.{Ura, full_share, Lft, ffalse, froom, Logic, w32, u32, row, shared_of, uint_row_laws, Ptr, block_ptr, null_ptr, beside_shr_laws, said_shr_laws, elements_shared, elements_shr_laws, of_Lends, Lends, Lends-said, Lends-first, Lends-both, Lends-false, fit, words_type, words_own, words_lent}
 use denote.Copied.{uint_Copied}
-use denote.Index.{row}
-use denote.Memory.{shared_of}
-use denote.Plain.{uint_row_laws}
-use denote.RawPtr.{Ptr, block_ptr, null_ptr}
 use denote.Shares.{shares_each}
 use denote.Sharing.{ShrLaws, said}
-use denote.SharingLaws.{beside_shr_laws, said_shr_laws}
-use denote.Slice.{elements_shared, elements_shr_laws}
-use denote.Struct.Lending.{of_Lends, Lends, Lends-said, Lends-first, Lends-both, Lends-false}
-use Rattle.chunk_pool.specs.Block.{fit, words_type, words_own, words_lent}
 use Rattle.chunk_pool.specs.contracts.block.Words as words
 use Rattle.chunk_pool.proofs.block.Words.TheLaw.Statement.{statement}
 

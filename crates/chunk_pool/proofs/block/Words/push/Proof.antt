@@ -1,29 +1,5 @@
 -- `push` writes the first word of the room, which is then one of the words. Assumes `Logic`.
-use Rattle.std.proofs.Common.{◌≡◌, ℕ, suc, ◌+◌, ◌-◌, ◌*◌, ◌^◌, ◌<◌, List, [], ◌∷◌, ◌++◌, length, refl, sym, ◌∙◌, subst, arith, length-append, w64, w32}
-use base.Fraction.{full_share}
-use base.Logic.{SProp, never, id⊢}
-use base.Fml.{ftrue, fat, flft, froom}
-use mir.Syntax.{ty_int}
-use mir.Val.{Val, vptr, vint, vunit}
-use contract.Monad.{fact}
-use contract.Running.{tables}
-use prog.Wp.{Env, WpFn}
-use types.Kit.{‵, raw, ◌⊛◌, prop, at_ret, ◌$◌, ◌∵◌, !, qed, move, keep, use1, use2, split, join, rewrite, regoal, fsplit, fsplit3, fjoin, fjoin3, flt_l, flt_i, feq_i, suffices, frame, done}
-use types.Part.{whole, sub}
-use types.Run.{init, stop, fld, lit, unit_lit, of_opd, bin, assigns_last, first, blocks, exec, returns, enter}
-use types.ByLocal.{alloc_all, pass_all, free_all, look_at, get, get_in, take_at, give_at, through, sets, env}
-use denote.Builtin.{u32, usize}
-use denote.Exit.{yes}
-use denote.Index.{row}
-use denote.Param.{layout}
-use denote.RattleType.{owns}
-use denote.RawPtr.{Ptr, in_a_block}
-use denote.Signature.{plain, types_at}
-use denote.Steps.{nothing, heard, opens, closes}
-use denote.Triple.Walked.{Stays, says, stay_dropped, stay_ref, walk_of, ends_at, Goes-dropped, Goes-ref}
-use Rattle.core.proofs.alloc.Shapes.{after}
-use Rattle.std.proofs.raw_atomic.Walks.{proved_at}
-use Rattle.chunk_pool.specs.Block.{words_own, words_type}
+use Rattle.chunk_pool.proofs.Common.{◌≡◌, ℕ, suc, ◌+◌, ◌-◌, ◌*◌, ◌^◌, ◌<◌, List, [], ◌∷◌, ◌++◌, length, refl, sym, ◌∙◌, subst, arith, length-append, w64, w32, full_share, SProp, never, id⊢, ftrue, fat, flft, froom, ty_int, Val, vptr, vint, vunit, fact, tables, Env, WpFn, ‵, raw, ◌⊛◌, prop, at_ret, ◌$◌, ◌∵◌, !, qed, move, keep, use1, use2, split, join, rewrite, regoal, fsplit, fsplit3, fjoin, fjoin3, flt_l, flt_i, feq_i, suffices, frame, done, whole, sub, init, stop, fld, lit, unit_lit, of_opd, bin, assigns_last, first, blocks, exec, returns, enter, alloc_all, pass_all, free_all, look_at, get, get_in, take_at, give_at, through, sets, env, u32, usize, yes, row, layout, owns, Ptr, in_a_block, plain, types_at, nothing, heard, opens, closes, Stays, says, stay_dropped, stay_ref, walk_of, ends_at, Goes-dropped, Goes-ref, after, proved_at, words_own, words_type}
 use Rattle.chunk_pool.specs.contracts.block.Words as words
 use Rattle.chunk_pool.specs.contracts.block.Start as start
 use Rattle.chunk_pool.proofs.Blocks.{start_val, start_told, start_typed, word_at, word_more}

@@ -1,30 +1,7 @@
 -- `slice` shows a run of the words. Assumes `Logic`.
-use Rattle.std.proofs.Common.{◌≡◌, ℕ, ◌+◌, ◌*◌, ◌^◌, ◌<◌, ◌≤◌, List, [], ◌∷◌, ◌++◌, length, take, refl, sym, ◌∙◌, ap, arith, length-take, length-drop, w64}
 use lib.ListN.{drop as drop_first}
-use base.Fraction.{full_share}
-use base.Logic.{SProp, never, id⊢}
-use base.Fml.{ftrue, fat, flft}
-use mir.Val.{Val, vptr, vint}
-use contract.Monad.{fact}
-use contract.Running.{tables}
-use prog.Wp.{Env, WpFn}
-use types.Kit.{‵, raw, ◌⊛◌, prop, at_ret, ◌$◌, ◌∵◌, !, qed, move, keep, drop, use1, split, join, rewrite, regoal, fsplit, fjoin, flt_l, flt_i, feq_i, suffices, frame, done}
-use types.Part.{whole, sub, agg}
-use types.Run.{stop, fld, lit, of_opd, and_then, no_more, bin, first, blocks, exec, returns, enter}
-use types.ByLocal.{alloc_all, pass_all, free_all, look_at, get, get_in, take_at, give_at, sets, sets_last, env}
-use denote.Builtin.{u32, usize, RefOf}
-use denote.Exit.{yes}
+use Rattle.chunk_pool.proofs.Common.{◌≡◌, ℕ, ◌+◌, ◌*◌, ◌^◌, ◌<◌, ◌≤◌, List, [], ◌∷◌, ◌++◌, length, take, refl, sym, ◌∙◌, ap, arith, length-take, length-drop, w64, full_share, SProp, never, id⊢, ftrue, fat, flft, Val, vptr, vint, fact, tables, Env, WpFn, ‵, raw, ◌⊛◌, prop, at_ret, ◌$◌, ◌∵◌, !, qed, move, keep, drop, use1, split, join, rewrite, regoal, fsplit, fjoin, flt_l, flt_i, feq_i, suffices, frame, done, whole, sub, agg, stop, fld, lit, of_opd, and_then, no_more, bin, first, blocks, exec, returns, enter, alloc_all, pass_all, free_all, look_at, get, get_in, take_at, give_at, sets, sets_last, env, u32, usize, RefOf, yes, layout, owns, Ptr, in_a_block, plain, types_at, elements_shared, slice_val, nothing, heard, Stays, says, stay_dropped, walk_of, ends_at, Goes-dropped, after, proved_at, words_lent}
 use denote.Opens.{hide, unhide}
-use denote.Param.{layout}
-use denote.RattleType.{owns}
-use denote.RawPtr.{Ptr, in_a_block}
-use denote.Signature.{plain, types_at}
-use denote.Slice.{elements_shared, slice_val}
-use denote.Steps.{nothing, heard}
-use denote.Triple.Walked.{Stays, says, stay_dropped, walk_of, ends_at, Goes-dropped}
-use Rattle.core.proofs.alloc.Shapes.{after}
-use Rattle.std.proofs.raw_atomic.Walks.{proved_at}
-use Rattle.chunk_pool.specs.Block.{words_lent}
 use Rattle.chunk_pool.specs.contracts.block.Words as words
 use Rattle.chunk_pool.specs.contracts.block.Start as start
 use Rattle.chunk_pool.proofs.Blocks.{start_val, start_told, start_typed, seen_run}

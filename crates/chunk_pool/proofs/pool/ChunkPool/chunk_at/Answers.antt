@@ -1,5 +1,4 @@
-use Rattle.std.proofs.Common.{◌∙◌, ap, subst}
-use Rattle.chunk_pool.specs.Pool.{Pool, chunk_at, IsPool}
+use Rattle.chunk_pool.proofs.Common.{◌∙◌, ap, subst, Pool, chunk_at, IsPool}
 use Rattle.chunk_pool.proofs.AddressLaws.{chunk_at-some, found_holds, found_none}
 use Rattle.chunk_pool.proofs.pool.ChunkPool.chunk_at.Goals as goal
 

@@ -1,6 +1,4 @@
-use Rattle.std.proofs.Common.{◌≡◌, ◌∙◌, sym, ap, subst, Bool, false}
-use Rattle.std.specs.Prelude.{◌↔◌, is_some}
-use Rattle.chunk_pool.specs.Pool.{FitsNone}
+use Rattle.chunk_pool.proofs.Common.{◌≡◌, ◌∙◌, sym, ap, subst, Bool, false, ◌↔◌, is_some, FitsNone}
 use Rattle.chunk_pool.proofs.NeedLaws.{class_for-fits}
 use Rattle.chunk_pool.proofs.pool.ChunkPool.fits.Goals as goal
 

@@ -1,5 +1,4 @@
-use Rattle.std.proofs.Common.{◌+◌, ◌≤◌, subst, arith}
-use Rattle.chunk_pool.specs.Pool.{Pool}
+use Rattle.chunk_pool.proofs.Common.{◌+◌, ◌≤◌, subst, arith, Pool}
 use Rattle.chunk_pool.proofs.Kept.{all_free_is, free_most}
 use Rattle.chunk_pool.proofs.pool.ChunkPool.free.Goals as goal
 

@@ -1,5 +1,5 @@
 use Rattle.std.proofs.Common.{◌∙◌, ◌-◌, ℕ, ap, take, drop, arith}
-use Rattle.chunk_pool.specs.Pool.{Pool, words_of}
+use Rattle.chunk_pool.proofs.Common.{Pool, words_of}
 use Rattle.chunk_pool.proofs.Shapes.{words_in-some}
 use Rattle.chunk_pool.proofs.Kept.{has_words, payload_is}
 use Rattle.chunk_pool.proofs.pool.ChunkPool.payload.Goals as goal

@@ -1,6 +1,4 @@
-use Rattle.std.proofs.Common.{◌+◌, ◌*◌, ◌%◌, ℕ, ◌∙◌, ap, subst}
-use Rattle.chunk_pool.specs.Pool.{first_place, IsPool}
-use Rattle.chunk_pool.specs.Chunks.{pool_of}
+use Rattle.chunk_pool.proofs.Common.{◌+◌, ◌*◌, ◌%◌, ℕ, ◌∙◌, ap, subst, first_place, IsPool, pool_of}
 use Rattle.chunk_pool.proofs.AddressLaws.{place_of-aligned, place_of-bounded}
 use Rattle.chunk_pool.proofs.pool.ChunkPool.place_of.Goals as goal
 

@@ -1,5 +1,4 @@
-use Rattle.std.proofs.Common.{ℕ, ◌-◌, ◌/◌, ◌∙◌, ap, get_or}
-use Rattle.chunk_pool.specs.Pool.{place_of}
+use Rattle.chunk_pool.proofs.Common.{ℕ, ◌-◌, ◌/◌, ◌∙◌, ap, get_or, place_of}
 use Rattle.chunk_pool.proofs.AddressLaws.{word_at, word_within}
 use Rattle.chunk_pool.proofs.Kept.{address_within, read_is}
 use Rattle.chunk_pool.proofs.pool.ChunkPool.read_at.Goals as goal

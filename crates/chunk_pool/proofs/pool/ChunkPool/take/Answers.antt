@@ -1,5 +1,4 @@
-use Rattle.std.proofs.Common.{ℕ, ◌∙◌, sym, ap, subst, Option, Some}
-use Rattle.chunk_pool.specs.Pool.{taken_for, IsTaken}
+use Rattle.chunk_pool.proofs.Common.{ℕ, ◌∙◌, sym, ap, subst, Option, Some, taken_for, IsTaken}
 use Rattle.chunk_pool.proofs.NeedLaws.{IsTaken-first, IsTaken-extra, IsTaken-none, take_tells}
 use Rattle.chunk_pool.proofs.pool.ChunkPool.take.Goals as goal
 

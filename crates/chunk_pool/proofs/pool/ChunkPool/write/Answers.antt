@@ -1,5 +1,4 @@
-use Rattle.std.proofs.Common.{sym, ◌∙◌, ap, subst}
-use Rattle.chunk_pool.specs.Pool.{Pool, KeepsOthers, word_of, IsPool}
+use Rattle.chunk_pool.proofs.Common.{sym, ◌∙◌, ap, subst, Pool, KeepsOthers, word_of, IsPool}
 use Rattle.chunk_pool.proofs.PoolLaws.{KeepsOthers-with_word, word_of-with_word_same, word_of-with_word_other}
 use Rattle.chunk_pool.proofs.Kept.{written}
 use Rattle.chunk_pool.proofs.pool.ChunkPool.write.Goals as goal

@@ -1,7 +1,6 @@
-use Rattle.std.proofs.Common.{◌-◌, ◌/◌, ◌∙◌}
-use Rattle.chunk_pool.specs.Pool.{place_of}
+use Rattle.chunk_pool.proofs.Common.{◌-◌, ◌/◌, ◌∙◌, place_of}
 use Rattle.chunk_pool.proofs.AddressLaws.{payload_word, word_at, word_within}
-use Rattle.chunk_pool.proofs.Kept.{address_within, written, IsWritten}
+use Rattle.chunk_pool.proofs.Kept.{address_within, written}
 use Rattle.chunk_pool.proofs.pool.ChunkPool.write_at.Goals as goal
 
 pub write-requires : goal.write-requires

@@ -1,5 +1,4 @@
-use Rattle.std.proofs.Common.{◌≡◌, ℕ, ◌+◌, ◌-◌, ◌*◌, ◌/◌, ◌∙◌, sym, ap, arith, Some}
-use Rattle.chunk_pool.specs.Pool.{first_place, first_end}
+use Rattle.chunk_pool.proofs.Common.{◌≡◌, ℕ, ◌+◌, ◌-◌, ◌*◌, ◌/◌, ◌∙◌, sym, ap, arith, Some, first_place, first_end}
 use Rattle.chunk_pool.proofs.AddressLaws.{chunk_in-below, chunk_in-first, chunk_in-extra, chunk_in-above, some_where}
 use Rattle.chunk_pool.proofs.shape.Shape.chunk_at.Goals as goal
 

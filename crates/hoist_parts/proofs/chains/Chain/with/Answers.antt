@@ -1,4 +1,4 @@
-use Rattle.c_tree.specs.RawViews.{raw_expr_tree}
+use Rattle.hoist_parts.proofs.Common.{raw_expr_tree}
 use Rattle.hoist_parts.proofs.ChainLemmas.{chained_more}
 use Rattle.hoist_parts.proofs.chains.Chain.with.Goals as goal
 

@@ -1,15 +1,4 @@
-use Rattle.std.proofs.Common.{◌≡◌, ◌+◌, [], ◌∷◌, ◌++◌, ◌∙◌, refl, map, drop, nat_lt, sym, ap, arith}
-use Rattle.std.proofs.lemmas.List.{map_push, drop_all}
-use Rattle.c_tree.specs.RawTrees.{RawConditional, RawCall, RawTableCall}
-use Rattle.c_tree.specs.RawViews.{name_tree, raw_expr_tree, raw_expr_trees, raw_chained}
-use Rattle.c_tree.proofs.Cuts.{drop_at}
-use Rattle.c_tree.proofs.RawExprEquations.{raw_operand_tree, raw_expr_tree-Number, raw_expr_tree-Name, raw_expr_tree-Chain, raw_expr_tree-Conditional, raw_expr_tree-Call, raw_expr_tree-TableCall}
-use Rattle.hoist_parts.specs.Arguments.{calls_among}
-use Rattle.hoist_parts.specs.NewNames.{declared, set_to}
-use Rattle.hoist_parts.specs.Expressions.{before, left_of, in_block}
-use Rattle.hoist_parts.specs.Chains.{chain_tree, operand_trees}
-use Rattle.hoist_parts.proofs.NoCalls.{no_left, no_before, no_names}
-use Rattle.hoist_rules.specs.Receivers.{Received, so_far, then_all, then_else, then_close}
+use Rattle.hoist_rules.proofs.Common.{◌≡◌, ◌+◌, [], ◌∷◌, ◌++◌, ◌∙◌, refl, map, drop, nat_lt, sym, ap, arith, map_push, drop_all, RawConditional, RawCall, RawTableCall, name_tree, raw_expr_tree, raw_expr_trees, raw_chained, drop_at, raw_operand_tree, raw_expr_tree-Number, raw_expr_tree-Name, raw_expr_tree-Chain, raw_expr_tree-Conditional, raw_expr_tree-Call, raw_expr_tree-TableCall, calls_among, declared, set_to, before, left_of, in_block, chain_tree, operand_trees, no_left, no_before, no_names, Received, so_far, then_all, then_else, then_close}
 use Rattle.hoist_rules.proofs.Followed.{then_none, closed_both}
 use Rattle.hoist_rules.proofs.Operands as operand
 use Rattle.hoist_rules.proofs.CallTurns as calling

@@ -1,9 +1,4 @@
-use Rattle.std.proofs.Common.{◌≡◌, ◌+◌, map, drop}
-use Rattle.c_tree.specs.RawViews.{raw_expr_tree, raw_expr_trees}
-use Rattle.hoist_parts.specs.Expressions.{arguments_names, arguments_left, arguments_before}
-use Rattle.hoist_parts.specs.Arguments.{calls_among}
-use Rattle.hoist_parts.specs.Chains.{chain_tree, operand_trees, operands_left, operands_before, operands_after}
-use Rattle.hoist_rules.specs.Receivers.{so_far, then_all}
+use Rattle.hoist_rules.proofs.Common.{◌≡◌, ◌+◌, map, drop, raw_expr_tree, raw_expr_trees, arguments_names, arguments_left, arguments_before, calls_among, chain_tree, operand_trees, operands_left, operands_before, operands_after, so_far, then_all}
 use Rattle.hoist_rules.proofs.ArgumentTurns.{then_trees}
 use Rattle.hoist_rules.proofs.hoisting.Hoisting.+hoist.Given as goal
 

@@ -1,13 +1,6 @@
-use Rattle.std.proofs.Common.{◌≡◌, ◌∷◌, ◌+◌, ◌∙◌, sym, ap, drop}
-use Rattle.std.specs.Prelude.{option_map}
+use Rattle.hoist_rules.proofs.Common.{◌≡◌, ◌∷◌, ◌+◌, ◌∙◌, sym, ap, drop, option_map, RawDo, RawReturn, raw_expr_tree, raw_simple_tree, raw_stmt_tree, raw_stmt_trees, drop_at, opening_tree, simple_before, returned_before, hoisted, so_far, then_all}
 use Rattle.std.proofs.lemmas.Result.{on_ok_weaker}
-use Rattle.c_tree.specs.RawTrees.{RawDo, RawReturn}
-use Rattle.c_tree.specs.RawViews.{raw_expr_tree, raw_simple_tree, raw_stmt_tree, raw_stmt_trees}
-use Rattle.c_tree.proofs.Cuts.{drop_at}
 use Rattle.c_tree.proofs.RawStmtEquations.{raw_stmt_tree-Simple, raw_stmt_tree-Block, raw_stmt_tree-IfElse, raw_stmt_tree-While, raw_stmt_tree-Return}
-use Rattle.scope_rules.specs.Openings.{opening_tree}
-use Rattle.hoist_parts.specs.Statements.{simple_before, returned_before, hoisted}
-use Rattle.hoist_rules.specs.Receivers.{so_far, then_all}
 use Rattle.hoist_rules.proofs.Followed.{then_pushed}
 use Rattle.hoist_rules.proofs.BodyTurns as body
 use Rattle.hoist_rules.proofs.hoisting.Hoisting.+statements.Goals as goal

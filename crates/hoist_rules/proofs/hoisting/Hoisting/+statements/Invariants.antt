@@ -1,7 +1,4 @@
-use Rattle.std.proofs.Common.{◌≡◌, ◌+◌, drop}
-use Rattle.c_tree.specs.RawViews.{raw_stmt_trees}
-use Rattle.hoist_parts.specs.Statements.{stmts_names, all_hoisted}
-use Rattle.hoist_rules.specs.Receivers.{so_far, then_all}
+use Rattle.hoist_rules.proofs.Common.{◌≡◌, ◌+◌, drop, raw_stmt_trees, stmts_names, all_hoisted, so_far, then_all}
 use Rattle.hoist_rules.proofs.hoisting.Hoisting.+statements.Given as goal
 
 abbrev pub invariant-statements-loop-stmt : goal.invariant-statements-loop-stmt

@@ -1,12 +1,4 @@
-use Rattle.std.proofs.Common.{◌≡◌, ◌+◌, ◌∙◌, [], map, vec_len, sym, ap, subst}
-use Rattle.std.specs.Prelude.{IfOk, OnOk}
-use Rattle.c_tree.specs.RawTrees.{RawExprTree}
-use Rattle.c_tree.specs.RawViews.{raw_expr_tree, raw_chained}
-use Rattle.c_tree.proofs.RawExprEquations.{raw_operand_tree, raw_expr_tree-Chain}
-use Rattle.hoist_parts.specs.Expressions.{names_in, left_of, before}
-use Rattle.hoist_parts.specs.Statements.{value_names, value_left, value_before}
-use Rattle.hoist_parts.proofs.HeldChains.{some_mapped, some_chain}
-use Rattle.hoist_rules.specs.Receivers.{so_far, then_all}
+use Rattle.hoist_rules.proofs.Common.{◌≡◌, ◌+◌, ◌∙◌, [], map, vec_len, sym, ap, subst, IfOk, OnOk, RawExprTree, raw_expr_tree, raw_chained, raw_operand_tree, raw_expr_tree-Chain, names_in, left_of, before, value_names, value_left, value_before, some_mapped, some_chain, so_far, then_all}
 use Rattle.hoist_rules.proofs.ValueChains.{joined_value_left, joined_value_before, joined_value_names}
 use Rattle.hoist_rules.proofs.hoisting.Hoisting.+value.Goals as goal
 

@@ -1,4 +1,4 @@
-use Rattle.hoist_rules.specs.Receivers.{so_far, then_open}
+use Rattle.hoist_rules.proofs.Common.{so_far, then_open}
 use Rattle.hoist_rules.proofs.receivers.Receiver.open.Goals as goal
 
 pub returns : goal.returns

@@ -1,9 +1,4 @@
-use Rattle.std.proofs.Common.{sym, ap, ◌∙◌, ◌++◌}
-use Rattle.std.proofs.lemmas.List.{append-nil}
-use Rattle.c_tree.specs.RawViews.{raw_stmt_tree}
-use Rattle.grammar_laws.specs.Nested.{is_call}
-use Rattle.grammar_laws.specs.Places.{stmt_places}
-use Rattle.hoist_rules.specs.Receivers.{so_far, then_all}
+use Rattle.hoist_rules.proofs.Common.{sym, ap, ◌∙◌, ◌++◌, append-nil, raw_stmt_tree, is_call, stmt_places, so_far, then_all}
 use Rattle.hoist_rules.proofs.receivers.Receiver.push.Goals as goal
 
 pub returns : goal.returns

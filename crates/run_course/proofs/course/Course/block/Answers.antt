@@ -1,19 +1,5 @@
-use Rattle.std.proofs.Common.{◌≡◌, ◌+◌, ◌∙◌, ◌∷◌, ◌++◌, [], ℕ, List, None, sym, ap, subst}
-use Rattle.std.proofs.lemmas.Result.{err_from_is_err_and}
-use Rattle.blocking_graph.specs.Edges.{edges_with, count_of}
-use Rattle.blocking_graph.specs.Graph.{GraphState}
-use Rattle.blocking_graph.specs.declared.edges.EdgeLine.{EdgeLine}
-use Rattle.choice_rules.specs.Seen.{changes, uses_in}
-use Rattle.lawful_log.specs.State.{held_chunks}
-use Rattle.schedule_log.specs.EntryText.{entry_text}
-use Rattle.schedule_log.specs.declared.entries.Entry.{Entry}
-use Rattle.rule_state.specs.Rules.{HasRejoined, IsUnderWay}
-use Rattle.rule_state.specs.declared.rules.RuleState.{RuleState}
+use Rattle.run_course.proofs.Common.{◌≡◌, ◌+◌, ◌∙◌, ◌∷◌, ◌++◌, [], ℕ, List, None, sym, ap, subst, err_from_is_err_and, edges_with, count_of, GraphState, EdgeLine, changes, uses_in, held_chunks, entry_text, Entry, HasRejoined, IsUnderWay, RuleState, PutsText, output_of, Kept, StandsWithin, PartEnds}
 use Rattle.run_course.proofs.Rules.{under_way}
-use Rattle.run_course.specs.Output.{PutsText, output_of}
-use Rattle.run_course.specs.Kept.{Kept}
-use Rattle.run_course.specs.Stands.{StandsWithin}
-use Rattle.run_course.specs.Steps.{PartEnds}
 use Rattle.run_course.proofs.Ended.{block_cost, block_part, block_waits, caps_held, eight_uses}
 use Rattle.run_course.proofs.Parts.{onward_within, no_part}
 use Rattle.run_course.proofs.course.Course.block.Goals as goal

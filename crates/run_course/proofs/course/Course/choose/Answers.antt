@@ -1,14 +1,4 @@
-use Rattle.std.proofs.Common.{rules, ◌≡◌, ◌<◌, ◌∷◌, ◌++◌, [], ℕ, Some, Option, length, sym, subst}
-use Rattle.resource_monitor.specs.Monitor.{MonitorState}
-use Rattle.schedule_log.specs.EntryText.{entry_text}
-use Rattle.schedule_log.specs.declared.entries.Entry.{Entry}
-use Rattle.scheduler.specs.declared.choices.Choice.{Choice}
-use Rattle.run_course.specs.Output.{PutsText, output_of}
-use Rattle.run_course.specs.Kept.{Kept}
-use Rattle.run_course.specs.Ranks.{long_rank}
-use Rattle.run_course.specs.Stands.{IsAtChoice}
-use Rattle.run_course.specs.Steps.{PartEnds}
-use Rattle.run_course.specs.declared.course.Under.{Under}
+use Rattle.run_course.proofs.Common.{rules, ◌≡◌, ◌<◌, ◌∷◌, ◌++◌, [], ℕ, Some, Option, length, sym, subst, MonitorState, entry_text, Entry, Choice, PutsText, output_of, Kept, long_rank, IsAtChoice, PartEnds, Under}
 use Rattle.run_course.proofs.Choosing.{LawfulNow, resting, lawful_as, taken_as, some_choice, may_begin, uses_now, caps_now, choose_part, choose_falls}
 use Rattle.run_course.proofs.Rules.{all_told, none_under_way}
 use Rattle.run_course.proofs.course.Course.choose.Goals as goal
@@ -33,7 +23,6 @@ take-taken-requires-clause-known g c =
 
 pub take-taken-requires-clause-none_under_way : goal.take-taken-requires-clause-none_under_way
 take-taken-requires-clause-none_under_way g c =
-    let k : Kept = record { rule = c.self.inside.rule; graph = c.self.inside.graph; monitor = c.self.inside.monitor; reader = c.self.inside.reader; next = c.self.inside.next; under = c.self.inside.under } in
     let at = subst (λ (k' : Kept). IsAtChoice c.requires.stands.0 c.requires.stands.1 k' c.args.world.now c.requires.stands.2 c.requires.stands.3) (sym c.self.view_is) c.requires.stands.4 in
     none_under_way c.args.world.now.places c.self.inside.rule _ at.point.stands.kept
 

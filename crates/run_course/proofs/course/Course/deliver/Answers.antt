@@ -1,12 +1,4 @@
-use Rattle.std.proofs.Common.{sym, subst, ◌≡◌, ◌<◌, ◌∷◌, ◌++◌, [], ℕ, Some, ◌∙◌, ap, refl}
-use Rattle.schedule_log.specs.EntryText.{entry_text}
-use Rattle.schedule_log.specs.declared.entries.Entry.{Entry}
-use Rattle.run_course.specs.Output.{PutsText, output_of}
-use Rattle.run_course.specs.Kept.{Kept}
-use Rattle.run_course.specs.Lines.{coming_line}
-use Rattle.run_course.specs.Ranks.{long_rank, lines_rank}
-use Rattle.run_course.specs.Stands.{IsAtPoint}
-use Rattle.run_course.specs.declared.looking.Next.{Next}
+use Rattle.run_course.proofs.Common.{sym, subst, ◌≡◌, ◌<◌, ◌∷◌, ◌++◌, [], ℕ, Some, ◌∙◌, ap, refl, entry_text, Entry, PutsText, output_of, Kept, coming_line, long_rank, lines_rank, IsAtPoint, Next}
 use Rattle.run_course.proofs.Delivering.{delivered_part}
 use Rattle.run_course.proofs.Pointed.{next_event, keeps_event, long_event, lines_event}
 use Rattle.run_course.proofs.course.Course.deliver.Goals as goal

@@ -1,14 +1,5 @@
-use Rattle.std.proofs.Common.{◌≡◌, ◌∙◌, ap, ◌∷◌, ◌++◌, [], ℕ, None, sym, subst, refl}
-use Rattle.std.proofs.lemmas.Result.{err_from_is_err_and}
-use Rattle.blocking_graph.specs.Graph.{GraphState}
-use Rattle.schedule_log.specs.EntryText.{entry_text}
-use Rattle.schedule_log.specs.declared.entries.Entry.{Entry}
-use Rattle.run_course.specs.Output.{PutsText, output_of}
-use Rattle.rule_state.specs.Rules.{HasLeft, IsUnderWay}
-use Rattle.rule_state.specs.declared.rules.RuleState.{RuleState}
+use Rattle.run_course.proofs.Common.{◌≡◌, ◌∙◌, ap, ◌∷◌, ◌++◌, [], ℕ, None, sym, subst, refl, err_from_is_err_and, GraphState, entry_text, Entry, PutsText, output_of, HasLeft, IsUnderWay, RuleState, Kept, PartEnds}
 use Rattle.run_course.proofs.Rules.{under_way}
-use Rattle.run_course.specs.Kept.{Kept}
-use Rattle.run_course.specs.Steps.{PartEnds}
 use Rattle.run_course.proofs.Ended.{end_cost, end_part, caps_held, eight_uses}
 use Rattle.run_course.proofs.Parts.{onward_within, no_part}
 use Rattle.run_course.proofs.course.Course.end.Goals as goal

@@ -1,5 +1,4 @@
-use Rattle.std.proofs.Common.{◌∙◌, sym, None, Some, ap, inl, refl}
-use Rattle.run_course.specs.Kept.{Kept, known}
+use Rattle.run_course.proofs.Common.{◌∙◌, sym, None, Some, ap, inl, refl, Kept, known}
 use Rattle.run_course.proofs.Seen.{seen_before}
 use Rattle.run_course.proofs.course.Course.look.Goals as goal
 

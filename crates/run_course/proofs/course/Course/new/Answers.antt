@@ -1,13 +1,4 @@
-use Rattle.std.proofs.Common.{[], None, sym, subst, refl}
-use Rattle.blocking_graph.specs.Graph.{GraphState}
-use Rattle.cap_word.specs.declared.threads.ThreadId.{ThreadId}
-use Rattle.event_trace.specs.Reader.{ReaderState}
-use Rattle.lawful_log.specs.State.{start_of}
-use Rattle.rule_state.specs.Rules.{HasStarted}
-use Rattle.run_course.specs.Kept.{Kept}
-use Rattle.run_course.specs.Stands.{StandsBetween}
-use Rattle.run_course.specs.declared.looking.Next.{Next}
-use Rattle.run_course.specs.Rest.{bytes_of}
+use Rattle.run_course.proofs.Common.{[], None, sym, subst, refl, GraphState, ThreadId, ReaderState, start_of, HasStarted, Kept, StandsBetween, Next, bytes_of}
 use Rattle.run_course.proofs.Started.{start_between}
 use Rattle.run_course.proofs.Rules.{may_start_first}
 use Rattle.run_course.proofs.course.Course.new.Goals as goal

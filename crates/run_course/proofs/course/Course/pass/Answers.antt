@@ -1,6 +1,4 @@
-use Rattle.std.proofs.Common.{◌≡◌, None, ap}
-use Rattle.run_course.specs.Output.{output_of}
-use Rattle.run_course.specs.Ranks.{turn_rank}
+use Rattle.run_course.proofs.Common.{◌≡◌, None, ap, output_of, turn_rank}
 use Rattle.run_course.proofs.PartSteps.{given_on_ok, holds_on_ok, memory_counts, over_falls, part_counts, part_ends, part_falls, part_unrefused}
 use Rattle.run_course.proofs.Parts.{onward_within, no_part}
 use Rattle.run_course.proofs.Passing.{cut_halts}

@@ -1,9 +1,6 @@
-use Rattle.std.proofs.Common.{sym, subst}
-use Rattle.run_course.specs.Kept.{Kept}
-use Rattle.run_course.specs.Stands.{StandsInside}
+use Rattle.run_course.proofs.Common.{sym, subst, Kept, StandsInside, under_rank}
 use Rattle.run_course.proofs.Acting.{turn_acts}
 use Rattle.run_course.proofs.Parts.{ticks_within}
-use Rattle.run_course.specs.Ranks.{under_rank}
 use Rattle.run_course.proofs.Proceeding.{proceeded, proceeded_falls}
 use Rattle.run_course.proofs.course.Course.proceed.Goals as goal
 

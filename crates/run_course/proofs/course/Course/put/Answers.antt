@@ -1,9 +1,4 @@
-use Rattle.std.proofs.lemmas.Int.{to_z-of_z}
-use Rattle.std.proofs.Common.{◌∙◌, ◌≡◌, w32, FitsSigned, rules, subst, ap, ◌∷◌, ◌++◌, [], ℤ, arith}
-use Rattle.schedule_log.specs.EntryText.{entry_text}
-use Rattle.schedule_log.specs.declared.entries.Entry.{Entry}
-use Rattle.run_course.specs.Output.{PutsText, output_of}
-use Rattle.run_course.specs.Ranks.{under_rank, turn_rank}
+use Rattle.run_course.proofs.Common.{◌∙◌, ◌≡◌, w32, FitsSigned, rules, subst, ap, ◌∷◌, ◌++◌, [], ℤ, arith, to_z-of_z, entry_text, Entry, PutsText, output_of, under_rank, turn_rank}
 use Rattle.run_course.proofs.Putting.{may_proceed, put_inside, put_next, put_part}
 use Rattle.run_course.proofs.course.Course.put.Goals as goal
 

@@ -1,8 +1,4 @@
-use Rattle.std.proofs.Common.{◌≡◌, [], refl, sym, subst}
-use Rattle.event_trace.specs.declared.refusals.TraceError.{TraceError}
-use Rattle.run_course.specs.Kept.{Kept}
-use Rattle.run_course.specs.Stands.{StandsBetween}
-use Rattle.run_course.specs.declared.looking.Next.{Next}
+use Rattle.run_course.proofs.Common.{◌≡◌, [], refl, sym, subst, TraceError, Kept, StandsBetween, Next}
 use Rattle.run_course.proofs.Seen.{back, knows_back, had_back, has_back, rest_in, over_seen, event_seen, refused_seen, machine_same}
 use Rattle.run_course.proofs.Spelled.{line_and, bad_line}
 use Rattle.run_course.proofs.course.Course.read.Goals as goal

@@ -1,15 +1,4 @@
-use Rattle.std.proofs.Common.{rules, ◌≡◌, ◌∙◌, ℕ, ℤ, List, length, sym, ap, subst}
-use Rattle.std.specs.Prelude.{IfErr}
-use Rattle.std.proofs.lemmas.Result.{err_from_is_err_and}
-use Rattle.blocking_graph.specs.Edges.{edges_with}
-use Rattle.blocking_graph.specs.Graph.{GraphState}
-use Rattle.blocking_graph.specs.declared.edges.EdgeLine.{EdgeLine}
-use Rattle.blocking_graph.specs.declared.segments.SegmentRecord.{SegmentRecord}
-use Rattle.choice_rules.specs.Seen.{changes}
-use Rattle.choice_rules.proofs.Changes.{changes_are, small_changes}
-use Rattle.run_course.specs.Kept.{Kept}
-use Rattle.run_course.specs.Recorded.{IsRecorded}
-use Rattle.run_course.specs.declared.ends.Failure.{Failure}
+use Rattle.run_course.proofs.Common.{rules, ◌≡◌, ◌∙◌, ℕ, ℤ, List, length, sym, ap, subst, IfErr, err_from_is_err_and, edges_with, GraphState, EdgeLine, SegmentRecord, changes, changes_are, small_changes, Kept, IsRecorded, Failure}
 use Rattle.run_course.proofs.Caps.{uses_are, within_small}
 use Rattle.run_course.proofs.course.Course.record.Goals as goal
 

@@ -1,12 +1,4 @@
-use Rattle.std.proofs.Common.{◌≡◌, ◌<◌, ◌∙◌, sym, ap, subst, arith}
-use Rattle.std.specs.Prelude.{IfErr}
-use Rattle.std.proofs.lemmas.Result.{err_from_is_err_and}
-use Rattle.run_course.specs.Kept.{Kept}
-use Rattle.run_course.specs.Ranks.{long_rank, under_rank, turn_rank}
-use Rattle.run_course.specs.Stands.{StandsWithin}
-use Rattle.run_course.specs.Steps.{PartEnds}
-use Rattle.run_course.specs.declared.ends.Failure.{Failure}
-use Rattle.rule_state.specs.declared.rules.RuleState.{RuleState}
+use Rattle.run_course.proofs.Common.{◌≡◌, ◌<◌, ◌∙◌, sym, ap, subst, arith, IfErr, err_from_is_err_and, Kept, long_rank, under_rank, turn_rank, StandsWithin, PartEnds, Failure, RuleState}
 use Rattle.run_course.proofs.Parts.{onward_within, no_part, silent}
 use Rattle.run_course.proofs.Putting.{may_proceed, spawned_inside, spawned_may_start}
 use Rattle.run_course.proofs.course.Course.spawn.Goals as goal

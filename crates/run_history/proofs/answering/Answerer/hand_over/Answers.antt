@@ -1,6 +1,4 @@
-use Rattle.std.proofs.Common.{subst, refl}
-use Rattle.run_history.specs.declared.numbers.Numbers.{Numbers}
-use Rattle.run_history.specs.Answering.{Keeps}
+use Rattle.run_history.proofs.Common.{subst, refl, Numbers, Keeps}
 use Rattle.run_history.proofs.AnsweringKept.{of-pairs, of-spawned, with-answers}
 use Rattle.run_history.proofs.answering.Answerer.hand_over.Goals as goal
 

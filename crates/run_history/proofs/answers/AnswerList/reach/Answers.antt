@@ -1,6 +1,5 @@
-use Rattle.std.proofs.Common.{◌∙◌, ap, get_or}
 use Rattle.report_figures.specs.Ticks.{ticks_in}
-use Rattle.run_history.specs.Answers.{answers_of}
+use Rattle.run_history.proofs.Common.{◌∙◌, ap, get_or, answers_of}
 use Rattle.run_history.proofs.answers.AnswerList.reach.Goals as goal
 
 pub returns-clause-same : goal.returns-clause-same

@@ -1,9 +1,4 @@
-use Rattle.std.proofs.Common.{rules, ◌≡◌, ◌∙◌, sym, ap, List, nat_eq, false}
-use Rattle.std.proofs.lemmas.Bool.{ne_eqb}
-use Rattle.run_history.specs.declared.followed.Spawned.{Spawned}
-use Rattle.std.specs.BTreeMap.{get}
-use Rattle.std.specs.Ordering.{nat_cmp}
-use Rattle.run_history.specs.Followed.{inherits}
+use Rattle.run_history.proofs.Common.{rules, ◌≡◌, ◌∙◌, sym, ap, List, nat_eq, false, ne_eqb, Spawned, get, nat_cmp, inherits}
 use Rattle.run_history.proofs.Paired.{inherits-over, inherits-later}
 use Rattle.run_history.proofs.followed.Followed.start_all.Goals as goal
 

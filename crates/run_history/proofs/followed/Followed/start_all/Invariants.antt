@@ -1,7 +1,4 @@
-use Rattle.std.proofs.Common.{◌≡◌, ℕ, length}
-use Rattle.std.specs.BTreeMap.{get}
-use Rattle.std.specs.Ordering.{nat_cmp}
-use Rattle.run_history.specs.Followed.{inherits, left_after}
+use Rattle.run_history.proofs.Common.{◌≡◌, ℕ, length, get, nat_cmp, inherits, left_after}
 use Rattle.run_history.proofs.followed.Followed.start_all.Given as goal
 
 -- what is still to be done of the threads that are left leads to what all of them make

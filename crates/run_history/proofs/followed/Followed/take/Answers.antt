@@ -1,8 +1,4 @@
-use Rattle.std.proofs.Common.{◌≡◌, ℕ, OnOk, sym, subst}
-use Rattle.std.specs.BTreeMap.{get}
-use Rattle.std.specs.Ordering.{nat_cmp}
-use Rattle.run_history.specs.declared.happenings.Happening.{Happening}
-use Rattle.run_history.specs.Followed.{started_with}
+use Rattle.run_history.proofs.Common.{◌≡◌, ℕ, OnOk, sym, subst, get, nat_cmp, Happening, started_with}
 use Rattle.run_history.proofs.followed.Followed.take.Goals as goal
 
 pub returns-in-Ran-clause-started : goal.returns-in-Ran-clause-started

@@ -1,7 +1,5 @@
-use Rattle.std.proofs.Common.{rules, ◌≡◌, ℤ, ◌++◌, ◌∷◌, [], OnOk, sym, subst, if◌then◌else◌, w32, to_z, of_z}
-use Rattle.std.specs.Ordering.{int_eq}
+use Rattle.run_history.proofs.Common.{rules, ◌≡◌, ℤ, ◌++◌, ◌∷◌, [], OnOk, sym, subst, if◌then◌else◌, w32, to_z, of_z, int_eq, waiting_in, waiting_item}
 use Rattle.schedule_log.specs.declared.entries.Item.{Item}
-use Rattle.run_history.specs.Pairs.{waiting_in, waiting_item}
 use Rattle.run_history.proofs.pairs.Pairs.come.Goals as goal
 
 pub returns-in-Arrive-clause-unanswered : goal.returns-in-Arrive-clause-unanswered

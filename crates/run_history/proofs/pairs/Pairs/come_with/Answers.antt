@@ -1,6 +1,4 @@
-use Rattle.std.proofs.Common.{◌≡◌, ℤ, ◌++◌, ◌∷◌, [], OnOk, subst, if◌then◌else◌, w32, to_z-of_z}
-use Rattle.std.specs.Ordering.{int_eq}
-use Rattle.run_history.specs.Pairs.{waiting_in}
+use Rattle.run_history.proofs.Common.{◌≡◌, ℤ, ◌++◌, ◌∷◌, [], OnOk, subst, if◌then◌else◌, w32, to_z-of_z, int_eq, waiting_in}
 use Rattle.run_history.proofs.pairs.Pairs.come_with.Goals as goal
 
 pub returns-in-Value-clause-unanswered : goal.returns-in-Value-clause-unanswered

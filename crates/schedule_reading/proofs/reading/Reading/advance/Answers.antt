@@ -1,15 +1,6 @@
-use Rattle.std.proofs.Common.{Option, Some, Result, Ok, sym, subst}
-use Rattle.c_mean.specs.World.{Segment}
-use Rattle.lawful_reading.specs.Given.{Given}
-use Rattle.lawful_reading.specs.State.{State}
-use Rattle.source_runs.specs.Layouts.{tree_of}
-use Rattle.source_runs.specs.Steps.{HasCome}
+use Rattle.schedule_reading.proofs.Common.{Option, Some, Result, Ok, sym, subst, Segment, Given, State, tree_of, HasCome, Happening, Failure, Advances, KeepsBut, MayRun, RunsSomehow, Core, Kept}
 use Rattle.source_runs.specs.declared.interpreter.Coming.TheVariants as coming
-use Rattle.schedule_reading.specs.declared.events.Happening.{Happening}
 use Rattle.schedule_reading.specs.declared.events.Happening.TheVariants as happening
-use Rattle.schedule_reading.specs.declared.rulings.Failure.{Failure}
-use Rattle.schedule_reading.specs.Coming.{Advances, KeepsBut, MayRun, RunsSomehow}
-use Rattle.schedule_reading.specs.Kept.{Core, Kept}
 use Rattle.schedule_reading.proofs.Came.{asked_at, asks_advances, block_traps, blocks_advances, core_after, ends_advances, keeps_asked, late_advances, may_answer, traps_advances, under_after}
 use Rattle.schedule_reading.proofs.reading.Reading.advance.Goals as goal
 use Rattle.schedule_reading.proofs.reading.Reading.advance.Goals.{in-None, in-Some}

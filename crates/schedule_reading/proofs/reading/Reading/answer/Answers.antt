@@ -1,10 +1,5 @@
-use Rattle.std.proofs.Common.{Some, None, Ok, refl, sym, ap, subst}
-use Rattle.c_mean.specs.World.{Segment}
-use Rattle.lawful_reading.specs.Given.{Given}
-use Rattle.lawful_reading.specs.State.{State}
+use Rattle.schedule_reading.proofs.Common.{Some, None, Ok, refl, sym, ap, subst, Segment, Given, State, Answers, MayAnswer, Core, Kept}
 use Rattle.schedule_reading.specs.declared.events.Happening.TheVariants as happening
-use Rattle.schedule_reading.specs.Coming.{Answers, MayAnswer}
-use Rattle.schedule_reading.specs.Kept.{Core, Kept}
 use Rattle.schedule_reading.proofs.Asked.{give_goes, give_traps, put_answers, self_answers}
 use Rattle.schedule_reading.proofs.reading.Reading.answer.Goals as goal
 

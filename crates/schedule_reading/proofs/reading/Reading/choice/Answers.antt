@@ -1,5 +1,4 @@
-use Rattle.std.proofs.Common.{◌∙◌, ap, sym}
-use Rattle.schedule_reading.specs.Kept.{Kept}
+use Rattle.schedule_reading.proofs.Common.{◌∙◌, ap, sym, Kept}
 use Rattle.schedule_reading.specs.declared.points.Point.TheVariants as point
 use Rattle.schedule_reading.proofs.Alone.{between_of}
 use Rattle.schedule_reading.proofs.PointLines.{run_not}

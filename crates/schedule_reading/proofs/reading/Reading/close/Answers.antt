@@ -1,9 +1,4 @@
-use Rattle.std.proofs.Common.{rules, ◌≡◌, ℕ, ◌+◌, ◌<◌, ◌≤◌, length, sym, ap, ◌∙◌, subst}
-use Rattle.std.specs.Prelude.{slice_index}
-use Rattle.schedule_reading.specs.Closing.{HasClosed, MayClose}
-use Rattle.schedule_reading.specs.Kept.{Core, Kept}
-use Rattle.schedule_reading.specs.Told.{ThreadsState}
-use Rattle.schedule_reading.specs.Uses.{cap_in, used_in}
+use Rattle.schedule_reading.proofs.Common.{rules, ◌≡◌, ℕ, ◌+◌, ◌<◌, ◌≤◌, length, sym, ap, ◌∙◌, subst, slice_index, HasClosed, MayClose, Core, Kept, ThreadsState, cap_in, used_in}
 use Rattle.schedule_reading.proofs.Recording.{closed_is, in_range}
 use Rattle.schedule_reading.proofs.reading.Reading.close.Goals as goal
 

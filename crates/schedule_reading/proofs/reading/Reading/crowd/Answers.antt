@@ -1,9 +1,4 @@
-use Rattle.std.proofs.Common.{Result, Ok, refl, sym, ap, ◌∙◌, subst}
-use Rattle.schedule_reading.specs.declared.rulings.Failure.{Failure}
-use Rattle.schedule_reading.specs.declared.events.Happening.{Happening}
-use Rattle.schedule_reading.specs.declared.rulings.Ruling.{Ruling}
-use Rattle.schedule_reading.specs.Ending.{RulesCrowd}
-use Rattle.schedule_reading.specs.Kept.{Kept}
+use Rattle.schedule_reading.proofs.Common.{Result, Ok, refl, sym, ap, ◌∙◌, subst, Failure, Happening, Ruling, RulesCrowd, Kept}
 use Rattle.schedule_reading.proofs.Cutting.{crowd_else, crowd_late, crowd_now, crowd_over}
 use Rattle.schedule_reading.proofs.Ended.{CrowdCame, crowd_came}
 use Rattle.schedule_reading.proofs.reading.Reading.crowd.Goals as goal

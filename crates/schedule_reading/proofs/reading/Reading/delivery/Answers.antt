@@ -1,8 +1,4 @@
-use Rattle.std.proofs.Common.{◌∙◌, not, ap}
-use Rattle.c_mean.specs.ModelledCalls.{is_dropped}
-use Rattle.choice_rules.specs.Deliveries.{delivery_of}
-use Rattle.thread_exchange.specs.Exchanges.{after_delivery}
-use Rattle.schedule_reading.specs.Kept.{Kept}
+use Rattle.schedule_reading.proofs.Common.{◌∙◌, not, ap, is_dropped, delivery_of, after_delivery, Kept}
 use Rattle.schedule_reading.specs.declared.points.Point.TheVariants as point
 use Rattle.schedule_reading.specs.declared.reading.Next.TheVariants as next
 use Rattle.schedule_reading.proofs.Alone.{between_of, none_under}

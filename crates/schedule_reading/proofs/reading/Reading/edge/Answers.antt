@@ -1,7 +1,4 @@
-use Rattle.std.proofs.Common.{Bool, ap, subst, sym}
-use Rattle.schedule_reading.specs.Ending.{TellsStop}
-use Rattle.schedule_reading.specs.Kept.{Kept}
-use Rattle.schedule_reading.specs.Stands.{IsEnd}
+use Rattle.schedule_reading.proofs.Common.{Bool, ap, subst, sym, TellsStop, Kept, IsEnd}
 use Rattle.schedule_reading.proofs.Ended.{edge_counts, edge_not, edge_ruled, edges_by, of_by, steps_by}
 use Rattle.schedule_reading.proofs.Unstopped.{stands_by}
 use Rattle.schedule_reading.proofs.reading.Reading.edge.Goals as goal

@@ -1,9 +1,5 @@
-use Rattle.std.proofs.Common.{◌≡◌, ◌-◌, Option, Some, None, Result, Ok, refl, sym, ap, ◌∙◌, subst, arith}
-use Rattle.std.proofs.lemmas.Result.{err_from_is_err_and}
-use Rattle.schedule_reading.specs.declared.events.Happening.{Happening}
-use Rattle.schedule_reading.specs.declared.rulings.Failure.{Failure}
+use Rattle.schedule_reading.proofs.Common.{◌≡◌, ◌-◌, Option, Some, None, Result, Ok, refl, sym, ap, ◌∙◌, subst, arith, err_from_is_err_and, Happening, Failure, Kept}
 use Rattle.schedule_reading.specs.Coming.{Advances, GoesOn, HasHappened}
-use Rattle.schedule_reading.specs.Kept.{Kept}
 use Rattle.schedule_reading.proofs.Running.{first_on, gone, gone_on, happened_on, keeps_on, may_on, number_on, over, over_first, runs_somehow}
 use Rattle.schedule_reading.proofs.reading.Reading.happen.Goals as goal
 

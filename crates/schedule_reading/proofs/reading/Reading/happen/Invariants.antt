@@ -1,5 +1,4 @@
-use Rattle.std.proofs.Common.{◌≡◌}
-use Rattle.schedule_reading.specs.Coming.{KeepsBut, RunsOn}
+use Rattle.schedule_reading.proofs.Common.{◌≡◌, KeepsBut, RunsOn}
 use Rattle.schedule_reading.proofs.reading.Reading.happen.Given as goal
 
 abbrev pub invariant-loop-left : goal.invariant-loop-left

@@ -1,7 +1,5 @@
-use Rattle.std.proofs.Common.{◌≡◌, ℕ, [], None, subst}
-use Rattle.std.proofs.lemmas.Result.{IfOk-at_ok}
+use Rattle.schedule_reading.proofs.Common.{◌≡◌, ℕ, [], None, subst, IfOk-at_ok, HasFirst, HasSource}
 use Rattle.c_tree.specs.ProgramView.{program_tree}
-use Rattle.schedule_reading.specs.Starting.{HasFirst, HasSource}
 use Rattle.schedule_reading.proofs.Starting.{stands_made}
 use Rattle.schedule_reading.proofs.reading.Reading.new.Goals as goal
 

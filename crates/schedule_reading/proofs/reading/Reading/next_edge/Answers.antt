@@ -1,6 +1,4 @@
-use Rattle.std.proofs.Common.{◌≡◌, ◌<◌, ◌≤◌, true, false, length, ap, ◌∙◌, subst, sym, arith}
-use Rattle.schedule_reading.specs.Ending.{AreLeft}
-use Rattle.schedule_reading.specs.Kept.{Kept}
+use Rattle.schedule_reading.proofs.Common.{◌≡◌, ◌<◌, ◌≤◌, true, false, length, ap, ◌∙◌, subst, sym, arith, AreLeft, Kept}
 use Rattle.schedule_reading.proofs.Ended.{edge_missing, edge_over, edge_other, edge_taken}
 use Rattle.schedule_reading.proofs.reading.Reading.next_edge.Goals as goal
 

@@ -1,9 +1,4 @@
-use Rattle.std.proofs.Common.{◌≡◌, ◌∙◌, ◌<◌, ℕ, false, Option, ap, sym, subst}
-use Rattle.choice_rules.specs.Clock.{is_due}
-use Rattle.event_trace.specs.declared.events.Event.{Event}
-use Rattle.schedule_reading.specs.Kept.{Kept}
-use Rattle.schedule_reading.specs.Rulings.{GoesOnFrom}
-use Rattle.schedule_reading.specs.Told.{any_ready_in}
+use Rattle.schedule_reading.proofs.Common.{◌≡◌, ◌∙◌, ◌<◌, ℕ, false, Option, ap, sym, subst, is_due, Event, Kept, GoesOnFrom, any_ready_in}
 use Rattle.schedule_reading.proofs.Moving.{none_due, some_not_due}
 use Rattle.schedule_reading.proofs.Pointing.{chooses_now}
 use Rattle.schedule_reading.proofs.reading.Reading.point_before.Goals as goal

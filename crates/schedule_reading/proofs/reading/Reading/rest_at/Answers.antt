@@ -1,9 +1,6 @@
-use Rattle.std.proofs.Common.{◌≡◌, ◌≤◌, None, sym, ap, subst}
-use Rattle.thread_exchange.specs.Exchanges.{row_of}
+use Rattle.schedule_reading.proofs.Common.{◌≡◌, ◌≤◌, None, sym, ap, subst, row_of, HasBlocked, IsAway, Kept}
 use Rattle.thread_waits.specs.Waiting.{latest}
 use Rattle.scheduler.specs.State.{IsJoined, IsTold}
-use Rattle.schedule_reading.specs.Changes.{HasBlocked, IsAway}
-use Rattle.schedule_reading.specs.Kept.{Kept}
 use Rattle.schedule_reading.proofs.Rested.{away_then, early_then, has_rested, untrapped_then, waits_then}
 use Rattle.schedule_reading.proofs.reading.Reading.rest_at.Goals as goal
 

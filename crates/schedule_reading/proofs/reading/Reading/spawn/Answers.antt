@@ -1,13 +1,5 @@
-use Rattle.std.proofs.Common.{◌≡◌, true, None, Ok, refl, sym, ap, ◌∙◌, subst}
 use Rattle.cap_word.specs.declared.calls.Ask.TheVariants.{Spawn}
-use Rattle.c_mean.specs.World.{Segment}
-use Rattle.lawful_reading.specs.Given.{Given}
-use Rattle.cap_word.specs.Calls.{most_threads}
-use Rattle.lawful_reading.specs.State.{State}
-use Rattle.schedule_reading.specs.Changes.{KeepsAll}
-use Rattle.schedule_reading.specs.Coming.{Answers, MayAnswer}
-use Rattle.schedule_reading.specs.Kept.{Core, Kept}
-use Rattle.schedule_reading.specs.Told.{ThreadsState}
+use Rattle.schedule_reading.proofs.Common.{◌≡◌, true, None, Ok, refl, sym, ap, ◌∙◌, subst, Segment, Given, most_threads, State, KeepsAll, Answers, MayAnswer, Core, Kept, ThreadsState}
 use Rattle.schedule_reading.proofs.Asked.{keeps_failed, spawn_crowds, spawn_goes}
 use Rattle.schedule_reading.proofs.reading.Reading.spawn.Goals as goal
 use Rattle.schedule_reading.proofs.reading.Reading.spawn.Goals.{else-crowds-via-then-crowds+else-live-eq-MOST_LIVE, else-crowds-via-else-crowds}

@@ -1,8 +1,4 @@
-use Rattle.std.proofs.Common.{Ok, ap, ◌∙◌, sym, subst}
-use Rattle.std.specs.Prelude.{is_some}
-use Rattle.schedule_reading.specs.declared.rulings.Ruling.{Ruling}
-use Rattle.schedule_reading.specs.Ending.{RulesStop, stop_line}
-use Rattle.schedule_reading.specs.Kept.{Kept}
+use Rattle.schedule_reading.proofs.Common.{Ok, ap, ◌∙◌, sym, subst, is_some, Ruling, RulesStop, stop_line, Kept}
 use Rattle.schedule_reading.proofs.Ended.{stop_ruled, under_none, under_stop}
 use Rattle.schedule_reading.proofs.reading.Reading.stop_between.Goals as goal
 

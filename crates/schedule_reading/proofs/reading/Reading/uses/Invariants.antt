@@ -1,5 +1,4 @@
-use Rattle.std.proofs.Common.{◌≡◌, ℕ, ◌<◌, ◌≤◌, get_or, length}
-use Rattle.schedule_reading.specs.Uses.{cap_in, used_in}
+use Rattle.schedule_reading.proofs.Common.{◌≡◌, ℕ, ◌<◌, ◌≤◌, get_or, length, cap_in, used_in}
 use Rattle.schedule_reading.proofs.reading.Reading.uses.Given as goal
 
 abbrev pub invariant-loop-resource : goal.invariant-loop-resource

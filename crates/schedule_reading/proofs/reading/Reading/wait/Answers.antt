@@ -1,5 +1,4 @@
-use Rattle.std.proofs.Common.{◌≤◌, Some, None, subst, sym}
-use Rattle.schedule_reading.specs.Kept.{Kept}
+use Rattle.schedule_reading.proofs.Common.{◌≤◌, Some, None, subst, sym, Kept}
 use Rattle.schedule_reading.proofs.Moving.{at_time, comes_alone, comes_first, idle_point, wake_as, wake_early, wake_later, wakes_alone, wakes_first}
 use Rattle.schedule_reading.proofs.reading.Reading.wait.Goals as goal
 

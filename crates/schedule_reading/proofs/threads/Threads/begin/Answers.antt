@@ -1,12 +1,5 @@
-use Rattle.std.proofs.Common.{◌≡◌, ap, ◌∙◌, subst, sym}
-use Rattle.c_mean.specs.Steps.{started}
-use Rattle.source_runs.specs.Layouts.{tree_of}
-use Rattle.source_runs.specs.Threads.{IsThread, globals_of, running_of}
-use Rattle.source_runs.specs.declared.frames.Thread.{Thread}
-use Rattle.std.specs.Prelude.{option_to_list}
+use Rattle.schedule_reading.proofs.Common.{◌≡◌, ap, ◌∙◌, subst, sym, started, tree_of, IsThread, globals_of, running_of, Thread, option_to_list, HasBegun, AreUntrapped, ThreadsState}
 use Rattle.schedule_reading.specs.declared.threads.Rest.TheVariants as rest
-use Rattle.schedule_reading.specs.Changes.{HasBegun}
-use Rattle.schedule_reading.specs.Told.{AreUntrapped, ThreadsState}
 use Rattle.schedule_reading.proofs.Setting.{begun_blocked, begun_fresh, if_both, may_resume, blocked_thread}
 use Rattle.schedule_reading.proofs.threads.Threads.begin.Goals as goal
 

@@ -1,6 +1,4 @@
-use Rattle.std.proofs.Common.{subst}
-use Rattle.thread_waits.specs.Waiting.{IsWake}
-use Rattle.schedule_reading.specs.Told.{ThreadsState}
+use Rattle.schedule_reading.proofs.Common.{subst, IsWake, ThreadsState}
 use Rattle.schedule_reading.proofs.threads.Threads.wake.Goals as goal
 
 pub returns : goal.returns

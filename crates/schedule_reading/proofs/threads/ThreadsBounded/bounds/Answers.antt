@@ -1,8 +1,4 @@
-use Rattle.std.proofs.Common.{subst, ◌≡◌}
-use Rattle.cap_word.specs.declared.threads.ThreadId.{ThreadId}
-use Rattle.ready_tree.specs.declared.needs.Need.{Need}
-use Rattle.ready_tree.specs.Needs.{is_met}
-use Rattle.schedule_reading.specs.Told.{ThreadsState, Vouches, is_ready_in, waits_for}
+use Rattle.schedule_reading.proofs.Common.{subst, ◌≡◌, ThreadId, Need, is_met, ThreadsState, Vouches, is_ready_in, waits_for}
 use Rattle.schedule_reading.proofs.Telling.{arrival_for, met_for}
 use Rattle.schedule_reading.proofs.threads.ThreadsBounded.bounds.Goals as goal
 

@@ -1,10 +1,4 @@
-use Rattle.std.proofs.Common.{◌≡◌, Some, Option, List, sym, subst, rules}
-use Rattle.std.specs.BTreeMap.{get}
-use Rattle.std.specs.Ordering.{nat_cmp}
-use Rattle.ready_tree.specs.declared.entries.Entry.{Entry}
-use Rattle.ready_tree.specs.Entries.{entries_of}
-use Rattle.scheduler.specs.Queues.{AreExact, places_of}
-use Rattle.scheduler.specs.Search.{IsFoundIf}
+use Rattle.scheduler.proofs.Common.{◌≡◌, Some, Option, List, sym, subst, rules, get, nat_cmp, Entry, entries_of, AreExact, places_of, IsFoundIf}
 use Rattle.scheduler.proofs.node_queues.NodeQueues.first_at.Goals as goal
 
 pub returns-clause-found : goal.returns-clause-found

@@ -1,6 +1,4 @@
-use Rattle.std.proofs.Common.{None, sym, ◌∙◌}
-use Rattle.ready_tree.specs.Entries.{is_of}
-use Rattle.scheduler.specs.Queues.{places_in}
+use Rattle.scheduler.proofs.Common.{None, sym, ◌∙◌, is_of, places_in}
 use Rattle.scheduler.proofs.QueueLemmas.{emptied, absent, place_below}
 use Rattle.scheduler.proofs.node_queues.NodeQueues.leave.Goals as goal
 

@@ -1,8 +1,4 @@
-use Rattle.std.proofs.Common.{◌<◌, ◌+◌, length, None, Some, set, length-set, slice_index, refl, ◌∙◌, rules}
-use Rattle.scheduler.specs.LawfulChoice.{is_eligible}
-use Rattle.scheduler.specs.Queues.{passes_at, places_in, queue_in}
-use Rattle.scheduler.specs.Scores.{score}
-use Rattle.scheduler.specs.State.{last_of, queue_of}
+use Rattle.scheduler.proofs.Common.{◌<◌, ◌+◌, length, None, Some, set, length-set, slice_index, refl, ◌∙◌, rules, is_eligible, passes_at, places_in, queue_in, score, last_of, queue_of}
 use Rattle.scheduler.proofs.ChoiceLemmas.{lawful-queued, Contains-find}
 use Rattle.scheduler.proofs.FindLemmas.{all_exact}
 use Rattle.scheduler.proofs.QueueLemmas.{emptied, found_place, place_below}

@@ -1,18 +1,4 @@
-use Rattle.std.proofs.Common.{◌≡◌, ◌∙◌, ◌++◌, ◌∷◌, [], List, sym, ap, map, length, drop, sum, Bool, true, false}
-use Rattle.std.proofs.lemmas.List.{length-map}
-use Rattle.c_tree.specs.RawTrees.{NameTree, RawStmtTrees, RawFunctionItem}
-use Rattle.c_tree.specs.RawViews.{name_tree, raw_stmt_trees}
-use Rattle.c_tree.specs.Views.{stmt_trees, function_tree, table_row}
-use Rattle.c_tree.specs.TextOrder.{stmts_names}
-use Rattle.c_tree.specs.Temporaries.{capped}
-use Rattle.scope_rules.specs.Faults.{least_of}
-use Rattle.scope_rules.specs.Heads.{head_faults}
-use Rattle.scope_rules.specs.ItemViews.{sofar_of}
-use Rattle.scope_rules.specs.Items.{Sofar, with_function, body_spot, function_tree_of, item_after}
-use Rattle.scope_rules.specs.Limits.{most_locals}
-use Rattle.scope_rules.specs.Names.{Binding}
-use Rattle.scope_rules.specs.Places.{Spot, spot_of}
-use Rattle.scope_rules.specs.Statements.{stmts_after, stmts_faults, stmts_of}
+use Rattle.scope_rules.proofs.Common.{◌≡◌, ◌∙◌, ◌++◌, ◌∷◌, [], List, sym, ap, map, length, drop, sum, Bool, true, false, length-map, NameTree, RawStmtTrees, RawFunctionItem, name_tree, raw_stmt_trees, stmt_trees, function_tree, table_row, stmts_names, capped, least_of, head_faults, sofar_of, Sofar, with_function, body_spot, function_tree_of, item_after, most_locals, Binding, Spot, spot_of, stmts_after, stmts_faults, stmts_of}
 use Rattle.scope_rules.proofs.Counted.{counted_more, body_words}
 use Rattle.scope_rules.proofs.FunctionScopes.{spot_ended, faults_joined}
 use Rattle.scope_rules.proofs.Growth.{words}

@@ -1,9 +1,4 @@
-use Rattle.std.proofs.Common.{◌≡◌, ◌∷◌, ◌+◌, ◌∙◌, ap, drop}
-use Rattle.c_tree.specs.RawViews.{raw_item_tree, raw_item_trees}
-use Rattle.scope_rules.specs.Faults.{least_of}
-use Rattle.scope_rules.specs.ItemViews.{sofar_of}
-use Rattle.scope_rules.specs.Items.{item_faults, item_after, items_faults}
-use Rattle.scope_rules.proofs.Cuts.{drop_at}
+use Rattle.scope_rules.proofs.Common.{◌≡◌, ◌∷◌, ◌+◌, ◌∙◌, ap, drop, raw_item_tree, raw_item_trees, least_of, sofar_of, item_faults, item_after, items_faults, drop_at}
 use Rattle.scope_rules.proofs.Least.{least_of_append}
 use Rattle.scope_rules.proofs.items.Items.items.Goals as goal
 

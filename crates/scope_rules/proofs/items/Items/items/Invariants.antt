@@ -1,8 +1,4 @@
-use Rattle.std.proofs.Common.{◌≡◌, drop}
-use Rattle.c_tree.specs.RawViews.{raw_item_trees}
-use Rattle.scope_rules.specs.Faults.{least_of}
-use Rattle.scope_rules.specs.ItemViews.{sofar_of, IsCounted}
-use Rattle.scope_rules.specs.Items.{items_after, items_faults}
+use Rattle.scope_rules.proofs.Common.{◌≡◌, drop, raw_item_trees, least_of, sofar_of, IsCounted, items_after, items_faults}
 use Rattle.scope_rules.proofs.items.Items.items.Given as goal
 
 abbrev pub invariant-loop-item : goal.invariant-loop-item

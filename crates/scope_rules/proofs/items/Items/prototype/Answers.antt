@@ -1,13 +1,4 @@
-use Rattle.std.proofs.Common.{rules, ◌≡◌, ◌++◌, ◌∙◌, sym, ap, map, length, false}
-use Rattle.std.specs.Prelude.{option_map}
-use Rattle.std.proofs.lemmas.List.{length-map}
-use Rattle.c_tree.specs.RawViews.{name_tree}
-use Rattle.scope_rules.specs.declared.faults.Rule.{Rule}
-use Rattle.scope_rules.specs.declared.meanings.Meaning.{Meaning}
-use Rattle.scope_rules.specs.Names.{find, bound}
-use Rattle.scope_rules.specs.Faults.{broken, least_of}
-use Rattle.scope_rules.specs.Meanings.{function_of}
-use Rattle.scope_rules.specs.Items.{is_missing, is_defined, function_faults, main_faults, with_function, prototype_faults}
+use Rattle.scope_rules.proofs.Common.{rules, ◌≡◌, ◌++◌, ◌∙◌, sym, ap, map, length, false, option_map, length-map, name_tree, Rule, Meaning, find, bound, broken, least_of, function_of, is_missing, is_defined, function_faults, main_faults, with_function, prototype_faults}
 use Rattle.scope_rules.proofs.Least.{least_of_then}
 use Rattle.scope_rules.proofs.items.Items.prototype.Goals as goal
 

@@ -1,6 +1,4 @@
-use Rattle.std.proofs.Common.{◌≡◌, ◌∙◌, ◌++◌, ◌∷◌, [], sym, ap, subst, nat_cmp, Some, arith, rules}
-use Rattle.std.specs.BTreeMap.{UpdatesBy}
-use Rattle.std.specs.Cmp.Lexicographic.{slice_cmp}
+use Rattle.scope_rules.proofs.Common.{◌≡◌, ◌∙◌, ◌++◌, ◌∷◌, [], sym, ap, subst, nat_cmp, Some, arith, rules, UpdatesBy, slice_cmp}
 use Rattle.scope_rules.specs.declared.names.Declared.{Declared}
 use Rattle.scope_rules.proofs.Links.{declare_links}
 use Rattle.scope_rules.proofs.TextKeys.{at_text, ByText}

@@ -1,5 +1,4 @@
-use Rattle.std.proofs.Common.{◌≡◌, ◌≤◌, map, reverse, length, take}
-use Rattle.scope_rules.specs.Names.{find, binding_of, AreLinked}
+use Rattle.scope_rules.proofs.Common.{◌≡◌, ◌≤◌, map, reverse, length, take, find, binding_of, AreLinked}
 use Rattle.scope_rules.proofs.names.Names.find_recent.Given as goal
 
 abbrev pub invariant-loop-left : goal.invariant-loop-left

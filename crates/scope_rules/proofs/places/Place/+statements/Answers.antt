@@ -1,20 +1,8 @@
-use Rattle.std.proofs.Common.{◌≡◌, ◌++◌, ◌∷◌, ◌+◌, ◌∙◌, sym, ap, subst, map, drop, append_assoc}
-use Rattle.std.specs.Prelude.{option_map}
-use Rattle.std.proofs.lemmas.List.{append-nil}
-use Rattle.std.proofs.lemmas.Result.{on_ok_weaker}
-use Rattle.std.proofs.Math.ListN.{drop_of_length-le}
-use Rattle.c_tree.specs.RawViews.{raw_expr_tree, raw_simple_tree, raw_stmt_tree, raw_stmt_trees}
-use Rattle.c_tree.specs.Views.{stmt_tree, in_order}
+use Rattle.scope_rules.proofs.Common.{◌≡◌, ◌++◌, ◌∷◌, ◌+◌, ◌∙◌, sym, ap, subst, map, drop, append_assoc, option_map, append-nil, on_ok_weaker, drop_of_length-le, raw_expr_tree, raw_simple_tree, raw_stmt_tree, raw_stmt_trees, stmt_tree, in_order, least_of, expr_faults, spot_of, inside, left, stmt_after, stmts_after, stmt_faults, stmts_faults, stmts_list, drop_at}
 use Rattle.c_tree.proofs.RawStmtEquations.{raw_stmt_tree-IfElse, raw_stmt_tree-For}
-use Rattle.scope_rules.specs.Faults.{least_of}
-use Rattle.scope_rules.specs.Expressions.{expr_faults}
-use Rattle.scope_rules.specs.Places.{spot_of}
-use Rattle.scope_rules.specs.Statements.{inside, left, stmt_after, stmts_after, stmt_faults, stmts_faults}
-use Rattle.scope_rules.proofs.Cuts.{drop_at}
 use Rattle.scope_rules.proofs.Least.{least_of_append, least_of_then}
 use Rattle.scope_rules.proofs.Scopes.{Extends, stmt_extends, stmts_extends, leaves}
 use Rattle.scope_rules.proofs.HeldValues.{boxed_fact, both_fact, pushed_view, pushed_fact}
-use Rattle.scope_rules.specs.Making.{stmts_list}
 use Rattle.scope_rules.proofs.StmtLists.{stmts_listed}
 use Rattle.scope_rules.proofs.ForLoops.{for_place, for_faults}
 use Rattle.scope_rules.proofs.places.Place.+statements.Goals as goal

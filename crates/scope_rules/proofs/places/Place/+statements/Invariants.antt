@@ -1,10 +1,4 @@
-use Rattle.std.proofs.Common.{◌≡◌, ◌++◌, drop, map}
-use Rattle.c_tree.specs.Views.{stmt_tree}
-use Rattle.c_tree.specs.RawViews.{raw_stmt_tree, raw_stmt_trees}
-use Rattle.scope_rules.specs.Faults.{least_of}
-use Rattle.scope_rules.specs.Places.{spot_of}
-use Rattle.scope_rules.specs.Statements.{stmts_after, stmts_faults}
-use Rattle.scope_rules.specs.Making.{stmts_list}
+use Rattle.scope_rules.proofs.Common.{◌≡◌, ◌++◌, drop, map, stmt_tree, raw_stmt_tree, raw_stmt_trees, least_of, spot_of, stmts_after, stmts_faults, stmts_list}
 use Rattle.scope_rules.proofs.places.Place.+statements.Given as goal
 
 abbrev pub invariant-stmts-loop-stmt : goal.invariant-stmts-loop-stmt

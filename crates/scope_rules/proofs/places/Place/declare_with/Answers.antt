@@ -1,9 +1,4 @@
-use Rattle.std.proofs.Common.{ap, ◌∙◌}
-use Rattle.c_tree.specs.RawViews.{name_tree, raw_expr_tree}
-use Rattle.scope_rules.specs.Faults.{least_of}
-use Rattle.scope_rules.specs.Places.{spot_of}
-use Rattle.scope_rules.specs.Simples.{declare_faults}
-use Rattle.scope_rules.specs.Calls.{right_faults}
+use Rattle.scope_rules.proofs.Common.{ap, ◌∙◌, name_tree, raw_expr_tree, least_of, spot_of, declare_faults, right_faults}
 use Rattle.scope_rules.proofs.OrderOfFaults.{least_of_earlier}
 use Rattle.scope_rules.proofs.places.Place.declare_with.Goals as goal
 

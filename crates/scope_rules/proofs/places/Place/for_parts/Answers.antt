@@ -1,7 +1,4 @@
-use Rattle.std.proofs.Common.{map}
-use Rattle.std.specs.Prelude.{option_map}
-use Rattle.c_tree.specs.RawViews.{raw_expr_tree, raw_simple_tree}
-use Rattle.scope_rules.specs.Places.{spot_of}
+use Rattle.scope_rules.proofs.Common.{map, option_map, raw_expr_tree, raw_simple_tree, spot_of}
 use Rattle.scope_rules.proofs.ForLoops.{parts_broken}
 use Rattle.scope_rules.proofs.places.Place.for_parts.Goals as goal
 

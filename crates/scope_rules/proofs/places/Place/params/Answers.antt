@@ -1,10 +1,4 @@
-use Rattle.std.proofs.Common.{◌≡◌, ◌∷◌, ◌+◌, map, drop}
-use Rattle.std.specs.Prelude.{false}
-use Rattle.c_tree.specs.RawViews.{name_tree}
-use Rattle.scope_rules.specs.Places.{spot_of}
-use Rattle.scope_rules.specs.Simples.{declare_faults, with_variable}
-use Rattle.scope_rules.specs.Items.{params_faults}
-use Rattle.scope_rules.proofs.Cuts.{drop_at}
+use Rattle.scope_rules.proofs.Common.{◌≡◌, ◌∷◌, ◌+◌, map, drop, false, name_tree, spot_of, declare_faults, with_variable, params_faults, drop_at}
 use Rattle.scope_rules.proofs.Least.{least_of_append}
 use Rattle.scope_rules.proofs.places.Place.params.Goals as goal
 

@@ -1,8 +1,4 @@
-use Rattle.std.proofs.Common.{◌≡◌, drop, map}
-use Rattle.c_tree.specs.RawViews.{name_tree}
-use Rattle.scope_rules.specs.Faults.{least_of}
-use Rattle.scope_rules.specs.Places.{spot_of}
-use Rattle.scope_rules.specs.Items.{params_after, params_faults}
+use Rattle.scope_rules.proofs.Common.{◌≡◌, drop, map, name_tree, least_of, spot_of, params_after, params_faults}
 use Rattle.scope_rules.proofs.places.Place.params.Given as goal
 
 abbrev pub invariant-loop-name : goal.invariant-loop-name

@@ -1,6 +1,4 @@
-use Rattle.std.proofs.Common.{ap, map}
-use Rattle.c_tree.specs.Trees.{Called}
-use Rattle.c_tree.specs.RawViews.{raw_expr_tree}
+use Rattle.scope_rules.proofs.Common.{ap, map, Called, raw_expr_tree}
 use Rattle.scope_rules.proofs.NeitherForms.{listed_arguments}
 use Rattle.scope_rules.proofs.places.Place.right.Goals as goal
 

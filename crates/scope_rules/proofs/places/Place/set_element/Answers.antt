@@ -1,7 +1,4 @@
-use Rattle.std.proofs.Common.{◌++◌}
-use Rattle.c_tree.specs.RawViews.{name_tree, raw_expr_tree}
-use Rattle.scope_rules.specs.Expressions.{array_faults, expr_faults}
-use Rattle.scope_rules.specs.Calls.{right_faults}
+use Rattle.scope_rules.proofs.Common.{◌++◌, name_tree, raw_expr_tree, array_faults, expr_faults, right_faults}
 use Rattle.scope_rules.proofs.Least.{least_of_then}
 use Rattle.scope_rules.proofs.places.Place.set_element.Goals as goal
 

@@ -1,10 +1,5 @@
-use Rattle.std.proofs.Common.{◌≡◌, ◌∷◌, ◌+◌, map, drop, append_assoc}
-use Rattle.c_tree.specs.RawViews.{raw_simple_tree}
-use Rattle.c_tree.specs.Views.{simple_tree}
-use Rattle.scope_rules.specs.Places.{spot_of}
-use Rattle.scope_rules.specs.Simples.{simple_faults, simple_after, simples_faults}
+use Rattle.scope_rules.proofs.Common.{◌≡◌, ◌∷◌, ◌+◌, map, drop, append_assoc, raw_simple_tree, simple_tree, spot_of, simple_faults, simple_after, simples_faults, drop_at}
 use Rattle.scope_rules.proofs.Least.{least_of_append}
-use Rattle.scope_rules.proofs.Cuts.{drop_at}
 use Rattle.scope_rules.proofs.HeldValues.{pushed_view, pushed_fact}
 use Rattle.scope_rules.proofs.places.Place.simples.Goals as goal
 

@@ -1,9 +1,4 @@
-use Rattle.std.proofs.Common.{◌≡◌, ◌++◌, drop, map}
-use Rattle.c_tree.specs.Views.{simple_tree}
-use Rattle.c_tree.specs.RawViews.{raw_simple_tree}
-use Rattle.scope_rules.specs.Faults.{least_of}
-use Rattle.scope_rules.specs.Places.{spot_of}
-use Rattle.scope_rules.specs.Simples.{simples_of, simples_after, simples_faults}
+use Rattle.scope_rules.proofs.Common.{◌≡◌, ◌++◌, drop, map, simple_tree, raw_simple_tree, least_of, spot_of, simples_of, simples_after, simples_faults}
 use Rattle.scope_rules.proofs.places.Place.simples.Given as goal
 
 abbrev pub invariant-loop-simple : goal.invariant-loop-simple

@@ -1,9 +1,4 @@
-use Rattle.std.proofs.Common.{◌≡◌, ◌++◌, ◌∙◌, ap}
-use Rattle.c_tree.specs.RawViews.{name_tree, raw_expr_tree}
-use Rattle.scope_rules.specs.Names.{find}
-use Rattle.scope_rules.specs.Faults.{least_of}
-use Rattle.scope_rules.specs.Expressions.{expr_faults}
-use Rattle.scope_rules.specs.Calls.{table_name_faults}
+use Rattle.scope_rules.proofs.Common.{◌≡◌, ◌++◌, ◌∙◌, ap, name_tree, raw_expr_tree, find, least_of, expr_faults, table_name_faults}
 use Rattle.scope_rules.proofs.Least.{least_of_then}
 use Rattle.scope_rules.proofs.places.Place.table_call.Goals as goal
 

@@ -1,6 +1,4 @@
-use Rattle.std.proofs.Common.{sym, ap, subst, map}
-use Rattle.c_tree.specs.Views.{table_row}
-use Rattle.scope_rules.specs.Making.{IsMaking, making_of}
+use Rattle.scope_rules.proofs.Common.{sym, ap, subst, map, table_row, IsMaking, making_of}
 use Rattle.scope_rules.proofs.Makings.{has_ended}
 use Rattle.scope_rules.proofs.resolver.FunctionResolver.end.Goals as goal
 

@@ -1,6 +1,4 @@
-use Rattle.std.proofs.Common.{sym, subst}
-use Rattle.c_tree.specs.WellScoped.{IsWellScoped}
-use Rattle.scope_rules.specs.Numbered.{IsResolvedBy}
+use Rattle.scope_rules.proofs.Common.{sym, subst, IsWellScoped, IsResolvedBy}
 use Rattle.scope_rules.proofs.Made.{made_as, memory_refused, numbered_scoped, numbered_resolved}
 use Rattle.scope_rules.proofs.resolver.Resolver.decide.Goals as goal
 

@@ -1,5 +1,4 @@
-use Rattle.std.proofs.Common.{◌∙◌, sym}
-use Rattle.c_tree.specs.ProgramView.{program_tree}
+use Rattle.scope_rules.proofs.Common.{◌∙◌, sym, program_tree}
 use Rattle.scope_rules.proofs.OneOutcome.{never_both, only_memory, this_or_memory}
 use Rattle.scope_rules.proofs.Made.{in_order}
 use Rattle.scope_rules.proofs.resolver.Resolver.finish.Goals as goal

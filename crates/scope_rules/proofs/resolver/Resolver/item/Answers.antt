@@ -1,4 +1,4 @@
-use Rattle.c_tree.specs.RawViews.{raw_item_tree}
+use Rattle.scope_rules.proofs.Common.{raw_item_tree}
 use Rattle.scope_rules.proofs.ReadItems.{one_more}
 use Rattle.scope_rules.proofs.resolver.Resolver.item.Goals as goal
 

@@ -1,6 +1,4 @@
-use Rattle.std.proofs.Common.{◌∙◌, subst}
-use Rattle.scope_rules.specs.ItemViews.{sofar_of}
-use Rattle.scope_rules.specs.Reading.{Agrees}
+use Rattle.scope_rules.proofs.Common.{◌∙◌, subst, sofar_of, Agrees}
 use Rattle.scope_rules.proofs.Agreeing.{agrees}
 use Rattle.scope_rules.proofs.resolver.Resolver.new.Goals as goal
 

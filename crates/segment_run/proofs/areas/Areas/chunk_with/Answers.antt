@@ -1,7 +1,4 @@
-use Rattle.std.proofs.Common.{◌≡◌, ◌≤◌, Some, sym, subst, ◌∙◌}
-use Rattle.chunk_pool.specs.Pool.{HasAddress, payload_place_of}
-use Rattle.machine_world.specs.Areas.{Areas, spot_of}
-use Rattle.segment_run.specs.Kept.{areas_of}
+use Rattle.segment_run.proofs.Common.{◌≡◌, ◌≤◌, Some, sym, subst, ◌∙◌, HasAddress, payload_place_of, Areas, spot_of, areas_of}
 use Rattle.segment_run.proofs.Spots.{AreFew, has_chunk}
 use Rattle.segment_run.proofs.areas.Areas.chunk_with.Goals as goal
 

@@ -1,6 +1,4 @@
-use Rattle.std.proofs.Common.{◌-◌, Some, sym, ap, ◌∙◌, arith}
-use Rattle.machine_world.specs.Areas.{Areas, InPayload, payload_spot, spot_of}
-use Rattle.segment_run.specs.Kept.{areas_of}
+use Rattle.segment_run.proofs.Common.{◌-◌, Some, sym, ap, ◌∙◌, arith, Areas, InPayload, payload_spot, spot_of, areas_of}
 use Rattle.segment_run.proofs.Spots.{AreFew, spot_of-high, payload_spot-in, payload_spot-header}
 use Rattle.segment_run.proofs.areas.Areas.payload_spot.Goals as goal
 

@@ -1,6 +1,4 @@
-use Rattle.std.proofs.Common.{ap, ◌∙◌}
-use Rattle.machine_world.specs.Areas.{is_writable_on}
-use Rattle.segment_laws.proofs.Spots.{Fit}
+use Rattle.segment_run.proofs.Common.{ap, ◌∙◌, is_writable_on, Fit}
 use Rattle.segment_run.proofs.SpotWords.{stored-on, written_there}
 use Rattle.segment_run.proofs.areas.Areas.put_word.Goals as goal
 

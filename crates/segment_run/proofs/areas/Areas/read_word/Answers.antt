@@ -1,6 +1,4 @@
-use Rattle.std.proofs.Common.{◌≡◌, Some, Ok, sym, ap, ◌∙◌}
-use Rattle.machine_world.specs.Areas.{byte_at}
-use Rattle.segment_laws.proofs.Spots.{Fit}
+use Rattle.segment_run.proofs.Common.{◌≡◌, Some, Ok, sym, ap, ◌∙◌, byte_at, Fit}
 use Rattle.segment_run.proofs.ReadyTurns.{loaded_ok}
 use Rattle.segment_run.proofs.SpotWords.{loaded-on, loaded_there}
 use Rattle.segment_run.proofs.areas.Areas.read_word.Goals as goal

@@ -1,6 +1,4 @@
-use Rattle.std.proofs.Common.{length, ap, subst, sym, arith}
-use Rattle.machine_world.specs.Areas.{Areas}
-use Rattle.segment_run.specs.Kept.{AreKept}
+use Rattle.segment_run.proofs.Common.{length, ap, subst, sym, arith, Areas, AreKept}
 use Rattle.segment_run.proofs.Spots.{AreFew, spot_of-in_tables, spot_of-past_tables, spot_of-in_globals, spot_of-past_globals, spot_of-below}
 use Rattle.segment_run.proofs.areas.Areas.spot.Goals as goal
 

@@ -1,7 +1,4 @@
-use Rattle.std.proofs.Common.{◌≡◌, ◌-◌, ap, subst, ◌∙◌, arith}
-use Rattle.chunk_pool.specs.Pool.{place_of}
-use Rattle.machine_world.specs.Areas.{Areas}
-use Rattle.segment_run.specs.Kept.{AreKept}
+use Rattle.segment_run.proofs.Common.{◌≡◌, ◌-◌, ap, subst, ◌∙◌, arith, place_of, Areas, AreKept}
 use Rattle.segment_run.proofs.Spots.{AreFew, found_in_payload, found_in_tables, from_globals, found_in_globals}
 use Rattle.segment_run.proofs.areas.Areas.spot_on.Goals as goal
 

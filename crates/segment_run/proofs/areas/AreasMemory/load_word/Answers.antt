@@ -1,5 +1,4 @@
-use Rattle.std.proofs.Common.{Some, sym, ap, ◌∙◌}
-use Rattle.segment_laws.proofs.Spots.{Fit}
+use Rattle.segment_run.proofs.Common.{Some, sym, ap, ◌∙◌, Fit}
 use Rattle.segment_run.proofs.SpotWords.{loaded-on, loaded-none}
 use Rattle.segment_run.proofs.areas.AreasMemory.load_word.Goals as goal
 

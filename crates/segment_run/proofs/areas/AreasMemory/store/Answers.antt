@@ -1,9 +1,4 @@
-use Rattle.std.proofs.Common.{◌≡◌, ℕ, ◌%◌, true, ap, sym, ◌∙◌}
-use Rattle.machine_world.specs.Areas.{Areas, byte_at, is_writable, with_byte}
-use Rattle.machine_world.proofs.AreaLaws.{byte_at-with_byte, spot_of-with_byte}
-use Rattle.machine_world.specs.Areas.{is_writable_on}
-use Rattle.segment_run.specs.Spots.{with_word_on}
-use Rattle.rv_machine.specs.WordBytes.{word_with}
+use Rattle.segment_run.proofs.Common.{◌≡◌, ℕ, ◌%◌, true, ap, sym, ◌∙◌, Areas, byte_at, is_writable, with_byte, byte_at-with_byte, spot_of-with_byte, is_writable_on, with_word_on, word_with}
 use Rattle.segment_run.proofs.SpotWords.{byte_stored-on}
 use Rattle.segment_run.proofs.areas.AreasMemory.store.Goals as goal
 

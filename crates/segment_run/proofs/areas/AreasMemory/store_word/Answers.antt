@@ -1,8 +1,4 @@
-use Rattle.std.proofs.Common.{ap, sym, ◌∙◌}
-use Rattle.machine_world.specs.Areas.{Areas, byte_at, is_writable, is_writable_on}
-use Rattle.std.specs.Prelude.{option_map}
-use Rattle.segment_laws.proofs.Spots.{Fit}
-use Rattle.segment_run.specs.Spots.{world_spot}
+use Rattle.segment_run.proofs.Common.{ap, sym, ◌∙◌, Areas, byte_at, is_writable, is_writable_on, option_map, Fit, world_spot}
 use Rattle.segment_run.proofs.SpotWords.{unwritable-word, writable-on, stored-on, written-word}
 use Rattle.segment_run.proofs.areas.AreasMemory.store_word.Goals as goal
 

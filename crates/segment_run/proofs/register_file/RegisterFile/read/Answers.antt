@@ -1,5 +1,4 @@
-use Rattle.std.proofs.Common.{ℕ, List, ap, ◌∙◌}
-use Rattle.rv_machine.specs.Registers.{read}
+use Rattle.segment_run.proofs.Common.{ℕ, List, ap, ◌∙◌, read}
 use Rattle.segment_run.proofs.RegisterFiles.{read_beside}
 use Rattle.segment_run.proofs.register_file.RegisterFile.read.Goals as goal
 

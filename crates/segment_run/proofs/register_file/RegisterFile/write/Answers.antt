@@ -1,5 +1,4 @@
-use Rattle.std.proofs.Common.{ℕ, List, ap, ◌∙◌}
-use Rattle.rv_machine.specs.Registers.{write}
+use Rattle.segment_run.proofs.Common.{ℕ, List, ap, ◌∙◌, write}
 use Rattle.segment_run.proofs.RegisterFiles.{written_beside, first_stays}
 use Rattle.segment_run.proofs.register_file.RegisterFile.write.Goals as goal
 

@@ -1,8 +1,4 @@
-use Rattle.std.proofs.Common.{ℕ, List, ap, ◌∙◌}
-use Rattle.std.proofs.lemmas.Result.{err_from_is_err_and}
-use Rattle.c_mean.specs.Layout.{rows_of, widths_of}
-use Rattle.source_runs.specs.Layouts.{sizes_at, tree_of}
-use Rattle.source_runs.specs.Threads.{globals_of}
+use Rattle.source_runs.proofs.Common.{ℕ, List, ap, ◌∙◌, err_from_is_err_and, rows_of, widths_of, sizes_at, tree_of, globals_of}
 use Rattle.source_runs.proofs.Moved.{halted-from}
 use Rattle.source_runs.proofs.Ranges.{after-none, after_words, of, range-at, values-all, values-more, values-trap}
 use Rattle.source_runs.proofs.interpreter.Interpreter.arguments.Goals as goal

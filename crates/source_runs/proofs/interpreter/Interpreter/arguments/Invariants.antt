@@ -1,7 +1,4 @@
-use Rattle.std.proofs.Common.{◌≡◌, drop}
-use Rattle.c_mean.specs.Layout.{rows_of}
-use Rattle.source_runs.specs.Layouts.{sizes_at, tree_of}
-use Rattle.source_runs.specs.Threads.{globals_of}
+use Rattle.source_runs.proofs.Common.{◌≡◌, drop, rows_of, sizes_at, tree_of, globals_of}
 use Rattle.source_runs.proofs.Ranges.{after_words, of}
 use Rattle.source_runs.proofs.interpreter.Interpreter.arguments.Given as goal
 

@@ -1,14 +1,5 @@
-use Rattle.std.specs.Prelude.{Ok}
+use Rattle.source_runs.proofs.Common.{ap, sym, refl, Ok, err_from_is_err_and, expr_tree, right_tree, scoped_in_range, assigned, assigns, on_value, stored, valued, Goes, context_at, tree_of, place_of, running_of}
 use Rattle.source_runs.specs.declared.interpreter.Move.TheVariants as move
-use Rattle.std.proofs.Common.{ap, sym, refl}
-use Rattle.std.proofs.lemmas.Result.{err_from_is_err_and}
-use Rattle.c_tree.specs.Views.{expr_tree, right_tree}
-use Rattle.c_mean.proofs.WorldLemmas.{scoped_in_range}
-use Rattle.c_mean.specs.Steps.{assigned, assigns, on_value, stored, valued}
-use Rattle.cap_word.specs.Runs.{Goes}
-use Rattle.source_items.specs.Items.{to_do}
-use Rattle.source_runs.specs.Layouts.{context_at, tree_of}
-use Rattle.source_runs.specs.Threads.{place_of, running_of}
 use Rattle.source_runs.proofs.Moved.{made-so, trap-from, value-used}
 use Rattle.source_runs.proofs.interpreter.Interpreter.assign.Goals as goal
 
@@ -24,7 +15,6 @@ returns-in_err-word-in-Expr c =
     let words = c.args.globals.now.items in
     let thread = c.args.thread.now in
     let running = running_of tree thread words in
-    let rest = to_do thread.front.items.items in
     let p = err_from_is_err_and c.from_residual.result c.from_residual.ensures.1 in
     made-so tree _ (assigns tree running (place_of c.args.place) (right_tree c.args.value.now)) words thread c.from_residual.result (ap (λ r. assigns tree running (place_of c.args.place) (right_tree r)) c.in-Expr.is)
     (trap-from tree running words thread (valued running (expr_tree c.in-Expr.expr)) (assigned running (place_of c.args.place)) _ c.from_residual.result p.0 p.1 p.2 (sym c.in_err-word-in-Expr.ensures) refl)
@@ -35,7 +25,6 @@ returns-in_err-store-in-Expr c =
     let words = c.args.globals.now.items in
     let thread = c.args.thread.now in
     let running = running_of tree thread words in
-    let rest = to_do thread.front.items.items in
     let p = err_from_is_err_and c.from_residual-in_err-store-in-Expr.result c.from_residual-in_err-store-in-Expr.ensures.1 in
     let new = c.store.new.globals.items in
     made-so tree _ (assigns tree running (place_of c.args.place) (right_tree c.args.value.now)) new c.store.new.thread c.from_residual-in_err-store-in-Expr.result (ap (λ r. assigns tree running (place_of c.args.place) (right_tree r)) c.in-Expr.is)
@@ -48,7 +37,6 @@ returns-in_ok-store-in-Expr c =
     let words = c.args.globals.now.items in
     let thread = c.args.thread.now in
     let running = running_of tree thread words in
-    let rest = to_do thread.front.items.items in
     let new = c.store.new.globals.items in
     made-so tree _ (assigns tree running (place_of c.args.place) (right_tree c.args.value.now)) new c.store.new.thread (Ok move.Goes) (ap (λ r. assigns tree running (place_of c.args.place) (right_tree r)) c.in-Expr.is)
     (value-used tree running new c.store.new.thread (valued running (expr_tree c.in-Expr.expr)) (assigned running (place_of c.args.place)) c.in_ok-word-in-Expr.word (Ok move.Goes) (sym c.in_ok-word-in-Expr.ensures)
@@ -60,5 +48,4 @@ returns-in-Call c =
     let words = c.args.globals.now.items in
     let thread = c.args.thread.now in
     let running = running_of tree thread words in
-    let rest = to_do thread.front.items.items in
     made-so tree _ (assigns tree running (place_of c.args.place) (right_tree c.args.value.now)) words c.call.new.thread c.call.result (ap (λ r. assigns tree running (place_of c.args.place) (right_tree r)) c.in-Call.is) c.call.ensures

@@ -1,26 +1,9 @@
-use Rattle.std.specs.Prelude.{Ok, Err, slice_index, slice_index_or}
-use Rattle.std.proofs.Common.{◌≡◌, ◌<◌, ◌≤◌, ◌∷◌, [], ℕ, List, length, map, sym, ap, ◌∙◌, subst, refl}
-use Rattle.std.proofs.lemmas.Result.{err_from_is_err_and}
-use Rattle.std.specs.List.{AllByRecursion}
-use Rattle.cap_word.specs.Calls.{call_of, spawn_of}
+use Rattle.source_runs.proofs.Common.{◌≡◌, ◌<◌, ◌≤◌, ◌∷◌, [], ℕ, List, length, map, sym, ap, ◌∙◌, subst, refl, Ok, Err, slice_index, slice_index_or, err_from_is_err_and, AllByRecursion, call_of, spawn_of, TrapKind, call_tree, expr_tree, Expr, counted, scoped_in_range, IsInRange, rows_of, widths_of, pushed, all_valued, asks, asks_if, called, entered, entered_by, on_value, valued, waits_at, context_at, sizes_at, tree_of, IsThread, globals_of, place_of, running_of, Thread, signature_of, IsMember}
 use Rattle.cap_word.specs.declared.calls.Ask.{Ask}
-use Rattle.cap_word.specs.declared.traps.TrapKind.{TrapKind}
 use Rattle.cap_word.specs.ModelledCalls.{number_of}
-use Rattle.c_tree.specs.Views.{call_tree, expr_tree}
 use Rattle.c_tree.specs.declared.statements.Call.{Call}
-use Rattle.c_tree.specs.declared.expressions.Expr.{Expr}
-use Rattle.c_mean.proofs.CallLemmas.{counted}
-use Rattle.c_mean.proofs.WorldLemmas.{scoped_in_range}
-use Rattle.c_mean.specs.Layout.{IsInRange, rows_of, widths_of}
-use Rattle.c_mean.specs.Frames.{pushed}
-use Rattle.c_mean.specs.Steps.{all_valued, asks, asks_if, called, entered, entered_by, on_value, valued, waits_at}
-use Rattle.source_runs.specs.Layouts.{context_at, sizes_at, tree_of}
-use Rattle.source_runs.specs.Threads.{IsThread, globals_of, place_of, running_of}
-use Rattle.source_runs.specs.declared.frames.Thread.{Thread}
 use Rattle.source_runs.specs.declared.halts.Halt.TheVariants as halt
 use Rattle.source_runs.specs.declared.interpreter.Move.TheVariants as move
-use Rattle.c_tree.specs.WellScoped.{signature_of}
-use Rattle.cap_word.specs.Signatures.{IsMember}
 use Rattle.source_runs.proofs.Functions.{member-at, signed-count}
 use Rattle.source_runs.proofs.Moved.{asked-so, entered-so, halt-from, made-so, member-entered, memory-from, no-member, trap-from, value-used, went-so}
 use Rattle.source_runs.proofs.Ranges.{all-in-range}

@@ -1,16 +1,6 @@
-use Rattle.std.specs.Prelude.{Ok}
+use Rattle.source_runs.proofs.Common.{ap, sym, ◌∙◌, refl, Ok, err_from_is_err_and, expr_tree, stmt_tree, scoped_in_range, branched, on_value, valued, to_do, context_at, tree_of, else_tree, running_of, Thread}
 use Rattle.source_runs.specs.declared.interpreter.Move.TheVariants as move
-use Rattle.std.proofs.Common.{ap, sym, ◌∙◌, refl}
-use Rattle.std.proofs.lemmas.Result.{err_from_is_err_and}
-use Rattle.c_tree.specs.Views.{expr_tree, stmt_tree}
-use Rattle.c_mean.proofs.WorldLemmas.{scoped_in_range}
-use Rattle.c_mean.specs.Steps.{branched, on_value, valued}
 use Rattle.c_mean.specs.ToDo as todo
-use Rattle.source_items.specs.Items.{to_do}
-use Rattle.source_runs.specs.Layouts.{context_at, tree_of}
-use Rattle.source_runs.specs.Steps.{else_tree}
-use Rattle.source_runs.specs.Threads.{running_of}
-use Rattle.source_runs.specs.declared.frames.Thread.{Thread}
 use Rattle.source_runs.proofs.Moved.{first-side, second-side, goes-with, trap-from, value-used, went-so}
 use Rattle.source_runs.proofs.interpreter.Interpreter.choose.Goals as goal
 

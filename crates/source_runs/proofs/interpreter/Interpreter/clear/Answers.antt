@@ -1,12 +1,4 @@
-use Rattle.std.proofs.Common.{arith, ℕ, List, length, ap, sym, ◌∙◌}
-use Rattle.std.proofs.lemmas.List.{with_items_is}
-use Rattle.cap_word.specs.Rows.{with_zeros}
-use Rattle.c_mean.specs.Layout.{rows_of}
-use Rattle.std.specs.Prelude.{slice_index}
-use Rattle.c_mean.proofs.LayoutLemmas.{sum_next-le}
-use Rattle.c_mean.specs.Steps.{with_names}
-use Rattle.source_runs.specs.Layouts.{sizes_at, tree_of}
-use Rattle.source_runs.specs.Threads.{running_of}
+use Rattle.source_runs.proofs.Common.{arith, ℕ, List, length, ap, sym, ◌∙◌, with_items_is, with_zeros, rows_of, slice_index, sum_next-le, with_names, sizes_at, tree_of, running_of}
 use Rattle.source_runs.proofs.interpreter.Interpreter.clear.Goals as goal
 
 pub local_start-start-requires-clause-ready : goal.local_start-start-requires-clause-ready

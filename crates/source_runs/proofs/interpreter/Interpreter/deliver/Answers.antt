@@ -1,10 +1,6 @@
-use Rattle.std.proofs.Common.{◌∷◌, [], ap, sym, ◌∙◌}
-use Rattle.c_mean.specs.Frames.{Running}
+use Rattle.source_runs.proofs.Common.{◌∷◌, [], ap, sym, ◌∙◌, Running, delivered_or, tree_of, running_of}
 use Rattle.c_mean.specs.Steps as steps
-use Rattle.c_mean.specs.Steps.{delivered_or}
 use Rattle.c_mean.specs.ToDo as todo
-use Rattle.source_runs.specs.Layouts.{tree_of}
-use Rattle.source_runs.specs.Threads.{running_of}
 use Rattle.source_runs.proofs.interpreter.Interpreter.deliver.Goals as goal
 
 pub returns-in-Ok-clause-came : goal.returns-in-Ok-clause-came

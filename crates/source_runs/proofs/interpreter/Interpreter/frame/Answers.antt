@@ -1,18 +1,6 @@
-use Rattle.std.proofs.Common.{◌≡◌, ◌<◌, ◌≤◌, ◌+◌, ◌-◌, ◌++◌, [], ℕ, List, length, get_or, vec_len, arith, sym, ap, ◌∙◌, subst}
-use Rattle.std.specs.Prelude.{false, replicate, sum}
-use Rattle.std.proofs.lemmas.List.{length-append, length-replicate, take_all}
-use Rattle.c_tree.specs.Sizes.{below, declared_words}
-use Rattle.c_tree.specs.Trees.{FunctionTree}
-use Rattle.c_tree.specs.Views.{function_tree, stmt_trees}
-use Rattle.c_tree.specs.WellScoped.{AreStmtsScoped}
-use Rattle.c_tree.specs.declared.statements.Stmt.{Stmt}
+use Rattle.source_runs.proofs.Common.{◌≡◌, ◌<◌, ◌≤◌, ◌+◌, ◌-◌, ◌++◌, [], ℕ, List, length, get_or, vec_len, arith, sym, ap, ◌∙◌, subst, false, replicate, sum, length-append, length-replicate, take_all, below, declared_words, FunctionTree, function_tree, stmt_trees, AreStmtsScoped, Stmt, function_at, rows_of, AreItems, to_do, Item, context_at, sizes_at, tree_of}
 use Rattle.c_mean.specs.Frames as source
-use Rattle.c_mean.specs.Frames.{function_at}
-use Rattle.c_mean.specs.Layout.{rows_of}
 use Rattle.c_mean.specs.ToDo as todo
-use Rattle.source_items.specs.Items.{AreItems, to_do}
-use Rattle.source_items.specs.declared.items.Item.{Item}
-use Rattle.source_runs.specs.Layouts.{context_at, sizes_at, tree_of}
 use Rattle.source_runs.proofs.Functions.{function-count, function-is, params-are, scoped-at}
 use Rattle.source_runs.proofs.Words.{frame-fits, frame-rows}
 use Rattle.source_runs.proofs.interpreter.Interpreter.frame.Goals as goal

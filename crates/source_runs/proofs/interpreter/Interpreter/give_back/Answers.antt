@@ -1,12 +1,5 @@
-use Rattle.std.proofs.Common.{◌≡◌, ◌-◌, ◌++◌, [], ℕ, List, ap, sym, ◌∙◌, take, map}
-use Rattle.std.specs.Prelude.{reverse}
-use Rattle.cap_word.specs.Runs.{Goes}
+use Rattle.source_runs.proofs.Common.{◌≡◌, ◌-◌, ◌++◌, [], ℕ, List, ap, sym, ◌∙◌, take, map, reverse, Goes, Running, returned, tree_of, running_of, waiting_frame_of, WaitingFrame}
 use Rattle.c_mean.specs.Frames as source
-use Rattle.c_mean.specs.Frames.{Running}
-use Rattle.c_mean.specs.Steps.{returned}
-use Rattle.source_runs.specs.Layouts.{tree_of}
-use Rattle.source_runs.specs.Threads.{running_of, waiting_frame_of}
-use Rattle.source_runs.specs.declared.frames.WaitingFrame.{WaitingFrame}
 use Rattle.source_runs.proofs.Moved.{all-pop, below-pop}
 use Rattle.source_runs.proofs.interpreter.Interpreter.give_back.Goals as goal
 

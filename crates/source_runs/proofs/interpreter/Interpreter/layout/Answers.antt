@@ -1,5 +1,4 @@
-use Rattle.std.proofs.Common.{arith}
-use Rattle.source_runs.specs.Layouts.{tree_of}
+use Rattle.source_runs.proofs.Common.{arith, tree_of}
 use Rattle.source_runs.proofs.Functions.{layout-at, layouts-count}
 use Rattle.source_runs.proofs.interpreter.Interpreter.layout.Goals as goal
 

@@ -1,5 +1,4 @@
-use Rattle.std.proofs.Common.{◌<◌, length, arith, ◌∙◌}
-use Rattle.std.proofs.lemmas.List.{get_or_read}
+use Rattle.source_runs.proofs.Common.{◌<◌, length, arith, ◌∙◌, get_or_read}
 use Rattle.source_runs.proofs.interpreter.Interpreter.local_start.Goals as goal
 
 pub index-requires : goal.index-requires

@@ -1,9 +1,4 @@
-use Rattle.std.proofs.Common.{ℕ, List, ap, ◌∙◌, sym, subst}
-use Rattle.c_tree.specs.Views.{expr_tree}
-use Rattle.c_mean.specs.Layout.{IsInRange, rows_of, widths_of}
-use Rattle.c_mean.specs.Values.{value}
-use Rattle.source_items.specs.Rows.{rows_in}
-use Rattle.source_runs.specs.Layouts.{sizes_at, tree_of}
+use Rattle.source_runs.proofs.Common.{ℕ, List, ap, ◌∙◌, sym, subst, expr_tree, IsInRange, rows_of, widths_of, value, rows_in, sizes_at, tree_of}
 use Rattle.source_runs.proofs.interpreter.Interpreter.long_word.Goals as goal
 
 pub composed-requires-clause-in_range : goal.composed-requires-clause-in_range

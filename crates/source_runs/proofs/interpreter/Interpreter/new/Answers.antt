@@ -1,9 +1,5 @@
-use Rattle.std.proofs.Common.{◌<◌, ◌^◌, List, ℕ, ap, sym, ◌∙◌, subst, arith}
-use Rattle.std.specs.Prelude.{sum}
+use Rattle.source_runs.proofs.Common.{◌<◌, ◌^◌, List, ℕ, ap, sym, ◌∙◌, subst, arith, sum, FunctionTree, widths_of, AreLayouts, AreSmall, IsLayout}
 use Rattle.c_tree.specs.ProgramView.{program_tree}
-use Rattle.c_tree.specs.Trees.{FunctionTree}
-use Rattle.c_mean.specs.Layout.{widths_of}
-use Rattle.source_runs.specs.Layouts.{AreLayouts, AreSmall, IsLayout}
 use Rattle.source_runs.proofs.Functions.{all-small}
 use Rattle.source_runs.proofs.interpreter.Interpreter.new.Goals as goal
 

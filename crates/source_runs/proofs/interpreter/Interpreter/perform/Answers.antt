@@ -1,11 +1,4 @@
-use Rattle.std.proofs.Common.{ap, subst, refl}
-use Rattle.c_tree.specs.Views.{expr_tree, simple_tree, stmt_tree}
-use Rattle.c_mean.specs.Steps.{performs}
-use Rattle.source_items.specs.Items.{HasPart, item_of, part_item, to_do}
-use Rattle.source_items.specs.declared.items.Part.{Part}
-use Rattle.source_runs.specs.Layouts.{context_at, tree_of}
-use Rattle.source_runs.specs.Threads.{running_of}
-use Rattle.source_runs.specs.declared.frames.Thread.{Thread}
+use Rattle.source_runs.proofs.Common.{ap, subst, refl, expr_tree, simple_tree, stmt_tree, performs, HasPart, item_of, part_item, to_do, Part, context_at, tree_of, running_of, Thread}
 use Rattle.source_runs.proofs.Moved.{goes-with, went-so}
 use Rattle.source_runs.proofs.Parts.{part-so, start-so, step-so, test-so}
 use Rattle.source_runs.proofs.Scopes.{condition-loop, condition-scoped, start-scoped, step-scoped}

@@ -1,13 +1,5 @@
-use Rattle.std.proofs.Common.{ap, sym, ◌∙◌, refl}
-use Rattle.std.proofs.lemmas.Result.{err_from_is_err_and}
-use Rattle.c_tree.specs.Views.{expr_tree, right_tree, simple_tree}
-use Rattle.c_mean.proofs.WorldLemmas.{scoped_in_range}
+use Rattle.source_runs.proofs.Common.{ap, sym, ◌∙◌, refl, err_from_is_err_and, expr_tree, right_tree, simple_tree, scoped_in_range, assigns, does, valued, Goes, context_at, tree_of, running_of}
 use Rattle.c_mean.specs.Frames as source
-use Rattle.c_mean.specs.Steps.{assigns, does, valued}
-use Rattle.cap_word.specs.Runs.{Goes}
-use Rattle.source_items.specs.Items.{to_do}
-use Rattle.source_runs.specs.Layouts.{context_at, tree_of}
-use Rattle.source_runs.specs.Threads.{running_of}
 use Rattle.source_runs.proofs.Functions.{globals-there}
 use Rattle.source_runs.proofs.Moved.{made-so, trap-from, value-used}
 use Rattle.source_runs.proofs.interpreter.Interpreter.perform_simple.Goals as goal
@@ -24,7 +16,6 @@ returns-in-DeclareScalar c =
     let words = c.args.globals.now.items in
     let thread = c.args.thread.now in
     let running = running_of tree thread words in
-    let rest = to_do thread.front.items.items in
     ((ap (λ s. does tree running (simple_tree s)) c.in-DeclareScalar.is) ∙ ap Goes (sym (c.clear.ensures.cleared words)), c.clear.ensures.thread words c.requires.thread)
 
 pub returns-in-DeclareArray : goal.returns-in-DeclareArray
@@ -33,7 +24,6 @@ returns-in-DeclareArray c =
     let words = c.args.globals.now.items in
     let thread = c.args.thread.now in
     let running = running_of tree thread words in
-    let rest = to_do thread.front.items.items in
     ((ap (λ s. does tree running (simple_tree s)) c.in-DeclareArray.is) ∙ ap Goes (sym (c.clear-in-DeclareArray.ensures.cleared words)), c.clear-in-DeclareArray.ensures.thread words c.requires.thread)
 
 pub assign-requires-clause-place : goal.assign-requires-clause-place
@@ -72,7 +62,6 @@ returns-in-DeclareWith c =
     let words = c.args.globals.now.items in
     let thread = c.args.thread.now in
     let running = running_of tree thread words in
-    let rest = to_do thread.front.items.items in
     made-so tree _ (does tree running (simple_tree c.args.simple.now)) c.assign.new.globals.items c.assign.new.thread c.assign.result (ap (λ s. does tree running (simple_tree s)) c.in-DeclareWith.is) c.assign.ensures
 
 pub returns-in-SetLocal : goal.returns-in-SetLocal
@@ -81,7 +70,6 @@ returns-in-SetLocal c =
     let words = c.args.globals.now.items in
     let thread = c.args.thread.now in
     let running = running_of tree thread words in
-    let rest = to_do thread.front.items.items in
     made-so tree _ (does tree running (simple_tree c.args.simple.now)) c.assign-in-SetLocal.new.globals.items c.assign-in-SetLocal.new.thread c.assign-in-SetLocal.result (ap (λ s. does tree running (simple_tree s)) c.in-SetLocal.is) c.assign-in-SetLocal.ensures
 
 pub returns-in-SetGlobal : goal.returns-in-SetGlobal
@@ -90,7 +78,6 @@ returns-in-SetGlobal c =
     let words = c.args.globals.now.items in
     let thread = c.args.thread.now in
     let running = running_of tree thread words in
-    let rest = to_do thread.front.items.items in
     made-so tree _ (does tree running (simple_tree c.args.simple.now)) c.assign-in-SetGlobal.new.globals.items c.assign-in-SetGlobal.new.thread c.assign-in-SetGlobal.result (ap (λ s. does tree running (simple_tree s)) c.in-SetGlobal.is) c.assign-in-SetGlobal.ensures
 
 pub value-requires-clause-in_range : goal.value-requires-clause-in_range
@@ -105,7 +92,6 @@ returns-in_err-index-in-SetLocalElement c =
     let words = c.args.globals.now.items in
     let thread = c.args.thread.now in
     let running = running_of tree thread words in
-    let rest = to_do thread.front.items.items in
     let p = err_from_is_err_and c.from_residual.result c.from_residual.ensures.1 in
     made-so tree _ (does tree running (simple_tree c.args.simple.now)) words thread c.from_residual.result (ap (λ s. does tree running (simple_tree s)) c.in-SetLocalElement.is) (trap-from tree running words thread (valued running (expr_tree c.in-SetLocalElement.index.value)) (λ i. assigns tree running (source.InLocalElement c.in-SetLocalElement.array i) (right_tree c.in-SetLocalElement.value.value)) _ c.from_residual.result p.0 p.1 p.2 (sym (rw c.deref.ensures at c.in_err-index-in-SetLocalElement.ensures)) refl)
 
@@ -115,7 +101,6 @@ returns-in_ok-index-in-SetLocalElement c =
     let words = c.args.globals.now.items in
     let thread = c.args.thread.now in
     let running = running_of tree thread words in
-    let rest = to_do thread.front.items.items in
     let call = c.assign-in-SetLocalElement in
     made-so tree _ (does tree running (simple_tree c.args.simple.now)) call.new.globals.items call.new.thread call.result (ap (λ s. does tree running (simple_tree s)) c.in-SetLocalElement.is) (value-used tree running call.new.globals.items call.new.thread (valued running (expr_tree c.in-SetLocalElement.index.value)) (λ i. assigns tree running (source.InLocalElement c.in-SetLocalElement.array i) (right_tree c.in-SetLocalElement.value.value)) c.in_ok-index-in-SetLocalElement.index call.result (sym (rw c.deref.ensures at c.in_ok-index-in-SetLocalElement.ensures)) (rw c.deref-in-SetLocalElement.ensures at call.ensures))
 
@@ -125,7 +110,6 @@ returns-in_err-index-in-SetGlobalElement c =
     let words = c.args.globals.now.items in
     let thread = c.args.thread.now in
     let running = running_of tree thread words in
-    let rest = to_do thread.front.items.items in
     let p = err_from_is_err_and c.from_residual-in_err-index-in-SetGlobalElement.result c.from_residual-in_err-index-in-SetGlobalElement.ensures.1 in
     made-so tree _ (does tree running (simple_tree c.args.simple.now)) words thread c.from_residual-in_err-index-in-SetGlobalElement.result (ap (λ s. does tree running (simple_tree s)) c.in-SetGlobalElement.is) (trap-from tree running words thread (valued running (expr_tree c.in-SetGlobalElement.index.value)) (λ i. assigns tree running (source.InGlobalElement c.in-SetGlobalElement.array i) (right_tree c.in-SetGlobalElement.value.value)) _ c.from_residual-in_err-index-in-SetGlobalElement.result p.0 p.1 p.2 (sym (rw c.deref-in-SetGlobalElement.ensures at c.in_err-index-in-SetGlobalElement.ensures)) refl)
 
@@ -135,7 +119,6 @@ returns-in_ok-index-in-SetGlobalElement c =
     let words = c.args.globals.now.items in
     let thread = c.args.thread.now in
     let running = running_of tree thread words in
-    let rest = to_do thread.front.items.items in
     let call = c.assign-in-SetGlobalElement in
     made-so tree _ (does tree running (simple_tree c.args.simple.now)) call.new.globals.items call.new.thread call.result (ap (λ s. does tree running (simple_tree s)) c.in-SetGlobalElement.is) (value-used tree running call.new.globals.items call.new.thread (valued running (expr_tree c.in-SetGlobalElement.index.value)) (λ i. assigns tree running (source.InGlobalElement c.in-SetGlobalElement.array i) (right_tree c.in-SetGlobalElement.value.value)) c.in_ok-index-in-SetGlobalElement.index call.result (sym (rw c.deref-in-SetGlobalElement.ensures at c.in_ok-index-in-SetGlobalElement.ensures)) (rw c.deref-in-SetGlobalElement-2.ensures at call.ensures))
 
@@ -148,5 +131,4 @@ returns-in-Call c =
     let words = c.args.globals.now.items in
     let thread = c.args.thread.now in
     let running = running_of tree thread words in
-    let rest = to_do thread.front.items.items in
     made-so tree _ (does tree running (simple_tree c.args.simple.now)) words c.call.new.thread c.call.result (ap (λ s. does tree running (simple_tree s)) c.in-Call.is) c.call.ensures

@@ -1,13 +1,4 @@
-use Rattle.std.specs.Prelude.{Ok}
-use Rattle.std.proofs.Common.{ap, sym, ◌∙◌, refl}
-use Rattle.std.proofs.lemmas.Result.{err_from_is_err_and}
-use Rattle.std.specs.Prelude.{Some, option_map}
-use Rattle.c_tree.specs.Views.{expr_tree, right_tree}
-use Rattle.c_mean.proofs.WorldLemmas.{scoped_in_range}
-use Rattle.c_mean.specs.Steps.{gives_back, returned, valued}
-use Rattle.source_items.specs.Items.{to_do}
-use Rattle.source_runs.specs.Layouts.{context_at, tree_of}
-use Rattle.source_runs.specs.Threads.{below_of, running_of}
+use Rattle.source_runs.proofs.Common.{ap, sym, ◌∙◌, refl, Ok, err_from_is_err_and, Some, option_map, expr_tree, right_tree, scoped_in_range, gives_back, returned, valued, context_at, tree_of, below_of, running_of}
 use Rattle.source_runs.proofs.Moved.{made-so, trap-from, value-used}
 use Rattle.source_runs.proofs.interpreter.Interpreter.return_right.Goals as goal
 
@@ -25,7 +16,6 @@ returns-in-None c =
     let words = c.args.globals.now.items in
     let thread = c.args.thread.now in
     let running = running_of tree thread words in
-    let rest = to_do thread.front.items.items in
     made-so tree _ (gives_back tree running (option_map right_tree c.args.value.now)) c.give_back.new.globals.items c.give_back.new.thread (Ok c.give_back.result) (ap (λ o. gives_back tree running (option_map right_tree o)) c.in-None.is) c.give_back.ensures
 
 pub returns-in_err-word-in-Some-Expr : goal.returns-in_err-word-in-Some-Expr
@@ -34,7 +24,6 @@ returns-in_err-word-in-Some-Expr c =
     let words = c.args.globals.now.items in
     let thread = c.args.thread.now in
     let running = running_of tree thread words in
-    let rest = to_do thread.front.items.items in
     let p = err_from_is_err_and c.from_residual.result c.from_residual.ensures.1 in
     made-so tree _ (gives_back tree running (option_map right_tree c.args.value.now)) words thread c.from_residual.result (ap (λ o. gives_back tree running (option_map right_tree o)) (c.in-Some-Expr.is ∙ ap Some (rw c.in-Some-Expr.is at c.in-Some-Expr.field-0-is)))
     (trap-from tree running words thread (valued running (expr_tree c.in-Some-Expr.expr)) (returned running (below_of tree thread)) _ c.from_residual.result p.0 p.1 p.2 (sym c.in_err-word-in-Some-Expr.ensures) refl)
@@ -45,7 +34,6 @@ returns-in_ok-word-in-Some-Expr c =
     let words = c.args.globals.now.items in
     let thread = c.args.thread.now in
     let running = running_of tree thread words in
-    let rest = to_do thread.front.items.items in
     made-so tree _ (gives_back tree running (option_map right_tree c.args.value.now)) c.give_back-in-Some-Expr.new.globals.items c.give_back-in-Some-Expr.new.thread (Ok c.give_back-in-Some-Expr.result) (ap (λ o. gives_back tree running (option_map right_tree o)) (c.in-Some-Expr.is ∙ ap Some (rw c.in-Some-Expr.is at c.in-Some-Expr.field-0-is)))
     (value-used tree running c.give_back-in-Some-Expr.new.globals.items c.give_back-in-Some-Expr.new.thread (valued running (expr_tree c.in-Some-Expr.expr)) (returned running (below_of tree thread)) c.in_ok-word-in-Some-Expr.word (Ok c.give_back-in-Some-Expr.result) (sym c.in_ok-word-in-Some-Expr.ensures) c.give_back-in-Some-Expr.ensures)
 
@@ -55,5 +43,4 @@ returns-in-Some-Call c =
     let words = c.args.globals.now.items in
     let thread = c.args.thread.now in
     let running = running_of tree thread words in
-    let rest = to_do thread.front.items.items in
     made-so tree _ (gives_back tree running (option_map right_tree c.args.value.now)) words c.call.new.thread c.call.result (ap (λ o. gives_back tree running (option_map right_tree o)) (c.in-Some-Call.is ∙ ap Some (rw c.in-Some-Call.is at c.in-Some-Call.field-0-is))) c.call.ensures

@@ -1,8 +1,4 @@
-use Rattle.std.proofs.Common.{◌-◌, ap, ◌∙◌, arith}
-use Rattle.cap_word.specs.Runs.{moves}
-use Rattle.c_mean.specs.Steps.{source_machine}
-use Rattle.source_runs.specs.Layouts.{tree_of}
-use Rattle.source_runs.specs.Threads.{running_of}
+use Rattle.source_runs.proofs.Common.{◌-◌, ap, ◌∙◌, arith, moves, source_machine, tree_of, running_of}
 use Rattle.source_runs.proofs.Moved.{leads, step-after}
 use Rattle.source_runs.proofs.interpreter.Interpreter.run.Goals as goal
 

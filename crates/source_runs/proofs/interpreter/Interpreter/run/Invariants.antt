@@ -1,8 +1,4 @@
-use Rattle.std.proofs.Common.{◌≡◌, ◌≤◌, ◌-◌}
-use Rattle.cap_word.specs.Runs.{Goes, moves}
-use Rattle.c_mean.specs.Steps.{source_machine}
-use Rattle.source_runs.specs.Layouts.{tree_of}
-use Rattle.source_runs.specs.Threads.{IsThread, running_of}
+use Rattle.source_runs.proofs.Common.{◌≡◌, ◌≤◌, ◌-◌, Goes, moves, source_machine, tree_of, IsThread, running_of}
 use Rattle.source_runs.proofs.interpreter.Interpreter.run.Given as goal
 
 abbrev pub invariant-loop-left : goal.invariant-loop-left

@@ -1,11 +1,5 @@
-use Rattle.std.proofs.Common.{List, length, map, ap, sym, ◌∙◌, subst}
-use Rattle.std.specs.List.{AllByRecursion}
-use Rattle.std.specs.Prelude.{option_to_list, reverse}
+use Rattle.source_runs.proofs.Common.{List, length, map, ap, sym, ◌∙◌, subst, AllByRecursion, option_to_list, reverse, Running, pushed, tree_of, IsWaitingFrame, globals_of, waiting_frame_of, WaitingFrame}
 use Rattle.c_mean.specs.Frames as source
-use Rattle.c_mean.specs.Frames.{Running, pushed}
-use Rattle.source_runs.specs.Layouts.{tree_of}
-use Rattle.source_runs.specs.Threads.{IsWaitingFrame, globals_of, waiting_frame_of}
-use Rattle.source_runs.specs.declared.frames.WaitingFrame.{WaitingFrame}
 use Rattle.source_runs.proofs.interpreter.Interpreter.start.Goals as goal
 
 pub frame-requires-clause-fits : goal.frame-requires-clause-fits

@@ -1,7 +1,4 @@
-use Rattle.std.proofs.Common.{◌≡◌, ◌<◌, ◌^◌, List, length, map, sym, subst, arith}
-use Rattle.std.specs.Prelude.{IfOk, replicate, sum}
-use Rattle.c_tree.specs.declared.facts.GlobalFact.{GlobalFact}
-use Rattle.c_mean.specs.Layout.{rows_of, widths_of}
+use Rattle.source_runs.proofs.Common.{◌≡◌, ◌<◌, ◌^◌, List, length, map, sym, subst, arith, IfOk, replicate, sum, GlobalFact, rows_of, widths_of}
 use Rattle.source_runs.proofs.interpreter.Interpreter.start_globals.Goals as goal
 
 pub first_words-requires : goal.first_words-requires

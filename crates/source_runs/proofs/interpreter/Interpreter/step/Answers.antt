@@ -1,10 +1,4 @@
-use Rattle.std.specs.Prelude.{Ok}
-use Rattle.std.proofs.Common.{refl}
-use Rattle.c_mean.specs.Steps.{source_step, returned}
-use Rattle.source_items.specs.Items.{item_of, to_do}
-use Rattle.source_runs.specs.Layouts.{context_at, tree_of}
-use Rattle.source_runs.specs.Threads.{below_of, running_of}
-use Rattle.source_runs.specs.declared.frames.Thread.{Thread}
+use Rattle.source_runs.proofs.Common.{refl, Ok, source_step, returned, item_of, context_at, tree_of, below_of, running_of, Thread}
 use Rattle.source_runs.proofs.Moved.{made-so, step-fails, step-gives, step-item, step-none}
 use Rattle.source_runs.proofs.interpreter.Interpreter.step.Goals as goal
 
@@ -22,7 +16,6 @@ returns-in-None c =
     let words = c.args.globals.now.items in
     let thread = c.args.thread.now in
     let running = running_of tree thread words in
-    let rest = to_do thread.front.items.items in
     let after : Thread = record thread { front = record thread.front { items = c.take_item.new.items } } in
     let none = c.in-None.ensures (context_at tree thread.front.function) c.requires.thread.front.items in
     made-so tree (returned (running_of tree after words) (below_of tree after) 0) (source_step tree running) c.give_back.new.globals.items c.give_back.new.thread (Ok c.give_back.result) (step-none tree thread words (running_of tree after words) c.in-Items.is none refl) c.give_back.ensures
@@ -33,7 +26,6 @@ returns-in-Some c =
     let words = c.args.globals.now.items in
     let thread = c.args.thread.now in
     let running = running_of tree thread words in
-    let rest = to_do thread.front.items.items in
     let found = c.in-Some.ensures (context_at tree thread.front.function) c.requires.thread.front.items in
     made-so tree _ (source_step tree running) c.perform.new.globals.items c.perform.new.thread c.perform.result (step-item tree thread words c.take_item.new.items (item_of c.in-Some.item) c.in-Items.is found.0) c.perform.ensures
 
@@ -43,7 +35,6 @@ returns-in-GiveBack c =
     let words = c.args.globals.now.items in
     let thread = c.args.thread.now in
     let running = running_of tree thread words in
-    let rest = to_do thread.front.items.items in
     made-so tree _ (source_step tree running) c.give_back-in-GiveBack.new.globals.items c.give_back-in-GiveBack.new.thread (Ok c.give_back-in-GiveBack.result) (step-gives tree thread words c.in-GiveBack.word c.in-GiveBack.is) c.give_back-in-GiveBack.ensures
 
 pub returns-in-Fail : goal.returns-in-Fail

@@ -1,13 +1,6 @@
 use Rattle.std.proofs.Common.{◌≡◌, ℕ, List, ap, ◌∙◌, subst, refl}
 use Rattle.std.proofs.Common.{arith, ◌<◌, ◌≤◌, length, get_or}
-use Rattle.std.specs.Prelude.{slice_index}
-use Rattle.c_mean.specs.Steps.{stored}
-use Rattle.c_mean.specs.Layout.{widths_of}
-use Rattle.c_mean.proofs.LayoutLemmas.{sum_next-le}
-use Rattle.std.proofs.lemmas.List.{get_or_read, length-set}
-use Rattle.source_runs.specs.Layouts.{sizes_at, tree_of}
-use Rattle.source_runs.specs.Threads.{place_of, running_of}
-use Rattle.source_runs.specs.declared.frames.Place.{Place}
+use Rattle.source_runs.proofs.Common.{slice_index, stored, widths_of, sum_next-le, get_or_read, length-set, sizes_at, tree_of, place_of, running_of, Place}
 use Rattle.source_runs.proofs.Functions.{widths-there}
 use Rattle.source_runs.proofs.Stored.{stored-local, stored-local_element, beyond-local, stored-global, stored-global_element, beyond-global}
 use Rattle.source_runs.proofs.interpreter.Interpreter.store.Goals as goal

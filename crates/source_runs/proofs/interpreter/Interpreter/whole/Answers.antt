@@ -1,15 +1,6 @@
-use Rattle.std.proofs.Common.{ap, sym, ◌∙◌, subst}
 use Rattle.c_tree.proofs.StmtEquations.{stmt_tree-Simple, stmt_tree-If, stmt_tree-IfElse, stmt_tree-While, stmt_tree-Break, stmt_tree-Continue, stmt_tree-Return}
-use Rattle.c_tree.specs.Trees.{StmtTree}
-use Rattle.c_tree.specs.Views.{expr_tree, stmt_tree}
-use Rattle.c_tree.specs.declared.statements.Stmt.{Stmt}
-use Rattle.c_mean.specs.Steps.{branched, on_value, performs, valued}
+use Rattle.source_runs.proofs.Common.{ap, sym, ◌∙◌, subst, StmtTree, expr_tree, stmt_tree, Stmt, branched, on_value, performs, valued, HasStepped, IsLoop, IsScoped, to_do, whole_item, context_at, tree_of, running_of, Thread}
 use Rattle.c_mean.specs.ToDo as todo
-use Rattle.source_runs.specs.Steps.{HasStepped}
-use Rattle.source_items.specs.Items.{IsLoop, IsScoped, to_do, whole_item}
-use Rattle.source_runs.specs.Layouts.{context_at, tree_of}
-use Rattle.source_runs.specs.Threads.{running_of}
-use Rattle.source_runs.specs.declared.frames.Thread.{Thread}
 use Rattle.source_runs.proofs.Moved.{goes-with, went-so}
 use Rattle.source_runs.proofs.Parts.{whole-so, while-so}
 use Rattle.source_runs.proofs.Scopes.{do-scoped, empty-scoped, if-condition, if-first, else-condition, else-first, else-second, while-condition, return-scoped}

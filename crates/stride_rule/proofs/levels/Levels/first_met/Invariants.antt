@@ -1,5 +1,4 @@
-use Rattle.std.proofs.Common.{◌≡◌, ◌-◌, drop, length, None}
-use Rattle.stride_rule.specs.Search.{met_among}
+use Rattle.stride_rule.proofs.Common.{◌≡◌, ◌-◌, drop, length, None, met_among}
 use Rattle.stride_rule.proofs.levels.Levels.first_met.Given as goal
 
 -- the first so far, with the places that are left, gives the first

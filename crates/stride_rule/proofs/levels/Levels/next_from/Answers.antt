@@ -1,7 +1,4 @@
-use Rattle.std.proofs.Common.{◌≡◌, ◌/◌, ◌%◌, false, sym, ◌∙◌, rules}
-use Rattle.std.proofs.lemmas.List.{get_or_default}
-use Rattle.stride_rule.specs.Rows.{row_at}
-use Rattle.stride_rule.specs.Summaries.{may_help, summary_at}
+use Rattle.stride_rule.proofs.Common.{◌≡◌, ◌/◌, ◌%◌, false, sym, ◌∙◌, rules, get_or_default, row_at, may_help, summary_at}
 use Rattle.stride_rule.proofs.LevelLemmas.{block_16, block_256, passed_block}
 use Rattle.stride_rule.proofs.levels.Levels.next_from.Goals as goal
 

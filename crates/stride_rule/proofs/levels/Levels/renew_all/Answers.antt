@@ -1,6 +1,4 @@
-use Rattle.std.proofs.Common.{◌≡◌, ◌∙◌, List, length, subst, sym, rules}
-use Rattle.std.proofs.lemmas.List.{with_items_is}
-use Rattle.stride_rule.specs.declared.summaries.Summary.{Summary}
+use Rattle.stride_rule.proofs.Common.{◌≡◌, ◌∙◌, List, length, subst, sym, rules, with_items_is, Summary}
 use Rattle.stride_rule.proofs.LevelLemmas.{AreSummaries, levels_all}
 use Rattle.stride_rule.proofs.levels.Levels.renew_all.Goals as goal
 

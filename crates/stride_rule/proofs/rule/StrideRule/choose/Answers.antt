@@ -1,5 +1,4 @@
-use Rattle.std.proofs.Common.{sym, ◌∙◌, ap}
-use Rattle.stride_rule.specs.Rows.{clients_of}
+use Rattle.stride_rule.proofs.Common.{sym, ◌∙◌, ap, clients_of}
 use Rattle.stride_rule.proofs.SearchLemmas.{first_found, found_among_is, none_found}
 use Rattle.stride_rule.proofs.rule.StrideRule.choose.Goals as goal
 

@@ -1,5 +1,4 @@
-use Rattle.std.proofs.Common.{subst, sym}
-use Rattle.stride_rule.specs.State.{IsKept}
+use Rattle.stride_rule.proofs.Common.{subst, sym, IsKept}
 use Rattle.stride_rule.proofs.StateLemmas.{as_left, kept_after_leaving}
 use Rattle.stride_rule.proofs.rule.StrideRule.leave.Goals as goal
 

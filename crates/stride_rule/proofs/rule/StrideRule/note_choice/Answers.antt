@@ -1,5 +1,4 @@
-use Rattle.std.proofs.Common.{refl, subst, sym}
-use Rattle.stride_rule.specs.State.{IsKept}
+use Rattle.stride_rule.proofs.Common.{refl, subst, sym, IsKept}
 use Rattle.stride_rule.proofs.StateLemmas.{as_noted, small_passes, kept_after_choice}
 use Rattle.stride_rule.proofs.rule.StrideRule.note_choice.Goals as goal
 

@@ -1,5 +1,4 @@
-use Rattle.std.proofs.Common.{subst, sym}
-use Rattle.stride_rule.specs.State.{IsKept}
+use Rattle.stride_rule.proofs.Common.{subst, sym, IsKept}
 use Rattle.stride_rule.proofs.StateLemmas.{as_told, kept_after_segment_for}
 use Rattle.stride_rule.proofs.rule.StrideRule.rejoin_for.Goals as goal
 

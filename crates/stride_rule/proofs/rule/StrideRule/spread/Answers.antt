@@ -1,4 +1,4 @@
-use Rattle.stride_rule.specs.Rows.{clients_of}
+use Rattle.stride_rule.proofs.Common.{clients_of}
 use Rattle.stride_rule.proofs.SpreadLemmas.{apart-le}
 use Rattle.stride_rule.proofs.rule.StrideRule.spread.Goals as goal
 

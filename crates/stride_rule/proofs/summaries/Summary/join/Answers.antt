@@ -1,6 +1,6 @@
 use Rattle.std.proofs.Common.{sym, ◌∙◌}
+use Rattle.std.proofs.lemmas.Bool.{or_right, or_left}
 use Rattle.stride_rule.proofs.OrderLemmas.{goes_before-asym, goes_before-self}
-use Rattle.stride_rule.proofs.SummaryLemmas.{or_left, or_right}
 use Rattle.stride_rule.proofs.summaries.Summary.join.Goals as goal
 
 pub returns-then-is_after-clause-left : goal.returns-then-is_after-clause-left

@@ -1,14 +1,4 @@
-use Rattle.std.proofs.Common.{◌≡◌, ℕ, ◌-◌, ◌^◌, ◌<◌, Option, Some, None, refl, sym, ap, ◌∙◌, subst, is_none, if◌then◌else◌}
-use Rattle.cap_word.specs.declared.calls.Ask.{Ask}
-use Rattle.cap_word.specs.declared.stops.Stop.{Stop}
-use Rattle.cap_word.specs.declared.traps.TrapKind.{TrapKind}
-use Rattle.segment_run.specs.Contexts.{checked_of, code_of}
-use Rattle.segment_run.specs.Segments.{IsAtAsk}
-use Rattle.thread_exchange.specs.Exchanges.{Exchanging}
-use Rattle.thread_core.specs.Parts.{passed_context}
-use Rattle.thread_core.specs.Steps.{LocalIs, Told}
-use Rattle.thread_core.specs.declared.records.Record.{Record}
-use Rattle.thread_core.specs.declared.turns.Turn.{Turn}
+use Rattle.thread_core.proofs.Common.{◌≡◌, ℕ, ◌-◌, ◌^◌, ◌<◌, Option, Some, None, refl, sym, ap, ◌∙◌, subst, is_none, if◌then◌else◌, Ask, Stop, TrapKind, checked_of, code_of, IsAtAsk, Exchanging, passed_context, LocalIs, Told, Record, Turn}
 use Rattle.thread_core.proofs.Alike.{stop_told}
 use Rattle.thread_core.proofs.Answering as answering
 use Rattle.thread_core.proofs.PassLaws.{its_record}

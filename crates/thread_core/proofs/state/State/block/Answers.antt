@@ -1,14 +1,4 @@
-use Rattle.std.proofs.Common.{◌≡◌, ℕ, ◌-◌, ◌+◌, List, sym, ap, ◌∙◌, subst, arith}
-use Rattle.cap_word.specs.declared.stops.Stop.{Stop}
-use Rattle.chunk_pool.specs.Pool.{Pool}
-use Rattle.flat_code.specs.declared.operations.Op.{Op}
-use Rattle.machine_world.specs.InPlace.{Frame}
-use Rattle.machine_world.specs.Keys.{key_of}
-use Rattle.machine_world.specs.Places.{Place}
-use Rattle.machine_world.specs.Rests.{IsPastCall}
-use Rattle.segment_run.specs.Contexts.{checked_of, core_of}
-use Rattle.thread_core.specs.declared.turns.Turn.{Turn}
-use Rattle.thread_core.specs.declared.state.State.{State}
+use Rattle.thread_core.proofs.Common.{◌≡◌, ℕ, ◌-◌, ◌+◌, List, sym, ap, ◌∙◌, subst, arith, Stop, Pool, Op, Frame, key_of, Place, IsPastCall, checked_of, core_of, Turn, State}
 use Rattle.thread_core.proofs.Blocking as law
 use Rattle.thread_core.proofs.InRange.{in_range}
 use Rattle.thread_core.proofs.Alike.{stop_told}

@@ -1,9 +1,4 @@
-use Rattle.std.proofs.Common.{◌≡◌, Some, sym, subst}
-use Rattle.slab.specs.Slab.{get}
-use Rattle.segment_run.specs.Contexts.{checked_of, code_of, local_of}
-use Rattle.segment_run.specs.Passing.{RestsBefore, RestsBehind}
-use Rattle.segment_run.specs.declared.contexts.Context.{Context}
-use Rattle.thread_core.specs.declared.records.Record.{Record}
+use Rattle.thread_core.proofs.Common.{◌≡◌, Some, sym, subst, get, checked_of, code_of, local_of, RestsBefore, RestsBehind, Context, Record}
 use Rattle.thread_core.proofs.RecordLaws.{some_of}
 use Rattle.thread_core.proofs.state.State.pass.Goals as goal
 use Rattle.thread_core.proofs.state.State.pass.Goals.{in-Some, in_default}

@@ -1,7 +1,4 @@
-use Rattle.std.proofs.Common.{◌≡◌, ◌-◌, Some, None, refl, sym, ap, ◌∙◌, arith, slice_set}
-use Rattle.thread_waits.specs.declared.waits.Wait.{Wait}
-use Rattle.thread_waits.specs.Waiting.{wait_at}
-use Rattle.thread_core.specs.declared.state.State.{State}
+use Rattle.thread_core.proofs.Common.{◌≡◌, ◌-◌, Some, None, refl, sym, ap, ◌∙◌, arith, slice_set, Wait, wait_at, State}
 use Rattle.thread_core.proofs.ResumeLaws.{stands, Resumed, may_resume, resumed_fresh, resumed_blocked, no_wait}
 use Rattle.thread_core.proofs.state.State.resume.Goals as goal
 

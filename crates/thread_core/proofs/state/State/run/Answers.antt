@@ -1,6 +1,4 @@
-use Rattle.std.proofs.Common.{Option, Some, subst}
-use Rattle.thread_core.specs.Steps.{OnTold}
-use Rattle.thread_core.specs.declared.turns.Turn.{Turn}
+use Rattle.thread_core.proofs.Common.{Option, Some, subst, OnTold, Turn}
 use Rattle.thread_core.proofs.Joining.{again, going_on}
 use Rattle.thread_core.proofs.state.State.run.Goals as goal
 

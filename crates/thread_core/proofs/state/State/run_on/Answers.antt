@@ -1,7 +1,5 @@
-use Rattle.std.proofs.Common.{◌-◌, Some}
-use Rattle.cap_word.specs.declared.stops.Stop.{Stop}
+use Rattle.thread_core.proofs.Common.{◌-◌, Some, Stop, Turn}
 use Rattle.segment_run.specs.declared.segments.Segment.TheVariants as answer
-use Rattle.thread_core.specs.declared.turns.Turn.{Turn}
 use Rattle.thread_core.proofs.Joining.{joined, less_joined, cut_is, cut_trap, cut_chunk, cut_fuel}
 use Rattle.thread_core.proofs.state.State.run_on.Goals as goal
 

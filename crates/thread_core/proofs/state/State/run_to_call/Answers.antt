@@ -1,13 +1,5 @@
-use Rattle.std.proofs.Common.{◌≡◌, ◌+◌, ◌-◌, Some, sym, ◌∙◌, ap, subst}
-use Rattle.segment_run.specs.Contexts.{checked_of, code_of, local_of}
-use Rattle.segment_run.specs.Segments.{IsSegment, KeepsChunks}
-use Rattle.segment_run.specs.declared.contexts.Context.{Context}
-use Rattle.segment_run.specs.declared.segments.Segment.{Segment}
+use Rattle.thread_core.proofs.Common.{◌≡◌, ◌+◌, ◌-◌, Some, sym, ◌∙◌, ap, subst, checked_of, code_of, local_of, IsSegment, KeepsChunks, Context, Segment, get, Ran, Record, State}
 use Rattle.segment_run.specs.declared.segments.Segment.TheVariants as answer
-use Rattle.slab.specs.Slab.{get}
-use Rattle.thread_core.specs.Steps.{Ran}
-use Rattle.thread_core.specs.declared.records.Record.{Record}
-use Rattle.thread_core.specs.declared.state.State.{State}
 use Rattle.thread_core.proofs.Segmented.{lives, record_of, ran_on, ran_off}
 use Rattle.thread_core.proofs.state.State.run_to_call.Goals as goal
 use Rattle.thread_core.proofs.state.State.run_to_call.Goals.{in-Ends, in_default}

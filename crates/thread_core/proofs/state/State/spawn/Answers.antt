@@ -1,13 +1,4 @@
-use Rattle.std.proofs.Common.{◌<◌, ◌≤◌, refl, sym, subst, arith}
-use Rattle.std.proofs.lemmas.Bool.{false≢true}
-use Rattle.c_lower.specs.ProgramCode.{lowered}
-use Rattle.accepted_pairs.specs.Accepting.{accepted_tree}
-use Rattle.chunk_pool.specs.Pool.{FitsNone}
-use Rattle.cap_word.specs.Calls.{most_threads}
-use Rattle.segment_run.proofs.Calls.{as_many}
-use Rattle.stack_certificate.specs.Certificates.{fact_at}
-use Rattle.cap_word.specs.declared.stops.Stop.{Stop}
-use Rattle.thread_core.specs.declared.state.State.{State}
+use Rattle.thread_core.proofs.Common.{◌<◌, ◌≤◌, refl, sym, subst, arith, false≢true, lowered, accepted_tree, FitsNone, most_threads, fact_at, Stop, State, as_many}
 use Rattle.thread_core.proofs.Alike.{stop_told}
 use Rattle.thread_core.proofs.Spawning as spawning
 use Rattle.thread_core.proofs.Spawned as spawned

@@ -1,6 +1,5 @@
-use Rattle.std.proofs.Common.{◌∙◌, sym}
 use Rattle.thread_core.proofs.TellingLaws.{ready_told, accept_told, need_told, met_for, arrival_for, at_place}
-use Rattle.thread_core.specs.Waiting.{waits_for_in}
+use Rattle.thread_core.proofs.Common.{◌∙◌, sym, waits_for_in}
 use Rattle.thread_core.proofs.telling.WorldBounded.bounds.Goals as goal
 
 pub returns-clause-ready : goal.returns-clause-ready

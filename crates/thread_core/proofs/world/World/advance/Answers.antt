@@ -1,7 +1,5 @@
-use Rattle.std.proofs.Common.{◌≡◌, ◌≤◌, Some, None, sym, ap, ◌∙◌}
-use Rattle.thread_core.specs.States.{machine_of}
+use Rattle.thread_core.proofs.Common.{◌≡◌, ◌≤◌, Some, None, sym, ap, ◌∙◌, machine_of, advanced}
 use Rattle.thread_core.proofs.OutsideLaws.{IsMoved, advanced_moved, between_is, come_between, between_come}
-use Rattle.machine_world.specs.Runs.{advanced}
 use Rattle.thread_core.proofs.world.World.advance.Goals as goal
 
 pub invariant_of-self : goal.invariant_of-self

@@ -1,15 +1,4 @@
-use Rattle.std.proofs.Common.{◌≡◌, [], IsTrue, refl, sym, ◌∙◌, ap, subst}
-use Rattle.accepted_pairs.specs.Accepting.{accepted_tree}
-use Rattle.machine_world.specs.Threads.{step}
-use Rattle.segment_run.specs.Contexts.{checked_of}
-use Rattle.machine_meaning.specs.Running.{IsRunning}
-use Rattle.machine_meaning.specs.UnderWay.{IsSettled}
-use Rattle.thread_core.specs.States.{machine_of, setting_of}
-use Rattle.thread_core.specs.Ready.{is_ready_in}
-use Rattle.thread_core.specs.Steps.{held_in}
-use Rattle.thread_core.specs.Worlds.{Held}
-use Rattle.thread_core.specs.Turns.{IsTurn}
-use Rattle.thread_core.specs.Inside.{held_of}
+use Rattle.thread_core.proofs.Common.{◌≡◌, [], IsTrue, refl, sym, ◌∙◌, ap, subst, accepted_tree, step, checked_of, IsRunning, IsSettled, machine_of, setting_of, is_ready_in, held_in, Held, IsTurn, held_of}
 use Rattle.thread_core.proofs.BeginLaws.{came, turn_is, leaves_run, may_begin, begun_runs, setting_same}
 use Rattle.thread_core.proofs.Numbering.{picks_next}
 use Rattle.thread_core.proofs.Shortness.{begins_short}

@@ -1,6 +1,4 @@
-use Rattle.std.proofs.Common.{ℕ, ◌/◌, ◌≡◌, ap, ◌∙◌, arith}
-use Rattle.chunk_pool.specs.Pool.{Pool, bytes_of, words_of}
-use Rattle.thread_core.specs.Worlds.{Held}
+use Rattle.thread_core.proofs.Common.{ℕ, ◌/◌, ◌≡◌, ap, ◌∙◌, arith, Pool, bytes_of, words_of, Held}
 use Rattle.thread_core.proofs.world.World.chunk_words.Goals as goal
 
 pub returns : goal.returns

@@ -1,8 +1,5 @@
-use Rattle.std.proofs.Common.{◌≡◌, None, Some, sym, ap, ◌∙◌}
-use Rattle.c_mean.specs.ModelledCalls.{Message}
-use Rattle.thread_core.specs.States.{machine_of, setting_of}
+use Rattle.thread_core.proofs.Common.{◌≡◌, None, Some, sym, ap, ◌∙◌, Message, machine_of, setting_of, delivered}
 use Rattle.thread_core.proofs.OutsideLaws.{IsMoved, delivered_moved, between_is, come_between, between_come}
-use Rattle.machine_world.specs.Runs.{delivered}
 use Rattle.thread_core.proofs.world.World.deliver.Goals as goal
 
 pub invariant_of-self-in-Message : goal.invariant_of-self-in-Message

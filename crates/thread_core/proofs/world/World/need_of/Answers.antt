@@ -1,6 +1,5 @@
-use Rattle.std.proofs.Common.{◌∙◌, sym}
 use Rattle.thread_core.proofs.TellingLaws.{need_told, waits_told, some_need, has_own}
-use Rattle.thread_core.specs.Waiting.{waits_for_in}
+use Rattle.thread_core.proofs.Common.{◌∙◌, sym, waits_for_in}
 use Rattle.thread_core.proofs.world.World.need_of.Goals as goal
 
 pub unreachable-requires : goal.unreachable-requires

@@ -1,9 +1,4 @@
-use Rattle.std.proofs.Common.{refl, sym, ◌∙◌}
-use Rattle.machine_world.specs.Threads.{step}
-use Rattle.thread_core.specs.States.{machine_of, setting_of}
-use Rattle.thread_core.specs.Inside.{held_of}
-use Rattle.thread_core.specs.Steps.{held_in}
-use Rattle.thread_core.specs.Turns.{IsTurn}
+use Rattle.thread_core.proofs.Common.{refl, sym, ◌∙◌, step, machine_of, setting_of, held_of, held_in, IsTurn}
 use Rattle.thread_core.proofs.BeginLaws.{came, turn_is, leaves_run, come_is, setting_same}
 use Rattle.thread_core.proofs.PassLaws.{number_runs}
 use Rattle.thread_core.proofs.Shortness.{turn_short}

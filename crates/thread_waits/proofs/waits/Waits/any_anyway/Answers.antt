@@ -1,6 +1,6 @@
 use Rattle.std.proofs.Common.{◌≡◌, arith, count_by}
 use Rattle.std.proofs.Common.{sym}
-use Rattle.thread_waits.specs.Counted.{is_ready_always, is_ready_anyway}
+use Rattle.thread_waits.proofs.Common.{is_ready_always, is_ready_anyway}
 use Rattle.thread_waits.proofs.AnyLaws.{any_from_count}
 use Rattle.thread_waits.proofs.SleepLaws.{past_least}
 use Rattle.thread_waits.proofs.TimeLaws.{always_ready}

@@ -1,5 +1,4 @@
-use borrow.Author.Count.{below_more}
-use Rattle.std.proofs.Common.{sym, ◌∙◌, inl, inr, arith}
+use Rattle.thread_waits.proofs.Common.{sym, ◌∙◌, inl, inr, arith, below_more}
 use Rattle.thread_waits.proofs.ReadyLaws.{IsIdle, some_at_message, none_at_message}
 use Rattle.thread_waits.proofs.waits.Waits.any_at_channel.Goals as goal
 use Rattle.thread_waits.proofs.waits.Waits.any_at_channel.Goals.{else-self-channel-gt0-via-then-self-channel-gt0+else-holds_message, else-self-channel-gt0-via-else-self-channel-gt0}

@@ -1,9 +1,4 @@
-use borrow.Author.Count.{below_more}
-use Rattle.std.proofs.Common.{◌≡◌, ℕ, ◌<◌, ◌≤◌, ◌-◌, [], false, All, sym, arith, slice_index_or}
-use Rattle.std.proofs.lemmas.List.{get_or_read_under}
-use Rattle.c_mean.specs.ModelledCalls.{use_of, cap_of}
-use Rattle.thread_waits.specs.Counted.{IsTreeOf, amount_of}
-use Rattle.thread_waits.specs.Telling.{is_taker}
+use Rattle.thread_waits.proofs.Common.{◌≡◌, ℕ, ◌<◌, ◌≤◌, ◌-◌, [], false, All, sym, arith, slice_index_or, below_more, get_or_read_under, use_of, cap_of, IsTreeOf, amount_of, is_taker}
 use Rattle.thread_waits.proofs.ReadyLaws.{some_taking, none_taking_one, none_taking}
 use Rattle.thread_waits.proofs.waits.Waits.any_at_resource.Goals as goal
 

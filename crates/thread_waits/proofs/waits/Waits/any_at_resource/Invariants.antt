@@ -1,5 +1,4 @@
-use Rattle.std.proofs.Common.{◌≡◌, ℕ, ◌<◌, ◌≤◌, false, All}
-use Rattle.thread_waits.specs.Telling.{is_taker}
+use Rattle.thread_waits.proofs.Common.{◌≡◌, ℕ, ◌<◌, ◌≤◌, false, All, is_taker}
 use Rattle.thread_waits.proofs.waits.Waits.any_at_resource.Given as goal
 
 abbrev pub invariant-loop-resource : goal.invariant-loop-resource

@@ -1,6 +1,4 @@
-use Rattle.std.proofs.Common.{◌≡◌, true, false, sym, ◌∙◌, arith}
-use Rattle.std.specs.List.{list_any}
-use Rattle.thread_waits.specs.Waiting.{is_at_accept}
+use Rattle.thread_waits.proofs.Common.{◌≡◌, true, false, sym, ◌∙◌, arith, list_any, is_at_accept}
 use Rattle.thread_waits.proofs.AnyLaws.{any_from_count, none_from_count}
 use Rattle.thread_waits.proofs.KindLaws.{ready_elsewhere, ready_nowhere, ready_accept}
 use Rattle.thread_waits.proofs.waits.Waits.any_ready.Goals as goal

@@ -1,8 +1,4 @@
-use Rattle.std.proofs.Common.{◌≡◌, ◌<◌, None, Option, length, ap, ◌∙◌, arith, slice_index_or}
-use Rattle.thread_waits.specs.Counted.{number_or}
-use Rattle.thread_waits.specs.Telling.{silent_wake}
-use Rattle.thread_waits.specs.Waiting.{IsWaitInRangeIf}
-use Rattle.thread_waits.specs.declared.waits.Wait.{Wait}
+use Rattle.thread_waits.proofs.Common.{◌≡◌, ◌<◌, None, Option, length, ap, ◌∙◌, arith, slice_index_or, number_or, silent_wake, IsWaitInRangeIf, Wait}
 use Rattle.thread_waits.proofs.GrownLaws.{holds_at}
 use Rattle.thread_waits.proofs.SleepLaws.{silent_small, none_first, one_more, first_all}
 use Rattle.thread_waits.proofs.waits.Waits.least_asleep.Goals as goal

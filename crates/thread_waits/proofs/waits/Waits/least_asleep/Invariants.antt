@@ -1,4 +1,4 @@
-use Rattle.thread_waits.specs.Telling.{silent_wake, IsLeastOfFirst}
+use Rattle.thread_waits.proofs.Common.{silent_wake, IsLeastOfFirst}
 use Rattle.thread_waits.proofs.waits.Waits.least_asleep.Given as goal
 
 abbrev pub invariant-loop-place : goal.invariant-loop-place

@@ -1,6 +1,4 @@
-use Rattle.std.proofs.Common.{◌≡◌, false, sym, ◌∙◌, arith}
-use Rattle.std.specs.List.{list_any}
-use Rattle.thread_waits.specs.Telling.{is_at_message}
+use Rattle.thread_waits.proofs.Common.{◌≡◌, false, sym, ◌∙◌, arith, list_any, is_at_message}
 use Rattle.thread_waits.proofs.SleepLaws.{tree_least}
 use Rattle.thread_waits.proofs.waits.Waits.least_time.Goals as goal
 

@@ -1,6 +1,4 @@
-use Rattle.std.proofs.Common.{◌≡◌, ◌+◌, ◌<◌, None, length, refl, arith, slice_index, slice_index_or}
-use Rattle.std.proofs.lemmas.List.{get_or_read_under}
-use Rattle.thread_waits.specs.Counted.{is_at}
+use Rattle.thread_waits.proofs.Common.{◌≡◌, ◌+◌, ◌<◌, None, length, refl, arith, slice_index, slice_index_or, get_or_read_under, is_at}
 use Rattle.thread_waits.proofs.GrownLaws.{one_if}
 use Rattle.thread_waits.proofs.PutLaws.{put_counted}
 use Rattle.thread_waits.proofs.waits.Waits.put.Goals as goal
