@@ -11,3 +11,5 @@ pub mod GraphChoices
 pub mod Changes
 pub mod Past
 pub mod Clocks
+pub mod Deciding
+pub mod TraceLines

@@ -9,9 +9,10 @@
 // (Readiness), the clock moves to the next event or sleeper (Clock), and an event is delivered or
 // dropped (Deliveries), or the run stops (Stops). SourceRuns has what a segment does in the source
 // world, EdgeLines how the edges are printed. Waiting has when the queues of a scheduler are those
-// of the waiting threads; that its choice over such queues is then the lawful one, and what joining
-// and leaving do to them, is in proofs/. The idea of choices by a blocking graph is
-// Capriccio's (von Behren et al., SOSP 2003), that of strides is Waldspurger's and Weihl's (1995).
+// of the waiting threads; that its choice over such queues is then the lawful one, what joining and
+// leaving do to them, and what the next line of a trace is (TraceLines), is in proofs/. The idea of
+// choices by a blocking graph is Capriccio's (von Behren et al., SOSP 2003), that of strides is
+// Waldspurger's and Weihl's (1995).
 #![tactic(auto)]
 
 mod laws;

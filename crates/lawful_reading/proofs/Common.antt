@@ -1,6 +1,6 @@
 -- The names that this crate's proofs cite from other crates and from its definitions, passed on from one place. Declares nothing.
 pub use Rattle.std.proofs.Common.{[], ◌&&◌, ◌++◌, ◌+◌, ◌-◌, ◌<◌, ◌==◌, ◌^◌, ◌||◌, ◌∙◌, ◌∷◌, ◌≡◌, ◌≢◌, ◌≤◌, ◌⊎◌, Bool, FitsSigned, List, None, Option, Some, ap, append-nil, append_assoc, arith, false, find, get_or, inl, inr, length, length-append, negsuc, pos, refl, subst, suc, sym, true, zero, ℕ, ⊎_elim}
-pub use Rattle.std.proofs.lemmas.Bool.{cases_eq, cases_lt, ne_eqb}
+pub use Rattle.std.proofs.lemmas.Bool.{cases_lt, ne_eqb}
 pub use Rattle.std.specs.List.{AllByRecursion}
 pub use Rattle.std.specs.Prelude.{Contains, IsSome, IsTrue, filter, is_some, nat_eq, slice_get, ℤ}
 pub use Rattle.blocking_graph.specs.Nodes.{keys_with, node_number}
@@ -11,6 +11,7 @@ pub use Rattle.cap_word.specs.Calls.{Blocking, Call, Immediate, most_threads}
 pub use Rattle.cap_word.specs.Runs.{Asks, Goes, Stops, and_then, moves}
 pub use Rattle.cap_word.specs.declared.stops.Stop.{Stop}
 pub use Rattle.cap_word.specs.declared.traps.TrapKind.{TrapKind}
+pub use Rattle.choice_rules.proofs.Deciding.{Below, Decided, Found, Number, Searched, all_decided, below_decided, bool_same, both_decided, decided_by, denied, either_decided, everywhere, held_decided, implied_decided, integer_same, le_decided, line_decided, list_same, number_same, numbers, only_decided, option_same, text_same}
 pub use Rattle.choice_rules.proofs.Points.{not_refused, one_choice, one_clock, one_next, one_refusal, refused_number}
 pub use Rattle.choice_rules.specs.Choice.{IsChoice, IsGraphChoice, IsLawful, IsLawfulBy, IsStrideChoice, goes_before_at, is_eligible, queue_at, score_of}
 pub use Rattle.choice_rules.specs.Deliveries.{IsDelivery, delivery_of, item_of, received}

@@ -1,7 +1,6 @@
 -- It is decided what the running thread comes to with a step.
-use Rattle.lawful_reading.proofs.Common.{◌≡◌, ℕ, zero, suc, List, [], ◌∷◌, ◌++◌, length, inl, inr, refl, sym, ap, subst, arith, Goes, Asks, Stops, moves, ProgramTree, live_in, IsSilent, PutsNext, RestsNext, IsCrowdedNext, ComesAt, most_threads}
+use Rattle.lawful_reading.proofs.Common.{◌≡◌, ℕ, zero, suc, List, [], ◌∷◌, ◌++◌, length, inl, inr, refl, sym, ap, subst, arith, Goes, Asks, Stops, moves, ProgramTree, live_in, IsSilent, PutsNext, RestsNext, IsCrowdedNext, ComesAt, most_threads, Decided, decided_by, both_decided, either_decided, only_decided, number_same, list_same}
 use Rattle.c_mean.specs.World.{Segment, SegmentMove, Rested, segment_step, segment_machine}
-use Rattle.lawful_reading.proofs.Deciding.{Decided, decided_by, both_decided, either_decided, only_decided, number_same, list_same}
 use Rattle.lawful_reading.proofs.Moves.{not_both, same_next}
 
 -- ---- moves

@@ -1,7 +1,6 @@
 -- A log is read line by line, and something is said of it.
-use Rattle.lawful_reading.proofs.Common.{◌≡◌, ℕ, zero, suc, ◌≤◌, inl, inr, List, [], ◌∷◌, ◌++◌, length, refl, sym, ap, ◌∙◌, arith, append-nil, length-append, FitsEntry, entry_text, log_text, Entry, Given, State, Stopped, start_of, IsAllowed, IsBeyond, Leads, nowhere, by_line, BeginsWith, IsVerdict, Verdict}
-use Rattle.lawful_reading.proofs.Deciding.{Decided, both_decided, line_decided, text_same}
-use Rattle.lawful_reading.proofs.Searching.{Found, entries}
+use Rattle.lawful_reading.proofs.Common.{◌≡◌, ℕ, zero, suc, ◌≤◌, inl, inr, List, [], ◌∷◌, ◌++◌, length, refl, sym, ap, ◌∙◌, arith, append-nil, length-append, FitsEntry, entry_text, log_text, Entry, Given, State, Stopped, start_of, IsAllowed, IsBeyond, Leads, nowhere, by_line, BeginsWith, IsVerdict, Verdict, Decided, both_decided, line_decided, text_same, Found}
+use Rattle.lawful_reading.proofs.Searching.{entries}
 use Rattle.lawful_reading.proofs.Lines.{GoesOn, goes_decided, beyond_decided, is_stopped_decided}
 use Rattle.lawful_reading.proofs.Beyond.{beyond_all}
 use Rattle.lawful_reading.proofs.Verdicts.{first_line}

@@ -3,9 +3,7 @@ pub mod Refused
 pub mod Moves
 pub mod Once
 pub mod Verdicts
-pub mod Deciding
 pub mod Searching
-pub mod TraceLines
 pub mod Points
 pub mod DecidedHappenings
 pub mod SegmentLines

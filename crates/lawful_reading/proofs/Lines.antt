@@ -1,8 +1,7 @@
 -- Of a line it is decided whether it is allowed within the steps, and whether it needs more than may be taken.
-use Rattle.lawful_reading.proofs.Common.{◌≡◌, ◌≢◌, ℕ, suc, ◌+◌, ◌-◌, ◌<◌, ◌≤◌, ℤ, Bool, false, true, inl, inr, List, [], ◌∷◌, Option, Some, None, refl, ap, arith, ⊎_elim, is_some, slice_get, cases_lt, keys_with, node_number, Stop, delivery_of, received, IsDelivery, Waiter, end_node, IsChoice, behind, Event, Entry, Item, StopLine, Given, Segment, State, End, NotYet, Edges, Stopped, seen_of, IsPossible, IsComing, IsRun, chosen_from, IsOut, IsBlock, IsEnd, rested, edges_left, MayStop, IsStop, StopsBy, IsAllowed, Needs, StopNeeds, IsBeyond}
+use Rattle.lawful_reading.proofs.Common.{◌≡◌, ◌≢◌, ℕ, suc, ◌+◌, ◌-◌, ◌<◌, ◌≤◌, ℤ, Bool, false, true, inl, inr, List, [], ◌∷◌, Option, Some, None, refl, ap, arith, ⊎_elim, is_some, slice_get, cases_lt, keys_with, node_number, Stop, delivery_of, received, IsDelivery, Waiter, end_node, IsChoice, behind, Event, Entry, Item, StopLine, Given, Segment, State, End, NotYet, Edges, Stopped, seen_of, IsPossible, IsComing, IsRun, chosen_from, IsOut, IsBlock, IsEnd, rested, edges_left, MayStop, IsStop, StopsBy, IsAllowed, Needs, StopNeeds, IsBeyond, Decided, decided_by, both_decided, either_decided, denied, le_decided, number_same, bool_same, integer_same, Below, below_decided, list_same, held_decided}
 use Rattle.c_mean.specs.World as source
 use Rattle.c_mean.specs.World.{begun}
-use Rattle.lawful_reading.proofs.Deciding.{Decided, decided_by, both_decided, either_decided, denied, le_decided, number_same, bool_same, integer_same, Below, below_decided, list_same, held_decided}
 use Rattle.lawful_reading.proofs.DecidedHappenings.{crowded_decided, comes_decided}
 use Rattle.lawful_reading.proofs.Points.{done_decided, idle_decided, some_bad_decided, delivery_decided, choice_decided}
 use Rattle.lawful_reading.proofs.SegmentLines.{possible_decided, OutAt, out_decided, RestAt, rest_decided, BlockedAt, blocked_decided, ended_decided, stop_decided}

@@ -1,13 +1,12 @@
 -- At a choice point it is decided which event comes, which thread is the lawful choice, and whether a run stops there.
-use Rattle.lawful_reading.proofs.Common.{◌≡◌, ◌≢◌, ℕ, suc, ◌+◌, ◌≤◌, ◌&&◌, ◌||◌, Bool, true, false, inr, List, [], ◌∷◌, ◌++◌, length, get_or, Option, Some, None, find, refl, sym, ◌∙◌, subst, arith, Contains, IsTrue, IsSome, is_some, filter, nat_eq, AllByRecursion, ne_eqb, Event, Item, is_dropped, Trace, IsNext, IsRefused, Waiter, Seen, last_choice, delivery_of, item_of, IsDelivery, is_eligible, queue_at, score_of, IsGraphChoice, goes_before_at, IsStrideChoice, IsLawfulBy, IsLawful, IsChoice, one_next, not_refused, one_refusal, refused_number}
+use Rattle.lawful_reading.proofs.Common.{◌≡◌, ◌≢◌, ℕ, suc, ◌+◌, ◌≤◌, ◌&&◌, ◌||◌, Bool, true, false, inr, List, [], ◌∷◌, ◌++◌, length, get_or, Option, Some, None, find, refl, sym, ◌∙◌, subst, arith, Contains, IsTrue, IsSome, is_some, filter, nat_eq, AllByRecursion, ne_eqb, Event, Item, is_dropped, Trace, IsNext, IsRefused, Waiter, Seen, last_choice, delivery_of, item_of, IsDelivery, is_eligible, queue_at, score_of, IsGraphChoice, goes_before_at, IsStrideChoice, IsLawfulBy, IsLawful, IsChoice, one_next, not_refused, one_refusal, refused_number, Decided, decided_by, both_decided, denied, implied_decided, only_decided, le_decided, number_same, bool_same, integer_same, Below, below_decided, everywhere, all_decided, option_same, text_same}
 use Rattle.std.proofs.lemmas.List.Elements.{All-from_recursion, recursion_from_All}
 use Rattle.scheduler.specs.Scores.{comes_before}
 use Rattle.choice_rules.specs.Policy.{Rule, by_graph, by_stride, Policy}
 use Rattle.choice_rules.specs.Readiness.{any_ready, waking_times}
 use Rattle.choice_rules.specs.Clock.{is_due, event_times, IsLeastOf, IsClockBy, IsChoicePoint}
 use Rattle.choice_rules.specs.Stops.{IsDone, IsBadTrace, IsIdle}
-use Rattle.lawful_reading.proofs.Deciding.{Decided, decided_by, both_decided, denied, implied_decided, only_decided, le_decided, number_same, bool_same, integer_same, Below, below_decided, everywhere, all_decided, option_same, text_same}
-use Rattle.lawful_reading.proofs.TraceLines.{Next, Over, Line, Refused, next_of}
+use Rattle.choice_rules.proofs.TraceLines.{Next, Over, Line, Refused, next_of}
 
 -- ---- small things
 

@@ -1,26 +1,11 @@
 -- Of all entries of the format some has what is decided of each, or none has: what fits is finite.
 use Rattle.std.specs.Int.{w32, w128}
-use Rattle.lawful_reading.proofs.Common.{ℕ, ℤ, pos, negsuc, zero, suc, ◌^◌, ◌<◌, ◌≤◌, ◌⊎◌, inl, inr, List, [], ◌∷◌, length, FitsSigned, arith, AllByRecursion, TrapKind, Item, StopLine, Entry, FitsKey, FitsAverages, FitsItem, FitsStop, FitsEntry}
+use Rattle.lawful_reading.proofs.Common.{ℕ, ℤ, pos, negsuc, zero, suc, ◌^◌, ◌<◌, ◌≤◌, ◌⊎◌, inl, inr, List, [], ◌∷◌, length, FitsSigned, arith, AllByRecursion, TrapKind, Item, StopLine, Entry, FitsKey, FitsAverages, FitsItem, FitsStop, FitsEntry, Decided, decided_by, both_decided, either_decided, le_decided, Found, Searched, Number, numbers}
 use Rattle.cap_word.specs.declared.stops.Stop.{Stop as Cause}
-use Rattle.lawful_reading.proofs.Deciding.{Decided, decided_by, both_decided, either_decided, below_decided, le_decided}
 use mir.Syntax.{Width}
 use mir.Val.{hbits}
 
--- some that fits has it
-abbrev pub Found : (A : Type 0) → (A → Type 0) → (A → Type 0) → Type 0
-Found A Fits P = (a : A) × (Fits a × P a)
-
--- it is decided whether some that fits has what is decided of each
-abbrev pub Searched : (A : Type 0) → (A → Type 0) → Type 1
-Searched A Fits = (P : A → Type 0) → ((a : A) → Decided (P a)) → Decided (Found A Fits P)
-
 -- ---- numbers
-
-abbrev pub Number : ℕ → (ℕ → Type 0) → Type 0
-Number bound P = Found ℕ (λ n. n < bound) P
-
-unfoldable pub numbers : (bound : ℕ) → Searched ℕ (λ n. n < bound)
-numbers bound P each = below_decided P each bound
 
 abbrev Integer : Width → (ℤ → Type 0) → Type 0
 Integer w P = Found ℤ (FitsSigned w) P

@@ -1,10 +1,9 @@
 -- It is decided whether the thread under way rests with a step as a line says, and whether the line of a stop is that of what it comes to.
-use Rattle.lawful_reading.proofs.Common.{◌≡◌, ℕ, ◌+◌, ◌≤◌, ℤ, List, Option, Some, None, inl, inr, refl, sym, ap, ◌∙◌, subst, slice_get, Stop, TrapKind, Waiting, key_of, StopLine, Given, chunks_of, PutsNext, RestsNext, Segment, State, seen_of, IsPossible, IsCause, IsCut, StopsBy}
+use Rattle.lawful_reading.proofs.Common.{◌≡◌, ℕ, ◌+◌, ◌≤◌, ℤ, List, Option, Some, None, inl, inr, refl, sym, ap, ◌∙◌, subst, slice_get, Stop, TrapKind, Waiting, key_of, StopLine, Given, chunks_of, PutsNext, RestsNext, Segment, State, seen_of, IsPossible, IsCause, IsCut, StopsBy, Decided, decided_by, both_decided, only_decided, le_decided, number_same, integer_same, option_same, held_decided, text_same}
 use Rattle.cap_word.specs.Word.{signed}
 use Rattle.cap_word.specs.declared.calls.Block.{Block}
 use Rattle.c_mean.specs.World as source
 use Rattle.lawful_reading.proofs.Moves.{one_put, one_rest}
-use Rattle.lawful_reading.proofs.Deciding.{Decided, decided_by, both_decided, only_decided, le_decided, number_same, integer_same, option_same, held_decided, text_same}
 use Rattle.lawful_reading.proofs.DecidedHappenings.{puts_decided, rests_decided, crowded_decided}
 use Rattle.lawful_reading.proofs.Points.{done_decided, idle_decided, bad_decided}
 

@@ -12,10 +12,10 @@
 // `Verdict` is the type of verdicts, and specs/Verdicts.antt says which of them a log has. No log
 // has two (`exclusion`). The law `existence` finds one, since every condition of a line is
 // decidable: of the finitely many entries that fit, whether the text of one comes next
-// (proofs/Searching.antt); of a trace, its next line (TraceLines); at a choice point, the events
-// and the lawful choice (Points); of the source's run, each further step up to the limit
-// (SegmentLines, DecidedHappenings). So each line is passed, needs too many steps, or is refused
-// (Lines, Beyond), and a log is read to its end (Found, OneVerdict).
+// (proofs/Searching.antt); of a trace, its next line (TraceLines of choice_rules); at a choice
+// point, the events and the lawful choice (Points); of the source's run, each further step up to the
+// limit (SegmentLines, DecidedHappenings). So each line is passed, needs too many steps, or is
+// refused (Lines, Beyond), and a log is read to its end (Found, OneVerdict).
 #![tactic(auto)]
 
 mod exclusion;

@@ -23,17 +23,16 @@ pub use Rattle.choice_rules.specs.Clock.{IsLeastOf, event_times, is_due}
 pub use Rattle.choice_rules.specs.Deliveries.{delivery_of, item_of}
 pub use Rattle.choice_rules.specs.Readiness.{any_ready, is_ready, waking_times}
 pub use Rattle.choice_rules.specs.Seen.{Waiter, last_choice}
-pub use Rattle.choice_rules.specs.Trace.{IsNext, IsRefused, Trace}
+pub use Rattle.choice_rules.specs.Trace.{IsNext, Trace}
 pub use Rattle.chunk_budget.proofs.CoverLemmas.{HasMember, has_member}
 pub use Rattle.chunk_budget.specs.Budgets.{AreCovered, IsBudget, IsCovered, IsRoot, chunks_added, height_of}
 pub use Rattle.chunk_budget.specs.declared.budgets.Budget.{Budget}
 pub use Rattle.chunk_pool.proofs.NeedLaws.{taken_for-none, taken_for-shape, taken_for-start}
 pub use Rattle.chunk_pool.specs.Pool.{IsFree, IsPool, Pool, Taken, all_free, fits, free_count, payload_bytes_of, shape_of, taken_for, words_in}
 pub use Rattle.chunk_pool.specs.declared.shape.Shape.{Shape}
-pub use Rattle.event_trace.specs.Lines.{FitsKind, HasNoEvent, IsTraceLine, SpellsOnly, event_text, line_of, rest_of}
+pub use Rattle.event_trace.specs.Lines.{FitsKind, rest_of}
 pub use Rattle.event_trace.specs.declared.events.Event.{Event}
 pub use Rattle.event_trace.specs.declared.events.EventKind.{EventKind}
-pub use Rattle.event_trace.specs.declared.events.EventKind.TheVariants.{Arrive, Message}
 pub use Rattle.flat_code.specs.Codes.{FlatCode, members_of, operation_at}
 pub use Rattle.flat_code.specs.declared.operations.Op.{Op}
 pub use Rattle.lawful_log.proofs.Between.{between_after, between_came, between_moved, between_read, come_state, coming, run_allowed, run_segment, run_state, within_run}

@@ -13,7 +13,8 @@ use Rattle.lawful_log.proofs.Picked.{is_picked}
 use Rattle.lawful_log.proofs.Told.{ready_same}
 use Rattle.lawful_log.proofs.Within.{within_goes, within_spawns, within_puts, put_state, put_segment, out_allowed, rests_blocked, blocked_state, cost_of, block_allowed, threads_blocked, formed_after_block, ended_state, end_allowed, threads_ended, formed_after_end, stop_allowed}
 use Rattle.log_laws.proofs.Least.{lawful_choice}
-use Rattle.log_laws.proofs.Lines.{Next, Over, Line, Refused, next_of, shorter}
+use Rattle.choice_rules.proofs.TraceLines.{Next, Over, Line, Refused, next_of}
+use Rattle.log_laws.proofs.Lines.{shorter}
 use Rattle.log_laws.proofs.Times as times
 use Rattle.log_laws.proofs.Words.{delivers_words}
 

@@ -1,5 +1,7 @@
 -- Decisions, put together of smaller ones.
-use Rattle.lawful_reading.proofs.Common.{◌≡◌, ℕ, ℤ, pos, negsuc, zero, suc, ◌<◌, ◌≤◌, ◌⊎◌, inl, inr, Bool, true, false, List, [], ◌∷◌, ◌++◌, Option, Some, None, refl, ap, subst, arith, ⊎_elim, AllByRecursion, cases_eq, cases_lt}
+use Rattle.std.proofs.Common.{◌⊎◌, negsuc}
+use Rattle.std.proofs.lemmas.Bool.{cases_lt}
+use Rattle.choice_rules.proofs.Common.{◌≡◌, ℕ, ℤ, pos, zero, suc, ◌<◌, ◌≤◌, inl, inr, Bool, true, false, List, [], ◌∷◌, ◌++◌, Option, Some, None, refl, ap, subst, arith, ⊎_elim, AllByRecursion, cases_eq}
 
 abbrev pub Decided : Type 0 → Type 0
 Decided P = P ⊎ (P → ⊥)
@@ -70,6 +72,20 @@ below_decided P each (suc n) = by (each n) (below_decided P each n) where
     last : (b : Below P (suc n)) → Decided (b.0 ≡ n) → ⊥
     last b (inl same) = none (subst P same b.1.1)
     last b (inr apart) = empty (b.0, ((let below = b.1.0 in omega (arith, below, apart)), b.1.1))
+
+-- some that fits has it
+abbrev pub Found : (A : Type 0) → (A → Type 0) → (A → Type 0) → Type 0
+Found A Fits P = (a : A) × (Fits a × P a)
+
+-- it is decided whether some that fits has what is decided of each
+abbrev pub Searched : (A : Type 0) → (A → Type 0) → Type 1
+Searched A Fits = (P : A → Type 0) → ((a : A) → Decided (P a)) → Decided (Found A Fits P)
+
+abbrev pub Number : ℕ → (ℕ → Type 0) → Type 0
+Number bound P = Found ℕ (λ n. n < bound) P
+
+unfoldable pub numbers : (bound : ℕ) → Searched ℕ (λ n. n < bound)
+numbers bound P each = below_decided P each bound
 
 -- ---- of lists and options
 

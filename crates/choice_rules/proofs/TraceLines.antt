@@ -1,11 +1,12 @@
 -- The next line of a trace: there is none, it is refused, or it is that of one event.
+use Rattle.std.proofs.Common.{◌⊎◌}
 use Rattle.event_trace.specs.Lines.{event_text, FitsKind, IsTraceLine, SpellsOnly, line_of}
-use Rattle.lawful_reading.proofs.Common.{◌≡◌, ℕ, suc, ◌+◌, ◌<◌, ◌≤◌, ◌^◌, ◌⊎◌, inl, inr, List, [], ◌∷◌, length, Some, refl, ap, arith, Event, Trace, IsNext, IsRefused}
 use Rattle.event_trace.specs.declared.events.EventKind.{EventKind}
 use Rattle.event_trace.specs.declared.events.EventKind.TheVariants.{Arrive, Message}
 use Rattle.event_trace.proofs.LineTexts.{event_unique}
-use Rattle.lawful_reading.proofs.Deciding.{Decided, decided_by, both_decided, either_decided, le_decided, text_same}
-use Rattle.lawful_reading.proofs.Searching.{Found, Searched, Number, numbers}
+use Rattle.choice_rules.specs.Trace.{Trace, IsNext, IsRefused}
+use Rattle.choice_rules.proofs.Common.{◌≡◌, ℕ, suc, ◌+◌, ◌<◌, ◌≤◌, ◌^◌, inl, inr, List, [], ◌∷◌, length, Some, refl, ap, arith, Event}
+use Rattle.choice_rules.proofs.Deciding.{Decided, decided_by, both_decided, either_decided, le_decided, text_same, Found, Searched, Number, numbers}
 
 -- ---- a line
 
