@@ -5,19 +5,20 @@ ghost use Rattle.rv_machine.specs.WordBytes.{word_with};
 
 use chunk_pool::ChunkPool;
 use rv_machine::Memory;
+use stack_certificate::{GLOBALS_START, TABLES_START};
 use stack_image::Image;
 use std::alloc::{AllocError, Global};
 use std::marker::Model;
 
 // The addresses of the first global word, of the first table word and of the first chunk.
-const GLOBALS: u32 = 0x1000_0000;
+const GLOBALS: u32 = GLOBALS_START;
 
-const TABLES: u32 = 0x2000_0000;
+const TABLES: u32 = TABLES_START;
 
-const CHUNKS: u32 = 0x8000_0000;
+const CHUNKS: u32 = ChunkPool::FIRST_PLACE;
 
 // The size of a chunk's header in bytes.
-const HEADER: u32 = 16;
+pub(crate) const HEADER: u32 = 16;
 
 /// The memory of the threads: the pool of chunks, at most 65,536 global words, and at most 65,536 table words.
 ///

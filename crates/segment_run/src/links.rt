@@ -6,14 +6,11 @@ ghost use Rattle.machine_world.specs.Local.{Ended, ended, unlinked};
 ghost use Rattle.segment_laws.specs.Ways.{Owns};
 ghost use Rattle.segment_run.specs.Turns.{thread_of, IsLink};
 
-use crate::areas::Areas;
+use crate::areas::{Areas, HEADER};
 use crate::registers::{SP, T1, TP};
 use crate::running::Thread;
 use cap_word::add;
 use chunk_pool::ChunkPool;
-
-// The size of a chunk's header in bytes.
-const HEADER: u32 = 16;
 
 // LINK: takes a chunk for the need in t1, saves tp and sp in its header, and continues with tp at its payload and sp at
 // its end. Returns whether a free chunk fits; if none does, nothing changes.

@@ -8,7 +8,7 @@ ghost use Rattle.stack_certificate.specs.Certificates.{fact_at};
 ghost use Rattle.segment_run.specs.Contexts.{checked_of, code_of, local_of, AreOf, IsReady};
 ghost use Rattle.segment_run.specs.Starting.{IsStarted, first_arguments};
 
-use crate::areas::Areas;
+use crate::areas::{Areas, HEADER};
 use crate::contexts::Context;
 use crate::registers::{A0, RA, SP, TP};
 use accepted_pairs::Accepted;
@@ -17,9 +17,6 @@ use stack_image::CODE_START;
 
 // The address of the end stub, with which the code begins and to which the last frame of a thread returns.
 pub(crate) const END_STUB: u32 = CODE_START;
-
-// The size of a chunk's header in bytes.
-const HEADER: u32 = 16;
 
 /// Starts a new thread at the beginning of a function, with an argument in a0, on a chunk for the function's bound.
 /// Returns `None` exactly if no free chunk fits that; then nothing changes. The function is one of the certificate's.

@@ -8,11 +8,11 @@ ghost use Rattle.stack_certificate.specs.Certificates.{global_address, table_add
 use flat_code::FlatProgram;
 use std::alloc::{AllocError, Global};
 
-// The address of the first word of the globals.
-const GLOBALS_START: u32 = 0x1000_0000;
+/// The address of the first word of the globals.
+pub const GLOBALS_START: u32 = 0x1000_0000;
 
-// The address of the first word of the tables.
-const TABLES_START: u32 = 0x2000_0000;
+/// The address of the first word of the tables.
+pub const TABLES_START: u32 = 0x2000_0000;
 
 // The address of the first word of a global.
 pub(crate) fn address_of_global(flat: &FlatProgram, g: u32) -> u32

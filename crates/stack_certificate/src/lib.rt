@@ -29,7 +29,7 @@ mod slots;
 mod template_words;
 mod words;
 
-pub use addresses::{global_addresses, table_addresses};
+pub use addresses::{GLOBALS_START, TABLES_START, global_addresses, table_addresses};
 pub use begins::operation_begin;
 pub use certificates::Certificate;
 pub use functions::{FunctionFact, FunctionFacts};

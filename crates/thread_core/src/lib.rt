@@ -24,6 +24,7 @@ mod world;
 
 pub use outside::Delivered;
 pub use policy::WorldPolicy;
+pub use running::MOST_THREADS;
 pub use standing::Standing;
 pub use turns::{Turn, WorldError};
 pub use world::World;

@@ -18,7 +18,7 @@ use segment_run::{Context, Segment, reply, retire, run_segment, start, walk};
 use thread_waits::Wait;
 
 /// The maximum number of live threads.
-pub(crate) const MOST_THREADS: u32 = 65535;
+pub const MOST_THREADS: u32 = 65535;
 
 impl State {
     /// Runs the thread up to the next turn.

@@ -3,14 +3,11 @@
 use crate::again::Told;
 use crate::again::holders::Holders;
 use crate::report::values::blocked_at;
-use cap_word::ThreadId;
+use cap_word::{ModelledCall, ThreadId};
 use report_text::Text;
 use std::alloc::{AllocError, Global};
 use thread_core::World;
 use wait_circles::{Step, circles_of};
-
-/// The number of the call `take`.
-const TAKE: u32 = 20;
 
 /// Appends a line for each circle of the threads of a world at its stop, given what each thread holds. `cut` is the
 /// thread whose segment was cut off, which waits for nothing.
@@ -43,7 +40,7 @@ fn add_steps(
 fn wanted_by(world: &World, thread: ThreadId) -> Option<u32> {
     let called = blocked_at(world, thread)?;
     let resource = called.first?;
-    if called.call == TAKE && is_short(world, resource, called.second?) {
+    if called.call == ModelledCall::Take.number() && is_short(world, resource, called.second?) {
         Some(resource)
     } else {
         None

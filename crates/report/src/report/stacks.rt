@@ -1,11 +1,12 @@
 // The words of stacks, and the frames on them.
 ghost use Rattle.std.specs.Prelude.{◌<◌, IfSome};
 
+use chunk_pool::ChunkPool;
 use stack_certificate::FunctionFact;
 use thread_core::World;
 
 /// The address of the first chunk.
-const FIRST: u64 = 0x8000_0000;
+const FIRST: u64 = ChunkPool::FIRST_PLACE as u64;
 
 /// A chunk with the address at which it begins, and the one just past its end.
 #[derive(Clone, Copy)]

@@ -13,6 +13,7 @@ use report_text::Text;
 use schedule_log::{Entry, StopLine, read_entry};
 use source_places::{Access, Array, Places};
 use stack_certificate::FunctionFact;
+use stack_image::CODE_START;
 use std::alloc::Global;
 use thread_core::{Standing, World};
 
@@ -23,7 +24,7 @@ const LISTED: u64 = 20;
 const MOST_CALLS: u32 = 8;
 
 /// The return address of a thread's last frame.
-const END_STUB: u32 = 0x1000;
+const END_STUB: u32 = CODE_START;
 
 /// Appends what the world at a stop shows in addition to the log: the number of threads that never ran, given that
 /// `left` threads are left that did; the resources in use, with the holders of the resources 1 to 7 if they are known;

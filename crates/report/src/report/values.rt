@@ -8,10 +8,7 @@ use report_text::Text;
 use source_places::Places;
 use stack_certificate::FunctionFact;
 use std::alloc::Global;
-use thread_core::World;
-
-/// The maximum number of live threads.
-const MOST_THREADS: u32 = 65_535;
+use thread_core::{MOST_THREADS, World};
 
 /// A modelled call with the values of its arguments, at most two.
 #[derive(Clone, Copy)]
