@@ -1,6 +1,6 @@
 -- A pool that lies in one region, as its parts change.
 use Rattle.std.proofs.Common.{◌≡◌, ◌≢◌, ℕ, ◌+◌, ◌-◌, ◌/◌, ◌^◌, ◌<◌, ◌≤◌, ◌⊎◌, inl, inr, List, [], ◌∷◌, length, map, take, drop, get_or, set, nat_le, refl, sym, ◌∙◌, ap, subst, arith, All, Contains}
-use Rattle.chunk_pool.proofs.Common.{range_with_len, cases_eq, cases_lt, length-set, length-append, All-head, Shape, Pool, first_place, HasAddress, shape_of, word_of, payload_of, contents_with, with_word, words_of, words_in, start_of, start_in, size_in, free_count, after_give, first_or, IsHeld, IsLinked, IsShape, IsPool, offers, choice, class_for, next_in, start_chunk, start_shape, start_pool, chunks_in, followed, pool_of, IsKept}
+use Rattle.chunk_pool.proofs.Common.{range_with_len, cases_eq, cases_lt, length-set, length-append, All-head, Shape, Pool, first_place, HasAddress, shape_of, word_of, payload_of, contents_with, with_word, words_of, words_in, start_of, start_in, size_in, free_count, after_give, first_or, IsHeld, IsLinked, IsFreeList, IsShape, IsPool, offers, choice, class_for, next_in, start_chunk, start_shape, start_pool, chunks_in, followed, pool_of, IsKept}
 use Rattle.chunk_pool.specs.declared.pool.ChunkPool.TheInside.{Inside}
 use Rattle.chunk_pool.proofs.AddressLaws.{position_within}
 use Rattle.chunk_pool.proofs.Shapes.{start-before, words_in-some}
@@ -116,32 +116,32 @@ written a p id word value at new v kept within below fits link_kept at_is new_is
 
 -- ---- a chunk is taken
 
--- a list that isn't empty, by its first number and what the region has there
-taken_off : (s : Shape) (region : List ℕ) (first free next : ℕ) → free ≢ 0 → next ≡ get_or region (start_in s first) 0 → followed s region first free ≡ first ∷ followed s region next (free - 1)
-taken_off s region first free next some next_is =
-    followed-step s region first free (free - 1) (omega (arith, some)) ∙ ap (λ (n : ℕ). first ∷ followed s region n (free - 1)) (sym next_is)
+-- a free list that isn't empty: its first number is that of a chunk of its size, and the rest begins with the number in that chunk's first word
+record IsTakenOff (s : Shape) (region : List ℕ) (first free next from to : ℕ) : Type 0 where
+  pub within : (from ≤ first) × (first < to)
+  pub rest : followed s region next (free - 1) ≡ drop 1 (followed s region first free)
+  pub link : to ≤ s.count → next ≡ first_or (followed s region next (free - 1)) s.count
 
--- the first word of a chunk is the next number of a list that it begins
-next_of : (s : Shape) (region : List ℕ) (id : ℕ) (ids : List ℕ) → IsShape s → id < s.count → IsLinked (chunks_in s region) s.count (id ∷ ids) → get_or region (start_in s id) 0 ≡ first_or ids s.count
-next_of s region id ids sound within linked =
-    let at : start_in s id ≡ start_in s id + 0 = omega arith in
-    ap (λ (i : ℕ). get_or region i 0) at ∙ sym (word_in_region s id 0 region within (omega (arith, words_in-some s id sound))) ∙ linked.0
+taken_off : (s : Shape) (region : List ℕ) (first free next from to : ℕ) → IsShape s → next ≡ get_or region (start_in s first) 0 →
+    IsFreeList (chunks_in s region) s.count from to (followed s region first free) → 0 < length (followed s region first free) →
+    IsTakenOff s region first free next from to
+taken_off s region first free next from to sound next_is list some = record {
+  within = within;
+  rest = sym (ap (drop 1) split);
+  link = λ most.
+      let below : first < s.count = omega (arith, within.1) in
+      let at : start_in s first ≡ start_in s first + 0 = omega arith in
+      next_is ∙ ap (λ (i : ℕ). get_or region i 0) at ∙ sym (word_in_region s first 0 region below (omega (arith, words_in-some s first sound)))
+      ∙ (subst (IsLinked (chunks_in s region) s.count) split list.linked).0;
+} where
+  split : followed s region first free ≡ first ∷ followed s region next (free - 1)
+  split = followed-step s region first free (free - 1) (omega (arith, some, length-followed s region first free))
+      ∙ ap (λ (n : ℕ). first ∷ followed s region n (free - 1)) (sym next_is)
 
--- the first free numbers are chunks'
-pub first_within : (a : Inside) → IsKept a → a.free ≢ 0 → a.first < a.shape.count
-first_within a kept some =
-    let s = a.shape in
-    let ids = followed s a.region (get_or a.region (start_in s a.first) 0) (a.free - 1) in
-    let split : followed s a.region a.first a.free ≡ a.first ∷ ids = taken_off s a.region a.first a.free (get_or a.region (start_in s a.first) 0) some refl in
-    let each = All-head (λ id. (0 ≤ id) × (id < s.first_count)) a.first ids (subst (All (λ id. (0 ≤ id) × (id < s.first_count))) split kept.pool.free.within) in
-    omega (arith, each.1, kept.pool.shape.first_within)
-
-pub extra_within : (a : Inside) → IsKept a → a.extra_free ≢ 0 → a.extra_first < a.shape.count
-extra_within a kept some =
-    let s = a.shape in
-    let ids = followed s a.region (get_or a.region (start_in s a.extra_first) 0) (a.extra_free - 1) in
-    let split : followed s a.region a.extra_first a.extra_free ≡ a.extra_first ∷ ids = taken_off s a.region a.extra_first a.extra_free (get_or a.region (start_in s a.extra_first) 0) some refl in
-    (All-head (λ id. (s.first_count ≤ id) × (id < s.count)) a.extra_first ids (subst (All (λ id. (s.first_count ≤ id) × (id < s.count))) split kept.pool.extra_free.within)).1
+  within : (from ≤ first) × (first < to)
+  within =
+      let P : ℕ → Type 0 = λ id. (from ≤ id) × (id < to) in
+      All-head P first (followed s region next (free - 1)) (subst (All P) split list.within)
 
 abbrev pub first_taken : Inside → ℕ → Inside
 first_taken a next = record a { first = next; free = a.free - 1 }
@@ -150,66 +150,53 @@ abbrev pub extra_taken : Inside → ℕ → Inside
 extra_taken a next = record a { extra_first = next; extra_free = a.extra_free - 1 }
 
 pub record IsFirstTaken (a : Inside) (p : Pool) (next : ℕ) : Type 0 where
+  pub within : a.first < a.shape.count
   pub first : a.first ≡ first_or p.free p.count
   pub pool : pool_of (first_taken a next) ≡ record p { free = drop 1 p.free }
   pub kept : IsKept (first_taken a next)
 
 pub record IsExtraTaken (a : Inside) (p : Pool) (next : ℕ) : Type 0 where
+  pub within : a.extra_first < a.shape.count
   pub first : a.extra_first ≡ first_or p.extra_free p.count
   pub pool : pool_of (extra_taken a next) ≡ record p { extra_free = drop 1 p.extra_free }
   pub kept : IsKept (extra_taken a next)
 
-pub taken_first : (a : Inside) (p : Pool) (next : ℕ) → pool_of a ≡ p → IsKept a → a.free ≢ 0 → next ≡ get_or a.region (start_in a.shape a.first) 0 → IsFirstTaken a p next
-taken_first a p next v kept some next_is = subst (λ (q : Pool). IsFirstTaken a q next) v here where
-  s : Shape
-  s = a.shape
-
-  ids : List ℕ
-  ids = followed s a.region next (a.free - 1)
-
-  split : followed s a.region a.first a.free ≡ a.first ∷ ids
-  split = taken_off s a.region a.first a.free next some next_is
-
-  pool : pool_of (first_taken a next) ≡ record (pool_of a) { free = drop 1 (pool_of a).free }
-  pool = ap (λ (free : List ℕ). record (pool_of a) { free = free }) (sym (ap (drop 1) split))
-
-  here : IsFirstTaken a (pool_of a) next
-  here = record {
-    first = kept.first;
-    pool = pool;
-    kept = record {
-      pool = subst IsPool (sym pool) (IsPool-taken_first (pool_of a) kept.pool);
-      size = kept.size;
-      first = next_is ∙ next_of s a.region a.first ids kept.pool.shape (first_within a kept some) (subst (IsLinked (chunks_in s a.region) s.count) split kept.pool.free.linked);
-      extra_first = kept.extra_first;
-    };
-  }
-
-pub taken_extra : (a : Inside) (p : Pool) (next : ℕ) → pool_of a ≡ p → IsKept a → a.extra_free ≢ 0 → next ≡ get_or a.region (start_in a.shape a.extra_first) 0 → IsExtraTaken a p next
-taken_extra a p next v kept some next_is = subst (λ (q : Pool). IsExtraTaken a q next) v here where
-  s : Shape
-  s = a.shape
-
-  ids : List ℕ
-  ids = followed s a.region next (a.extra_free - 1)
-
-  split : followed s a.region a.extra_first a.extra_free ≡ a.extra_first ∷ ids
-  split = taken_off s a.region a.extra_first a.extra_free next some next_is
-
-  pool : pool_of (extra_taken a next) ≡ record (pool_of a) { extra_free = drop 1 (pool_of a).extra_free }
-  pool = ap (λ (free : List ℕ). record (pool_of a) { extra_free = free }) (sym (ap (drop 1) split))
-
-  here : IsExtraTaken a (pool_of a) next
-  here = record {
-    first = kept.extra_first;
-    pool = pool;
-    kept = record {
-      pool = subst IsPool (sym pool) (IsPool-taken_extra (pool_of a) kept.pool);
-      size = kept.size;
+pub taken_first : (a : Inside) (p : Pool) (next : ℕ) → pool_of a ≡ p → IsKept a → 0 < length p.free →
+    next ≡ get_or a.region (start_in a.shape a.first) 0 → IsFirstTaken a p next
+taken_first a p next v kept some next_is = subst (λ (q : Pool). 0 < length q.free → IsFirstTaken a q next) v (λ some.
+    let shape = kept.pool.shape in
+    let off = taken_off a.shape a.region a.first a.free next 0 a.shape.first_count shape next_is kept.pool.free some in
+    let pool : pool_of (first_taken a next) ≡ record (pool_of a) { free = drop 1 (pool_of a).free } =
+    ap (λ (free : List ℕ). record (pool_of a) { free = free }) off.rest in
+    record {
+      within = omega (arith, off.within.1, shape.first_within);
       first = kept.first;
-      extra_first = next_is ∙ next_of s a.region a.extra_first ids kept.pool.shape (extra_within a kept some) (subst (IsLinked (chunks_in s a.region) s.count) split kept.pool.extra_free.linked);
-    };
-  }
+      pool = pool;
+      kept = record {
+        pool = subst IsPool (sym pool) (IsPool-taken_first (pool_of a) kept.pool);
+        size = kept.size;
+        first = off.link shape.first_within;
+        extra_first = kept.extra_first;
+      };
+    }) some
+
+pub taken_extra : (a : Inside) (p : Pool) (next : ℕ) → pool_of a ≡ p → IsKept a → 0 < length p.extra_free →
+    next ≡ get_or a.region (start_in a.shape a.extra_first) 0 → IsExtraTaken a p next
+taken_extra a p next v kept some next_is = subst (λ (q : Pool). 0 < length q.extra_free → IsExtraTaken a q next) v (λ some.
+    let off = taken_off a.shape a.region a.extra_first a.extra_free next a.shape.first_count a.shape.count kept.pool.shape next_is kept.pool.extra_free some in
+    let pool : pool_of (extra_taken a next) ≡ record (pool_of a) { extra_free = drop 1 (pool_of a).extra_free } =
+    ap (λ (free : List ℕ). record (pool_of a) { extra_free = free }) off.rest in
+    record {
+      within = off.within.1;
+      first = kept.extra_first;
+      pool = pool;
+      kept = record {
+        pool = subst IsPool (sym pool) (IsPool-taken_extra (pool_of a) kept.pool);
+        size = kept.size;
+        first = kept.first;
+        extra_first = off.link (omega arith);
+      };
+    }) some
 
 -- ---- a chunk is given back
 
