@@ -1,5 +1,5 @@
 -- One step of the walk's code.
-use Rattle.cycle_break.proofs.Common.{◌≡◌, ◌≢◌, ℕ, zero, suc, ◌+◌, ◌-◌, ◌*◌, ◌<◌, ◌≤◌, ◌==◌, Bool, true, false, not, Some, None, find, List, [], ◌∷◌, length, set, drop, get_or, refl, sym, ap, ◌∙◌, subst, arith, nat_tests, length-map, length-set, get_or-set_same, get_or-set_other, AllByRecursion, GraphSite, callees, is_call_of, sites_of, LeadsTo, has, IsOnce, by_test, by_eq, Frame, come, is_marked, IsMarked, is_visited, through, walk, unmarked}
+use Rattle.cycle_break.proofs.Common.{◌≡◌, ◌≢◌, ℕ, zero, suc, ◌+◌, ◌-◌, ◌*◌, ◌<◌, ◌≤◌, ◌==◌, Bool, true, false, not, Some, None, find, List, [], ◌∷◌, length, set, drop, get_or, refl, sym, ap, ◌∙◌, subst, arith, nat_tests, length-map, length-set, get_or-set_same, get_or-set_other, AllByRecursion, GraphSite, IsSiteOf, all-at, no_site, callees, is_call_of, sites_of, LeadsTo, has, IsOnce, by_test, by_eq, Frame, come, is_marked, IsMarked, is_visited, through, walk, unmarked}
 use Rattle.cycle_break.proofs.NumberLemmas.{once-length, true_false}
 use Rattle.cycle_break.proofs.FinishLemmas.{functions_of, finish, finish-enter, finish-on}
 
@@ -17,12 +17,21 @@ find-holds P p (c ∷ cs) g all h =
     (λ t. let first : Some c ≡ Some g = rw t at h in let same : c ≡ g = cc in (subst P same all.0, rw (← same) t))
     (λ e. find-holds P p cs g all.1 (rw e at h))
 
--- the first function that isn't marked
-pub unmarked-found : (functions : ℕ) (visited : List Bool) (cs : List ℕ) (g : ℕ) → AllByRecursion (λ c. c < functions) cs → find (λ f. not (is_marked visited f)) cs ≡ Some g →
-    (g < functions) × (is_marked visited g ≡ false)
-unmarked-found functions visited cs g below found =
+-- a function that isn't marked
+pub record IsUnvisited (functions : ℕ) (visited : List Bool) (g : ℕ) : Type 0 where
+  pub function : g < functions
+  pub within : g < length visited
+  pub out : is_marked visited g ≡ false
+
+unmarked-found : (functions : ℕ) (visited : List Bool) (cs : List ℕ) (g : ℕ) → length visited ≡ functions → AllByRecursion (λ c. c < functions) cs →
+    find (λ f. not (is_marked visited f)) cs ≡ Some g → IsUnvisited functions visited g
+unmarked-found functions visited cs g each below found =
     let holds = find-holds (λ c. c < functions) (λ f. not (is_marked visited f)) cs g below found in
-    (holds.0, by_test (is_marked visited g) (λ t. true_false (is_marked visited g) t (absurd (let z : false ≡ true = rw t at holds.1 in cc))) (λ e. e))
+    record {
+      function = holds.0;
+      within = omega (arith, holds.0);
+      out = by_test (is_marked visited g) (λ t. absurd (let z : false ≡ true = rw t at holds.1 in cc)) (λ e. e);
+    }
 
 find-same : (p q : ℕ → Bool) (cs : List ℕ) → AllByRecursion (λ c. p c ≡ q c) cs → find p cs ≡ find q cs
 find-same p q [] all = refl
@@ -85,55 +94,68 @@ module _ (tables : List (List ℕ)) (sites : List GraphSite) (without : List ℕ
   callees_marked frames visited left [] marks below = tt
   callees_marked frames visited left (c ∷ cs) marks below = (ap not (marks c below.0), callees_marked frames visited left cs marks below.1)
 
-  -- a function is entered
-  pub IsOnWay-enter : (target : List ℕ) (frame : Frame) (below : List Frame) (visited : List Bool) (left : List ℕ) (g place : ℕ) (d : GraphSite) → frame.place < length sites →
-      AllByRecursion (λ c. c < functions) (callees tables (get_or sites frame.place d).target) →
-      find (λ f. not (is_marked visited f)) (callees tables (get_or sites frame.place d).target) ≡ Some g →
-      LeadsTo sites without g 0 place →
-      IsOnWay target (frame ∷ below) visited left → IsOnWay target (record { function = g; place = place } ∷ frame ∷ below) (set visited g true) left
-  IsOnWay-enter target frame below visited left g place d within small found leads on =
-      let cs = callees tables (get_or sites frame.place d).target in
-      let path = functions_of tables sites without functions (frame ∷ below) in
-      let holds : (g < functions) × (not (is_marked visited g) ≡ true) = find-holds (λ c. c < functions) (λ f. not (is_marked visited f)) cs g small found in
-      let out : not (is_visited path (come left) g) ≡ true = ap not (sym (on.marks g holds.0)) ∙ holds.1 in
-      let off : has g path ≡ false = by_test (has g path) (λ t. true_false false (let z : false ≡ true = rw t at out in z) refl) (λ e. e) in
-      let all_below : AllByRecursion (λ f. f < functions) path = paths_below (frame ∷ below) on.frames in
-      let room : suc (length path) ≤ functions = once-length functions (g ∷ path) (off, on.once) (holds.0, all_below) in
-      let as_long : length path ≡ suc (length below) = length-map (frame ∷ below) (λ (f : Frame). f.function) in
-      let found' : find (λ f. not (is_visited path (come left) f)) cs ≡ Some g =
-      sym (find-same (λ f. not (is_marked visited f)) (λ f. not (is_visited path (come left) f)) cs (callees_marked (frame ∷ below) visited left cs on.marks small)) ∙ found in
-      record {
-        each = length-set visited g true ∙ on.each;
-        frames = (frame-led g 0 place holds.0 leads, on.frames);
-        once = (off, on.once);
-        marks = λ f lt. set-marks (frame ∷ below) visited left g f on.each holds.0 lt (on.marks f lt);
-        below = on.below;
-        finishes = sym (finish-enter tables sites without functions frame below left g place d within (on.frames.0.mine d within) (omega arith) leads found') ∙ on.finishes;
-      }
-    where
-      paths_below : (frames : List Frame) → AllByRecursion IsFrame frames → AllByRecursion (λ f. f < functions) (functions_of tables sites without functions frames)
-      paths_below [] all = tt
-      paths_below (fr ∷ frs) all = (all.0.function, paths_below frs all.1)
+  -- at the site of the first frame
+  module _ {target : List ℕ} {frame : Frame} {below : List Frame} {visited : List Bool} {left : List ℕ}
+      (known : AllByRecursion (IsSiteOf functions tables) sites) (more : frame.place ≢ length sites) (on : IsOnWay target (frame ∷ below) visited left) where
+    abbrev called : List ℕ
+    called = callees tables (get_or sites frame.place no_site).target
 
-  -- on to the next site
-  pub IsOnWay-on : (target : List ℕ) (frame : Frame) (below : List Frame) (visited : List Bool) (left : List ℕ) (next : ℕ) (d : GraphSite) → frame.place < length sites →
-      AllByRecursion (λ c. c < functions) (callees tables (get_or sites frame.place d).target) →
-      find (λ f. not (is_marked visited f)) (callees tables (get_or sites frame.place d).target) ≡ None →
-      LeadsTo sites without frame.function (frame.place + 1) next →
-      IsOnWay target (frame ∷ below) visited left → IsOnWay target (record { function = frame.function; place = next } ∷ below) visited left
-  IsOnWay-on target frame below visited left next d within small none leads on =
-      let cs = callees tables (get_or sites frame.place d).target in
-      let path = functions_of tables sites without functions (frame ∷ below) in
-      let none' : find (λ f. not (is_visited path (come left) f)) cs ≡ None =
-      sym (find-same (λ f. not (is_marked visited f)) (λ f. not (is_visited path (come left) f)) cs (callees_marked (frame ∷ below) visited left cs on.marks small)) ∙ none in
-      record {
-        each = on.each;
-        frames = (frame-led frame.function (frame.place + 1) next on.frames.0.function leads, on.frames.1);
-        once = on.once;
-        marks = on.marks;
-        below = on.below;
-        finishes = sym (finish-on tables sites without functions frame below left next d within (on.frames.0.mine d within) leads none') ∙ on.finishes;
-      }
+    abbrev entered_by : List ℕ
+    entered_by = functions_of tables sites without functions (frame ∷ below)
+
+    here : frame.place < length sites
+    here = omega (arith, on.frames.0.within, more)
+
+    small : AllByRecursion (λ c. c < functions) called
+    small = (all-at (IsSiteOf functions tables) sites frame.place no_site known here).target.all
+
+    -- the marks and the path tell the same callee
+    found_too : find (λ f. not (is_visited entered_by (come left) f)) called ≡ find (λ f. not (is_marked visited f)) called
+    found_too = sym (find-same (λ f. not (is_marked visited f)) (λ f. not (is_visited entered_by (come left) f)) called
+        (callees_marked (frame ∷ below) visited left called on.marks small))
+
+    -- the callee that isn't marked
+    pub callee_found : (g : ℕ) → find (λ f. not (is_marked visited f)) called ≡ Some g → IsUnvisited functions visited g
+    callee_found g found = unmarked-found functions visited called g on.each small found
+
+    -- a function is entered
+    pub IsOnWay-enter : (g place : ℕ) → find (λ f. not (is_marked visited f)) called ≡ Some g → LeadsTo sites without g 0 place →
+        IsOnWay target (record { function = g; place = place } ∷ frame ∷ below) (set visited g true) left
+    IsOnWay-enter g place found leads =
+        let holds = callee_found g found in
+        let out : not (is_visited entered_by (come left) g) ≡ true = ap not (sym (on.marks g holds.function) ∙ holds.out) in
+        let off : has g entered_by ≡ false = by_test (has g entered_by) (λ t. true_false false (let z : false ≡ true = rw t at out in z) refl) (λ e. e) in
+        let all_below : AllByRecursion (λ f. f < functions) entered_by = paths_below (frame ∷ below) on.frames in
+        let room : suc (length entered_by) ≤ functions = once-length functions (g ∷ entered_by) (off, on.once) (holds.function, all_below) in
+        let as_long : length entered_by ≡ suc (length below) = length-map (frame ∷ below) (λ (f : Frame). f.function) in
+        let mine = on.frames.0.mine no_site here in
+        let finishes = finish-enter tables sites without functions frame below left g place no_site here mine (omega arith) leads (found_too ∙ found) in
+        record {
+          each = length-set visited g true ∙ on.each;
+          frames = (frame-led g 0 place holds.function leads, on.frames);
+          once = (off, on.once);
+          marks = λ f lt. set-marks (frame ∷ below) visited left g f on.each holds.function lt (on.marks f lt);
+          below = on.below;
+          finishes = sym finishes ∙ on.finishes;
+        }
+      where
+        paths_below : (frames : List Frame) → AllByRecursion IsFrame frames →
+            AllByRecursion (λ f. f < functions) (functions_of tables sites without functions frames)
+        paths_below [] all = tt
+        paths_below (fr ∷ frs) all = (all.0.function, paths_below frs all.1)
+
+    -- on to the next site
+    pub IsOnWay-on : (next : ℕ) → find (λ f. not (is_marked visited f)) called ≡ None → LeadsTo sites without frame.function (frame.place + 1) next →
+        IsOnWay target (record { function = frame.function; place = next } ∷ below) visited left
+    IsOnWay-on next none leads = record {
+      each = on.each;
+      frames = (frame-led frame.function (frame.place + 1) next on.frames.0.function leads, on.frames.1);
+      once = on.once;
+      marks = on.marks;
+      below = on.below;
+      finishes = sym (finish-on tables sites without functions frame below left next no_site here (on.frames.0.mine no_site here) leads (found_too ∙ none))
+          ∙ on.finishes;
+    }
 
   -- the walk is over
   pub IsOnWay-over : (target : List ℕ) (visited : List Bool) (left : List ℕ) → IsOnWay target [] visited left → (left ≡ target) × IsMarked functions visited left
