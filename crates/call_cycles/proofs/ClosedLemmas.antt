@@ -1,6 +1,6 @@
 -- Functions that are marked together with all that they call, and those that are found to lie on no cycle.
 use Rattle.call_cycles.proofs.Common.{◌≡◌, inl, inr, ⊎_elim, ◌⊎◌, ℕ, ◌<◌, Bool, true, false, List, [], ◌∷◌, ◌++◌, length, replicate, set, refl, sym, ◌∙◌, subst, arith, cases_lt, get_or-replicate, get_or-set_same, get_or-set_other, get_or_past, length-replicate, FlatCode, has, by_eq, true_false, Calls, IsWay, IsOnCycle, AreOffCycles, IsClosed, Marks, is_marked, mark-stays}
-use Rattle.call_cycles.proofs.MarkLemmas.{has-either, has-left}
+use Rattle.call_cycles.proofs.MarkLemmas.{has-either, has-left, has-last, marked-below}
 
 pub none-marked : (n g : ℕ) → is_marked (replicate n false) g ≡ true → ⊥
 none-marked n g h =
@@ -47,6 +47,13 @@ module _ (code : FlatCode) (f functions : ℕ) where
     waiting = λ g h. ⊎_elim (λ before. new.kept g (was.waiting g (has-left g left (next ∷ []) before))) (λ marked. marked) (new.added g h);
   }
 
+  -- the function that the walk takes next
+  pub spread-next : (next : ℕ) (marks : List Bool) (left : List ℕ) → IsSpread code f functions marks (left ++ next ∷ []) →
+      (is_marked marks next ≡ true) × (next < functions)
+  spread-next next marks left spread =
+      let marked = spread.waiting next (has-last next left) in
+      (marked, omega (arith, marked-below marks next marked, spread.each))
+
   -- nothing is left
   spread-closed : (marks : List Bool) → IsSpread code f functions marks [] → IsClosed code marks
   spread-closed marks spread = λ g h marked call. ⊎_elim (λ none. true_false false none refl) (λ all. all h call) (spread.closed g marked)
@@ -68,8 +75,10 @@ way-marked code marks g h [] closed marked e = subst (λ (n : ℕ). is_marked ma
 way-marked code marks g h (next ∷ way) closed marked w = way-marked code marks next h way closed (closed g next marked w.0) w.1
 
 -- so a function that the walk didn't reach lies on no cycle
-pub unreached-off : (code : FlatCode) (f functions : ℕ) (marks : List Bool) (left : List ℕ) → IsSpread code f functions marks left → IsClosed code marks → is_marked marks f ≡ false → IsOnCycle code f → ⊥
-unreached-off code f functions marks left spread closed out cycle =
+pub unreached-off : (code : FlatCode) (f functions : ℕ) (marks : List Bool) (left : List ℕ) → length left ≡ 0 → IsSpread code f functions marks left →
+    is_marked marks f ≡ false → IsOnCycle code f → ⊥
+unreached-off code f functions marks left none spread out cycle =
+    let closed = spread-end code f functions marks left none spread in
     true_false (is_marked marks f) (way-marked code marks cycle.first f cycle.rest closed (spread.first cycle.first cycle.call) cycle.way) out
 
 -- ---- what was found

@@ -1,23 +1,28 @@
-use Rattle.call_cycles.proofs.Common.{◌≡◌, true, length, arith, common_steps, program_code, has, true_false, is_marked}
-use Rattle.call_cycles.proofs.MarkLemmas.{has-last, marked-below}
-use Rattle.call_cycles.proofs.WalkLemmas.{walked-more, walked-end}
+use Rattle.call_cycles.proofs.Common.{◌≡◌, length, arith, common_steps, program_code}
+use Rattle.call_cycles.proofs.ClosedLemmas.{spread-more, spread-next, unreached-off}
+use Rattle.call_cycles.proofs.WalkLemmas.{reached-more}
 use Rattle.call_cycles.proofs.cycles.is_on_cycle.Goals as goal
 
 pub mark_callees-requires-in-Some-clause-function : goal.mark_callees-requires-in-Some-clause-function
 mark_callees-requires-in-Some-clause-function c =
-    let next = c.in-Some.next in
-    let there : has next c.loop-next.left.items ≡ true = rw c.in-Some.ensures.items (has-last next c.pop.new.self.items) in
-    let below = marked-below c.loop-next.marks next (c.loop-next.invariant.walked.waiting next there) in
-    omega (arith, below, c.loop-next.invariant.walked.each)
+    let code = program_code c.args.flat.now in
+    (spread-next code c.args.function (length code.functions) c.in-Some.next c.loop-next.marks c.pop.new.self.items
+    (rw c.in-Some.ensures.items at c.loop-next.invariant.spread)).1
 
 pub loop-next-preserved : goal.loop-next-preserved
 loop-next-preserved c =
     let code = program_code c.args.flat.now in
+    let functions = length code.functions in
     let next = c.in-Some.next in
-    let there : has next c.loop-next.left.items ≡ true = rw c.in-Some.ensures.items (has-last next c.pop.new.self.items) in
+    let left = c.pop.new.self.items in
+    let spread = rw c.in-Some.ensures.items at c.loop-next.invariant.spread in
+    let marked = c.in_ok-mark_callees-2.ensures.marked in
+    let here = c.loop-next.invariant.reached next (spread-next code c.args.function functions next c.loop-next.marks left spread).0 in
     record {
-      walked = walked-more code c.args.function (length code.functions) next c.loop-next.marks c.pop.new.self.items c.mark_callees-in-Some.new.marks c.mark_callees-in-Some.new.left.items
-          (rw c.in-Some.ensures.items at c.loop-next.invariant.walked) (c.loop-next.invariant.walked.waiting next there) c.in_ok-mark_callees-2.ensures.marked;
+      spread = spread-more code c.args.function functions next c.loop-next.marks left c.mark_callees-in-Some.new.marks c.mark_callees-in-Some.new.left.items
+          spread marked;
+      reached = reached-more code c.args.function next c.loop-next.marks left c.mark_callees-in-Some.new.marks c.mark_callees-in-Some.new.left.items
+          c.loop-next.invariant.reached here marked;
       seen = c.in_ok-mark_callees-2.ensures.seen;
     }
 
@@ -25,5 +30,4 @@ pub returns-clause-none : goal.returns-clause-none
 returns-clause-none c = λ out cycle.
     let code = program_code c.args.flat.now in
     let none : length c.loop-next.left.items ≡ 0 = grind (arith, common_steps) in
-    true_false (is_marked c.loop-next.marks c.args.function)
-    (walked-end code c.args.function (length code.functions) c.loop-next.marks c.loop-next.left.items c.args.function none c.loop-next.invariant.walked cycle) out
+    unreached-off code c.args.function (length code.functions) c.loop-next.marks c.loop-next.left.items none c.loop-next.invariant.spread out cycle

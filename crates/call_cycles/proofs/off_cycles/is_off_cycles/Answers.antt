@@ -1,6 +1,6 @@
-use Rattle.call_cycles.proofs.Common.{◌≡◌, ◌<◌, true, length, arith, common_steps, program_code, has, is_marked, not-true}
-use Rattle.call_cycles.proofs.ClosedLemmas.{spread-first, spread-more, spread-end, closed-set, unreached-off}
-use Rattle.call_cycles.proofs.MarkLemmas.{has-last, marked-below, seen-set}
+use Rattle.call_cycles.proofs.Common.{◌≡◌, ◌<◌, length, arith, common_steps, program_code, is_marked, not-true}
+use Rattle.call_cycles.proofs.ClosedLemmas.{spread-first, spread-more, spread-next, spread-end, closed-set, unreached-off}
+use Rattle.call_cycles.proofs.MarkLemmas.{seen-set}
 use Rattle.call_cycles.proofs.off_cycles.is_off_cycles.Goals as goal
 
 pub loop-next-init : goal.loop-next-init
@@ -13,10 +13,9 @@ loop-next-init c =
 
 pub mark_callees-requires-in-Some-clause-function : goal.mark_callees-requires-in-Some-clause-function
 mark_callees-requires-in-Some-clause-function c =
-    let next = c.in-Some.next in
-    let there : has next c.loop-next.left.items ≡ true = rw c.in-Some.ensures.items (has-last next c.pop.new.self.items) in
-    let below = marked-below c.loop-next.marks next (c.loop-next.invariant.spread.waiting next there) in
-    omega (arith, below, c.loop-next.invariant.spread.each)
+    let code = program_code c.args.flat.now in
+    (spread-next code c.args.function (length code.functions) c.in-Some.next c.loop-next.marks c.pop.new.self.items
+    (rw c.in-Some.ensures.items at c.loop-next.invariant.spread)).1
 
 pub loop-next-preserved : goal.loop-next-preserved
 loop-next-preserved c =
@@ -31,8 +30,8 @@ pub returns-clause-off : goal.returns-clause-off
 returns-clause-off c = λ off cycle.
     let code = program_code c.args.flat.now in
     let none : length c.loop-next.left.items ≡ 0 = grind (arith, common_steps) in
-    let closed = spread-end code c.args.function (length code.functions) c.loop-next.marks c.loop-next.left.items none c.loop-next.invariant.spread in
-    unreached-off code c.args.function (length code.functions) c.loop-next.marks c.loop-next.left.items c.loop-next.invariant.spread closed (not-true (is_marked c.loop-next.marks c.args.function) off) cycle
+    unreached-off code c.args.function (length code.functions) c.loop-next.marks c.loop-next.left.items none c.loop-next.invariant.spread
+    (not-true (is_marked c.loop-next.marks c.args.function) off) cycle
 
 pub returns-clause-seen : goal.returns-clause-seen
 returns-clause-seen c =
