@@ -71,35 +71,36 @@ pub record SitesRead (facts : List SiteFact) (count : ℕ) (text rest : List ℕ
   pub words : AllByRecursion HoldsSiteWords facts
   pub whole : text ≡ ended_lines (map site_line facts) ++ rest
 
-pub head_read : (chunk path count : ℕ) (text start rest : List ℕ) → start ≡ text
-    → (chunk < 2 ^ 32) × (path < 2 ^ 32) × (count ≤ 4096) × (start ≡ ended_lines (title_line ∷ chunk_line chunk ∷ max_path_line path ∷ functions_line count ∷ []) ++ rest) → HeadRead chunk path count text rest
-head_read chunk path count text start rest e h = record { small = h.0; fits = h.1; few = h.2; whole = sym e ∙ h.3 }
+pub head_read : {chunk path count : ℕ} {text start rest : List ℕ} → start ≡ text → (chunk < 2 ^ 32) × (path < 2 ^ 32) × (count ≤ 4096)
+    × (start ≡ ended_lines (title_line ∷ chunk_line chunk ∷ max_path_line path ∷ functions_line count ∷ []) ++ rest) → HeadRead chunk path count text rest
+head_read e h = record { small = h.0; fits = h.1; few = h.2; whole = sym e ∙ h.3 }
 
-pub functions_read : (facts : List FunctionFact) (count : ℕ) (text rest : List ℕ)
-    → (length facts ≡ count) × AllByRecursion HasFewPlaces facts × AllByRecursion HoldsFunctionWords facts × (text ≡ ended_lines (map function_line facts) ++ rest) → FunctionsRead facts count text rest
-functions_read facts count text rest h = record { size = h.0; few = h.1; words = h.2; whole = h.3 }
+pub functions_read : {facts : List FunctionFact} {count : ℕ} {text rest : List ℕ} → (length facts ≡ count) × AllByRecursion HasFewPlaces facts
+    × AllByRecursion HoldsFunctionWords facts × (text ≡ ended_lines (map function_line facts) ++ rest) → FunctionsRead facts count text rest
+functions_read h = record { size = h.0; few = h.1; words = h.2; whole = h.3 }
 
-pub sites_read : (facts : List SiteFact) (count : ℕ) (text rest : List ℕ)
-    → (length facts ≡ count) × Rises None facts × AllByRecursion HoldsSiteWords facts × (text ≡ ended_lines (map site_line facts) ++ rest) → SitesRead facts count text rest
-sites_read facts count text rest h = record { size = h.0; rises = h.1; words = h.2; whole = h.3 }
+pub sites_read : {facts : List SiteFact} {count : ℕ} {text rest : List ℕ} → (length facts ≡ count) × Rises None facts
+    × AllByRecursion HoldsSiteWords facts × (text ≡ ended_lines (map site_line facts) ++ rest) → SitesRead facts count text rest
+sites_read h = record { size = h.0; rises = h.1; words = h.2; whole = h.3 }
 
-pub head_led : (chunk path count : ℕ) (text rest : List ℕ) → HeadRead chunk path count text rest → Passes 4 Title text (Functions count) rest
-head_led chunk path count text rest h =
+pub head_led : {chunk path count : ℕ} {text rest : List ℕ} → HeadRead chunk path count text rest → Passes 4 Title text (Functions count) rest
+head_led {chunk} {path} {count} {text} {rest} h =
     passes_from 4 Title (Functions count) (ended_lines (title_line ∷ chunk_line chunk ∷ max_path_line path ∷ functions_line count ∷ []) ++ rest) text rest h.whole
     (head_passes chunk path count rest h.small h.fits h.few)
 
-pub functions_led : (chunk path count : ℕ) (facts : List FunctionFact) (text behind rest : List ℕ) → HeadRead chunk path count text behind → FunctionsRead facts count behind rest
-    → Passes (4 + count) Title text (Functions 0) rest
-functions_led chunk path count facts text behind rest h f =
+pub functions_led : {chunk path count : ℕ} {facts : List FunctionFact} {text behind rest : List ℕ} → HeadRead chunk path count text behind
+    → FunctionsRead facts count behind rest → Passes (4 + count) Title text (Functions 0) rest
+functions_led {chunk} {path} {count} {facts} {text} {behind} {rest} h f =
     let n = length facts in
     let same = f.size in
-    passes_on 4 n (4 + count) Title (Functions count) (Functions 0) text behind rest (omega arith) (head_led chunk path count text behind h)
+    passes_on 4 n (4 + count) Title (Functions count) (Functions 0) text behind rest (omega arith) (head_led h)
     (passes_from n (Functions count) (Functions 0) (ended_lines (map function_line facts) ++ rest) behind rest f.whole (functions_pass facts count 0 rest (omega arith) f.few f.words))
 
-pub count_led : (chunk path count sites : ℕ) (facts : List FunctionFact) (text behind last rest : List ℕ) → HeadRead chunk path count text behind → FunctionsRead facts count behind last
-    → sites ≤ 65535 → last ≡ sites_line sites ++ 10 ∷ rest → Passes (5 + count) Title text (Sites sites None) rest
-count_led chunk path count sites facts text behind last rest h f most e =
-    passes_on (4 + count) 1 (5 + count) Title (Functions 0) (Sites sites None) text last rest (omega arith) (functions_led chunk path count facts text behind last h f)
+pub count_led : {chunk path count : ℕ} {facts : List FunctionFact} {text behind last : List ℕ} (sites : ℕ) (rest : List ℕ)
+    → HeadRead chunk path count text behind → FunctionsRead facts count behind last → (sites ≤ 65535) × (last ≡ sites_line sites ++ 10 ∷ rest)
+    → Passes (5 + count) Title text (Sites sites None) rest
+count_led {chunk} {path} {count} {facts} {text} {behind} {last} sites rest h f (most, e) =
+    passes_on (4 + count) 1 (5 + count) Title (Functions 0) (Sites sites None) text last rest (omega arith) (functions_led h f)
     (sites_line sites, rest, Sites sites None, e, (sites, most, refl, refl), (refl, refl))
 
 pub sites_led : (n sites : ℕ) (facts : List SiteFact) (text behind rest : List ℕ) → Passes n Title text (Sites sites None) behind → SitesRead facts sites behind rest
@@ -123,10 +124,10 @@ whole_read c count sites text behind last next rest h f e s over =
     f.whole ∙ ap (λ (x : List ℕ). ended_lines (map function_line c.functions) ++ x) last_is in
     h.whole ∙ (λ i. ended_lines (title_line ∷ chunk_line c.chunk ∷ max_path_line c.max_path ∷ functions_line (sym functions i) ∷ []) ++ behind_is i) ∙ sym (spelling_parts c)
 
-pub whole_parts : (chunk path count sites : ℕ) (functions seen : List FunctionFact) (facts shown : List SiteFact) (text behind last next rest : List ℕ) → HeadRead chunk path count text behind
-    → FunctionsRead functions count behind last → last ≡ sites_line sites ++ 10 ∷ next → SitesRead facts sites next rest → rest ≡ []
-    → seen ≡ functions → shown ≡ facts → text ≡ spelling (record { chunk = chunk; max_path = path; functions = seen; sites = shown })
-whole_parts chunk path count sites functions seen facts shown text behind last next rest h f e s over same alike =
+pub whole_parts : {chunk path count sites : ℕ} {functions seen : List FunctionFact} {facts shown : List SiteFact} {text behind last next rest : List ℕ}
+    → HeadRead chunk path count text behind → FunctionsRead functions count behind last → last ≡ sites_line sites ++ 10 ∷ next → SitesRead facts sites next rest
+    → rest ≡ [] → seen ≡ functions → shown ≡ facts → text ≡ spelling (record { chunk = chunk; max_path = path; functions = seen; sites = shown })
+whole_parts {chunk} {path} {count} {sites} {functions} {seen} {facts} {shown} {text} {behind} {last} {next} {rest} h f e s over same alike =
     whole_read (record { chunk = chunk; max_path = path; functions = functions; sites = facts }) count sites text behind last next rest h f e s over
     ∙ ap spelling (λ i. record { chunk = chunk; max_path = path; functions = sym same i; sites = sym alike i })
 
