@@ -17,7 +17,7 @@ pub use Rattle.grammar_laws.specs.Places.{item_places, items_places, stmts_place
 pub use Rattle.grammar_laws.specs.Ranks.{ranks, site_numbers}
 pub use Rattle.hoist_parts.specs.Statements.{all_hoisted, hoisted, item_hoisted, items_hoisted, returned_before, returned_left, stmt_names}
 pub use Rattle.scope_rules.specs.Items.{at_start, definitions, items_after, items_faults, program_of}
-pub use Rattle.scope_rules.specs.Making.{IsMaking, Making, made_by, with_statements}
+pub use Rattle.scope_rules.specs.Making.{IsMaking, Making, closed_each, made_by, with_statements}
 pub use Rattle.scope_rules.specs.Numbered.{IsResolvedBy, call_numbered, function_numbered, number_at, numbered, right_numbered, simple_numbered, stmt_numbered, stmts_numbered}
 pub use Rattle.scope_rules.specs.Outcomes.{IsNoMemory, IsResolved}
 pub use Rattle.scope_rules.specs.Reading.{Agrees, HasRead}

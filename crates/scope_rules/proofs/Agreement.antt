@@ -1,6 +1,6 @@
 -- Where no rule is broken, each prototype of a function agrees with its definition.
 use Rattle.scope_rules.proofs.Common.{ℕ, ◌≡◌, refl, sym, subst, ◌∙◌, Bool, true, false, not, List, [], ◌∷◌, ◌++◌, length, Option, Some, None, nat_eq, ◌||◌, ◌&&◌, if◌then◌else◌, bytes_eq, NameTree, RawItemTree, RawGlobal, RawGlobalArray, RawTableItem, RawPrototypeItem, RawFunctionItem, RawStmtTrees, capped, Rule, Meaning, Found, Binding, find, is_fixed, bound, broken, is_modelled, function_of, size_faults, stmts_faults, Sofar, with_definition, with_definitions, outer_in, outer_faults, differ, repeated_faults, function_faults, main_faults, is_missing, is_defined, with_function, prototype_faults, params_faults, members_faults, params_spot, body_spot, item_faults, item_after, items_faults, items_after, or_parts, not-false}
-use Rattle.scope_rules.proofs.NoFaults.{both_none, not_broken, same_number}
+use Rattle.scope_rules.proofs.NoFaults.{both_none, four_none, not_broken, same_number}
 use Rattle.scope_rules.proofs.Links.{same_text, same_itself}
 
 -- a name is a function with this result and so many parameters
@@ -76,15 +76,7 @@ prototype_parts defs w gives n params h =
 pub definition_parts : (defs : List Binding) (w : Sofar) (gives : Bool) (n : NameTree) (params : List NameTree) (body : RawStmtTrees) → item_faults defs w (RawFunctionItem gives n params body) ≡ []
     → (function_faults true gives (length params) n.at (find n.text w.spot.names) ≡ []) × (main_faults n (length params) ≡ [])
     × (params_faults (params_spot defs w.spot gives n params) params ≡ []) × (stmts_faults gives false (body_spot defs w.spot gives n params) body ≡ [])
-definition_parts defs w gives n params body h =
-    let ff = function_faults true gives (length params) n.at (find n.text w.spot.names) in
-    let fm = main_faults n (length params) in
-    let fp = params_faults (params_spot defs w.spot gives n params) params in
-    let fb = stmts_faults gives false (body_spot defs w.spot gives n params) body in
-    let a = both_none ff (fm ++ (fp ++ fb)) h in
-    let b = both_none fm (fp ++ fb) a.1 in
-    let d = both_none fp fb b.1 in
-    (a.0, b.0, d.0, d.1)
+definition_parts defs w gives n params body h = four_none _ _ _ _ h
 
 -- a function stays what it is
 stays : (defs : List Binding) (w : Sofar) (i : RawItemTree) (t : List ℕ) (g : Bool) (k : ℕ) → item_faults defs w i ≡ [] → IsSigned g k (find t w.spot.names) → IsSigned g k (find t (item_after defs w i).spot.names)

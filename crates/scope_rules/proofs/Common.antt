@@ -50,7 +50,7 @@ pub use Rattle.scope_rules.specs.ItemViews.{IsCounted, exceeded_with, sofar_of}
 pub use Rattle.scope_rules.specs.Items.{Sofar, at_start, body_spot, definitions, differ, faults_of, function_faults, function_left, function_tree_of, has_main, is_defined, is_missing, item_after, item_faults, items_after, items_faults, main_faults, members_faults, members_of, outer_faults, outer_in, param_bound, param_faults, params_after, params_faults, params_spot, parts_of, program_of, prototype_faults, repeated_faults, unsized, with_calls, with_definition, with_definitions, with_function}
 pub use Rattle.scope_rules.specs.Kept.{kept_with}
 pub use Rattle.scope_rules.specs.Limits.{exceeded, most_locals, most_params}
-pub use Rattle.scope_rules.specs.Making.{IsMaking, Making, back, body_start, closed, items_read, making_of, opened, stmts_list, switched, with_statement, with_statements}
+pub use Rattle.scope_rules.specs.Making.{IsMaking, Making, all_closed, back, body_start, closed, closed_each, items_read, making_of, opened, stmts_list, switched, with_statement, with_statements}
 pub use Rattle.scope_rules.specs.Meanings.{callee_in, callee_of, function_in, function_of, is_array, is_callable, is_member, is_modelled, is_scalar, is_spawnable, is_table, is_void, is_wrong_count, table_in, table_of, takes, variable_in, variable_of}
 pub use Rattle.scope_rules.specs.Names.{AreLinked, Binding, Changes, Finds, binding_of, bound, find, is_fixed}
 pub use Rattle.scope_rules.specs.Numbered.{IsResolvedBy, call_numbered, function_numbered, number_at, numbered, right_numbered, simple_numbered, stmt_numbered, stmts_numbered}

@@ -1,6 +1,6 @@
 -- What breaks no rule takes no more temporaries with numbers for names than it did as it was read.
-use Rattle.scope_rules.proofs.Common.{ℕ, ◌≡◌, ◌≤◌, ◌+◌, refl, sym, subst, Bool, true, false, not, List, [], ◌∷◌, ◌++◌, length, max, Option, Some, None, arith, ◌||◌, ◌&&◌, if◌then◌else◌, option_map, bytes_eq, parameters_of, ModelledCall, NameTree, RawExprTree, RawExprTrees, RawNumber, RawName, RawElement, RawUnary, RawParenthesized, RawBinary, RawLogicalAnd, RawLogicalOr, RawConditional, RawCall, RawTableCall, NoExprs, And, RawSimpleTree, RawDeclareScalar, RawDeclareArray, RawDeclareWith, RawSet, RawSetElement, RawCalling, RawTableCalling, RawStmtTree, RawStmtTrees, RawDo, RawEmpty, RawBlock, RawIf, RawIfElse, RawWhile, RawFor, RawBreak, RawContinue, RawReturn, NoRawStmts, RawThen, raw_temporaries, raw_arguments_temporaries, raw_simple_temporaries, raw_simples_temporaries, raw_optional_temporaries, raw_step_temporaries, raw_stmt_temporaries, raw_stmts_temporaries, ExprTree, RightTree, expr_temporaries, arguments_temporaries, call_temporaries, right_temporaries, held_temporaries, simple_temporaries, simples_temporaries, condition_temporaries, step_temporaries, returned_temporaries, stmt_temporaries, stmts_temporaries, Rule, Meaning, Found, Variable, Binding, find, is_fixed, bound, broken, is_callable, is_void, takes, is_wrong_count, variable_of, callee_in, callee_of, scalar_faults, array_faults, expr_faults, listed, scalar_value, element_value, expr_of, exprs_of, call_name_faults, arguments_faults, call_faults, right_faults, call_by, call_of, right_of, spawn_of, Spot, declare_faults, simple_faults, set_scalar, set_element, simple_of, simple_after, simples_faults, simples_of, simples_after, inside, left, condition_faults, step_kind, step_faults, step_after, return_faults, returned_of, stmt_after, stmt_faults, stmts_faults, stmt_of, stmts_of}
-use Rattle.scope_rules.proofs.NoFaults.{both_none, not_broken}
+use Rattle.scope_rules.proofs.Common.{ℕ, ◌≡◌, ◌≤◌, ◌+◌, refl, sym, subst, Bool, true, false, not, List, [], ◌∷◌, ◌++◌, length, max, Option, Some, None, arith, ◌||◌, ◌&&◌, if◌then◌else◌, option_map, bytes_eq, parameters_of, ModelledCall, NameTree, RawExprTree, RawExprTrees, RawNumber, RawName, RawElement, RawUnary, RawParenthesized, RawBinary, RawLogicalAnd, RawLogicalOr, RawConditional, RawCall, RawTableCall, NoExprs, And, RawSimpleTree, RawDeclareScalar, RawDeclareArray, RawDeclareWith, RawSet, RawSetElement, RawCalling, RawTableCalling, RawStmtTree, RawStmtTrees, RawDo, RawEmpty, RawBlock, RawIf, RawIfElse, RawWhile, RawFor, RawBreak, RawContinue, RawReturn, NoRawStmts, RawThen, raw_temporaries, raw_arguments_temporaries, raw_simple_temporaries, raw_simples_temporaries, raw_optional_temporaries, raw_step_temporaries, raw_stmt_temporaries, raw_stmts_temporaries, ExprTree, RightTree, expr_temporaries, arguments_temporaries, call_temporaries, right_temporaries, held_temporaries, simple_temporaries, simples_temporaries, condition_temporaries, step_temporaries, returned_temporaries, stmt_temporaries, stmts_temporaries, Rule, Meaning, Found, Variable, Binding, find, is_fixed, bound, broken, is_callable, is_void, takes, is_wrong_count, variable_of, callee_in, callee_of, scalar_faults, array_faults, expr_faults, listed, scalar_value, element_value, expr_of, exprs_of, call_name_faults, arguments_faults, call_faults, right_faults, call_by, call_of, right_of, spawn_of, Spot, declare_faults, simple_faults, set_scalar, set_element, simple_of, simple_after, simples_faults, simples_of, simples_after, inside, left, step_kind, step_faults, step_after, return_faults, returned_of, stmt_after, stmt_faults, stmts_faults, stmt_of, stmts_of}
+use Rattle.scope_rules.proofs.NoFaults.{both_none, four_none, not_broken}
 use Rattle.scope_rules.proofs.ScopedCalls.{Known, known_call, right_count}
 
 -- every function in scope has at most six parameters
@@ -186,16 +186,11 @@ mutual
       let a = inside s in
       let b = simples_after a init in
       let d = step_after b step in
-      let fi = simples_faults a init in
-      let fe = condition_faults b.names c in
-      let fs = step_faults b step in
-      let fp = stmt_faults gives true (inside d) p in
-      let k = both_none fi (fe ++ (fs ++ fp)) h in
-      let j = both_none fe (fs ++ fp) k.1 in
-      let i = both_none fs fp j.1 in
+      let k = four_none _ _ _ _ h in
       let six_b : AreSix b.names = simples_six a init six in
       let six_d : AreSix d.names = step_six b step six_b in
-      larger_both _ _ _ _ (simples_fewer a init six k.0) (larger_both _ _ _ _ (condition_fewer b.names c) (larger_both _ _ _ _ (step_fewer b step six_b i.0) (stmt_fewer gives true (inside d) p six_d i.1)))
+      larger_both _ _ _ _ (simples_fewer a init six k.0) (larger_both _ _ _ _ (condition_fewer b.names c)
+      (larger_both _ _ _ _ (step_fewer b step six_b k.2) (stmt_fewer gives true (inside d) p six_d k.3)))
   stmt_fewer gives loop s (RawReturn at v) six h = returned_fewer gives s at v six h
   stmt_fewer gives loop s _ six h = omega arith
 

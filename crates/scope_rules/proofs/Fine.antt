@@ -1,5 +1,5 @@
 -- Items that break no rule, one after another: their names, functions and tables are well scoped.
-use Rattle.scope_rules.proofs.Common.{ℕ, ◌≡◌, ◌<◌, ◌≤◌, ◌+◌, refl, sym, ap, subst, ◌∙◌, Bool, true, false, not, List, [], ◌∷◌, ◌++◌, append_assoc, length, length-append, map, sum, Option, Some, None, arith, nat_eq, ◌||◌, ◌&&◌, if◌then◌else◌, AllByRecursion, bytes_eq, map-append, length-map, GlobalFact, NameTree, RawItemTree, RawGlobal, RawGlobalArray, RawTableItem, RawPrototypeItem, RawFunctionItem, raw_item_temporaries, AreWithinTemporaries, FunctionTree, ProgramTree, stmts_names, capped, signature_of, Context, IsFunctionScoped, AreFunctionsScoped, signature_at, IsMember, IsTable, Rule, Meaning, Found, Binding, find, is_fixed, bound, broken, is_member, function_in, function_of, use_faults, stmts_of, Sofar, with_definition, with_definitions, is_missing, is_defined, with_function, outer_faults, members_faults, members_of, body_spot, function_tree_of, item_faults, item_after, items_faults, items_after, most_params, All-push, and_parts}
+use Rattle.scope_rules.proofs.Common.{ℕ, ◌≡◌, ◌<◌, ◌≤◌, ◌+◌, refl, sym, ap, subst, ◌∙◌, Bool, true, false, not, List, [], ◌∷◌, ◌++◌, append_assoc, length, length-append, map, sum, Option, Some, None, arith, nat_eq, ◌||◌, if◌then◌else◌, AllByRecursion, bytes_eq, map-append, length-map, GlobalFact, NameTree, RawItemTree, RawGlobal, RawGlobalArray, RawTableItem, RawPrototypeItem, RawFunctionItem, raw_item_temporaries, AreWithinTemporaries, FunctionTree, ProgramTree, stmts_names, capped, signature_of, Context, IsFunctionScoped, AreFunctionsScoped, signature_at, IsMember, IsTable, Rule, Meaning, Found, Binding, find, is_fixed, bound, broken, is_member, function_in, function_of, use_faults, stmts_of, Sofar, with_definition, with_definitions, is_missing, is_defined, with_function, outer_faults, members_faults, members_of, body_spot, function_tree_of, item_faults, item_after, items_faults, items_after, most_params, All-push, and_parts}
 use Rattle.scope_rules.proofs.NoFaults.{both_none, same_number, Used, used}
 use Rattle.scope_rules.proofs.Links.{same_itself}
 use Rattle.scope_rules.proofs.Fits.{MeaningFits, AllFit, find_fits, all_fit_bound}

@@ -1,6 +1,6 @@
 -- Each name that is declared where no rule is broken has a word.
-use Rattle.scope_rules.proofs.Common.{ℕ, ◌≡◌, ◌≤◌, Bool, true, List, [], ◌∷◌, ◌++◌, length, sum, Option, Some, None, arith, nat_lt, ◌||◌, option_map, RawSimpleTree, RawDeclareArray, RawSet, RawSetElement, RawCalling, RawTableCalling, RawStmtTree, RawStmtTrees, RawDo, RawBlock, RawIf, RawIfElse, RawWhile, RawFor, NoRawStmts, RawThen, sum_by-cons, Declared, simple_names, simples_names, step_names, stmt_names, stmts_names, Rule, find, variable_of, expr_faults, expr_of, right_of, Spot, declare_faults, size_faults, simple_faults, simple_of, simple_after, simples_faults, simples_of, simples_after, inside, left, condition_faults, step_kind, step_faults, step_after, stmt_after, stmt_faults, stmts_faults, stmt_of, stmts_of, or_parts}
-use Rattle.scope_rules.proofs.NoFaults.{both_none, not_broken, not_less}
+use Rattle.scope_rules.proofs.Common.{ℕ, ◌≡◌, ◌≤◌, Bool, true, List, [], ◌∷◌, ◌++◌, length, sum, Option, Some, None, arith, nat_lt, ◌||◌, option_map, RawSimpleTree, RawDeclareArray, RawSet, RawSetElement, RawCalling, RawTableCalling, RawStmtTree, RawStmtTrees, RawDo, RawBlock, RawIf, RawIfElse, RawWhile, RawFor, NoRawStmts, RawThen, sum_by-cons, Declared, simple_names, simples_names, step_names, stmt_names, stmts_names, Rule, find, variable_of, expr_faults, expr_of, right_of, Spot, declare_faults, size_faults, simple_faults, simple_of, simple_after, simples_faults, simples_of, simples_after, inside, left, step_kind, step_faults, step_after, stmt_after, stmt_faults, stmts_faults, stmt_of, stmts_of, or_parts}
+use Rattle.scope_rules.proofs.NoFaults.{both_none, four_none, not_broken, not_less}
 use Rattle.scope_rules.proofs.Growth.{words, set_scalar_names, set_element_names}
 
 abbrev pub ArePositive : List Declared → Type 0
@@ -53,15 +53,10 @@ mutual
       let a = inside s in
       let b = simples_after a init in
       let d = step_after b step in
-      let fi = simples_faults a init in
-      let fe = condition_faults b.names c in
-      let fs = step_faults b step in
-      let fp = stmt_faults gives true (inside d) p in
-      let k = both_none fi (fe ++ (fs ++ fp)) h in
-      let j = both_none fe (fs ++ fp) k.1 in
-      let i = both_none fs fp j.1 in
+      let k = four_none _ _ _ _ h in
       both_positive (simples_names (simples_of a init)) (step_names (option_map (simple_of b) step) ++ stmt_names (stmt_of (inside d) p)) (simples_positive a init k.0)
-      (both_positive (step_names (option_map (simple_of b) step)) (stmt_names (stmt_of (inside d) p)) (step_positive b step i.0) (stmt_positive gives true (inside d) p i.1))
+      (both_positive (step_names (option_map (simple_of b) step)) (stmt_names (stmt_of (inside d) p))
+      (step_positive b step k.2) (stmt_positive gives true (inside d) p k.3))
   stmt_positive gives loop s _ h = tt
 
   pub stmts_positive : (gives loop : Bool) (s : Spot) (ps : RawStmtTrees) → stmts_faults gives loop s ps ≡ [] → ArePositive (stmts_names (stmts_of s ps))

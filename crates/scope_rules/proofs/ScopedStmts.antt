@@ -1,6 +1,6 @@
 -- Statements that break no rule are well scoped, with numbers for names.
-use Rattle.scope_rules.proofs.Common.{ℕ, ◌≡◌, ◌≤◌, refl, ap, Bool, true, false, not, List, [], ◌++◌, length, Option, Some, None, IsTrue, option_map, RawExprTree, RawSimpleTree, RawSet, RawSetElement, RawCalling, RawTableCalling, RawStmtTree, RawStmtTrees, RawDo, RawEmpty, RawBlock, RawIf, RawIfElse, RawWhile, RawFor, RawBreak, RawContinue, RawReturn, NoRawStmts, RawThen, simple_names, Context, with_names, scope_after, scope_after_all, IsConditionScoped, IsStepScoped, IsReturnScoped, IsStmtScoped, AreStmtsScoped, Rule, Binding, find, broken, variable_of, expr_faults, expr_of, right_faults, right_of, Spot, simple_faults, simple_of, simples_faults, simples_of, simples_after, inside, left, condition_faults, step_kind, step_faults, step_after, return_faults, returned_of, stmt_after, stmts_after, stmt_faults, stmts_faults, stmt_of, stmts_of, not-false}
-use Rattle.scope_rules.proofs.NoFaults.{both_none, not_broken}
+use Rattle.scope_rules.proofs.Common.{ℕ, ◌≡◌, ◌≤◌, refl, ap, Bool, true, false, not, List, [], ◌++◌, length, Option, Some, None, IsTrue, option_map, RawExprTree, RawSimpleTree, RawSet, RawSetElement, RawCalling, RawTableCalling, RawStmtTree, RawStmtTrees, RawDo, RawEmpty, RawBlock, RawIf, RawIfElse, RawWhile, RawFor, RawBreak, RawContinue, RawReturn, NoRawStmts, RawThen, simple_names, Context, with_names, scope_after, scope_after_all, IsConditionScoped, IsStepScoped, IsReturnScoped, IsStmtScoped, AreStmtsScoped, Rule, Binding, find, broken, variable_of, expr_faults, expr_of, right_faults, right_of, Spot, simple_faults, simple_of, simples_of, simples_after, inside, left, condition_faults, step_kind, step_faults, step_after, return_faults, returned_of, stmt_after, stmts_after, stmt_faults, stmts_faults, stmt_of, stmts_of, not-false}
+use Rattle.scope_rules.proofs.NoFaults.{both_none, four_none, not_broken}
 use Rattle.scope_rules.proofs.Fits.{AllFit}
 use Rattle.scope_rules.proofs.ScopedExprs.{expr_scoped}
 use Rattle.scope_rules.proofs.ScopedCalls.{right_scoped}
@@ -76,19 +76,14 @@ module _ (c : Context) (small : length c.sizes ≤ 65536) where
         let a = inside s in
         let b = simples_after a init in
         let d = step_after b step in
-        let fi = simples_faults a init in
-        let fe = condition_faults b.names e in
-        let fs = step_faults b step in
-        let fp = stmt_faults c.gives true (inside d) p in
-        let k = both_none fi (fe ++ (fs ++ fp)) h in
-        let j = both_none fe (fs ++ fp) k.1 in
-        let i = both_none fs fp j.1 in
+        let k = four_none _ _ _ _ h in
         let qd : IsPrefix d.sizes c.sizes = prefix_back d.sizes (stmt_after (inside d) p).sizes c.sizes _ (stmt_grown (inside d) p).sizes q in
         let qb : IsPrefix b.sizes c.sizes = prefix_back b.sizes d.sizes c.sizes _ (step_grown b step).sizes qd in
         let there = scope_after_all scope (simples_of a init) in
         let fb : AllFit c there b.names = simples_fits c small scope a init fit qb in
-        let fd : AllFit c there d.names = step_fits there b step fb i.0 qd in
-        (simples_scoped c small scope a init fit k.0 qb, condition_scoped there b.names e fb j.0, step_scoped there b step fb i.0 qd, stmt_scoped true there (inside d) p fd i.1 q)
+        let fd : AllFit c there d.names = step_fits there b step fb k.2 qd in
+        let body = stmt_scoped true there (inside d) p fd k.3 q in
+        (simples_scoped c small scope a init fit k.0 qb, condition_scoped there b.names e fb k.1, step_scoped there b step fb k.2 qd, body)
     stmt_scoped loop scope s (RawBreak at) fit h q = loop_true loop at h
     stmt_scoped loop scope s (RawContinue at) fit h q = loop_true loop at h
     stmt_scoped loop scope s (RawReturn at v) fit h q = return_scoped scope s at v fit h

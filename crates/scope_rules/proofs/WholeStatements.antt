@@ -1,5 +1,5 @@
 -- A block, or a statement with a body, that is resolved statement by statement is resolved as a whole.
-use Rattle.scope_rules.proofs.Common.{ℕ, ◌≡◌, ◌≤◌, ◌-◌, refl, sym, ap, subst, ◌∙◌, Bool, true, false, List, [], ◌∷◌, ◌++◌, append_assoc, append-nil, length, Option, nat_lt, option_map, if◌then◌else◌, RawExprTree, RawStmtTree, RawIfElse, raw_in_order, as_body, StmtTree, Block, If, IfElse, While, For, Fault, expr_faults, expr_of, least_of, kept_with, Making, with_statement, with_statements, stmts_list, opened, closed, switched, back, Spot, simples_of, simples_after, simple_of, simples_faults, inside, left, step_after, condition_faults, step_faults, stmt_of, stmt_after, stmts_after, stmt_faults, stmts_faults}
+use Rattle.scope_rules.proofs.Common.{ℕ, ◌≡◌, ◌≤◌, refl, sym, ap, subst, ◌∙◌, Bool, true, false, List, [], ◌∷◌, ◌++◌, append_assoc, append-nil, length, Option, nat_lt, option_map, RawExprTree, RawStmtTree, RawIfElse, raw_in_order, as_body, StmtTree, Block, If, IfElse, While, For, Fault, expr_faults, expr_of, least_of, kept_with, Making, with_statement, with_statements, stmts_list, opened, closed, switched, back, Spot, simples_of, simples_after, simple_of, simples_faults, inside, left, step_after, condition_faults, step_faults, stmt_of, stmt_after, stmts_after, stmt_faults, stmts_faults}
 use Rattle.scope_rules.specs.Openings.{OpeningTree, OpenBlock, OpenIf, OpenWhile, OpenFor, ElseHead, whole, body, with_body, head_of, opening_faults, body_start, is_in_loop}
 use Rattle.scope_rules.proofs.Least.{least_of_append}
 use Rattle.scope_rules.proofs.NoFaults.{not_less}

@@ -78,6 +78,14 @@ closed_by (o ∷ os) m = record m {
 abbrev pub closed : Making → Making
 closed m = closed_by m.unfinished m
 
+-- after the end of everything that was begun
+abbrev pub closed_each : List OpenTree → Making → Making
+closed_each [] m = m
+closed_each (o ∷ os) m = closed_each os (closed_by (o ∷ os) m)
+
+abbrev pub all_closed : Making → Making
+all_closed m = closed_each m.unfinished m
+
 -- after the start of an else, if an if was begun last
 abbrev pub switched_by : OpenTree → HeadTree → List OpenTree → Making → Making
 switched_by o (IfHead c) os m = record m {

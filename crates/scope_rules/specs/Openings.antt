@@ -1,5 +1,5 @@
 -- What begins a block, or a statement with a body, and what it becomes with its body.
-use Rattle.std.specs.Prelude.{ℕ, Bool, true, List, [], ◌∷◌, ◌++◌, map, reverse, Option, option_map}
+use Rattle.std.specs.Prelude.{Bool, true, List, [], ◌∷◌, map, reverse, Option, option_map}
 use Rattle.c_tree.specs.RawTrees.{RawExprTree, RawSimpleTree, RawStmtTree, RawBlock, RawIf, RawWhile, RawFor}
 use Rattle.c_tree.specs.RawViews.{raw_expr_tree, raw_simple_tree, raw_in_order, as_body}
 use Rattle.c_tree.specs.Trees.{ExprTree, SimpleTree, StmtTree, Empty, Block, If, IfElse, While, For}

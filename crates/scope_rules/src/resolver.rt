@@ -13,7 +13,7 @@ ghost use Rattle.c_tree.specs.WholeCalls.{AreCallsWhole};
 ghost use Rattle.scope_rules.specs.Numbered.{numbered, IsResolvedBy};
 ghost use Rattle.scope_rules.specs.ItemViews.{exceeded_with};
 ghost use Rattle.scope_rules.specs.Openings.{opening_tree};
-ghost use Rattle.scope_rules.specs.Making.{IsMaking, made_by, with_statement, opened, switched, closed};
+ghost use Rattle.scope_rules.specs.Making.{IsMaking, made_by, with_statement, opened, switched, closed, all_closed};
 ghost use Rattle.scope_rules.specs.Reading.{HaveRead, AreAllRead, HasRead, CanNumber};
 ghost use Rattle.scope_rules.specs.Limits.{first_exceeded};
 ghost use Rattle.scope_rules.specs.Outcomes.{IsResolved, IsRefused, IsNoMemory, refusal_by};
@@ -400,16 +400,18 @@ impl FunctionResolver {
         Ok(())
     }
 
-    /// The body is at its end. Each block that was opened must have been closed: the statements
-    /// of an open one are lost.
+    /// The body is at its end. Blocks, and statements with a body, that are still open are closed first, as by `close`.
     ///
     /// # Errors
     ///
     /// Memory ran out.
-    pub fn end(self) -> Result<Resolver, AllocError>
+    pub fn end(mut self) -> Result<Resolver, AllocError>
         ensures { IfOk result (λ r. (all read : List RawItemTree) (gives : Bool) (n : NameTree) (params : List NameTree) (ss : List RawStmtTree) →
-            IsMaking (made_by self) all read gives n params ss → HasRead r all (read ++ RawFunctionItem gives n params (raw_in_order ss) ∷ [])) }
+            IsMaking (all_closed (made_by self)) all read gives n params ss → HasRead r all (read ++ RawFunctionItem gives n params (raw_in_order ss) ∷ [])) }
     {
+        while !self.parts.begun.unfinished.is_empty() {
+            self.close()?;
+        }
         let FunctionParts { mut items, begun } = Box::into_inner(self.parts);
         items.end(begun)?;
         Ok(Resolver { items })
