@@ -5,5 +5,4 @@ pub mod Ranges
 pub mod Scopes
 pub mod Stored
 pub mod Moved
-pub mod Parts
 pub mod Keys

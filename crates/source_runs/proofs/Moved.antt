@@ -1,5 +1,5 @@
 -- What steps lead to: values that are used, items that are taken, and silent steps one after another.
-use Rattle.source_runs.proofs.Common.{◌≡◌, ◌≢◌, ℕ, zero, suc, ◌+◌, ◌-◌, ◌<◌, ◌≤◌, List, [], ◌∷◌, ◌++◌, length, map, sym, ap, ◌∙◌, arith, refl, subst, Bool, Result, Ok, Err, MatchResult, OnOk, Option, Some, None, Vec, reverse, slice_index, AllByRecursion, lt-ltb, le-ltb, reverse-append, map_push, Call, Immediate, Blocking, call_of, call_with, each_made, Goes, Asks, Stops, and_then, moves, TrapKind, ProgramTree, Running, pushed, SourceMove, asks_if, branched, entered_by, entered_where, on_value, performs, performs_first, returned, source_machine, source_step, waits_at, Item, context_at, HasHalted, HasStepped, IsAskThere, IsCalling, LeadsTo, IsThread, IsWaitingFrame, below_of, globals_of, running_of, to_do_by, waiting_frame_of, waiting_of, Thread, WaitingFrame, Halt, Move}
+use Rattle.source_runs.proofs.Common.{◌≡◌, ℕ, ◌+◌, ◌-◌, ◌<◌, ◌≤◌, List, [], ◌∷◌, ◌++◌, length, map, sym, ap, ◌∙◌, arith, refl, subst, Bool, Result, Ok, Err, MatchResult, OnOk, Option, Some, None, Vec, reverse, slice_index, AllByRecursion, lt-ltb, le-ltb, reverse-append, map_push, Call, Immediate, Blocking, call_of, call_with, each_made, Goes, Asks, Stops, and_then, moves, TrapKind, ProgramTree, Running, pushed, SourceMove, asks_if, entered_by, entered_where, on_value, performs, performs_first, returned, source_machine, source_step, waits_at, Item, context_at, HasHalted, HasStepped, IsAskThere, IsCalling, LeadsTo, IsThread, IsWaitingFrame, below_of, globals_of, running_of, to_do_by, waiting_frame_of, waiting_of, Thread, WaitingFrame, Halt, Move}
 use Rattle.std.specs.declared.alloc.Global.{Global}
 use Rattle.cap_word.specs.declared.modelled_calls.ModelledCall.{ModelledCall}
 use Rattle.cap_word.proofs.RunLemmas.{goes_on}
@@ -15,36 +15,12 @@ use Rattle.source_runs.specs.declared.interpreter.Move.TheVariants as move
 module _ (tree : ProgramTree) where
   -- ---- values
 
-  -- a value's trap stops the thread
-  pub trap-stops : {A : Type 0} (running : Running) (words : List ℕ) (thread : Thread) (v : Result A TrapKind) (k : A → SourceMove) (trap : TrapKind) (h : Halt) → v ≡ Err trap → h ≡ halt.Trap trap → running.globals ≡ globals_of tree words → HasStepped tree (on_value running v k) thread words (Err h)
-  trap-stops running words thread v k trap h e is same =
-      subst (λ (x : Halt). HasStepped tree (on_value running v k) thread words (Err x)) (sym is)
-      (ap (λ x. on_value running x k) e ∙ ap (λ (g : List (List ℕ)). Stops (record { trap = Some trap; globals = g })) same)
-
-  pub halt-stops : {A : Type 0} (running : Running) (words : List ℕ) (thread : Thread) (v : Result A TrapKind) (k : A → SourceMove) (h : Halt) → HasHalted v h → running.globals ≡ globals_of tree words → HasStepped tree (on_value running v k) thread words (Err h)
-  halt-stops running words thread v k (halt.Trap trap) e same = trap-stops running words thread v k trap (halt.Trap trap) e refl same
+  -- a value's trap stops the thread; out of memory says nothing
+  pub halt-stops : {A : Type 0} (running : Running) (words : List ℕ) (thread : Thread) (v : Result A TrapKind) (k : A → SourceMove) (h : Halt) → HasHalted v h →
+      running.globals ≡ globals_of tree words → HasStepped tree (on_value running v k) thread words (Err h)
+  halt-stops running words thread v k (halt.Trap trap) e same =
+      ap (λ x. on_value running x k) e ∙ ap (λ (g : List (List ℕ)). Stops (record { trap = Some trap; globals = g })) same
   halt-stops running words thread v k halt.Memory e same = tt {0}
-
-  pub memory-stops : (made : SourceMove) (words : List ℕ) (thread : Thread) (h : Halt) → h ≡ halt.Memory → HasStepped tree made thread words (Err h)
-  memory-stops made words thread h e = rw e (tt {0})
-
-  -- the same of an error that was turned into a halt
-  pub trap-from : {A : Type 0} (running : Running) (words : List ℕ) (thread : Thread) (v : Result A TrapKind) (k : A → SourceMove) (trap : TrapKind) (r : Result Move Halt) (h : Halt) → r ≡ Err h → h ≡ halt.Trap trap → v ≡ Err trap → running.globals ≡ globals_of tree words → HasStepped tree (on_value running v k) thread words r
-  trap-from running words thread v k trap r h e is was same = subst (λ (x : Result Move Halt). HasStepped tree (on_value running v k) thread words x) (sym e) (trap-stops running words thread v k trap h was is same)
-
-  pub halt-from : {A : Type 0} (running : Running) (words : List ℕ) (thread : Thread) (v : Result A TrapKind) (k : A → SourceMove) (r : Result Move Halt) (h g : Halt) → r ≡ Err h → h ≡ g → HasHalted v g → running.globals ≡ globals_of tree words → HasStepped tree (on_value running v k) thread words r
-  halt-from running words thread v k r h g e is was same = subst (λ (x : Result Move Halt). HasStepped tree (on_value running v k) thread words x) (sym e) (halt-stops running words thread v k h (subst (HasHalted v) (sym is) was) same)
-
-  pub memory-from : (made : SourceMove) (words : List ℕ) (thread : Thread) (r : Result Move Halt) (h : Halt) → r ≡ Err h → h ≡ halt.Memory → HasStepped tree made thread words r
-  memory-from made words thread r h e is = subst (λ (x : Result Move Halt). HasStepped tree made thread words x) (sym e) (memory-stops made words thread h is)
-
-  -- arguments have led to this, where an error was turned into a halt
-  pub halted-from : (made : Result (List ℕ) TrapKind) (r : Result (Vec ℕ Global) Halt) (h g : Halt) → r ≡ Err h → h ≡ g → HasHalted made g → MatchResult r (λ (v : Vec ℕ Global). made ≡ Ok v.items) (λ (x : Halt). HasHalted made x)
-  halted-from made r h g e is was = subst (λ (x : Result (Vec ℕ Global) Halt). MatchResult x (λ (v : Vec ℕ Global). made ≡ Ok v.items) (λ (y : Halt). HasHalted made y)) (sym e) (subst (HasHalted made) (sym is) was)
-
-  -- a value is used
-  pub value-used : {A : Type 0} (running : Running) (words : List ℕ) (thread : Thread) (v : Result A TrapKind) (k : A → SourceMove) (a : A) (r : Result Move Halt) → v ≡ Ok a → HasStepped tree (k a) thread words r → HasStepped tree (on_value running v k) thread words r
-  value-used running words thread v k a r e h = subst (λ x. HasStepped tree (on_value running x k) thread words r) (sym e) h
 
   pub made-so : (made other : SourceMove) (words : List ℕ) (thread : Thread) (r : Result Move Halt) → other ≡ made → HasStepped tree made thread words r → HasStepped tree other thread words r
   made-so made other words thread r e h = subst (λ x. HasStepped tree x thread words r) (sym e) h
@@ -54,24 +30,26 @@ module _ (tree : ProgramTree) where
   went-so made words thread (Ok a) r is p q goes = subst (λ (x : Result Move Halt). HasStepped tree made thread words x) (sym is) (goes p q)
   went-so made words thread (Err e) r is p q goes = subst (λ (x : Result Move Halt). HasStepped tree made thread words x) (sym is) (tt {0})
 
-  -- ---- branches
-
-  pub first-side : (running : Running) (first second : List todo.Item) (word : ℕ) → word ≢ 0 → branched running first second word ≡ Goes (steps.to_do running first)
-  first-side running first second zero h = absurd (h refl)
-  first-side running first second (suc n) h = refl
-
-  pub second-side : (running : Running) (first second : List todo.Item) (word : ℕ) → word ≡ 0 → branched running first second word ≡ Goes (steps.to_do running second)
-  second-side running first second word h = ap (branched running first second) h
+  -- ---- items
 
   -- a thread whose frame has other items to do
-  pub moved-items : (thread : Thread) (words : List ℕ) (n : Next) (stack : List Item) (items : List todo.Item) → n ≡ next.Items → to_do stack ≡ items → steps.to_do (running_of tree thread words) items ≡ steps.to_do (running_of tree thread words) (to_do_by n (to_do stack))
-  moved-items thread words n stack items is e = ap (λ (m : Next). steps.to_do (running_of tree thread words) (to_do_by m items)) (sym is) ∙ ap (λ (xs : List todo.Item). steps.to_do (running_of tree thread words) (to_do_by n xs)) (sym e)
-
-  pub goes-with : (thread : Thread) (words : List ℕ) (vec : Vec Item Global) (made : SourceMove) (items : List todo.Item) → made ≡ Goes (steps.to_do (running_of tree thread words) items) → thread.front.next ≡ next.Items → to_do vec.items ≡ items → IsThread tree thread words → AreItems (context_at tree thread.front.function) vec.items → HasStepped tree made (record thread { front = record thread.front { items = vec } }) words (Ok move.Goes)
-  goes-with thread words vec made items e is list h fits = (
-    e ∙ ap (λ (r : Running). Goes r) (moved-items thread words thread.front.next vec.items items is list),
+  pub goes-with : (thread : Thread) (words : List ℕ) (vec : Vec Item Global) (items : List todo.Item) → thread.front.next ≡ next.Items →
+      IsThread tree thread words → to_do vec.items ≡ items → AreItems (context_at tree thread.front.function) vec.items →
+      HasStepped tree (Goes (steps.to_do (running_of tree thread words) items)) (record thread { front = record thread.front { items = vec } })
+      words (Ok move.Goes)
+  goes-with thread words vec items is h list fits = (
+    rw (is, list) refl,
     record { front = record { function = h.front.function; full = h.front.full; items = fits }; place = h.place; below = h.below; globals = h.globals },
   )
+
+  -- the same where memory was wanted for them
+  pub pushed-so : {E : Type 0} (thread : Thread) (words : List ℕ) (vec : Vec Item Global) (items : List todo.Item) (pushed : Result (Unit {0}) E)
+      (r : Result Move Halt) → MatchResult pushed (λ _. r ≡ Ok move.Goes) (λ _. r ≡ Err halt.Memory) → thread.front.next ≡ next.Items →
+      IsThread tree thread words → OnOk pushed (to_do vec.items ≡ items) → OnOk pushed (AreItems (context_at tree thread.front.function) vec.items) →
+      HasStepped tree (Goes (steps.to_do (running_of tree thread words) items)) (record thread { front = record thread.front { items = vec } }) words r
+  pushed-so thread words vec items pushed r went is h list fits =
+      went-so (Goes (steps.to_do (running_of tree thread words) items)) words (record thread { front = record thread.front { items = vec } }) pushed r
+      went list fits (goes-with thread words vec items is h)
 
   -- ---- the first item
 

@@ -1,5 +1,4 @@
 use Rattle.source_runs.proofs.Common.{ℕ, List, ap, ◌∙◌, err_from_is_err_and, rows_of, widths_of, sizes_at, tree_of, globals_of}
-use Rattle.source_runs.proofs.Moved.{halted-from}
 use Rattle.source_runs.proofs.Ranges.{after-none, after_words, of, range-at, values-all, values-more, values-trap}
 use Rattle.source_runs.proofs.interpreter.Interpreter.arguments.Goals as goal
 
@@ -30,12 +29,7 @@ returns c =
     values-all names globals c.args.arguments.now c.loop-argument.argument-index c.loop-argument.words.items c.loop-argument-test.false c.loop-argument.invariant
 
 pub returns-in_err-words : goal.returns-in_err-words
-returns-in_err-words c =
-    let tree = tree_of c.args.self.now in
-    let names = rows_of (sizes_at tree c.args.thread.now.front.function) c.args.thread.now.front.names.items in
-    let globals = globals_of tree c.args.globals.now.items in
-    let p = err_from_is_err_and c.from_residual.result c.from_residual.ensures.1 in
-    halted-from tree (of names globals c.args.arguments.now) c.from_residual.result p.0 _ p.1 p.2 (tt {0})
+returns-in_err-words c = let p = err_from_is_err_and c.from_residual.result c.from_residual.ensures.1 in rw (p.1, p.2) (tt {0})
 
 pub returns-in_err-word : goal.returns-in_err-word
 returns-in_err-word c =
@@ -43,16 +37,9 @@ returns-in_err-word c =
     let names = rows_of (sizes_at tree c.args.thread.now.front.function) c.args.thread.now.front.names.items in
     let globals = globals_of tree c.args.globals.now.items in
     let l = c.loop-argument in
-    let r = c.from_residual-in_err-word.result in
-    let p = err_from_is_err_and r c.from_residual-in_err-word.ensures.1 in
-    halted-from tree (of names globals c.args.arguments.now) r p.0 _ p.1 p.2
+    let p = err_from_is_err_and c.from_residual-in_err-word.result c.from_residual-in_err-word.ensures.1 in
+    rw (p.1, p.2)
     (values-trap names globals c.args.arguments.now l.argument-index c.argument-item.result l.words.items _ c.loop-argument-test.true c.argument-item.is c.in_err-word.ensures l.invariant)
 
 pub returns-in_err-push : goal.returns-in_err-push
-returns-in_err-push c =
-    let tree = tree_of c.args.self.now in
-    let names = rows_of (sizes_at tree c.args.thread.now.front.function) c.args.thread.now.front.names.items in
-    let globals = globals_of tree c.args.globals.now.items in
-    let r = c.from_residual-in_err-push.result in
-    let p = err_from_is_err_and r c.from_residual-in_err-push.ensures.1 in
-    halted-from tree (of names globals c.args.arguments.now) r p.0 _ p.1 p.2 (tt {0})
+returns-in_err-push c = let p = err_from_is_err_and c.from_residual-in_err-push.result c.from_residual-in_err-push.ensures.1 in rw (p.1, p.2) (tt {0})

@@ -1,7 +1,7 @@
-use Rattle.source_runs.proofs.Common.{ap, subst, refl, expr_tree, simple_tree, stmt_tree, performs, HasPart, item_of, part_item, to_do, Part, context_at, tree_of, running_of, Thread}
-use Rattle.source_runs.proofs.Moved.{goes-with, went-so}
-use Rattle.source_runs.proofs.Parts.{part-so, start-so, step-so, test-so}
-use Rattle.source_runs.proofs.Scopes.{condition-loop, condition-scoped, start-scoped, step-scoped}
+use Rattle.source_runs.proofs.Common.{subst, refl, simple_tree, stmt_tree, DeclareScalar, HasPart, loop_of, start_of, to_do, Part, context_at, tree_of}
+use Rattle.c_mean.specs.ToDo as todo
+use Rattle.source_runs.proofs.Moved.{pushed-so}
+use Rattle.source_runs.proofs.Scopes.{at-there, condition-loop, condition-scoped, start-scoped, step-scoped}
 use Rattle.source_runs.proofs.interpreter.Interpreter.perform.Goals as goal
 
 pub whole-requires-clause-whole : goal.whole-requires-clause-whole
@@ -23,61 +23,28 @@ pub test-requires-clause-is_loop : goal.test-requires-clause-is_loop
 test-requires-clause-is_loop c = condition-loop (context_at (tree_of c.args.self.now) c.args.thread.now.front.function) _ _ c.in-Some-condition_of.ensures
 
 pub returns-in-Whole : goal.returns-in-Whole
-returns-in-Whole c =
-    let tree = tree_of c.args.self.now in
-    let words = c.args.globals.now.items in
-    let thread = c.args.thread.now in
-    let running = running_of tree thread words in
-    let rest = to_do thread.front.items.items in
-    part-so tree running rest c.whole.new.thread c.whole.new.globals.items c.whole.result _ _ (stmt_tree c.args.item.stmt.now) c.in-Whole.is (c.whole.ensures)
+returns-in-Whole c = rw c.in-Whole.is c.whole.ensures
 
 pub returns-in-Some : goal.returns-in-Some
 returns-in-Some c =
-    let tree = tree_of c.args.self.now in
-    let words = c.args.globals.now.items in
-    let thread = c.args.thread.now in
-    let running = running_of tree thread words in
-    let rest = to_do thread.front.items.items in
-    part-so tree running rest c.perform_simple.new.thread c.perform_simple.new.globals.items c.perform_simple.result _ _ (stmt_tree c.args.item.stmt.now) c.in-Start.is (start-so tree running rest c.perform_simple.new.thread c.perform_simple.new.globals.items c.perform_simple.result (stmt_tree c.args.item.stmt.now) c.in-Start.number (simple_tree c.in-Some.simple.now) c.in-Some.ensures c.perform_simple.ensures)
+    let there = at-there (start_of (stmt_tree c.args.item.stmt.now)) c.in-Start.number (simple_tree c.in-Some.simple.now) (DeclareScalar 0) c.in-Some.ensures in
+    rw (c.in-Start.is, there) c.perform_simple.ensures
 
 pub returns-in-Some-condition_of : goal.returns-in-Some-condition_of
-returns-in-Some-condition_of c =
-    let tree = tree_of c.args.self.now in
-    let words = c.args.globals.now.items in
-    let thread = c.args.thread.now in
-    let running = running_of tree thread words in
-    let rest = to_do thread.front.items.items in
-    part-so tree running rest c.test.new.thread c.test.new.globals.items c.test.result _ _ (stmt_tree c.args.item.stmt.now) c.in-Test.is (test-so tree running rest c.test.new.thread c.test.new.globals.items c.test.result (stmt_tree c.args.item.stmt.now) (expr_tree c.in-Some-condition_of.condition.now) c.in-Some-condition_of.ensures c.test.ensures)
+returns-in-Some-condition_of c = rw (c.in-Test.is, ← c.in-Some-condition_of.ensures) c.test.ensures
 
 pub returns-in-Some-step_of : goal.returns-in-Some-step_of
-returns-in-Some-step_of c =
-    let tree = tree_of c.args.self.now in
-    let words = c.args.globals.now.items in
-    let thread = c.args.thread.now in
-    let running = running_of tree thread words in
-    let rest = to_do thread.front.items.items in
-    part-so tree running rest c.perform_simple-in-Some-step_of.new.thread c.perform_simple-in-Some-step_of.new.globals.items c.perform_simple-in-Some-step_of.result _ _ (stmt_tree c.args.item.stmt.now) c.in-Step.is (step-so tree running rest c.perform_simple-in-Some-step_of.new.thread c.perform_simple-in-Some-step_of.new.globals.items c.perform_simple-in-Some-step_of.result (stmt_tree c.args.item.stmt.now) (simple_tree c.in-Some-step_of.simple.now) c.in-Some-step_of.ensures c.perform_simple-in-Some-step_of.ensures)
+returns-in-Some-step_of c = rw (c.in-Step.is, ← c.in-Some-step_of.ensures) c.perform_simple-in-Some-step_of.ensures
 
 pub returns-in-Enter : goal.returns-in-Enter
-returns-in-Enter c =
-    let tree = tree_of c.args.self.now in
-    let words = c.args.globals.now.items in
-    let thread = c.args.thread.now in
-    let running = running_of tree thread words in
-    let rest = to_do thread.front.items.items in
-    goes-with tree thread words thread.front.items _ _ (ap (λ (p : Part). performs tree running (part_item p (stmt_tree c.args.item.stmt.now)) rest) c.in-Enter.is) c.requires.next refl c.requires.thread c.requires.thread.front.items
+returns-in-Enter c = rw c.in-Enter.is (rw c.requires.next refl, c.requires.thread)
 
 pub push_turn-requires : goal.push_turn-requires
 push_turn-requires c = subst (λ (p : Part). HasPart p (stmt_tree c.args.item.stmt.now)) c.in-Back.is c.requires.item.has
 
 pub returns-in-Back : goal.returns-in-Back
 returns-in-Back c =
-    let tree = tree_of c.args.self.now in
-    let words = c.args.globals.now.items in
-    let thread = c.args.thread.now in
-    let running = running_of tree thread words in
-    let rest = to_do thread.front.items.items in
-    let new : Thread = record thread { front = record thread.front { items = c.push_turn.new.items } } in
-    went-so tree (performs tree running (item_of c.args.item) rest) words new c.push_turn.result c.went.result c.went.ensures c.push_turn.ensures.next
-    (c.push_turn.ensures.fits (context_at tree thread.front.function) c.requires.thread.front.items c.requires.item.scoped)
-    (λ next fits. goes-with tree thread words c.push_turn.new.items _ _ (ap (λ (p : Part). performs tree running (part_item p (stmt_tree c.args.item.stmt.now)) rest) c.in-Back.is) c.requires.next next c.requires.thread fits)
+    rw c.in-Back.is
+    (pushed-so (tree_of c.args.self.now) _ _ _ (todo.turn_before (loop_of (stmt_tree c.args.item.stmt.now)) (to_do c.args.thread.now.front.items.items))
+    c.push_turn.result c.went.result c.went.ensures c.requires.next c.requires.thread c.push_turn.ensures.next
+    (c.push_turn.ensures.fits _ c.requires.thread.front.items c.requires.item.scoped))

@@ -1,5 +1,5 @@
-use Rattle.source_runs.proofs.Common.{ap, sym, ◌∙◌, refl, Ok, err_from_is_err_and, Some, option_map, expr_tree, right_tree, scoped_in_range, gives_back, returned, valued, context_at, tree_of, below_of, running_of}
-use Rattle.source_runs.proofs.Moved.{made-so, trap-from, value-used}
+use Rattle.source_runs.proofs.Common.{ap, ◌∙◌, refl, Ok, err_from_is_err_and, Some, option_map, expr_tree, right_tree, scoped_in_range, gives_back, context_at, tree_of, running_of}
+use Rattle.source_runs.proofs.Moved.{made-so}
 use Rattle.source_runs.proofs.interpreter.Interpreter.return_right.Goals as goal
 
 pub value-requires-clause-in_range : goal.value-requires-clause-in_range
@@ -12,35 +12,19 @@ call-requires-clause-scoped c = let h = rw (c.in-Some-Call.is ∙ ap Some (rw c.
 
 pub returns-in-None : goal.returns-in-None
 returns-in-None c =
-    let tree = tree_of c.args.self.now in
-    let words = c.args.globals.now.items in
-    let thread = c.args.thread.now in
-    let running = running_of tree thread words in
-    made-so tree _ (gives_back tree running (option_map right_tree c.args.value.now)) c.give_back.new.globals.items c.give_back.new.thread (Ok c.give_back.result) (ap (λ o. gives_back tree running (option_map right_tree o)) c.in-None.is) c.give_back.ensures
+    let running = running_of (tree_of c.args.self.now) c.args.thread.now c.args.globals.now.items in
+    made-so (tree_of c.args.self.now) _ _ c.give_back.new.globals.items c.give_back.new.thread (Ok c.give_back.result)
+    (ap (λ o. gives_back (tree_of c.args.self.now) running (option_map right_tree o)) c.in-None.is) c.give_back.ensures
 
 pub returns-in_err-word-in-Some-Expr : goal.returns-in_err-word-in-Some-Expr
 returns-in_err-word-in-Some-Expr c =
-    let tree = tree_of c.args.self.now in
-    let words = c.args.globals.now.items in
-    let thread = c.args.thread.now in
-    let running = running_of tree thread words in
     let p = err_from_is_err_and c.from_residual.result c.from_residual.ensures.1 in
-    made-so tree _ (gives_back tree running (option_map right_tree c.args.value.now)) words thread c.from_residual.result (ap (λ o. gives_back tree running (option_map right_tree o)) (c.in-Some-Expr.is ∙ ap Some (rw c.in-Some-Expr.is at c.in-Some-Expr.field-0-is)))
-    (trap-from tree running words thread (valued running (expr_tree c.in-Some-Expr.expr)) (returned running (below_of tree thread)) _ c.from_residual.result p.0 p.1 p.2 (sym c.in_err-word-in-Some-Expr.ensures) refl)
+    rw (c.in-Some-Expr.is, rw c.in-Some-Expr.is at c.in-Some-Expr.field-0-is, p.1, p.2, ← c.in_err-word-in-Some-Expr.ensures) refl
 
 pub returns-in_ok-word-in-Some-Expr : goal.returns-in_ok-word-in-Some-Expr
 returns-in_ok-word-in-Some-Expr c =
-    let tree = tree_of c.args.self.now in
-    let words = c.args.globals.now.items in
-    let thread = c.args.thread.now in
-    let running = running_of tree thread words in
-    made-so tree _ (gives_back tree running (option_map right_tree c.args.value.now)) c.give_back-in-Some-Expr.new.globals.items c.give_back-in-Some-Expr.new.thread (Ok c.give_back-in-Some-Expr.result) (ap (λ o. gives_back tree running (option_map right_tree o)) (c.in-Some-Expr.is ∙ ap Some (rw c.in-Some-Expr.is at c.in-Some-Expr.field-0-is)))
-    (value-used tree running c.give_back-in-Some-Expr.new.globals.items c.give_back-in-Some-Expr.new.thread (valued running (expr_tree c.in-Some-Expr.expr)) (returned running (below_of tree thread)) c.in_ok-word-in-Some-Expr.word (Ok c.give_back-in-Some-Expr.result) (sym c.in_ok-word-in-Some-Expr.ensures) c.give_back-in-Some-Expr.ensures)
+    made-so (tree_of c.args.self.now) _ _ c.give_back-in-Some-Expr.new.globals.items c.give_back-in-Some-Expr.new.thread (Ok c.give_back-in-Some-Expr.result)
+    (rw (c.in-Some-Expr.is, rw c.in-Some-Expr.is at c.in-Some-Expr.field-0-is, ← c.in_ok-word-in-Some-Expr.ensures) refl) c.give_back-in-Some-Expr.ensures
 
 pub returns-in-Some-Call : goal.returns-in-Some-Call
-returns-in-Some-Call c =
-    let tree = tree_of c.args.self.now in
-    let words = c.args.globals.now.items in
-    let thread = c.args.thread.now in
-    let running = running_of tree thread words in
-    made-so tree _ (gives_back tree running (option_map right_tree c.args.value.now)) words c.call.new.thread c.call.result (ap (λ o. gives_back tree running (option_map right_tree o)) (c.in-Some-Call.is ∙ ap Some (rw c.in-Some-Call.is at c.in-Some-Call.field-0-is))) c.call.ensures
+returns-in-Some-Call c = rw (c.in-Some-Call.is, rw c.in-Some-Call.is at c.in-Some-Call.field-0-is) c.call.ensures
