@@ -64,7 +64,8 @@ goes_from c code l t t' (Op.Flip d x) facts there simulates straight e =
 goes_from c code l t t' (Op.Bin op d x y) facts there simulates straight e =
     let first = was_there (scalar t x) (λ a. on (scalar t y) (λ b. puts t d (result_of op a b))) (Goes t') e (not_lost_goes t') in
     let second = was_there (scalar t y) (λ b. puts t d (result_of op first.value b)) (Goes t') first.move (not_lost_goes t') in
-    subst (Reaches c code l) (goes_same _ t' second.move) (bin_reaches c code l t op d x y first.value second.value facts there simulates first.is second.is)
+    subst (Reaches c code l) (goes_same _ t' second.move)
+    (bin_reaches c code l t d x y first.value second.value facts simulates first.is second.is op there)
 goes_from c code l t t' (Op.Zero x) facts there simulates straight e = subst (Reaches c code l) (goes_same _ t' e) (zero_reaches c code l t x facts there simulates)
 goes_from c code l t t' (Op.LoadGlobal d g) facts there simulates straight e = subst (Reaches c code l) (goes_same _ t' e) (load_global_reaches c code l t d g facts there simulates)
 goes_from c code l t t' (Op.StoreGlobal g x) facts there simulates straight e =

@@ -25,7 +25,6 @@ pub mod Arguments
 pub mod ModelledCalls
 pub mod Asking
 pub mod FlatSteps
-pub mod TrapSteps
 pub mod AskSteps
 pub mod Standing
 pub mod Entering

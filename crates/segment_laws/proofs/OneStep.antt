@@ -1,5 +1,5 @@
 -- What the next step of a flat thread comes to, the machine comes to.
-use Rattle.segment_laws.proofs.Common.{◌≡◌, ℕ, ◌+◌, ◌<◌, List, ◌∷◌, length, Option, Some, None, refl, sym, ap, subst, ◌∙◌, arith, length-map, Question, Finish, Goes, Asks, Stops, Op, FlatThread, FlatWaiting, Finished, Lost, standing, FlatMove, on, does, flat_step, IsWellFormed, signature_of, AreGlobals, Frame, Local, Ended, Trapped, NoRoom, local_step, Checked, AreFlatFrames, IsAtCall, CallFacts, EndsAlike, AtAsk, AsksTheSame, WaitsAlike, StopsAlike, FindsNoChunk, IsCutOff, first_of}
+use Rattle.segment_laws.proofs.Common.{◌≡◌, ℕ, ◌+◌, ◌<◌, List, ◌∷◌, length, Option, Some, None, refl, sym, ap, subst, ◌∙◌, arith, length-map, Question, Finish, Goes, Asks, Stops, TrapKind, Op, FlatThread, FlatWaiting, Finished, Lost, standing, FlatMove, on, does, flat_step, IsWellFormed, signature_of, AreGlobals, Frame, Local, Ended, Trapped, NoRoom, local_step, Checked, AreFlatFrames, IsAtCall, CallFacts, EndsAlike, AtAsk, AsksTheSame, WaitsAlike, StopsAlike, FindsNoChunk, IsCutOff, first_of}
 use Rattle.machine_world.specs.Local as local
 use Rattle.segment_laws.proofs.ReturnSteps.{return_alike, end_alike}
 use Rattle.segment_laws.proofs.AskSteps.{step_asks, step_starts}
@@ -8,10 +8,10 @@ use Rattle.segment_laws.proofs.FlatSteps.{IsStraight, function_there, step_reach
 use Rattle.segment_laws.proofs.Simulation.{Simulates, Reaches}
 use Rattle.segment_laws.proofs.Ways.{IsGoodState, Leads}
 use Rattle.segment_laws.proofs.Firsts.{step-first}
-use Rattle.segment_laws.proofs.FlatMoves.{NoQuestion, IsQuestion, asks_nothing, OnlyQuestion, model_asks, spawn_asks, NoFinish, MayStop, call_goes, goes_alone}
+use Rattle.segment_laws.proofs.FlatMoves.{NoQuestion, IsQuestion, asks_nothing, OnlyQuestion, model_asks, spawn_asks, NoFinish, call_goes}
 use Rattle.segment_laws.proofs.Needs.{NeedsFit}
 use Rattle.segment_laws.proofs.Rooms.{CallsOrCut, Came, Cut, call_or_cut, table_or_cut}
-use Rattle.segment_laws.proofs.Traps.{TrapsWith, load_local_trap, store_local_trap, load_array_trap, store_array_trap, table_trap}
+use Rattle.segment_laws.proofs.Traps.{TrapsWith, straight_trap, table_trap}
 
 -- ---- where the machine comes to
 
@@ -92,15 +92,19 @@ from_end c code l t finish ends = record {
   stops = (ap (λ (f : Finish). f.trap) ends.finish_is, subst (λ (f : Finish). AreGlobals c.flat f.globals ends.areas.globals) (sym ends.finish_is) ends.globals);
 }
 
-from_trap : (c : Checked) (code : List ℕ) (l : Local) (t : FlatThread) (finish : Finish) → TrapsWith c code l t finish → AtStop c code l finish
-from_trap c code l t finish traps = record {
+from_trap : (c : Checked) (code : List ℕ) (l : Local) (t : FlatThread) (kind : TrapKind) (finish : Finish) → TrapsWith c code l t kind finish →
+    AtStop c code l finish
+from_trap c code l t kind finish traps = record {
   count = 6;
-  at = traps.at.at;
-  end = Trapped traps.kind;
-  leads = traps.at.leads;
-  good = traps.at.good;
-  step = traps.at.step;
-  stops = (ap (λ (f : Finish). f.trap) traps.finish_is, subst (λ (f : Finish). AreGlobals c.flat f.globals traps.at.at.areas.globals) (sym traps.finish_is) traps.at.globals);
+  at = traps.at.comes.at;
+  end = Trapped kind;
+  leads = traps.at.comes.leads;
+  good = traps.at.comes.good;
+  step = traps.at.comes.move_is;
+  stops = (
+    ap (λ (f : Finish). f.trap) traps.finish_is,
+    subst (λ (f : Finish). AreGlobals c.flat f.globals traps.at.comes.at.areas.globals) (sym traps.finish_is) traps.at.globals,
+  );
 }
 
 -- ---- by the operation
@@ -116,16 +120,15 @@ module _ (c : Checked) (code : List ℕ) (facts : CodeFacts c code) (calls : Cal
   no_question t op asked waiting not e = absurd (subst NoQuestion e (asks_nothing c.flat t op not))
 
   -- an operation that stays in its frame
-  straight : (l : Local) (t : FlatThread) (op : Op) (move : FlatMove) → Simulates c l t → standing c.flat t.frame ≡ Some op → IsStraight op → (IsQuestion op → ⊥) → ((finish : Finish) → does c.flat t op ≡ Stops (Finished finish) → TrapsWith c code l t finish) → flat_step c.flat t ≡ move → Outcome c code l t
-  straight l t op (Goes after) simulates stands is not traps step = Silent after step (step_reaches c code l t after op facts simulates stands is step)
-  straight l t op (Asks asked waiting) simulates stands is not traps step = no_question t op asked waiting not (does_is t op (Asks asked waiting) stands step)
-  straight l t op (Stops (Finished finish)) simulates stands is not traps step = Stopping finish step (from_trap c code l t finish (traps finish (does_is t op (Stops (Finished finish)) stands step)))
-  straight l t op (Stops Lost) simulates stands is not traps step = Losing step
-
-  -- one that never traps
-  quiet : (l : Local) (t : FlatThread) (op : Op) → Simulates c l t → standing c.flat t.frame ≡ Some op → IsStraight op → (IsQuestion op → ⊥) → (MayStop op → ⊥) → Outcome c code l t
-  quiet l t op simulates stands is not never =
-      straight l t op (flat_step c.flat t) simulates stands is not (λ finish e. absurd (subst NoFinish e (goes_alone c.flat t op never))) refl
+  straight : (l : Local) (t : FlatThread) (op : Op) (move : FlatMove) → Simulates c l t → standing c.flat t.frame ≡ Some op → IsStraight op →
+      (IsQuestion op → ⊥) → flat_step c.flat t ≡ move → Outcome c code l t
+  straight l t op (Goes after) simulates stands is not step = Silent after step (step_reaches c code l t after op facts simulates stands is step)
+  straight l t op (Asks asked waiting) simulates stands is not step = no_question t op asked waiting not (does_is t op (Asks asked waiting) stands step)
+  straight l t op (Stops (Finished finish)) simulates stands is not step =
+      let does = does_is t op (Stops (Finished finish)) stands step in
+      let traps = straight_trap c code l t op finish facts (there_is l t op simulates stands) simulates is does in
+      Stopping finish step (from_trap c code l t TrapKind.Index finish traps)
+  straight l t op (Stops Lost) simulates stands is not step = Losing step
 
   call : (l : Local) (t : FlatThread) (site g : ℕ) (d : Option ℕ) (args : List ℕ) (move : FlatMove) → Simulates c l t → standing c.flat t.frame ≡ Some (Op.Call site d g args) → flat_step c.flat t ≡ move → Outcome c code l t
   call l t site g d args (Goes after) simulates stands step = from_call c code l t after step (call_or_cut c code facts calls l t after site g d args simulates stands step)
@@ -137,7 +140,9 @@ module _ (c : Checked) (code : List ℕ) (facts : CodeFacts c code) (calls : Cal
   table l t site number i x d (Goes after) simulates stands step = from_call c code l t after step (table_or_cut c code facts calls l t after site number i x d formed simulates stands step)
   table l t site number i x d (Asks asked waiting) simulates stands step = no_question t (Op.CallTable site d number i x) asked waiting (λ q. q) (does_is t (Op.CallTable site d number i x) (Asks asked waiting) stands step)
   table l t site number i x d (Stops (Finished finish)) simulates stands step =
-      Stopping finish step (from_trap c code l t finish (table_trap c code l t site number i x d finish facts (there_is l t (Op.CallTable site d number i x) simulates stands) simulates (does_is t (Op.CallTable site d number i x) (Stops (Finished finish)) stands step)))
+      Stopping finish step (from_trap c code l t TrapKind.Table finish
+      (table_trap c code l t site number i x d finish facts (there_is l t (Op.CallTable site d number i x) simulates stands) simulates
+      (does_is t (Op.CallTable site d number i x) (Stops (Finished finish)) stands step)))
   table l t site number i x d (Stops Lost) simulates stands step = Losing step
 
   back : (l : Local) (t : FlatThread) (s : Option ℕ) (move : FlatMove) → Simulates c l t → standing c.flat t.frame ≡ Some (Op.Return s) → flat_step c.flat t ≡ move → Outcome c code l t
@@ -172,30 +177,12 @@ module _ (c : Checked) (code : List ℕ) (facts : CodeFacts c code) (calls : Cal
   spawn l t site g x d (Stops Lost) simulates stands step = Losing step
 
   by_op : (l : Local) (t : FlatThread) (op : Op) → Simulates c l t → standing c.flat t.frame ≡ Some op → Outcome c code l t
-  by_op l t (Op.Const d v) simulates stands = quiet l t (Op.Const d v) simulates stands tt (λ q. q) (λ q. q)
-  by_op l t (Op.Copy d s) simulates stands = quiet l t (Op.Copy d s) simulates stands tt (λ q. q) (λ q. q)
-  by_op l t (Op.Neg d s) simulates stands = quiet l t (Op.Neg d s) simulates stands tt (λ q. q) (λ q. q)
-  by_op l t (Op.Not d s) simulates stands = quiet l t (Op.Not d s) simulates stands tt (λ q. q) (λ q. q)
-  by_op l t (Op.Flip d s) simulates stands = quiet l t (Op.Flip d s) simulates stands tt (λ q. q) (λ q. q)
-  by_op l t (Op.Bin o d x y) simulates stands = quiet l t (Op.Bin o d x y) simulates stands tt (λ q. q) (λ q. q)
-  by_op l t (Op.Zero a) simulates stands = quiet l t (Op.Zero a) simulates stands tt (λ q. q) (λ q. q)
-  by_op l t (Op.LoadGlobal d g) simulates stands = quiet l t (Op.LoadGlobal d g) simulates stands tt (λ q. q) (λ q. q)
-  by_op l t (Op.StoreGlobal g s) simulates stands = quiet l t (Op.StoreGlobal g s) simulates stands tt (λ q. q) (λ q. q)
-  by_op l t (Op.Jump to) simulates stands = quiet l t (Op.Jump to) simulates stands tt (λ q. q) (λ q. q)
-  by_op l t (Op.JumpZero s to) simulates stands = quiet l t (Op.JumpZero s to) simulates stands tt (λ q. q) (λ q. q)
-  by_op l t (Op.LoadLocal d a i) simulates stands =
-      straight l t (Op.LoadLocal d a i) (flat_step c.flat t) simulates stands tt (λ q. q) (λ finish e. load_local_trap c code l t d a i finish facts (there_is l t (Op.LoadLocal d a i) simulates stands) simulates e) refl
-  by_op l t (Op.LoadArray d g i) simulates stands =
-      straight l t (Op.LoadArray d g i) (flat_step c.flat t) simulates stands tt (λ q. q) (λ finish e. load_array_trap c code l t d g i finish facts (there_is l t (Op.LoadArray d g i) simulates stands) simulates e) refl
-  by_op l t (Op.StoreLocal a i s) simulates stands =
-      straight l t (Op.StoreLocal a i s) (flat_step c.flat t) simulates stands tt (λ q. q) (λ finish e. store_local_trap c code l t a i s finish facts (there_is l t (Op.StoreLocal a i s) simulates stands) simulates e) refl
-  by_op l t (Op.StoreArray g i s) simulates stands =
-      straight l t (Op.StoreArray g i s) (flat_step c.flat t) simulates stands tt (λ q. q) (λ finish e. store_array_trap c code l t g i s finish facts (there_is l t (Op.StoreArray g i s) simulates stands) simulates e) refl
   by_op l t (Op.Call site d g args) simulates stands = call l t site g d args (flat_step c.flat t) simulates stands refl
   by_op l t (Op.CallTable site d number i x) simulates stands = table l t site number i x d (flat_step c.flat t) simulates stands refl
   by_op l t (Op.Model site d n args) simulates stands = model l t site n d args (flat_step c.flat t) simulates stands refl
   by_op l t (Op.Spawn site d g x) simulates stands = spawn l t site g x d (flat_step c.flat t) simulates stands refl
   by_op l t (Op.Return s) simulates stands = back l t s (flat_step c.flat t) simulates stands refl
+  by_op l t op simulates stands = straight l t op (flat_step c.flat t) simulates stands tt (λ q. q) refl
 
   by_standing : (l : Local) (t : FlatThread) (found : Option Op) → Simulates c l t → standing c.flat t.frame ≡ found → Outcome c code l t
   by_standing l t None simulates e = Losing (ap (λ (o : Option Op). on o (does c.flat t)) e)

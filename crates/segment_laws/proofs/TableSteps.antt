@@ -1,18 +1,17 @@
 -- Calls through a table of flat code, and the machine that stands for it.
-use Rattle.segment_laws.proofs.Common.{◌≡◌, ℕ, zero, suc, ◌+◌, ◌*◌, ◌^◌, ◌<◌, ◌≤◌, Bool, List, [], ◌∷◌, length, get_or, pos, Option, Some, refl, sym, ap, ◌∙◌, arith, ⊎_elim, cases_lt, lt-ltb, le-ltb, Finish, Goes, Stops, TrapKind, read, Op, members_of, FlatThread, Finished, Lost, pushed, standing, FlatMove, on, scalar, where_in, trapped, enters, enters_by, does, flat_step, fact_at, table_address, member_count, kind_of, Frame, Local, Checked}
+use Rattle.segment_laws.proofs.Common.{◌≡◌, ℕ, zero, suc, ◌+◌, ◌*◌, ◌^◌, ◌<◌, ◌≤◌, Bool, List, [], ◌∷◌, length, get_or, pos, Option, Some, refl, sym, ap, ◌∙◌, arith, ⊎_elim, cases_lt, lt-ltb, le-ltb, Finish, Goes, Stops, TrapKind, read, Op, members_of, FlatThread, Finished, Lost, pushed, FlatMove, scalar, where_in, trapped, enters, enters_by, fact_at, table_address, member_count, kind_of, Frame, Local, Checked}
 use Rattle.cap_word.specs.Word as word
 use Rattle.segment_laws.proofs.Calling.{row_before}
 use Rattle.segment_laws.proofs.Facts.{CodeFacts, IsOperationAt}
-use Rattle.segment_laws.proofs.FlatSteps.{function_there, was_there, goes_same}
-use Rattle.segment_laws.proofs.Guards.{IsGuarded, guard_passes, guard_traps}
+use Rattle.segment_laws.proofs.FlatSteps.{goes_same}
+use Rattle.segment_laws.proofs.Guards.{IsGuarded, guard_passes}
 use Rattle.segment_laws.proofs.Immediate.{fetch_at, is_t1, is_a0, load_immediate}
 use Rattle.segment_laws.proofs.Inside.{IsWholeWord}
 use Rattle.segment_laws.proofs.LocalArrays.{scales, adds}
 use Rattle.segment_laws.proofs.Registers.{add-small, word_of-small}
-use Rattle.segment_laws.proofs.Simulation.{During, Simulates, load_scalar}
+use Rattle.segment_laws.proofs.Simulation.{During, load_scalar}
 use Rattle.segment_laws.proofs.Straight.{one_word}
 use Rattle.segment_laws.proofs.Ways.{Leads, Leads-then}
-use Rattle.segment_laws.specs.Tables.{TableTrapsAlike}
 use Rattle.segment_laws.proofs.Entries.{count_is, few_members, load_entry}
 
 -- ---- the words before the transfer
@@ -25,13 +24,8 @@ guarded c code f n site t i x d facts there =
     let count = count_is c t there.formed.0 in
     let few = few_members c t there.formed.0 facts.tables_small in
     record {
-      e0 = refl;
-      e1 = refl;
-      e2 = refl;
-      e3 = refl;
-      e4 = refl;
-      e5 = refl;
-      e6 = refl;
+      rest = _;
+      words = refl;
       whole = λ w lt. whole_word c f site t i x w d (omega arith);
       one = one_word c f i there.formed.1;
       small = omega (arith, count, few);
@@ -91,9 +85,6 @@ first_argument xs v e (suc j) lt = absurd (omega arith)
 
 -- ---- a step of the flat thread
 
-pub goes_never : (t : FlatThread) (finish : Finish) → (let m : FlatMove = Goes t in m) ≡ Stops (Finished finish) → ⊥
-goes_never t finish e = cc
-
 pub lost_never : (finish : Finish) → (let m : FlatMove = Stops Lost in m) ≡ Stops (Finished finish) → ⊥
 lost_never finish e = cc
 
@@ -110,29 +101,3 @@ was_member c t after table k v e =
     (λ (past : length (members_of c.flat table) ≤ k).
     absurd (let trap : trapped t TrapKind.Table ≡ Goes after = sym (ap (λ (b : Bool). where_in b t TrapKind.Table move) (le-ltb k (length (members_of c.flat table)) past)) ∙ e in cc))
     (cases_lt k (length (members_of c.flat table)))
-
--- the index was out of range
-was_past : (c : Checked) (t : FlatThread) (table k v : ℕ) (finish : Finish) → enters_by (members_of c.flat table) c.flat t k v ≡ Stops (Finished finish) → (length (members_of c.flat table) ≤ k) × (finish ≡ record { trap = Some TrapKind.Table; globals = t.globals })
-was_past c t table k v finish e =
-    let move : FlatMove = enters c.flat t (get_or (members_of c.flat table) k 0) (v ∷ []) in
-    ⊎_elim
-    (λ (inside : k < length (members_of c.flat table)).
-    absurd (goes_never (entered c t (get_or (members_of c.flat table) k 0) v) finish (sym (ap (λ (b : Bool). where_in b t TrapKind.Table move) (lt-ltb k (length (members_of c.flat table)) inside)) ∙ e)))
-    (λ (past : length (members_of c.flat table) ≤ k).
-    (past, (let trap : trapped t TrapKind.Table ≡ Stops (Finished finish) = sym (ap (λ (b : Bool). where_in b t TrapKind.Table move) (le-ltb k (length (members_of c.flat table)) past)) ∙ e in cc)))
-    (cases_lt k (length (members_of c.flat table)))
-
-pub table_trap_alike : (c : Checked) (code : List ℕ) (l : Local) (t : FlatThread) (finish : Finish) (site table i x : ℕ) (d : Option ℕ) → CodeFacts c code → Simulates c l t → standing c.flat t.frame ≡ Some (Op.CallTable site d table i x) → flat_step c.flat t ≡ Stops (Finished finish) → TableTrapsAlike c code l t finish
-table_trap_alike c code l t finish site table i x d facts simulates stands step =
-    let op : Op = Op.CallTable site d table i x in
-    let there = facts.operation t.frame.function t.frame.next op (function_there c l t simulates) stands in
-    let move : does c.flat t op ≡ Stops (Finished finish) = sym (ap (λ (o : Option Op). on o (does c.flat t)) stands) ∙ step in
-    let index = was_there (scalar t i) (λ k. on (scalar t x) (enters_by (members_of c.flat table) c.flat t k)) (Stops (Finished finish)) move (lost_never finish) in
-    let value = was_there (scalar t x) (enters_by (members_of c.flat table) c.flat t index.value) (Stops (Finished finish)) index.move (lost_never finish) in
-    let past = was_past c t table index.value value.value finish value.move in
-    let count = count_is c table there.formed.0 in
-    record {
-      steps = 6;
-      comes = guard_traps c code l t op simulates.frame simulates.below i (member_count c.flat table) 2 index.value facts there (guarded c code t.frame.function t.frame.next site table i x d facts there) simulates.during index.is (omega (arith, past.0, count)) (omega arith);
-      same = past.1;
-    }

@@ -1,5 +1,5 @@
 use Rattle.segment_laws.proofs.FlatSteps.{step_reaches}
-use Rattle.segment_laws.proofs.TrapSteps.{step_traps}
+use Rattle.segment_laws.proofs.Traps.{step_traps}
 use Rattle.segment_laws.proofs.operations.straight_laws.Goals as goal
 
 pub returns-clause-steps : goal.returns-clause-steps

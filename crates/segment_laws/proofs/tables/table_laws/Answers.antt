@@ -1,5 +1,5 @@
 use Rattle.segment_laws.proofs.Rooms.{table_alike}
-use Rattle.segment_laws.proofs.TableSteps.{table_trap_alike}
+use Rattle.segment_laws.proofs.Traps.{table_trap_alike}
 use Rattle.segment_laws.proofs.tables.table_laws.Goals as goal
 
 pub returns-clause-calls : goal.returns-clause-calls
