@@ -203,9 +203,18 @@ module _ (program : ProgramTree) (image : Image) (certificate : Certificate) (sc
       let low = low_begin next.function comes.call.operation (stack_frame checked pool _ next below is.stack.2).function in
       absurd (omega (arith, comes.call.at.2, low, stub))
 
-  pub not_last : (pool : Pool) (frame : ReadFrame) (chain : List ℕ) (at : Frame) (below : List Frame) → IsReadOf checked pool frame chain at below → (at.returns ≡ 4096 → ⊥) → (next : Frame) × (rest : List Frame) × (below ≡ next ∷ rest)
+  pub record Next (pool : Pool) (frame : ReadFrame) (chain : List ℕ) (at : Frame) (below : List Frame) : Type 0 where
+    pub next : Frame
+    pub rest : List Frame
+    pub below_is : below ≡ next ∷ rest
+    pub is_read : IsReadOf checked pool frame chain at (next ∷ rest)
+    pub comes : Comes (at.returns - 4) next
+
+  pub not_last : (pool : Pool) (frame : ReadFrame) (chain : List ℕ) (at : Frame) (below : List Frame) → IsReadOf checked pool frame chain at below →
+      (at.returns ≡ 4096 → ⊥) → Next pool frame chain at below
   not_last pool frame chain at [] is stub = absurd (stub is.stack.3)
-  not_last pool frame chain at (next ∷ below) is stub = (next, below, refl)
+  not_last pool frame chain at (next ∷ below) is stub =
+      record { next = next; rest = below; below_is = refl; is_read = is; comes = next_call pool frame chain at next below is }
 
   pub low_return : (returns : ℕ) (next : Frame) → Comes (returns - 4) next → 4 ≤ returns
   low_return returns next comes = let low = low_begin next.function comes.call.operation comes.call.at.0 in omega (arith, comes.call.at.2, low)

@@ -1,30 +1,23 @@
-use Rattle.segment_run.proofs.Common.{◌≡◌, ◌-◌, ◌≤◌, refl, sym, ap, subst, ◌∙◌, set, arith, Goes, after_give, chunk_at, Areas, HeadersName, TpIsFront, unlinked, Owns, chunk_below, areas_of, thread_of, words_of-payload}
-use Rattle.segment_run.proofs.Linking.{HasFront, front_of, front_held, unlink_goes, next_found, innermost_held}
+use Rattle.segment_run.proofs.Common.{◌≡◌, ◌-◌, ◌≤◌, refl, sym, ap, subst, ◌∙◌, set, arith, Goes, IsHeld, after_give, chunk_at, Areas, HeadersName, TpIsFront, unlinked, Owns, chunk_below, areas_of, thread_of, words_of-payload}
+use Rattle.segment_run.proofs.Linking.{HasFront, front_of, unlink_goes, next_found, innermost_held}
 use Rattle.segment_run.proofs.links.unlink.Goals as goal
+use Rattle.segment_run.proofs.links.unlink.Goals.{After-areas}
+
+-- the chunk that is given back is held
+held : (c : After-areas) → IsHeld (areas_of c.areas.inside).pool c.args.thread.now.chunk
+held c =
+    let thread = c.args.thread.now in
+    innermost_held (areas_of c.areas.inside) thread (subst (λ (a : Areas). Owns (thread_of a thread)) (sym c.areas.view_is) c.requires.owns)
+    (subst (λ (a : Areas). TpIsFront a.pool (thread_of a thread).core (thread_of a thread).core.chain) (sym c.areas.view_is) c.requires.front)
 
 pub read-tp-requires-clause-id_in_range : goal.read-tp-requires-clause-id_in_range
-read-tp-requires-clause-id_in_range c =
-    let old = areas_of c.areas.inside in
-    let thread = c.args.thread.now in
-    let owns = subst (λ (a : Areas). Owns (thread_of a thread)) (sym c.areas.view_is) c.requires.owns in
-    let front = front_of old thread thread.depth refl (subst (λ (a : Areas). TpIsFront a.pool (thread_of a thread).core (thread_of a thread).core.chain) (sym c.areas.view_is) c.requires.front) in
-    (front_held old thread front.below owns front.depth).0
+read-tp-requires-clause-id_in_range c = (held (goal.at.read-tp-requires-clause-id_in_range c).After-areas).0
 
 pub read-sp-requires-clause-id_in_range : goal.read-sp-requires-clause-id_in_range
-read-sp-requires-clause-id_in_range c =
-    let old = areas_of c.areas.inside in
-    let thread = c.args.thread.now in
-    let owns = subst (λ (a : Areas). Owns (thread_of a thread)) (sym c.areas.view_is) c.requires.owns in
-    let front = front_of old thread thread.depth refl (subst (λ (a : Areas). TpIsFront a.pool (thread_of a thread).core (thread_of a thread).core.chain) (sym c.areas.view_is) c.requires.front) in
-    (front_held old thread front.below owns front.depth).0
+read-sp-requires-clause-id_in_range c = (held (goal.at.read-sp-requires-clause-id_in_range c).After-areas).0
 
 pub give-requires : goal.give-requires
-give-requires c =
-    let old = areas_of c.areas.inside in
-    let thread = c.args.thread.now in
-    let owns = subst (λ (a : Areas). Owns (thread_of a thread)) (sym c.areas.view_is) c.requires.owns in
-    let front = front_of old thread thread.depth refl (subst (λ (a : Areas). TpIsFront a.pool (thread_of a thread).core (thread_of a thread).core.chain) (sym c.areas.view_is) c.requires.front) in
-    front_held old thread front.below owns front.depth
+give-requires c = held (goal.at.give-requires c).After-areas
 
 pub returns : goal.returns
 returns c =
@@ -48,16 +41,10 @@ returns c =
 
 pub read-tp-requires-clause-word_in_range : goal.read-tp-requires-clause-word_in_range
 read-tp-requires-clause-word_in_range c =
-    let old = areas_of c.areas.inside in
-    let thread = c.args.thread.now in
-    let owns = subst (λ (a : Areas). Owns (thread_of a thread)) (sym c.areas.view_is) c.requires.owns in
-    let front = subst (λ (a : Areas). TpIsFront a.pool (thread_of a thread).core (thread_of a thread).core.chain) (sym c.areas.view_is) c.requires.front in
-    omega (arith, words_of-payload old.pool thread.chunk c.areas.invariant.pool (innermost_held old thread owns front).0)
+    let is = held (goal.at.read-tp-requires-clause-word_in_range c).After-areas in
+    omega (arith, words_of-payload (areas_of c.areas.inside).pool c.args.thread.now.chunk c.areas.invariant.pool is.0)
 
 pub read-sp-requires-clause-word_in_range : goal.read-sp-requires-clause-word_in_range
 read-sp-requires-clause-word_in_range c =
-    let old = areas_of c.areas.inside in
-    let thread = c.args.thread.now in
-    let owns = subst (λ (a : Areas). Owns (thread_of a thread)) (sym c.areas.view_is) c.requires.owns in
-    let front = subst (λ (a : Areas). TpIsFront a.pool (thread_of a thread).core (thread_of a thread).core.chain) (sym c.areas.view_is) c.requires.front in
-    omega (arith, words_of-payload old.pool thread.chunk c.areas.invariant.pool (innermost_held old thread owns front).0)
+    let is = held (goal.at.read-sp-requires-clause-word_in_range c).After-areas in
+    omega (arith, words_of-payload (areas_of c.areas.inside).pool c.args.thread.now.chunk c.areas.invariant.pool is.0)

@@ -1,10 +1,12 @@
-use Rattle.segment_run.proofs.Common.{◌≡◌, ℕ, [], sym, ap, ◌∙◌, subst, ◌<◌, arith, Option, Some, None, true, false, ◌↔◌, IsNone, accepted_tree, Local, with_header, checked_of, code_of, AreOf, IsReady, areas_of, first_arguments, IsStarted, fact_at, Certificate, words_of-payload, Context, Areas}
+use Rattle.segment_run.proofs.Common.{◌≡◌, ℕ, [], sym, ap, ◌∙◌, subst, ◌<◌, arith, Option, Some, None, true, false, ◌↔◌, IsNone, accepted_tree, Local, with_header, checked_of, code_of, local_of, AreOf, IsReady, areas_of, first_arguments, IsStarted, fact_at, Certificate, words_of-payload, Context, Areas}
 use Rattle.c_mean.specs.Frames.{pushed, function_at}
 use Rattle.chunk_pool.specs.Pool.{Pool, with_word, Taken, taken_for, IsTaken, FitsNone, shape_of}
 use Rattle.machine_world.specs.StandsFor.{Starts, StandsForThread}
+use Rattle.segment_laws.specs.Around.{new_thread}
 use Rattle.segment_run.proofs.NewThread.{made, before, new_ready, new_source, written}
-use Rattle.segment_run.proofs.Taking.{takes_for, takes_none, shape-take, AreOf-same}
+use Rattle.segment_run.proofs.Taking.{TakesOne, takes_for, takes_none, shape-take, AreOf-same}
 use Rattle.segment_run.proofs.starting.start.Goals as goal
+use Rattle.segment_run.proofs.starting.start.Goals.{After-bytes_of}
 
 -- ---- where no free chunk fits
 
@@ -61,41 +63,54 @@ returns-clause-areas c =
     (ap shape_of pools ∙ shape-take old.pool c.take.new.self c.fact_of-fact.result.now.bound c.take.result c.take.ensures.taken)
     (subst (AreOf c.args.accepted.now) (sym c.areas.view_is) c.requires.areas)
 
+abbrev context : After-bytes_of → Context
+context c =
+    let x = written c.place_of-place.result c.bytes_of.result c.args.argument in
+    record { pc = c.fact_of-fact.result.now.entry; x = x; chunk = c.in_ok-chunk.chunk; depth = 1 }
+
+abbrev after : After-bytes_of → Areas
+after c = record (areas_of c.areas.inside) { pool = c.write-2.new.self }
+
+-- the chunk that was taken, and the machine's new thread on it
+begun : (c : After-bytes_of) →
+    (one : TakesOne (areas_of c.areas.inside).pool (fact_at c.args.accepted.now.certificate c.args.function).bound c.in_ok-chunk.chunk c.take.new.self) ×
+    (local_of (after c) (context c) ≡ new_thread (checked_of c.args.accepted.now) (areas_of c.areas.inside) one.taken c.args.function c.args.argument)
+begun c =
+    let old = areas_of c.areas.inside in
+    let chunk = c.in_ok-chunk.chunk in
+    let fact = c.fact_of-fact.ensures ∙ ap (λ (k : Certificate). fact_at k c.args.function) c.certificate.ensures in
+    let one = takes_for old.pool c.take.new.self (fact_at c.args.accepted.now.certificate c.args.function).bound chunk
+    (subst (λ (n : ℕ). IsTaken (taken_for old.pool n) (Some chunk) old.pool c.take.new.self) (ap (λ k. k.bound) fact) c.in_ok-chunk.ensures.taken) in
+    let pools : c.write-2.new.self ≡ with_header one.taken.pool one.taken.chunk 0 0 =
+    c.write-2.ensures.after ∙ ap (λ (q : Pool). with_word q chunk 1 0) (c.write.ensures.after ∙ ap (λ (q : Pool). with_word q chunk 0 0) one.pool)
+    ∙ ap (λ (id : ℕ). with_header one.taken.pool id 0 0) one.chunk in
+    let same = made (checked_of c.args.accepted.now) old one.taken c.write-2.new.self _ _ _ c.args.function c.args.argument chunk
+    pools (ap (λ k. k.entry) fact) one.chunk c.place_of-place.ensures.place c.bytes_of.ensures.value in
+    (one, same)
+
 pub returns-clause-ready : goal.returns-clause-ready
 returns-clause-ready c =
-    let accepted = c.args.accepted.now in
-    let old = areas_of c.areas.inside in
+    let a = c.args.accepted.now in
     let f = c.args.function in
-    let fact = c.fact_of-fact.ensures ∙ ap (λ (k : Certificate). fact_at k f) c.certificate.ensures in
-    let need = (fact_at accepted.certificate f).bound in
-    let one = takes_for old.pool c.take.new.self need c.in_ok-chunk.chunk
-    (subst (λ (n : ℕ). IsTaken (taken_for old.pool n) (Some c.in_ok-chunk.chunk) old.pool c.take.new.self) (ap (λ k. k.bound) fact) c.in_ok-chunk.ensures.taken) in
-    let is = before accepted old f c.is_valid.ensures c.areas.invariant (subst (AreOf accepted) (sym c.areas.view_is) c.requires.areas) c.requires.function in
-    let pools : c.write-2.new.self ≡ with_header one.taken.pool one.taken.chunk 0 0 =
-    c.write-2.ensures.after ∙ ap (λ (q : Pool). with_word q c.in_ok-chunk.chunk 1 0) (c.write.ensures.after ∙ ap (λ (q : Pool). with_word q c.in_ok-chunk.chunk 0 0) one.pool)
-    ∙ ap (λ (id : ℕ). with_header one.taken.pool id 0 0) one.chunk in
-    let entry : c.fact_of-fact.result.now.entry ≡ (fact_at accepted.certificate f).entry = ap (λ fact. fact.entry) (c.fact_of-fact.ensures ∙ ap (λ (k : Certificate). fact_at k f) c.certificate.ensures) in
-    subst (IsReady (checked_of accepted) (code_of accepted))
-    (sym (made (checked_of accepted) old one.taken c.write-2.new.self c.fact_of-fact.result.now.entry c.place_of-place.result c.bytes_of.result f c.args.argument c.in_ok-chunk.chunk pools entry one.chunk c.place_of-place.ensures.place c.bytes_of.ensures.value))
-    (new_ready (accepted_tree accepted) accepted.image accepted.certificate accepted.program.well_scoped c.is_valid.ensures old one.taken need f c.args.argument is.form one.is (omega arith) is.there c.ranges.argument.fits)
+    let (one, is) = begun (goal.at.returns-clause-ready c).After-bytes_of in
+    let of = subst (AreOf a) (sym c.areas.view_is) c.requires.areas in
+    let first = before a (areas_of c.areas.inside) f c.is_valid.ensures c.areas.invariant of c.requires.function in
+    subst (IsReady (checked_of a) (code_of a)) (sym is)
+    (new_ready (accepted_tree a) a.image a.certificate a.program.well_scoped c.is_valid.ensures (areas_of c.areas.inside) one.taken
+    (fact_at a.certificate f).bound f c.args.argument first.form one.is (omega arith) first.there c.ranges.argument.fits)
 
 pub returns-clause-source : goal.returns-clause-source
 returns-clause-source c = λ globals are.
-    let accepted = c.args.accepted.now in
-    let old = areas_of c.areas.inside in
+    let a = c.args.accepted.now in
+    let tree = accepted_tree a in
     let f = c.args.function in
-    let fact = c.fact_of-fact.ensures ∙ ap (λ (k : Certificate). fact_at k f) c.certificate.ensures in
-    let need = (fact_at accepted.certificate f).bound in
-    let one = takes_for old.pool c.take.new.self need c.in_ok-chunk.chunk
-    (subst (λ (n : ℕ). IsTaken (taken_for old.pool n) (Some c.in_ok-chunk.chunk) old.pool c.take.new.self) (ap (λ k. k.bound) fact) c.in_ok-chunk.ensures.taken) in
-    let is = before accepted old f c.is_valid.ensures c.areas.invariant (subst (AreOf accepted) (sym c.areas.view_is) c.requires.areas) c.requires.function in
-    let pools : c.write-2.new.self ≡ with_header one.taken.pool one.taken.chunk 0 0 =
-    c.write-2.ensures.after ∙ ap (λ (q : Pool). with_word q c.in_ok-chunk.chunk 1 0) (c.write.ensures.after ∙ ap (λ (q : Pool). with_word q c.in_ok-chunk.chunk 0 0) one.pool)
-    ∙ ap (λ (id : ℕ). with_header one.taken.pool id 0 0) one.chunk in
-    let entry : c.fact_of-fact.result.now.entry ≡ (fact_at accepted.certificate f).entry = ap (λ fact. fact.entry) (c.fact_of-fact.ensures ∙ ap (λ (k : Certificate). fact_at k f) c.certificate.ensures) in
-    subst (λ (l : Local). StandsForThread (checked_of accepted) (accepted_tree accepted) l (Starts (pushed (accepted_tree accepted) f (first_arguments (function_at (accepted_tree accepted) f).params c.args.argument)) []) globals)
-    (sym (made (checked_of accepted) old one.taken c.write-2.new.self c.fact_of-fact.result.now.entry c.place_of-place.result c.bytes_of.result f c.args.argument c.in_ok-chunk.chunk pools entry one.chunk c.place_of-place.ensures.place c.bytes_of.ensures.value))
-    (new_source (accepted_tree accepted) accepted.image accepted.certificate accepted.program.well_scoped c.is_valid.ensures old one.taken need f c.args.argument is.form one.is (omega arith) is.there c.ranges.argument.fits globals are)
+    let (one, is) = begun (goal.at.returns-clause-source c).After-bytes_of in
+    let of = subst (AreOf a) (sym c.areas.view_is) c.requires.areas in
+    let first = before a (areas_of c.areas.inside) f c.is_valid.ensures c.areas.invariant of c.requires.function in
+    let start = Starts (pushed tree f (first_arguments (function_at tree f).params c.args.argument)) [] in
+    subst (λ (l : Local). StandsForThread (checked_of a) tree l start globals) (sym is)
+    (new_source tree a.image a.certificate a.program.well_scoped c.is_valid.ensures (areas_of c.areas.inside) one.taken (fact_at a.certificate f).bound f
+    c.args.argument first.form one.is (omega arith) first.there c.ranges.argument.fits globals are)
 
 pub write-requires-clause-word_in_range : goal.write-requires-clause-word_in_range
 write-requires-clause-word_in_range c =
@@ -108,20 +123,9 @@ write-requires-2-clause-word_in_range c =
 
 pub returns-clause-machine : goal.returns-clause-machine
 returns-clause-machine c =
-    let accepted = c.args.accepted.now in
-    let old = areas_of c.areas.inside in
-    let f = c.args.function in
-    let fact = c.fact_of-fact.ensures ∙ ap (λ (k : Certificate). fact_at k f) c.certificate.ensures in
-    let need = (fact_at accepted.certificate f).bound in
-    let one = takes_for old.pool c.take.new.self need c.in_ok-chunk.chunk
-    (subst (λ (n : ℕ). IsTaken (taken_for old.pool n) (Some c.in_ok-chunk.chunk) old.pool c.take.new.self) (ap (λ k. k.bound) fact) c.in_ok-chunk.ensures.taken) in
-    let pools : c.write-2.new.self ≡ with_header one.taken.pool one.taken.chunk 0 0 =
-    c.write-2.ensures.after ∙ ap (λ (q : Pool). with_word q c.in_ok-chunk.chunk 1 0) (c.write.ensures.after ∙ ap (λ (q : Pool). with_word q c.in_ok-chunk.chunk 0 0) one.pool)
-    ∙ ap (λ (id : ℕ). with_header one.taken.pool id 0 0) one.chunk in
-    let entry : c.fact_of-fact.result.now.entry ≡ (fact_at accepted.certificate f).entry = ap (λ fact. fact.entry) (c.fact_of-fact.ensures ∙ ap (λ (k : Certificate). fact_at k f) c.certificate.ensures) in
-    let is = made (checked_of accepted) old one.taken c.write-2.new.self c.fact_of-fact.result.now.entry c.place_of-place.result c.bytes_of.result f c.args.argument c.in_ok-chunk.chunk pools entry one.chunk c.place_of-place.ensures.place c.bytes_of.ensures.value in
-    let context : Context = record { pc = c.fact_of-fact.result.now.entry; x = written c.place_of-place.result c.bytes_of.result c.args.argument; chunk = c.in_ok-chunk.chunk; depth = 1 } in
-    let after : Areas = record old { pool = c.write-2.new.self } in
-    subst (λ (a : Areas). IsStarted (taken_for a.pool need) (fact_at accepted.certificate f).entry c.args.argument (Some context) a after) c.areas.view_is
-    (subst (λ (o : Option Taken). IsStarted o (fact_at accepted.certificate f).entry c.args.argument (Some context) old after) (sym one.is)
+    let at = (goal.at.returns-clause-machine c).After-bytes_of in
+    let fact = fact_at c.args.accepted.now.certificate c.args.function in
+    let (one, is) = begun at in
+    subst (λ (a : Areas). IsStarted (taken_for a.pool fact.bound) fact.entry c.args.argument (Some (context at)) a (after at)) c.areas.view_is
+    (subst (λ (o : Option Taken). IsStarted o fact.entry c.args.argument (Some (context at)) (areas_of c.areas.inside) (after at)) (sym one.is)
     (ap (λ (l : Local). l.core) is, ap (λ (l : Local). l.areas) is))
