@@ -63,57 +63,46 @@ module _ (number : ℕ) where
   apart_rows (Some r ∷ ps) zero other none there its = λ e. none.0 (eq_true _ _ its ∙ sym e)
   apart_rows (Some r ∷ ps) (suc k) other none there its = apart_rows ps k other none.1 (omega arith) its
 
-  head_apart : (r : Row) (ps : List (Option Row)) (k : ℕ) → AreOnce (clients_of (Some r ∷ ps)) → k < length ps → is_of number (row_at ps k) ≡ true → (r.client.thread.number == number) ≡ false
-  head_apart r ps k once there its = other_number _ _ (apart_rows ps k r.client.thread.number once.0 there its)
+  -- what holds at the place of the thread, whose number no row before it has
+  at_place : (P : List (Option Row) → ℕ → Type 0) → ((ps : List (Option Row)) (k : ℕ) → P ps k → P (None ∷ ps) (suc k)) →
+      ((r : Row) (ps : List (Option Row)) → (r.client.thread.number == number) ≡ true → P (Some r ∷ ps) zero) →
+      ((r : Row) (ps : List (Option Row)) (k : ℕ) → (r.client.thread.number == number) ≡ false → P ps k → P (Some r ∷ ps) (suc k)) →
+      (ps : List (Option Row)) (k : ℕ) → AreOnce (clients_of ps) → k < length ps → is_of number (row_at ps k) ≡ true → P ps k
+  at_place P none here passed [] k once there its = absurd (omega arith)
+  at_place P none here passed (None ∷ ps) zero once there its = absurd cc
+  at_place P none here passed (None ∷ ps) (suc k) once there its = none ps k (at_place P none here passed ps k once (omega arith) its)
+  at_place P none here passed (Some r ∷ ps) zero once there its = here r ps its
+  at_place P none here passed (Some r ∷ ps) (suc k) once there its =
+      let below : k < length ps = omega arith in
+      let apart = other_number _ _ (apart_rows ps k r.client.thread.number once.0 below its) in
+      passed r ps k apart (at_place P none here passed ps k once.1 below its)
 
   pub pass_row : (ps : List (Option Row)) (k : ℕ) → AreOnce (clients_of ps) → k < length ps → is_of number (row_at ps k) ≡ true → pass_of (row_at ps k) ≡ pass_in number (clients_of ps)
-  pass_row [] k once there its = absurd (omega arith)
-  pass_row (None ∷ ps) zero once there its = absurd cc
-  pass_row (None ∷ ps) (suc k) once there its = pass_row ps k once (omega arith) its
-  pass_row (Some r ∷ ps) zero once there its = rw its refl
-  pass_row (Some r ∷ ps) (suc k) once there its =
-      let below : k < length ps = omega arith in
-      rw (head_apart r ps k once below its) (pass_row ps k once.1 below its)
+  pass_row = at_place (λ ps k. pass_of (row_at ps k) ≡ pass_in number (clients_of ps)) (λ ps k h. h) (λ r ps its. rw its refl) (λ r ps k apart h. rw apart h)
 
   pub clients_grown_at : (ps : List (Option Row)) (k : ℕ) → AreOnce (clients_of ps) → k < length ps → is_of number (row_at ps k) ≡ true →
       clients_of (slice_set ps k (row_grown (row_at ps k))) ≡ grown number (clients_of ps)
-  clients_grown_at [] k once there its = absurd (omega arith)
-  clients_grown_at (None ∷ ps) zero once there its = absurd cc
-  clients_grown_at (None ∷ ps) (suc k) once there its = clients_grown_at ps k once (omega arith) its
-  clients_grown_at (Some r ∷ ps) zero once there its = rw its refl
-  clients_grown_at (Some r ∷ ps) (suc k) once there its =
-      let below : k < length ps = omega arith in
-      rw (head_apart r ps k once below its) (ap (λ (cs : List Client). r.client ∷ cs) (clients_grown_at ps k once.1 below its))
+  clients_grown_at =
+      at_place (λ ps k. clients_of (slice_set ps k (row_grown (row_at ps k))) ≡ grown number (clients_of ps)) (λ ps k h. h)
+      (λ r ps its. rw its refl) (λ r ps k apart h. rw apart (ap (λ (cs : List Client). r.client ∷ cs) h))
 
   pub clients_emptied : (ps : List (Option Row)) (k : ℕ) → AreOnce (clients_of ps) → k < length ps → is_of number (row_at ps k) ≡ true →
       clients_of (slice_set ps k None) ≡ without number (clients_of ps)
-  clients_emptied [] k once there its = absurd (omega arith)
-  clients_emptied (None ∷ ps) zero once there its = absurd cc
-  clients_emptied (None ∷ ps) (suc k) once there its = clients_emptied ps k once (omega arith) its
-  clients_emptied (Some r ∷ ps) zero once there its = rw its refl
-  clients_emptied (Some r ∷ ps) (suc k) once there its =
-      let below : k < length ps = omega arith in
-      rw (head_apart r ps k once below its) (ap (λ (cs : List Client). r.client ∷ cs) (clients_emptied ps k once.1 below its))
+  clients_emptied =
+      at_place (λ ps k. clients_of (slice_set ps k None) ≡ without number (clients_of ps)) (λ ps k h. h)
+      (λ r ps its. rw its refl) (λ r ps k apart h. rw apart (ap (λ (cs : List Client). r.client ∷ cs) h))
 
   pub needs_told : (need : Need) (ps : List (Option Row)) (k : ℕ) → AreOnce (clients_of ps) → k < length ps → is_of number (row_at ps k) ≡ true →
       needs_in (slice_set ps k (row_told need (row_at ps k))) ≡ with_need number need (needs_in ps)
-  needs_told need [] k once there its = absurd (omega arith)
-  needs_told need (None ∷ ps) zero once there its = absurd cc
-  needs_told need (None ∷ ps) (suc k) once there its = needs_told need ps k once (omega arith) its
-  needs_told need (Some r ∷ ps) zero once there its = rw its refl
-  needs_told need (Some r ∷ ps) (suc k) once there its =
-      let below : k < length ps = omega arith in
-      rw (head_apart r ps k once below its) (ap (λ (ns : List (ℕ × Need)). (r.client.thread.number, r.need) ∷ ns) (needs_told need ps k once.1 below its))
+  needs_told need =
+      at_place (λ ps k. needs_in (slice_set ps k (row_told need (row_at ps k))) ≡ with_need number need (needs_in ps)) (λ ps k h. h)
+      (λ r ps its. rw its refl) (λ r ps k apart h. rw apart (ap (λ (ns : List (ℕ × Need)). (r.client.thread.number, r.need) ∷ ns) h))
 
   pub needs_emptied : (ps : List (Option Row)) (k : ℕ) → AreOnce (clients_of ps) → k < length ps → is_of number (row_at ps k) ≡ true →
       needs_in (slice_set ps k None) ≡ without_need number (needs_in ps)
-  needs_emptied [] k once there its = absurd (omega arith)
-  needs_emptied (None ∷ ps) zero once there its = absurd cc
-  needs_emptied (None ∷ ps) (suc k) once there its = needs_emptied ps k once (omega arith) its
-  needs_emptied (Some r ∷ ps) zero once there its = rw its refl
-  needs_emptied (Some r ∷ ps) (suc k) once there its =
-      let below : k < length ps = omega arith in
-      rw (head_apart r ps k once below its) (ap (λ (ns : List (ℕ × Need)). (r.client.thread.number, r.need) ∷ ns) (needs_emptied ps k once.1 below its))
+  needs_emptied =
+      at_place (λ ps k. needs_in (slice_set ps k None) ≡ without_need number (needs_in ps)) (λ ps k h. h)
+      (λ r ps its. rw its refl) (λ r ps k apart h. rw apart (ap (λ (ns : List (ℕ × Need)). (r.client.thread.number, r.need) ∷ ns) h))
 
 -- what holds of each client holds of that at a place
 pub row_passes : (P : Client → Type 0) (ps : List (Option Row)) (k : ℕ) (r : Row) → AllByRecursion P (clients_of ps) → row_at ps k ≡ Some r → P r.client
