@@ -80,31 +80,31 @@ module _ {X : Type 0} (key : X → ℕ) where
       (λ same. rw same (but_self number xs))
       (λ other. rw (other, other) (but_self number xs))
 
-  pub but_other : (number other : ℕ) (xs : List X) → other ≢ number → at other (but number xs) ≡ at other xs
-  but_other number other [] apart = refl
-  but_other number other (x ∷ xs) apart =
+  -- a change of those of one number keeps what is found by another
+  changed_other : (number other : ℕ) (change : List X → List X) (hit : X → List X → List X) → other ≢ number → at other (change []) ≡ None →
+      ((x : X) (xs : List X) → change (x ∷ xs) ≡ cond (nat_eq (key x) number) (hit x xs) (x ∷ change xs)) →
+      ((x : X) (xs : List X) → nat_eq (key x) other ≡ false → at other (change xs) ≡ at other xs → at other (hit x xs) ≡ at other xs) →
+      (xs : List X) → at other (change xs) ≡ at other xs
+  changed_other number other change hit apart none more passes [] = none
+  changed_other number other change hit apart none more passes (x ∷ xs) =
+      let later = changed_other number other change hit apart none more passes xs in
       by_test (nat_eq (key x) number) _
       (λ same.
       let differs : nat_eq (key x) other ≡ false = other_number (key x) other (λ e. apart (sym e ∙ eq_true (key x) number same)) in
-      rw (same, differs) (but_other number other xs apart))
-      (λ differs.
-      by_test (nat_eq (key x) other) _
-      (λ here. rw (differs, here) refl)
-      (λ later. rw (differs, later) (but_other number other xs apart)))
+      rw (more x xs, same, differs) (passes x xs differs later))
+      (λ differs. rw (more x xs, differs) (ap (λ (o : Option X). cond (nat_eq (key x) other) (Some x) o) later))
+
+  pub but_other : (number other : ℕ) (xs : List X) → other ≢ number → at other (but number xs) ≡ at other xs
+  but_other number other xs apart = changed_other number other (but number) (λ x ys. but number ys) apart refl more (λ x ys differs later. later) xs where
+    more : (x : X) (ys : List X) → but number (x ∷ ys) ≡ cond (nat_eq (key x) number) (but number ys) (x ∷ but number ys)
+    more x ys = by_test (nat_eq (key x) number) _ (λ same. rw same) (λ differs. rw differs)
 
 -- ---- clients whose pass grows, or that leave
 
 pub grown_other : (number other : ℕ) (cs : List Client) → other ≢ number → client_of other (grown number cs) ≡ client_of other cs
-grown_other number other [] apart = refl
-grown_other number other (c ∷ cs) apart =
-    by_test (nat_eq c.thread.number number) _
-    (λ same.
-    let differs : nat_eq c.thread.number other ≡ false = other_number c.thread.number other (λ e. apart (sym e ∙ eq_true c.thread.number number same)) in
-    rw (same, differs) refl)
-    (λ differs.
-    by_test (nat_eq c.thread.number other) _
-    (λ here. rw (differs, here) refl)
-    (λ later. rw (differs, later) (grown_other number other cs apart)))
+grown_other number other cs apart =
+    changed_other (λ (c : Client). c.thread.number) number other (grown number) (λ c rest. with_growth c ∷ rest) apart refl (λ c rest. refl)
+    (λ c rest differs later. rw differs refl) cs
 
 pub grown_self : (number : ℕ) (cs : List Client) (c : Client) → client_of number cs ≡ Some c → client_of number (grown number cs) ≡ Some (with_growth c)
 grown_self number [] c e = absurd (cc)
@@ -114,16 +114,9 @@ grown_self number (x ∷ xs) c e =
     (λ other. let later : client_of number xs ≡ Some c = rw other at e in rw (other, other) (grown_self number xs c later))
 
 pub without_other : (number other : ℕ) (cs : List Client) → other ≢ number → client_of other (without number cs) ≡ client_of other cs
-without_other number other [] apart = refl
-without_other number other (c ∷ cs) apart =
-    by_test (nat_eq c.thread.number number) _
-    (λ same.
-    let differs : nat_eq c.thread.number other ≡ false = other_number c.thread.number other (λ e. apart (sym e ∙ eq_true c.thread.number number same)) in
-    rw (same, differs) refl)
-    (λ differs.
-    by_test (nat_eq c.thread.number other) _
-    (λ here. rw (differs, here) refl)
-    (λ later. rw (differs, later) (without_other number other cs apart)))
+without_other number other cs apart =
+    changed_other (λ (c : Client). c.thread.number) number other (without number) (λ c rest. rest) apart refl (λ c rest. refl)
+    (λ c rest differs later. refl) cs
 
 pub without_self : (number : ℕ) (cs : List Client) → AreOnce cs → client_of number (without number cs) ≡ None
 without_self number [] once = refl

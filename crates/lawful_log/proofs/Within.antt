@@ -1,9 +1,9 @@
 -- How a segment goes on: steps without an entry, and each entry.
-use Rattle.lawful_log.proofs.Common.{◌≡◌, ◌≢◌, ℕ, zero, suc, ◌+◌, ◌-◌, ◌<◌, List, [], ◌∷◌, ◌++◌, length, Option, Some, None, refl, sym, ap, ◌∙◌, arith, subst, append_assoc, append-nil, true, false, IsSome, slice_get, AllByRecursion, keys_with, node_number, signed, Block, Stop, Waiting, key_of, newcomers, end_node, Waiter, newcomers_more, checked_of, quiet_world, after_quiet, HasRun, IsOut, IsBlock, IsEnd, rested, Setup, setting_of, Segment, State, IsCutBy, IsStopped, IsNumbered, and_then, StandsForWorld, StandsForRest, IsBlockedAt, Blocked, Thread, World, Setting, Move, Goes, Puts, Spawns, Blocks, Ends, Stops, Wrong, thread_of, step_of, step_on, step, IsWellFormed, KeepsWellFormed, KeepsWellFormed-step, KeepsThread-step, AreWaiting, IsWaiting, IsWithin, Counts, Retires, StartsOne, IsOver, counts_step, free_count}
+use Rattle.lawful_log.proofs.Common.{◌≡◌, ◌≢◌, ℕ, zero, suc, ◌+◌, ◌-◌, ◌<◌, ◌≤◌, List, [], ◌∷◌, ◌++◌, length, Option, Some, None, refl, sym, ap, ◌∙◌, arith, subst, append_assoc, append-nil, true, false, IsSome, slice_get, AllByRecursion, keys_with, node_number, signed, Block, Stop, Waiting, key_of, newcomers, end_node, Waiter, newcomers_more, checked_of, quiet_world, after_quiet, HasRun, IsOut, IsBlock, IsEnd, rested, Setup, setting_of, Segment, State, IsCutBy, IsStopped, IsNumbered, and_then, StandsForWorld, StandsForRest, IsBlockedAt, Blocked, Thread, World, Setting, Move, Goes, Puts, Spawns, Blocks, Ends, Stops, Wrong, thread_of, step_of, step_on, step, IsWellFormed, KeepsWellFormed, KeepsWellFormed-step, KeepsThread-step, AreWaiting, IsWaiting, IsWithin, Counts, Retires, StartsOne, IsOver, counts_step, free_count}
 use Rattle.c_mean.specs.World as source
 use Rattle.machine_world.specs.Alone.{KeepsThread}
 use Rattle.lawful_log.proofs.Kept.{all_kept, waiting_on, waiting_started, waiting_blocked, waiting_ended}
-use Rattle.lawful_log.proofs.Own.{found_below, LeavesOwn, StandsFresh, StandsBlocked, IsBlockedSince, own_step}
+use Rattle.lawful_log.proofs.Own.{found_below, LeavesOwn, StandsBlocked, IsBlockedSince, own_step}
 
 -- ---- one more step without an entry
 
@@ -39,50 +39,57 @@ module _ (g : Setup) (state : State) (segment : Segment) (begun : ℕ) (here : W
   running_below move e fine n runs =
       let live = runs_live (setting_of g) here n runs (λ wrong. fine (sym e ∙ wrong)) in found_below n 0 here.next here.threads live.0 numbered live.1
 
+  -- what the step counts, keeps and leaves
+  module _ (move : Move) (e : step (setting_of g) here ≡ move) where
+    counted : Counts here move
+    counted = subst (Counts here) e (counts_step (setting_of g) here)
+
+    formed_by : KeepsWellFormed (checked_of g) (setting_of g) move
+    formed_by = subst (KeepsWellFormed (checked_of g) (setting_of g)) e (KeepsWellFormed-step (checked_of g) (setting_of g) here is.formed)
+
+    kept_by : (number : ℕ) → here.running ≢ Some number → number ≢ here.next → KeepsThread number here move
+    kept_by number apart old = subst (KeepsThread number here) e (KeepsThread-step (setting_of g) number here apart old)
+
+    own_by : LeavesOwn here segment.thread move
+    own_by = subst (LeavesOwn here segment.thread) e (own_step (setting_of g) here segment.thread numbered is.running)
+
   -- ---- steps without an entry
+
+  -- one more, where what waits after it is known
+  within_more : (after : World) (now : List Waiter) → quiet_world (step (setting_of g) here) ≡ Some after → after.cost ≡ here.cost + 1 →
+      after.running ≡ here.running → here.next ≤ after.next → IsWellFormed (checked_of g) (setting_of g) after →
+      now ≡ state.waiting ++ newcomers state.source after.next → AreWaiting after now → IsWithin g state segment begun after now
+  within_more after now quiet cost running next formed waiting_is threads = record {
+    under_way = is.under_way;
+    steps = suc is.steps;
+    quiet = quiet_more (setting_of g) is.steps state.machine here after is.quiet quiet;
+    cost = let before = is.cost in omega arith;
+    since = is.since;
+    formed = formed;
+    running = running ∙ is.running;
+    started = let before = is.started in omega arith;
+    waiting_is = waiting_is;
+    threads = threads;
+  }
 
   pub within_goes : (after : World) → step (setting_of g) here ≡ Goes after → IsWithin g state segment begun after waiting
   within_goes after e =
-      let counts : Retires here after = subst (Counts here) e (counts_step (setting_of g) here) in
-      let formed : IsWellFormed (checked_of g) (setting_of g) after = subst (KeepsWellFormed (checked_of g) (setting_of g)) e (KeepsWellFormed-step (checked_of g) (setting_of g) here is.formed) in
-      let kept = λ (number : ℕ) (apart : here.running ≢ Some number) (old : number ≢ here.next). subst (KeepsThread number here) e (KeepsThread-step (setting_of g) number here apart old) in
-      record {
-        under_way = is.under_way;
-        steps = suc is.steps;
-        quiet = quiet_more (setting_of g) is.steps state.machine here after is.quiet (ap quiet_world e);
-        cost = let before = is.cost in let more = counts.cost in omega arith;
-        since = is.since;
-        formed = formed;
-        running = counts.running ∙ is.running;
-        started = let more = counts.next in let before = is.started in omega arith;
-        waiting_is = is.waiting_is ∙ ap (λ (n : ℕ). state.waiting ++ newcomers state.source n) (sym counts.next);
-        threads = waiting_on here after numbered formed.counted.numbered kept waiting counts.next counts.running is.threads;
-      }
+      let counts : Retires here after = counted (Goes after) e in
+      within_more after waiting (ap quiet_world e) counts.cost counts.running (omega (arith, counts.next)) (formed_by (Goes after) e)
+      (is.waiting_is ∙ ap (λ (n : ℕ). state.waiting ++ newcomers state.source n) (sym counts.next))
+      (waiting_on here after numbered (formed_by (Goes after) e).counted.numbered (kept_by (Goes after) e) waiting counts.next counts.running is.threads)
 
   pub within_spawns : (number : ℕ) (after : World) → step (setting_of g) here ≡ Spawns number after → IsWithin g state segment begun after (waiting ++ record { thread = number; node = 0; since = 0 } ∷ [])
   within_spawns number after e =
-      let counts : StartsOne here after number = subst (Counts here) e (counts_step (setting_of g) here) in
-      let formed : IsWellFormed (checked_of g) (setting_of g) after = subst (KeepsWellFormed (checked_of g) (setting_of g)) e (KeepsWellFormed-step (checked_of g) (setting_of g) here is.formed) in
-      let kept = λ (n : ℕ) (apart : here.running ≢ Some n) (old : n ≢ here.next). subst (KeepsThread n here) e (KeepsThread-step (setting_of g) n here apart old) in
-      let fresh : StandsFresh after number = subst (LeavesOwn here segment.thread) e (own_step (setting_of g) here segment.thread numbered is.running) in
-      record {
-        under_way = is.under_way;
-        steps = suc is.steps;
-        quiet = quiet_more (setting_of g) is.steps state.machine here after is.quiet (ap quiet_world e);
-        cost = let before = is.cost in let more = counts.cost in omega arith;
-        since = is.since;
-        formed = formed;
-        running = counts.running ∙ is.running;
-        started = let more = counts.next in let before = is.started in omega arith;
-        waiting_is =
-            ap (λ (l : List Waiter). l ++ record { thread = number; node = 0; since = 0 } ∷ []) is.waiting_is
-            ∙ append_assoc state.waiting (newcomers state.source here.next) (record { thread = number; node = 0; since = 0 } ∷ [])
-            ∙ ap (λ (n : ℕ). state.waiting ++ (newcomers state.source here.next ++ record { thread = n; node = 0; since = 0 } ∷ [])) counts.number_is
-            ∙ ap (λ (l : List Waiter). state.waiting ++ l) (sym (newcomers_more state.source here.next is.started))
-            ∙ ap (λ (n : ℕ). state.waiting ++ newcomers state.source n) (sym counts.next);
-        threads = waiting_started here after numbered formed.counted.numbered kept waiting number counts fresh
-            (running_below (Spawns number after) e (λ wrong. absurd (cc))) is.threads;
-      }
+      let counts : StartsOne here after number = counted (Spawns number after) e in
+      let new : ℕ → List Waiter = λ n. record { thread = n; node = 0; since = 0 } ∷ [] in
+      within_more after (waiting ++ new number) (ap quiet_world e) counts.cost counts.running (omega (arith, counts.next)) (formed_by (Spawns number after) e)
+      (ap (λ (l : List Waiter). l ++ new number) is.waiting_is ∙ append_assoc state.waiting (newcomers state.source here.next) (new number)
+      ∙ ap (λ (n : ℕ). state.waiting ++ (newcomers state.source here.next ++ new n)) counts.number_is
+      ∙ ap (λ (l : List Waiter). state.waiting ++ l) (sym (newcomers_more state.source here.next is.started))
+      ∙ ap (λ (n : ℕ). state.waiting ++ newcomers state.source n) (sym counts.next))
+      (waiting_started here after numbered (formed_by (Spawns number after) e).counted.numbered (kept_by (Spawns number after) e) waiting number counts
+      (own_by (Spawns number after) e) (running_below (Spawns number after) e (λ wrong. absurd (cc))) is.threads)
 
   -- ---- a value is put
 
@@ -108,20 +115,19 @@ module _ (g : Setup) (state : State) (segment : Segment) (begun : ℕ) (here : W
 
   pub within_puts : (word : ℕ) (after : World) → step (setting_of g) here ≡ Puts word after → IsWithin g (put_state word after) (put_segment word) begun after waiting
   within_puts word after e =
-      let counts : Retires here after = subst (Counts here) e (counts_step (setting_of g) here) in
-      let formed : IsWellFormed (checked_of g) (setting_of g) after = subst (KeepsWellFormed (checked_of g) (setting_of g)) e (KeepsWellFormed-step (checked_of g) (setting_of g) here is.formed) in
-      let kept = λ (number : ℕ) (apart : here.running ≢ Some number) (old : number ≢ here.next). subst (KeepsThread number here) e (KeepsThread-step (setting_of g) number here apart old) in
+      let counts : Retires here after = counted (Puts word after) e in
       record {
         under_way = refl;
         steps = 0;
         quiet = refl;
         cost = omega arith;
         since = let before = is.cost in let more = counts.cost in let since = is.since in omega arith;
-        formed = formed;
+        formed = formed_by (Puts word after) e;
         running = counts.running ∙ is.running;
         started = let more = counts.next in let before = is.started in omega arith;
         waiting_is = is.waiting_is ∙ ap (λ (n : ℕ). state.waiting ++ newcomers state.source n) (sym counts.next);
-        threads = waiting_on here after numbered formed.counted.numbered kept waiting counts.next counts.running is.threads;
+        threads = waiting_on here after numbered (formed_by (Puts word after) e).counted.numbered (kept_by (Puts word after) e) waiting
+            counts.next counts.running is.threads;
       }
 
   -- ---- the segment ends
@@ -133,10 +139,10 @@ module _ (g : Setup) (state : State) (segment : Segment) (begun : ℕ) (here : W
   cost_is after over = let before = is.cost in let more = over.cost in let since = is.since in omega arith
 
   pub over_block : (after : World) → step (setting_of g) here ≡ Blocks after → IsOver here after
-  over_block after e = subst (Counts here) e (counts_step (setting_of g) here)
+  over_block after e = counted (Blocks after) e
 
   pub over_end : (after : World) → step (setting_of g) here ≡ Ends after → IsOver here after
-  over_end after e = subst (Counts here) e (counts_step (setting_of g) here)
+  over_end after e = counted (Ends after) e
 
   newcomers_are : (after : World) (world : source.World) → IsOver here after → StandsForWorld (checked_of g) g.program after world → newcomers state.source here.next ≡ newcomers state.source (length world.threads)
   newcomers_are after world over stands =
@@ -163,7 +169,7 @@ module _ (g : Setup) (state : State) (segment : Segment) (begun : ℕ) (here : W
 
   pub rests_blocked : (after : World) (world : source.World) → step (setting_of g) here ≡ Blocks after → StandsForWorld (checked_of g) g.program after world → RestsBlocked after world
   rests_blocked after world e stands =
-      let own : StandsBlocked after segment.thread = subst (LeavesOwn here segment.thread) e (own_step (setting_of g) here segment.thread numbered is.running) in
+      let own : StandsBlocked after segment.thread = own_by (Blocks after) e in
       rests_at after world own.thread (slice_get world.threads segment.thread) own.live own.since refl
       (subst (λ (o : Option Thread). StandsForRest (checked_of g) g.program after.areas.pool o (slice_get world.threads segment.thread)) own.live (stands.threads segment.thread))
 
@@ -197,16 +203,13 @@ module _ (g : Setup) (state : State) (segment : Segment) (begun : ℕ) (here : W
   pub threads_blocked : (after : World) (world : source.World) (key : List ℕ) → step (setting_of g) here ≡ Blocks after → StandsForWorld (checked_of g) g.program after world →
       AreWaiting after (blocked_state after world key).waiting
   threads_blocked after world key e stands =
-      let over = over_block after e in
-      let formed : IsWellFormed (checked_of g) (setting_of g) after = subst (KeepsWellFormed (checked_of g) (setting_of g)) e (KeepsWellFormed-step (checked_of g) (setting_of g) here is.formed) in
-      let kept = λ (number : ℕ) (apart : here.running ≢ Some number) (old : number ≢ here.next). subst (KeepsThread number here) e (KeepsThread-step (setting_of g) number here apart old) in
-      let own : StandsBlocked after segment.thread = subst (LeavesOwn here segment.thread) e (own_step (setting_of g) here segment.thread numbered is.running) in
-      let node = node_number state.past.keys key in
-      let last : List Waiter = record { thread = segment.thread; node = node; since = after.clock } ∷ [] in
-      let all : AreWaiting after (waiting ++ last) = waiting_blocked here after numbered formed.counted.numbered kept segment.thread is.running over waiting node own is.threads in
+      let last : List Waiter = record { thread = segment.thread; node = node_number state.past.keys key; since = after.clock } ∷ [] in
+      let all : AreWaiting after (waiting ++ last) =
+      waiting_blocked here after numbered (formed_by (Blocks after) e).counted.numbered (kept_by (Blocks after) e) segment.thread is.running
+      (over_block after e) waiting (node_number state.past.keys key) (own_by (Blocks after) e) is.threads in
       subst (AreWaiting after)
       (ap (λ (l : List Waiter). l ++ last) is.waiting_is ∙ append_assoc state.waiting (newcomers state.source here.next) last
-      ∙ ap (λ (l : List Waiter). state.waiting ++ (l ++ last)) (newcomers_are after world over stands)
+      ∙ ap (λ (l : List Waiter). state.waiting ++ (l ++ last)) (newcomers_are after world (over_block after e) stands)
       ∙ sym (append_assoc state.waiting (newcomers state.source (length world.threads)) last)) all
 
   abbrev pub ended_state : World → source.World → State
@@ -221,7 +224,7 @@ module _ (g : Setup) (state : State) (segment : Segment) (begun : ℕ) (here : W
   pub end_allowed : (after : World) (world : source.World) (free : ℕ) → step (setting_of g) here ≡ Ends after → HasRun g state segment None world → StandsForWorld (checked_of g) g.program after world →
       IsSome (slice_get world.threads segment.thread) → free ≡ free_count after.areas.pool → IsEnd g state segment.thread cost_of free (ended_state after world)
   end_allowed after world free e run stands there free_is =
-      let gone : thread_of after segment.thread ≡ None = subst (LeavesOwn here segment.thread) e (own_step (setting_of g) here segment.thread numbered is.running) in
+      let gone : thread_of after segment.thread ≡ None = own_by (Ends after) e in
       record {
         segment = segment;
         steps = is.steps;
@@ -241,20 +244,18 @@ module _ (g : Setup) (state : State) (segment : Segment) (begun : ℕ) (here : W
 
   pub threads_ended : (after : World) (world : source.World) → step (setting_of g) here ≡ Ends after → StandsForWorld (checked_of g) g.program after world → AreWaiting after (ended_state after world).waiting
   threads_ended after world e stands =
-      let over = over_end after e in
-      let formed : IsWellFormed (checked_of g) (setting_of g) after = subst (KeepsWellFormed (checked_of g) (setting_of g)) e (KeepsWellFormed-step (checked_of g) (setting_of g) here is.formed) in
-      let kept = λ (number : ℕ) (apart : here.running ≢ Some number) (old : number ≢ here.next). subst (KeepsThread number here) e (KeepsThread-step (setting_of g) number here apart old) in
-      let gone : thread_of after segment.thread ≡ None = subst (LeavesOwn here segment.thread) e (own_step (setting_of g) here segment.thread numbered is.running) in
-      let all : AreWaiting after waiting = waiting_ended here after numbered formed.counted.numbered kept segment.thread is.running over waiting gone is.threads in
+      let all : AreWaiting after waiting =
+      waiting_ended here after numbered (formed_by (Ends after) e).counted.numbered (kept_by (Ends after) e) segment.thread is.running
+      (over_end after e) waiting (own_by (Ends after) e) is.threads in
       subst (AreWaiting after)
-      (is.waiting_is ∙ ap (λ (l : List Waiter). state.waiting ++ l) (newcomers_are after world over stands)
+      (is.waiting_is ∙ ap (λ (l : List Waiter). state.waiting ++ l) (newcomers_are after world (over_end after e) stands)
       ∙ sym (append-nil (state.waiting ++ newcomers state.source (length world.threads)))) all
 
   pub formed_after_block : (after : World) → step (setting_of g) here ≡ Blocks after → IsWellFormed (checked_of g) (setting_of g) after
-  formed_after_block after e = subst (KeepsWellFormed (checked_of g) (setting_of g)) e (KeepsWellFormed-step (checked_of g) (setting_of g) here is.formed)
+  formed_after_block after e = formed_by (Blocks after) e
 
   pub formed_after_end : (after : World) → step (setting_of g) here ≡ Ends after → IsWellFormed (checked_of g) (setting_of g) after
-  formed_after_end after e = subst (KeepsWellFormed (checked_of g) (setting_of g)) e (KeepsWellFormed-step (checked_of g) (setting_of g) here is.formed)
+  formed_after_end after e = formed_by (Ends after) e
 
   -- ---- a stop
 
@@ -296,6 +297,4 @@ module _ (g : Setup) (state : State) (segment : Segment) (begun : ℕ) (here : W
   still_by _ e formed kept = tt
 
   pub still_waiting : (move : Move) → step (setting_of g) here ≡ move → Still move
-  still_waiting move e = still_by move e
-      (subst (KeepsWellFormed (checked_of g) (setting_of g)) e (KeepsWellFormed-step (checked_of g) (setting_of g) here is.formed))
-      (λ number apart old. subst (KeepsThread number here) e (KeepsThread-step (setting_of g) number here apart old))
+  still_waiting move e = still_by move e (formed_by move e) (kept_by move e)
