@@ -23,7 +23,7 @@ not_there node queue rest other ne none = rw (not_at other node (λ e. ne (sym e
 pub passed_before : (node : ℕ) (queue : List (Option Entry)) (left rest : List (ℕ × List (Option Entry))) → left ≡ (node, queue) ∷ rest → (other : ℕ) → IsPassed rest other → node ≢ other → IsPassed left other
 passed_before node queue left rest next other none ne = subst (λ es. lookup (is_at (nat_cmp other)) es ≡ None) (sym next) (not_there node queue rest other ne none)
 
-module _ (eligible : ThreadId → Bool) (score : ℕ → ℤ) (last : ℕ → ℕ) (queues : BTreeMap ℕ (List (Option Entry))) where
+module _ (score : ℕ → ℤ) (last : ℕ → ℕ) where
   -- ---- one node more
 
   below_by_rank : (a b : Rank) → IsRankOf score last a → IsRankOf score last b → is_rank_below a b ≡ comes_before score last a.node b.node
@@ -41,56 +41,58 @@ module _ (eligible : ThreadId → Bool) (score : ℕ → ℤ) (last : ℕ → �
   no_better_passed None rank ranked own below = absurd (let e : true ≡ false = below in cc)
   no_better_passed (Some b) rank ranked own below = sym (below_by_rank rank b.rank own ranked) ∙ below
 
-  -- `more` are the nodes seen so far and this one
-  module _ (node : ℕ) (seen more : ℕ → Type 0) (best : Option Candidate) (rank : Rank) (at : IsBestOf eligible score last queues seen best)
-      (before : (other : ℕ) → IsSome (find eligible (queue_in queues other)) → more other → node ≢ other → seen other)
-      (own : IsRankOf score last rank) (of_node : rank.node ≡ node) where
-    pub IsBestOf-taken : (found : Found) → is_rank_below_best rank best ≡ true → IsFound eligible (places_in queues node) found →
-        IsBestOf eligible score last queues more (Some (record { rank = rank; place = found.place; thread = found.thread }))
-    IsBestOf-taken found below is = record {
-      ranked = own;
-      first = ap (λ (n : ℕ). find eligible (queue_in queues n)) of_node ∙ is.thread;
-      place = ap (λ (n : ℕ). position (passes_at eligible) (places_in queues n)) of_node ∙ is.place;
-      least = λ other some now.
-          ⊎_elim
-          (λ same. subst (λ n. comes_before score last n rank.node ≡ false) (of_node ∙ same) (comes_before-self score last rank.node))
-          (λ ne. no_better_new best rank other at.ranked own below (at.least other some (before other some now ne)))
-          (cases_eq node other);
-    }
+-- a node after those seen so far; `more` are these and this one
+pub record IsNext (eligible : ThreadId → Bool) (score : ℕ → ℤ) (last : ℕ → ℕ) (queues : BTreeMap ℕ (List (Option Entry))) (node : ℕ) (seen more : ℕ → Type 0)
+    (best : Option Candidate) : Type 0 where
+  pub at : IsBestOf eligible score last queues seen best
+  pub before : (other : ℕ) → IsSome (find eligible (queue_in queues other)) → more other → node ≢ other → seen other
 
-    pub IsBestOf-passed : is_rank_below_best rank best ≡ false → IsBestOf eligible score last queues more best
-    IsBestOf-passed below = record {
-      ranked = at.ranked;
-      first = at.first;
-      place = at.place;
-      least = λ other some now.
-          ⊎_elim
-          (λ same. subst (λ n. IsNoBetter score last best n) (of_node ∙ same) (no_better_passed best rank at.ranked own below))
-          (λ ne. at.least other some (before other some now ne))
-          (cases_eq node other);
-    }
-
-    pub IsBestOf-ineligible : find eligible (queue_in queues node) ≡ None → IsBestOf eligible score last queues more best
-    IsBestOf-ineligible nobody = record {
-      ranked = at.ranked;
-      first = at.first;
-      place = at.place;
-      least = λ other some now.
-          ⊎_elim
-          (λ same. absurd (not_none (find eligible (queue_in queues other)) (ap (λ (n : ℕ). find eligible (queue_in queues n)) (sym same) ∙ nobody) some))
-          (λ ne. at.least other some (before other some now ne))
-          (cases_eq node other);
-    }
-
-  -- ---- when each node with an eligible thread was seen
-
-  pub IsLawfulChoice-best : (seen : ℕ → Type 0) (best : Option Candidate) → ((node : ℕ) → IsSome (find eligible (queue_in queues node)) → seen node) → IsBestOf eligible score last queues seen best →
-      IsLawfulChoice (queue_in queues) eligible score last (choice_of best)
-  IsLawfulChoice-best seen None all at = λ node. none_if (find eligible (queue_in queues node)) (λ some. at.least node some (all node some))
-  IsLawfulChoice-best seen (Some b) all at = record {
-    first = at.first;
-    least = λ other ne some. comes_before-total score last other b.rank.node ne (at.least other some (all other some));
+module _ {eligible : ThreadId → Bool} {score : ℕ → ℤ} {last : ℕ → ℕ} {queues : BTreeMap ℕ (List (Option Entry))} {node : ℕ} {seen more : ℕ → Type 0}
+    {best : Option Candidate} (next : IsNext eligible score last queues node seen more best) where
+  pub IsBestOf-taken : {rank : Rank} (found : Found) → IsRankOf score last rank → rank.node ≡ node → is_rank_below_best rank best ≡ true →
+      IsFound eligible (places_in queues node) found →
+      IsBestOf eligible score last queues more (Some (record { rank = rank; place = found.place; thread = found.thread }))
+  IsBestOf-taken {rank} found own of_node below is = record {
+    ranked = own;
+    first = ap (λ (n : ℕ). find eligible (queue_in queues n)) of_node ∙ is.thread;
+    place = ap (λ (n : ℕ). position (passes_at eligible) (places_in queues n)) of_node ∙ is.place;
+    least = λ other some now.
+        ⊎_elim
+        (λ same. subst (λ n. comes_before score last n rank.node ≡ false) (of_node ∙ same) (comes_before-self score last rank.node))
+        (λ ne. no_better_new score last best rank other next.at.ranked own below (next.at.least other some (next.before other some now ne)))
+        (cases_eq node other);
   }
+
+  -- this node is no better
+  kept : ((other : ℕ) → node ≡ other → IsSome (find eligible (queue_in queues other)) → IsNoBetter score last best other) →
+      IsBestOf eligible score last queues more best
+  kept no_better = record {
+    ranked = next.at.ranked;
+    first = next.at.first;
+    place = next.at.place;
+    least = λ other some now.
+        ⊎_elim (λ same. no_better other same some) (λ ne. next.at.least other some (next.before other some now ne)) (cases_eq node other);
+  }
+
+  pub IsBestOf-passed : {rank : Rank} → IsRankOf score last rank → rank.node ≡ node → is_rank_below_best rank best ≡ false →
+      IsBestOf eligible score last queues more best
+  IsBestOf-passed {rank} own of_node below =
+      kept (λ other same some. subst (λ n. IsNoBetter score last best n) (of_node ∙ same) (no_better_passed score last best rank next.at.ranked own below))
+
+  pub IsBestOf-ineligible : find eligible (queue_in queues node) ≡ None → IsBestOf eligible score last queues more best
+  IsBestOf-ineligible nobody =
+      kept (λ other same some. absurd (not_none _ (ap (λ (n : ℕ). find eligible (queue_in queues n)) (sym same) ∙ nobody) some))
+
+-- ---- when each node with an eligible thread was seen
+
+pub IsLawfulChoice-best : {eligible : ThreadId → Bool} {score : ℕ → ℤ} {last : ℕ → ℕ} {queues : BTreeMap ℕ (List (Option Entry))} {seen : ℕ → Type 0}
+    (best : Option Candidate) → ((node : ℕ) → IsSome (find eligible (queue_in queues node)) → seen node) → IsBestOf eligible score last queues seen best →
+    IsLawfulChoice (queue_in queues) eligible score last (choice_of best)
+IsLawfulChoice-best None all at = λ node. none_if _ (λ some. at.least node some (all node some))
+IsLawfulChoice-best {score = score} {last = last} (Some b) all at = record {
+  first = at.first;
+  least = λ other ne some. comes_before-total score last other b.rank.node ne (at.least other some (all other some));
+}
 
 -- what `find` gives is an element
 pub Contains-find : {X : Type 0} (p : X → Bool) (xs : List X) (x : X) → find p xs ≡ Some x → Contains xs x
@@ -109,6 +111,7 @@ lawful-queued queue eligible score last None lawful = tt
 lawful-queued queue eligible score last (Some choice) lawful = Contains-find eligible (queue choice.node) choice.thread lawful.first
 
 -- a rank by the eight pressures is one by the monitor
-pub ranked : (monitor : MonitorState) (edges : List EdgeLine) (last : ℕ → ℕ) (pressures : List ℕ) (rank : Rank) → ((node : ℕ) → score_by pressures edges node ≡ score monitor edges node) →
-    IsRankOf (score_by pressures edges) last rank → IsRankOf (score monitor edges) last rank
-ranked monitor edges last pressures rank same is = record { score = is.score ∙ same rank.node; last = is.last }
+pub ranked : {last : ℕ → ℕ} {rank : Rank} (monitor : MonitorState) (edges : List EdgeLine) (pressures : List ℕ) →
+    ((node : ℕ) → score_by pressures edges node ≡ score monitor edges node) → IsRankOf (score_by pressures edges) last rank →
+    IsRankOf (score monitor edges) last rank
+ranked {rank = rank} monitor edges pressures same is = record { score = is.score ∙ same rank.node; last = is.last }
