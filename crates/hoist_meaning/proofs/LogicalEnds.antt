@@ -1,6 +1,6 @@
 -- The ends of `&&` and `||`. Where the right operand holds a call, a new name has the left one's truth, and a branch evaluates the right one
 -- where it is needed.
-use Rattle.hoist_meaning.proofs.Common.{ℕ, zero, suc, ◌≡◌, ◌+◌, ◌⊎◌, inl, inr, refl, sym, ap, subst, ◌∙◌, Bool, true, false, List, [], ◌∷◌, ◌++◌, arith, if◌then◌else◌, nat_eq, not, Ok, Err, row, width, with_word, flag, TrapKind, BinaryOperator, UnaryOperator, RawExprTree, RawLogicalAnd, RawLogicalOr, RawIf, ProgramTree, unary_value, binary_value, Value, value, on_one, on_both, truth, choice, Item, Binding, expr_faults, expr_of, Spot, inside, stmt_faults, both_none, same_number, LogicalAnd, LogicalOr, calls_in, used, declared_as, set_to, holds_call, one_if, names_in, left_of, is_true, is_false, in_block, decided, before, left_whole, AreSourceNames}
+use Rattle.hoist_meaning.proofs.Common.{ℕ, zero, suc, ◌≡◌, ◌+◌, ◌⊎◌, ⊎_elim, inl, inr, refl, sym, ap, subst, ◌∙◌, Bool, true, false, List, [], ◌∷◌, ◌++◌, arith, if◌then◌else◌, nat_eq, not, Ok, Err, row, width, with_word, flag, TrapKind, BinaryOperator, UnaryOperator, RawExprTree, RawLogicalAnd, RawLogicalOr, RawIf, ProgramTree, unary_value, binary_value, Value, value, on_one, on_both, truth, choice, Item, Binding, expr_faults, expr_of, Spot, inside, stmt_faults, both_none, same_number, LogicalAnd, LogicalOr, calls_in, used, declared_as, set_to, holds_call, one_if, names_in, left_of, is_true, is_false, in_block, decided, before, left_whole, AreSourceNames}
 use Rattle.deep_mean.specs.Evaluation.{Around, LeftOfAnd, LeftOfOr, Decides, Done, of_value, and_then, truth_of, chosen, evaluate, filled}
 use Rattle.deep_mean.specs.Naming as deep
 use Rattle.hoist_meaning.proofs.KnownSpawn.{AreFine, both_fine, one_fine}
@@ -57,7 +57,7 @@ module _ (program : ProgramTree) (ns : List ℕ) (f : ℕ) (text : Rows) (ds : L
         IsSound ns gives loop (New (k + names_in l) (v + names_in l) (with_names k v l a)) (k + names_in l + 1) (v + names_in l + 1) (site + calls_in l) r (in_branch (after_left s k l)) → (rest : List Item) →
         EndsAs program f text strict (IsLeft v (New (k + names_in l) (v + names_in l) (with_names k v l a)) (used (k + names_in l)) start) NoCall rest others next
         (items_of ns (after_left s k l) (RawIf c (in_block (before (k + names_in l + 1) r ++ set_to (k + names_in l) (is_true (left_of (k + names_in l + 1) r)) ∷ [])) ∷ []) rest) (filled text others around word)
-    by_way word others start next kept holds (inl p) one placed same sound rest =
+    by_way word others start next kept holds way one placed same sound rest =
         let h = k + names_in l in
         let x = v + names_in l in
         let b = with_names k v l a in
@@ -65,21 +65,17 @@ module _ (program : ProgramTree) (ns : List ℕ) (f : ℕ) (text : Rows) (ds : L
         let block = before (h + 1) r ++ set_to h (is_true (left_of (h + 1) r)) ∷ [] in
         let items = items_of ns t1 (RawIf c (in_block block) ∷ []) rest in
         let Leaf = IsLeft v (New h x b) (used h) start in
-        subst (λ e. EndsAs program f text strict Leaf NoCall rest others next items e) (sym p.1)
-        (EndsAs.Valued others next items (truth_of word) next (branch_passed program ns f text t1 c block others next rest (ap (λ bs. value next others (expr_of bs c)) same ∙ p.0))
-        (record { keeps = kept; is = used_value (in_tree (New h x b)) h x (truth_of word) next others (last_variable h x b) holds }))
-    by_way word others start next kept holds (inr p) one placed same sound rest =
-        let h = k + names_in l in
-        let x = v + names_in l in
-        let b = with_names k v l a in
-        let t1 = after_left s k l in
-        let block = before (h + 1) r ++ set_to h (is_true (left_of (h + 1) r)) ∷ [] in
-        let items = items_of ns t1 (RawIf c (in_block block) ∷ []) rest in
-        let Leaf = IsLeft v (New h x b) (used h) start in
-        subst (λ e. EndsAs program f text strict Leaf NoCall rest others next items e) (sym p.1)
-        (ends_on program f text strict Leaf NoCall rest next items (branch_taken program ns f text t1 c block others next 0 rest (ap (λ bs. value next others (expr_of bs c)) same ∙ p.0))
-        (branch_ends program ns f text ds gives loop r whole_r Decides truth_of is_true (λ left quiet. (quiet, tt)) truth_outcome (λ globals other. refl) strict b h x (h + 1) (x + 1) v (site + calls_in l) (in_branch t1) others start next rest
-        (omega arith) (omega arith) (omega arith) one kept placed sound))
+        let Ends = EndsAs program f text strict Leaf NoCall rest others next items in
+        let tested = ap (λ (bs : List Binding). value next others (expr_of bs c)) same in
+        ⊎_elim
+        (λ p. subst Ends (sym p.1)
+        (EndsAs.Valued others next items (truth_of word) next (branch_passed program ns f text t1 c block others next rest (tested ∙ p.0))
+        (record { keeps = kept; is = used_value (in_tree (New h x b)) h x (truth_of word) next others (last_variable h x b) holds })))
+        (λ p. subst Ends (sym p.1)
+        (ends_on program f text strict Leaf NoCall rest next items (branch_taken program ns f text t1 c block others next 0 rest (tested ∙ p.0))
+        (branch_ends program ns f text ds gives loop r whole_r Decides truth_of is_true (λ left quiet. (quiet, tt)) truth_outcome (λ globals other. refl) strict
+        b h x (h + 1) (x + 1) v (site + calls_in l) (in_branch t1) others start next rest (omega arith) (omega arith) (omega arith) one kept placed sound)))
+        way
 
     called_ends : GoesWay → (globals names : Rows) (rest : List Item) → IsPlaced text names ds a v (names_in l + 1 + names_in r) s → AreSourceNames l × AreSourceNames r →
         AreFine gives loop s (before k l ++ decided (k + names_in l) (left_of k l) c (before (k + names_in l + 1) r) (left_of (k + names_in l + 1) r)) →

@@ -161,6 +161,16 @@ module _ (text : DeepProgram) (program : ProgramTree) (ns text_calls tree_calls 
 
   -- ---- declarations
 
+  -- what holds of the variables that come next, whose sizes are known, holds of the numbers that they get
+  at_next : (P : ℕ → ℕ → Type 0) (size : ℕ) (s t : Spot) → length s.sizes ≤ 65536 → length t.sizes ≤ 65536 →
+      Grows (s.sizes ++ size ∷ []) (frames.function_at text f).sizes → Grows (t.sizes ++ size ∷ []) (function_at program f).sizes →
+      (slice_index (frames.function_at text f).sizes (length s.sizes) ≡ size → slice_index (function_at program f).sizes (length t.sizes) ≡ size →
+      P (length s.sizes) (length t.sizes)) → P (next_variable s) (next_variable t)
+  at_next P size s t few fewer one two h =
+      subst (λ i. P i (next_variable t)) (sym (below_limit (length s.sizes) (length s.sizes) refl few))
+      (subst (P (length s.sizes)) (sym (below_limit (length t.sizes) (length t.sizes) refl fewer))
+      (h (size_there s.sizes size _ one) (size_there t.sizes size _ two)))
+
   declared_places : (v : Bool) (t : List ℕ) (n m : ℕ) (a : Agreement) → AreBelow n m a → slice_index (frames.function_at text f).sizes n ≡ 1 → slice_index (function_at program f).sizes m ≡ 1 → PlacesAlike text program f a (declared_or v t n m false a) (InLocal n) (InLocal m)
   declared_places true t n m a below one two = PlacesAlike.ToFixed a n m below
   declared_places false t n m a below one two = PlacesAlike.ToDeclared a t n m below one two
@@ -188,21 +198,14 @@ module _ (text : DeepProgram) (program : ProgramTree) (ns text_calls tree_calls 
       let p = RawDeclareScalar n in
       let x = length s.sizes in
       let y = length t.sizes in
-      let v = is_fixed (find n.text (in_text a)) in
-      let few = text_few_at s p h.text_sizes in
-      let fewer = tree_few_at t p h.tree_sizes in
-      let same = size_there s.sizes 1 (frames.function_at text f).sizes h.text_sizes ∙ sym (size_there t.sizes 1 (function_at program f).sizes h.tree_sizes) in
-      let middle = declared_or v n.text x y false a in
+      let next = simple_declares x y p a in
+      let few = tree_few_at t p h.tree_sizes in
+      let zeroes = at_next (λ i j. Zeroes text program f a next (DeclareScalar i) (tree.DeclareScalar j)) 1 s t (text_few_at s p h.text_sizes) few
+      h.text_sizes h.tree_sizes (λ one two. scalar_zeroes (is_fixed (find n.text (in_text a))) n.text x y a h.place.stand.below (one ∙ sym two)) in
       record {
-        next = middle;
-        sound = record {
-          middle = middle;
-          zeroes =
-              subst (λ i. Zeroes text program f a middle (DeclareScalar i) (tree.DeclareScalar (next_variable t))) (sym (below_limit x x refl few))
-              (subst (λ j. Zeroes text program f a middle (DeclareScalar x) (tree.DeclareScalar j)) (sym (below_limit y y refl fewer)) (scalar_zeroes v n.text x y a h.place.stand.below same));
-          within = λ u w q. q;
-        };
-        place = place_next a a k s t p h h.place.stand fewer;
+        next = next;
+        sound = record { middle = next; zeroes = zeroes; within = λ u w q. q };
+        place = place_next a a k s t p h h.place.stand few;
         more = simple_more x y p a;
       }
 
@@ -211,21 +214,14 @@ module _ (text : DeepProgram) (program : ProgramTree) (ns text_calls tree_calls 
       let p = RawDeclareArray n size in
       let x = length s.sizes in
       let y = length t.sizes in
-      let v = is_fixed (find n.text (in_text a)) in
-      let few = text_few_at s p h.text_sizes in
-      let fewer = tree_few_at t p h.tree_sizes in
-      let same = size_there s.sizes size (frames.function_at text f).sizes h.text_sizes ∙ sym (size_there t.sizes size (function_at program f).sizes h.tree_sizes) in
-      let middle = declared_or v n.text x y true a in
+      let next = simple_declares x y p a in
+      let few = tree_few_at t p h.tree_sizes in
+      let zeroes = at_next (λ i j. Zeroes text program f a next (DeclareArray i size) (tree.DeclareArray j size)) size s t (text_few_at s p h.text_sizes) few
+      h.text_sizes h.tree_sizes (λ one two. array_zeroes (is_fixed (find n.text (in_text a))) n.text x y size a h.place.stand.below (one ∙ sym two)) in
       record {
-        next = middle;
-        sound = record {
-          middle = middle;
-          zeroes =
-              subst (λ i. Zeroes text program f a middle (DeclareArray i size) (tree.DeclareArray (next_variable t) size)) (sym (below_limit x x refl few))
-              (subst (λ j. Zeroes text program f a middle (DeclareArray x size) (tree.DeclareArray j size)) (sym (below_limit y y refl fewer)) (array_zeroes v n.text x y size a h.place.stand.below same));
-          within = λ u w q. q;
-        };
-        place = place_next a a k s t p h h.place.stand fewer;
+        next = next;
+        sound = record { middle = next; zeroes = zeroes; within = λ u w q. q };
+        place = place_next a a k s t p h h.place.stand few;
         more = simple_more x y p a;
       }
 
@@ -251,11 +247,11 @@ module _ (text : DeepProgram) (program : ProgramTree) (ns text_calls tree_calls 
       let y = length u.sizes in
       let v = is_fixed (find n.text (in_text c)) in
       let middle = declared_or v n.text x y false a in
-      let few = text_few_at s p h.text_sizes in
       let fewer = side_few true a k s t e own r in
       let all = (function_at program f).sizes in
       let begins : Grows (u.sizes ++ 1 ∷ []) all = subst (λ (z : Spot). Grows z.sizes all) (after_both t xs (RawDo own ∷ [])) h.tree_sizes in
-      let places = declared_places v n.text x y a (below_later true a k s t e own r) (size_there s.sizes 1 (frames.function_at text f).sizes h.text_sizes) (size_there u.sizes 1 all begins) in
+      let places = at_next (λ i j. PlacesAlike text program f a middle (InLocal i) (InLocal j)) 1 s u (text_few_at s p h.text_sizes) fewer h.text_sizes begins
+      (declared_places v n.text x y a (below_later true a k s t e own r)) in
       record {
         next = simple_declares x y p c;
         sound = record {
@@ -264,9 +260,7 @@ module _ (text : DeepProgram) (program : ProgramTree) (ns text_calls tree_calls 
           to = InLocal (next_variable u);
           in_text = SideSimple.Declares (next_variable s) (deep.expr_of s.names s.site e);
           in_tree = OwnSide.Declares (next_variable u) (side_left ns t k e);
-          places =
-              subst (λ i. PlacesAlike text program f a middle (InLocal i) (InLocal (next_variable u))) (sym (below_limit x x refl few))
-              (subst (λ j. PlacesAlike text program f a middle (InLocal x) (InLocal j)) (sym (below_limit y y refl fewer)) places);
+          places = places;
           within = declared_within v n.text x y false c a (side_within true a k s t e own r);
           side = (side_sound true a k s t e (fits_side true a k s t e own r)).sound;
         };
