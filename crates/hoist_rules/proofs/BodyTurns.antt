@@ -1,5 +1,5 @@
 -- A turn over the statements of a block, and statements with a body.
-use Rattle.hoist_rules.proofs.Common.{ℕ, ◌+◌, ◌≡◌, ◌∙◌, sym, ap, true, false, [], ◌∷◌, arith, RawExprTree, RawStmtTree, RawStmtTrees, RawBlock, RawIfElse, RawWhile, RawThen, as_body, OpeningTree, OpenBlock, OpenIf, whole, holds_call, names_in, left_of, before, stmt_names, stmts_names, hoisted, all_hoisted, no_names, Received, then_all, then_open, then_else, then_close, stmt_moves}
+use Rattle.hoist_rules.proofs.Common.{ℕ, ◌+◌, ◌≡◌, ◌∙◌, sym, ap, true, false, [], ◌∷◌, arith, RawExprTree, RawStmtTree, RawStmtTrees, RawBlock, RawIfElse, RawWhile, RawThen, as_body, OpeningTree, OpenBlock, OpenIf, whole, holds_call, names_in, left_of, before, stmt_names, stmts_names, hoisted, all_hoisted, no_names, Received, then_all, then_open, then_else, then_close, are_many}
 use Rattle.hoist_rules.proofs.Followed.{then_then, closed_then, closed_block, closed_both}
 use Rattle.hoist_rules.proofs.MovedCalls.{single, many}
 
@@ -18,10 +18,12 @@ pub whole_after : (o : OpeningTree) (k n : ℕ) (s : RawStmtTree) (r a b u : Rec
 whole_after o k n s r a b u ha hn hb hu = hu ∙ (ap then_close (hb ∙ (λ i. then_all (ha i) (hoisted (hn i) s))) ∙ closed_then o r (hoisted k s))
 
 pub block_after : (k n : ℕ) (s : RawStmtTree) (r a b u : Received) →
-    a ≡ then_open OpenBlock r → n ≡ k → b ≡ then_all a (hoisted n s) → u ≡ then_close b → stmt_moves s ≡ true → u ≡ then_all r (as_body (hoisted k s) ∷ [])
-block_after k n s r a b u ha hn hb hu h = whole_after OpenBlock k n s r a b u ha hn hb hu ∙ ap (λ x. then_all r (x ∷ [])) (sym (many s k h))
+    a ≡ then_open OpenBlock r → n ≡ k → b ≡ then_all a (hoisted n s) → u ≡ then_close b → are_many (hoisted k s) ≡ true
+    → u ≡ then_all r (as_body (hoisted k s) ∷ [])
+block_after k n s r a b u ha hn hb hu h = whole_after OpenBlock k n s r a b u ha hn hb hu ∙ ap (λ x. then_all r (x ∷ [])) (sym (many (hoisted k s) h))
 
-pub single_after : (k : ℕ) (s : RawStmtTree) (r u : Received) → u ≡ then_all r (hoisted k s) → stmt_moves s ≡ false → u ≡ then_all r (as_body (hoisted k s) ∷ [])
+pub single_after : (k : ℕ) (s : RawStmtTree) (r u : Received)
+    → u ≡ then_all r (hoisted k s) → are_many (hoisted k s) ≡ false → u ≡ then_all r (as_body (hoisted k s) ∷ [])
 single_after k s r u hu h = hu ∙ ap (then_all r) (single s k h)
 
 -- the statement is seen as `w`, and the statements of the block as `ts`

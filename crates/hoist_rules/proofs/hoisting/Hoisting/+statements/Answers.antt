@@ -47,12 +47,12 @@ body-returns-in_ok-close-clause-statements t c =
     body.block_after c.args.self.now.next c.open.new.self.next (raw_stmt_tree c.args.raw.now)
     (so_far c.args.self.now.receiver) (so_far c.open.new.self.receiver) (so_far c.statement.new.self.receiver) (so_far c.close.new.self.receiver)
     c.in_ok-open.ensures.statements c.in_ok-open.ensures.next c.in_ok-statement.ensures.statements c.in_ok-close.ensures.statements
-    (sym c.stmt_moves.ensures ∙ c.if-stmt_moves.true)
+    (sym (c.stmt_moves.ensures c.args.self.now.next) ∙ c.if-stmt_moves.true)
 
 pub body-returns-in_ok-statement-2-clause-statements : goal.body-returns-in_ok-statement-2-clause-statements
 body-returns-in_ok-statement-2-clause-statements t c =
     body.single_after c.args.self.now.next (raw_stmt_tree c.args.raw.now) (so_far c.args.self.now.receiver) (so_far c.statement-else-stmt_moves.new.self.receiver)
-    c.in_ok-statement-2.ensures.statements (sym c.stmt_moves.ensures ∙ c.if-stmt_moves.false)
+    c.in_ok-statement-2.ensures.statements (sym (c.stmt_moves.ensures c.args.self.now.next) ∙ c.if-stmt_moves.false)
 
 pub repeated-returns-clause-statements : goal.repeated-returns-clause-statements
 repeated-returns-clause-statements t c =
