@@ -7,6 +7,7 @@ pub use Rattle.std.proofs.lemmas.Bool.Decides.{nat_tests}
 pub use Rattle.std.proofs.lemmas.List.{drop-drop, length-append}
 pub use Rattle.std.proofs.lemmas.List.Sums.{sum_by-cons, sum_by-take-le}
 pub use Rattle.std.proofs.lemmas.Slice.Eq.{bytes_eq-Decides}
+pub use Rattle.std.specs.List.{list_any}
 pub use Rattle.std.specs.Prelude.{IsTrue, codes, if◌then◌else◌, nat_eq, nat_lt, not, option_map, sum, sum_by, ◌&&◌, ◌||◌}
 pub use Rattle.std.specs.Str.{bytes_eq}
 pub use Rattle.c_lex.specs.Bytes.{is_letter, is_white_space, is_word_byte}

@@ -1,8 +1,8 @@
 -- The four kinds of lines of the workload's source, token by token as they are written.
-use Rattle.workload.proofs.Common.{ℕ, ◌≡◌, ◌<◌, ◌≤◌, ◌^◌, List, [], ◌∷◌, ◌++◌, refl, lit<, arith, append_assoc, codes, canonical_decimal, IsNumber, first_line, link_line, worker_line, main_line}
+use Rattle.workload.proofs.Common.{ℕ, ◌≡◌, ◌<◌, ◌≤◌, ◌^◌, List, [], ◌∷◌, ◌++◌, refl, sym, subst, lit<, arith, append_assoc, codes, canonical_decimal, IsNumber, first_line, link_line, worker_line, main_line}
 use Rattle.c_lex.specs.declared.keywords.Keyword.TheVariants as keywords
 use Rattle.c_lex.specs.declared.marks.Mark.TheVariants as marks
-use Rattle.workload.proofs.Spelling.{Written, close, blank, keyword, mark, name, number, spell, AreWritten}
+use Rattle.workload.proofs.Spelling.{Written, from, close, blank, keyword, mark, name, number, spell, IsWritten, AreWritten}
 use Rattle.workload.proofs.Words.{keyword_written, name_written, number_written, decimal_word, decimal_number, chain_is_name, name_x, name_r, name_w, name_n, name_c, name_v, name_i, name_main, name_accept, name_wait, name_put, name_spawn}
 use Rattle.workload.proofs.Marks.{left_parenthesis, right_parenthesis, left_brace, right_brace, comma, semicolon, assign, less, plus}
 
@@ -21,44 +21,9 @@ zero_number = (IsNumber.null refl refl, lit< tt)
 one_number : IsNumber (codes "1") 1 × (1 < 2 ^ 32)
 one_number = (IsNumber.decimal (λ e. omega arith, (lit< tt, tt)) refl, lit< tt)
 
--- the first function of the chain
-abbrev pub first_pieces : List Written
-first_pieces =
-    keyword close keywords.Int
-    ∷ name blank (chain_name 0)
-    ∷ mark close marks.LeftParenthesis
-    ∷ keyword close keywords.Int
-    ∷ name blank (codes "x")
-    ∷ mark close marks.RightParenthesis
-    ∷ mark blank marks.LeftBrace
-    ∷ keyword blank keywords.Return
-    ∷ name blank (codes "x")
-    ∷ mark close marks.Semicolon
-    ∷ mark blank marks.RightBrace
-    ∷ []
-
-pub first_written : (rest : List ℕ) → AreWritten (first_pieces) (10 ∷ rest)
-first_written rest =
-    keyword_written _ _ _ tt refl
-    ⊕ name_written _ _ _ (refl, tt) (chain_is_name 0) refl
-    ⊕ left_parenthesis _ _ _ tt
-    ⊕ keyword_written _ _ _ tt refl
-    ⊕ name_written _ _ _ (refl, tt) name_x refl
-    ⊕ right_parenthesis _ _ _ tt
-    ⊕ left_brace _ _ _ (refl, tt)
-    ⊕ keyword_written _ _ _ (refl, tt) refl
-    ⊕ name_written _ _ _ (refl, tt) name_x refl
-    ⊕ semicolon _ _ _ tt
-    ⊕ right_brace _ _ _ (refl, tt)
-    ⊕ tt
-
-pub first_spelled : (rest : List ℕ) → first_line ++ rest ≡ spell (first_pieces) (10 ∷ rest)
-unfolding first_line
-first_spelled rest = simp append_assoc
-
--- function i of the chain, which calls function m
-abbrev pub link_pieces : ℕ → ℕ → List Written
-link_pieces i m =
+-- the head of function i of the chain, and its body
+abbrev with_head : ℕ → List Written → List Written
+with_head i body =
     keyword close keywords.Int
     ∷ name blank (chain_name i)
     ∷ mark close marks.LeftParenthesis
@@ -66,7 +31,44 @@ link_pieces i m =
     ∷ name blank (codes "x")
     ∷ mark close marks.RightParenthesis
     ∷ mark blank marks.LeftBrace
-    ∷ keyword blank keywords.Int
+    ∷ body
+
+head_written : (i : ℕ) (body : List Written) (rest after : List ℕ) → spell body rest ≡ 32 ∷ after → AreWritten body rest → AreWritten (with_head i body) rest
+head_written i body rest after begins written =
+    keyword_written _ _ _ tt refl
+    ⊕ name_written _ _ _ (refl, tt) (chain_is_name i) refl
+    ⊕ left_parenthesis _ _ _ tt
+    ⊕ keyword_written _ _ _ tt refl
+    ⊕ name_written _ _ _ (refl, tt) name_x refl
+    ⊕ right_parenthesis _ _ _ tt
+    ⊕ subst (IsWritten (mark blank marks.LeftBrace)) (sym begins) (left_brace _ 32 after (refl, tt))
+    ⊕ written
+
+-- the first function of the chain
+abbrev pub first_pieces : List Written
+first_pieces = with_head 0 (
+    keyword blank keywords.Return
+    ∷ name blank (codes "x")
+    ∷ mark close marks.Semicolon
+    ∷ mark blank marks.RightBrace
+    ∷ [])
+
+pub first_written : (rest : List ℕ) → AreWritten (first_pieces) (10 ∷ rest)
+first_written rest = head_written 0 (from 7 first_pieces) (10 ∷ rest) _ refl (
+    keyword_written _ _ _ (refl, tt) refl
+    ⊕ name_written _ _ _ (refl, tt) name_x refl
+    ⊕ semicolon _ _ _ tt
+    ⊕ right_brace _ _ _ (refl, tt)
+    ⊕ tt)
+
+pub first_spelled : (rest : List ℕ) → first_line ++ rest ≡ spell (first_pieces) (10 ∷ rest)
+unfolding first_line
+first_spelled rest = simp append_assoc
+
+-- function i of the chain, which calls function m
+abbrev pub link_pieces : ℕ → ℕ → List Written
+link_pieces i m = with_head i (
+    keyword blank keywords.Int
     ∷ name blank (codes "r")
     ∷ mark close marks.Semicolon
     ∷ name blank (codes "r")
@@ -82,18 +84,11 @@ link_pieces i m =
     ∷ name blank (codes "r")
     ∷ mark close marks.Semicolon
     ∷ mark blank marks.RightBrace
-    ∷ []
+    ∷ [])
 
 pub link_written : (i : ℕ) (m : ℕ) (rest : List ℕ) → AreWritten (link_pieces i m) (10 ∷ rest)
-link_written i m rest =
-    keyword_written _ _ _ tt refl
-    ⊕ name_written _ _ _ (refl, tt) (chain_is_name i) refl
-    ⊕ left_parenthesis _ _ _ tt
-    ⊕ keyword_written _ _ _ tt refl
-    ⊕ name_written _ _ _ (refl, tt) name_x refl
-    ⊕ right_parenthesis _ _ _ tt
-    ⊕ left_brace _ _ _ (refl, tt)
-    ⊕ keyword_written _ _ _ (refl, tt) refl
+link_written i m rest = head_written i (from 7 (link_pieces i m)) (10 ∷ rest) _ refl (
+    keyword_written _ _ _ (refl, tt) refl
     ⊕ name_written _ _ _ (refl, tt) name_r refl
     ⊕ semicolon _ _ _ tt
     ⊕ name_written _ _ _ (refl, tt) name_r refl
@@ -109,7 +104,7 @@ link_written i m rest =
     ⊕ name_written _ _ _ (refl, tt) name_r refl
     ⊕ semicolon _ _ _ tt
     ⊕ right_brace _ _ _ (refl, tt)
-    ⊕ tt
+    ⊕ tt)
 
 pub link_spelled : (i : ℕ) (m : ℕ) (rest : List ℕ) → link_line i m ++ rest ≡ spell (link_pieces i m) (10 ∷ rest)
 unfolding link_line

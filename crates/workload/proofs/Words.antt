@@ -1,5 +1,5 @@
 -- Words as they are written: keywords, names and numbers, each in front of a byte of no word.
-use Rattle.workload.proofs.Common.{ℕ, ◌≡◌, ◌≢◌, ◌<◌, ◌≤◌, ◌^◌, inl, inr, ⊎_elim, List, [], ◌∷◌, ◌++◌, length, get_or, Bool, true, false, refl, sym, ap, ◌∙◌, subst, arith, IsTrue, codes, nat_eq, ◌&&◌, ◌||◌, bytes_eq, both_ways, and_parts, nat_tests, canonical_decimal, decimal_digits, decimal_value, length_decimal, first_of_decimal, Keyword, is_white_space, is_letter, is_word_byte, IsGap, nothing, space, keyword_text, IsNumber, IsDecimal, AllWordBytes, IsWord, IsIdentifier, IsLexeme, IsTaken, IsOfKind, AllWordBytes-inside, same_itself}
+use Rattle.workload.proofs.Common.{ℕ, ◌≡◌, ◌≢◌, ◌<◌, ◌≤◌, ◌^◌, inl, inr, ⊎_elim, List, [], ◌∷◌, ◌++◌, length, get_or, Bool, true, false, refl, sym, ap, ◌∙◌, subst, arith, IsTrue, codes, nat_eq, ◌&&◌, ◌||◌, list_any, bytes_eq, both_ways, and_parts, nat_tests, canonical_decimal, decimal_digits, decimal_value, length_decimal, first_of_decimal, Keyword, is_white_space, is_letter, is_word_byte, IsGap, nothing, space, keyword_text, IsNumber, IsDecimal, AllWordBytes, IsWord, IsIdentifier, IsLexeme, IsTaken, IsOfKind, AllWordBytes-inside}
 use Rattle.std.specs.Char.{is_ascii_digit, digit_value}
 use Rattle.std.specs.Str.Parse.{AllDigits}
 use Rattle.std.proofs.lemmas.Str.Parse.{digit_from_value}
@@ -98,10 +98,6 @@ pub decimal_number : (n : ℕ) → 1 ≤ n → n ≤ 1000 → IsNumber (canonica
 decimal_number n low high =
     (IsNumber.decimal (is_decimal (canonical_decimal n) (length_decimal n) (first_of_decimal n low) (decimal_digits n)) (sym (decimal_value n)), omega arith)
 
--- a text that is written as no keyword is
-pub no_keyword : (text : List ℕ) → ((keyword : Keyword) → bytes_eq text (keyword_text keyword) ≡ false) → (keyword : Keyword) → text ≢ keyword_text keyword
-no_keyword text differs keyword = λ e. both_ways (bytes_eq text (keyword_text keyword)) (differs keyword) (ap (bytes_eq text) (sym e) ∙ same_itself text)
-
 -- `f` and a decimal is a name: of the keywords that begin with `f`, none goes on with a digit
 abbrev begins_with_f : List ℕ → Bool
 begins_with_f [] = false
@@ -127,74 +123,51 @@ pub chain_is_name : (i : ℕ) → IsIdentifier (102 ∷ canonical_decimal i) × 
 chain_is_name i = ((refl, decimal_word_bytes i), λ keyword. no_keyword_digits keyword (canonical_decimal i) (length_decimal i) (decimal_digits i))
 
 -- the other names of the source are no keywords
+abbrev is_name : List ℕ → Bool
+is_name text =
+    list_any (bytes_eq text)
+    (codes "x" ∷ codes "r" ∷ codes "w" ∷ codes "n" ∷ codes "c" ∷ codes "v" ∷ codes "i" ∷ codes "main" ∷ codes "accept"
+    ∷ codes "wait" ∷ codes "put" ∷ codes "spawn" ∷ [])
+
+no_name : (keyword : Keyword) → is_name (keyword_text keyword) ≡ false
+no_name keywords.Auto = refl
+no_name _ = refl
+
+no_keyword : (text : List ℕ) → is_name text ≡ true → (keyword : Keyword) → text ≢ keyword_text keyword
+no_keyword text named keyword = λ e. both_ways (is_name (keyword_text keyword)) (no_name keyword) (sym (ap is_name e) ∙ named)
+
 pub name_x : IsIdentifier (codes "x") × ((keyword : Keyword) → codes "x" ≢ keyword_text keyword)
-name_x = ((refl, tt), no_keyword (codes "x") differs) where
-  differs : (keyword : Keyword) → bytes_eq (codes "x") (keyword_text keyword) ≡ false
-  differs keywords.Auto = refl
-  differs _ = refl
+name_x = ((refl, tt), no_keyword (codes "x") refl)
 
 pub name_r : IsIdentifier (codes "r") × ((keyword : Keyword) → codes "r" ≢ keyword_text keyword)
-name_r = ((refl, tt), no_keyword (codes "r") differs) where
-  differs : (keyword : Keyword) → bytes_eq (codes "r") (keyword_text keyword) ≡ false
-  differs keywords.Auto = refl
-  differs _ = refl
+name_r = ((refl, tt), no_keyword (codes "r") refl)
 
 pub name_w : IsIdentifier (codes "w") × ((keyword : Keyword) → codes "w" ≢ keyword_text keyword)
-name_w = ((refl, tt), no_keyword (codes "w") differs) where
-  differs : (keyword : Keyword) → bytes_eq (codes "w") (keyword_text keyword) ≡ false
-  differs keywords.Auto = refl
-  differs _ = refl
+name_w = ((refl, tt), no_keyword (codes "w") refl)
 
 pub name_n : IsIdentifier (codes "n") × ((keyword : Keyword) → codes "n" ≢ keyword_text keyword)
-name_n = ((refl, tt), no_keyword (codes "n") differs) where
-  differs : (keyword : Keyword) → bytes_eq (codes "n") (keyword_text keyword) ≡ false
-  differs keywords.Auto = refl
-  differs _ = refl
+name_n = ((refl, tt), no_keyword (codes "n") refl)
 
 pub name_c : IsIdentifier (codes "c") × ((keyword : Keyword) → codes "c" ≢ keyword_text keyword)
-name_c = ((refl, tt), no_keyword (codes "c") differs) where
-  differs : (keyword : Keyword) → bytes_eq (codes "c") (keyword_text keyword) ≡ false
-  differs keywords.Auto = refl
-  differs _ = refl
+name_c = ((refl, tt), no_keyword (codes "c") refl)
 
 pub name_v : IsIdentifier (codes "v") × ((keyword : Keyword) → codes "v" ≢ keyword_text keyword)
-name_v = ((refl, tt), no_keyword (codes "v") differs) where
-  differs : (keyword : Keyword) → bytes_eq (codes "v") (keyword_text keyword) ≡ false
-  differs keywords.Auto = refl
-  differs _ = refl
+name_v = ((refl, tt), no_keyword (codes "v") refl)
 
 pub name_i : IsIdentifier (codes "i") × ((keyword : Keyword) → codes "i" ≢ keyword_text keyword)
-name_i = ((refl, tt), no_keyword (codes "i") differs) where
-  differs : (keyword : Keyword) → bytes_eq (codes "i") (keyword_text keyword) ≡ false
-  differs keywords.Auto = refl
-  differs _ = refl
+name_i = ((refl, tt), no_keyword (codes "i") refl)
 
 pub name_main : IsIdentifier (codes "main") × ((keyword : Keyword) → codes "main" ≢ keyword_text keyword)
-name_main = ((refl, (refl, (refl, (refl, tt)))), no_keyword (codes "main") differs) where
-  differs : (keyword : Keyword) → bytes_eq (codes "main") (keyword_text keyword) ≡ false
-  differs keywords.Auto = refl
-  differs _ = refl
+name_main = ((refl, (refl, (refl, (refl, tt)))), no_keyword (codes "main") refl)
 
 pub name_accept : IsIdentifier (codes "accept") × ((keyword : Keyword) → codes "accept" ≢ keyword_text keyword)
-name_accept = ((refl, (refl, (refl, (refl, (refl, (refl, tt)))))), no_keyword (codes "accept") differs) where
-  differs : (keyword : Keyword) → bytes_eq (codes "accept") (keyword_text keyword) ≡ false
-  differs keywords.Auto = refl
-  differs _ = refl
+name_accept = ((refl, (refl, (refl, (refl, (refl, (refl, tt)))))), no_keyword (codes "accept") refl)
 
 pub name_wait : IsIdentifier (codes "wait") × ((keyword : Keyword) → codes "wait" ≢ keyword_text keyword)
-name_wait = ((refl, (refl, (refl, (refl, tt)))), no_keyword (codes "wait") differs) where
-  differs : (keyword : Keyword) → bytes_eq (codes "wait") (keyword_text keyword) ≡ false
-  differs keywords.Auto = refl
-  differs _ = refl
+name_wait = ((refl, (refl, (refl, (refl, tt)))), no_keyword (codes "wait") refl)
 
 pub name_put : IsIdentifier (codes "put") × ((keyword : Keyword) → codes "put" ≢ keyword_text keyword)
-name_put = ((refl, (refl, (refl, tt))), no_keyword (codes "put") differs) where
-  differs : (keyword : Keyword) → bytes_eq (codes "put") (keyword_text keyword) ≡ false
-  differs keywords.Auto = refl
-  differs _ = refl
+name_put = ((refl, (refl, (refl, tt))), no_keyword (codes "put") refl)
 
 pub name_spawn : IsIdentifier (codes "spawn") × ((keyword : Keyword) → codes "spawn" ≢ keyword_text keyword)
-name_spawn = ((refl, (refl, (refl, (refl, (refl, tt))))), no_keyword (codes "spawn") differs) where
-  differs : (keyword : Keyword) → bytes_eq (codes "spawn") (keyword_text keyword) ≡ false
-  differs keywords.Auto = refl
-  differs _ = refl
+name_spawn = ((refl, (refl, (refl, (refl, (refl, tt))))), no_keyword (codes "spawn") refl)
