@@ -62,7 +62,7 @@ pub use Rattle.lawful_log.specs.Within.{IsBetween, IsWithin}
 pub use Rattle.machine_meaning.proofs.Sound.{settled_sound, under_way_sound}
 pub use Rattle.machine_meaning.specs.Reached.{IsFinishedIn, IsReached, StepReaches}
 pub use Rattle.machine_meaning.specs.UnderWay.{IsSettled}
-pub use Rattle.machine_world.proofs.Counts.{Counts, StartsOne, counts_step}
+pub use Rattle.machine_world.proofs.Counts.{Counts, IsOver, StartsOne, counts_step}
 pub use Rattle.machine_world.proofs.OtherThreads.{KeepsThread-step}
 pub use Rattle.machine_world.specs.Alone.{KeepsThread}
 pub use Rattle.machine_world.specs.Areas.{Areas, new_areas}
@@ -75,7 +75,7 @@ pub use Rattle.machine_world.specs.Stretches.{IsSound}
 pub use Rattle.machine_world.specs.Threads.{Blocked, Blocks, Ends, Goes, Move, Puts, Setting, Spawns, Stops, Thread, World, first_with, replaced, result_of, resumed, retired, step, thread_of, with_thread, without}
 pub use Rattle.machine_world.specs.WellFormed.{AreWellFormed, AreWords, DeliversWords, IsWellFormed, IsWellFormedIf, most_fuel}
 pub use Rattle.ready_tree.specs.declared.needs.Need.{Need}
-pub use Rattle.resource_monitor.specs.Gate.{gate, gate_after}
+pub use Rattle.resource_monitor.specs.Gate.{gate_after}
 pub use Rattle.resource_monitor.specs.Monitor.{MonitorState, NoneAbove}
 pub use Rattle.resource_monitor.specs.Pressure.{pressures}
 pub use Rattle.rule_state.specs.Rules.{AreKnownTo, HasLeft, HasNone, HasRejoined, HasStarted, HasTaken, IsLawfulOf, IsUnderWay, MayStart, noted_of}
@@ -103,7 +103,7 @@ pub use Rattle.run_course.specs.Needs.{AreNeeded, AreNeededByStrides, IsNeeded, 
 pub use Rattle.run_course.specs.Output.{Grows, IsFitText, Output, PutsText, TakesPart, joined, output_of}
 pub use Rattle.run_course.specs.Ranks.{FallsTo, due_at, lines_rank, long_rank, next_rank, rank, stuck_rank, turn_rank, under_rank}
 pub use Rattle.run_course.specs.Recorded.{HasSmallCaps, IsRecorded}
-pub use Rattle.run_course.specs.Rest.{HasBytes, Knows, Made, Rest, Told, Unasked, bytes_of}
+pub use Rattle.run_course.specs.Rest.{BackTo, HasBytes, Knows, Made, Rest, Told, Unasked, bytes_of}
 pub use Rattle.run_course.specs.Rules.{AreKept, AreKeptBeside, AreTold, HasAccounts, HasNothing, rule_of}
 pub use Rattle.run_course.specs.Stands.{FitsNext, HasPast, IsAtChoice, IsAtPoint, IsOf, IsRead, IsTraceIn, IsTraceOf, Stands, StandsBetween, StandsBy, StandsInside, StandsWithin, StepsAsSource}
 pub use Rattle.run_course.specs.Starts.{IsAtStartBy, KeepsRun}

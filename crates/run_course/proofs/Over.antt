@@ -1,5 +1,5 @@
 -- The end of a segment: at a blocking call, or with its thread.
-use Rattle.run_course.proofs.Common.{◌≡◌, ℕ, ◌+◌, ◌-◌, ◌≤◌, Bool, false, List, [], ◌∷◌, ◌++◌, length, Option, Some, None, refl, sym, ap, ◌∙◌, subst, arith, IsSome, drop, edges_of, edges_with, count_of, GraphState, keys_with, node_number, EdgeLine, SegmentRecord, Pool, free_count, Exchange, ProgramTree, lowered, Event, all_caps, changes, Waiter, uses_in, newcomers, waits, edges_more, gate_more, checked_of, HasRun, IsBlock, Setup, setting_of, State, held_chunks, IsBetween, between_after, between_read, cost_of, cost_is, over_block, rests_blocked, RestsBlocked, blocked_state, block_allowed, threads_blocked, formed_after_block, Core, Checked, IsPast, Thread, World, thread_of, Move, Blocks, step, gate, gate_after, pressures, HasRejoined, RuleState, waiter_of, none_waiting, Tells, HasKey, HasKeyOf, Held, segment_cost, Turn, IsFinishedIn, StepReaches, IsSettled, Under, Kept, known, IsOf, StandsBetween, StandsWithin, StepsAsSource, KeepsThread, KeepsThread-step, IsNeeded, AreKept, AreTold, Rest, Need}
+use Rattle.run_course.proofs.Common.{◌≡◌, ℕ, ◌+◌, ◌-◌, ◌≤◌, Bool, false, List, [], ◌∷◌, ◌++◌, length, Option, Some, None, refl, sym, ap, ◌∙◌, subst, arith, IsSome, drop, edges_of, edges_with, count_of, GraphState, keys_with, node_number, EdgeLine, Pool, free_count, Exchange, ProgramTree, lowered, Event, all_caps, changes, Waiter, uses_in, newcomers, waits, edges_more, gate_more, checked_of, HasRun, IsBlock, IsOver, Setup, setting_of, State, held_chunks, IsBetween, between_after, between_read, cost_of, cost_is, over_block, rests_blocked, RestsBlocked, blocked_state, block_allowed, threads_blocked, formed_after_block, Core, Checked, IsPast, Thread, World, thread_of, Move, Blocks, step, gate_after, pressures, HasRejoined, RuleState, waiter_of, none_waiting, Tells, HasKey, HasKeyOf, Held, segment_cost, Turn, IsFinishedIn, StepReaches, IsSettled, Under, Kept, known, IsOf, StandsBetween, StandsWithin, StepsAsSource, KeepsThread, KeepsThread-step, IsNeeded, AreKept, AreTold, Rest, Need}
 use Rattle.c_mean.specs.Frames.{Waiting, key_of}
 use Rattle.machine_world.specs.Rests.{IsResting, PastCall}
 use Rattle.machine_meaning.specs.Between.{resting_key}
@@ -35,6 +35,41 @@ pub between_any : (g : Setup) (state : State) (machine : World) (o : Option (Opt
 between_any g state machine None is = is
 between_any g state machine (Some next) is = between_read g state machine next is
 
+-- ---- at either end
+
+module _ (g : Setup) (state : State) (k : Kept) (held : Held) (left : Rest) (under : Under) (stands : StandsWithin g state k held left under) (after : World)
+    (machine_is : held.machine ≡ after) (over : IsOver stands.here after) where
+  pub cost_after : (cost : ℕ) → cost ≡ segment_cost held → cost_of g state stands.segment held.begun stands.here stands.waiting stands.within ≡ cost
+  cost_after cost told = cost_is g state stands.segment held.begun stands.here stands.waiting stands.within after over
+      ∙ ap (λ (w : World). w.cost - held.begun) (sym machine_is) ∙ sym told
+
+  pub begun_below : held.begun + 1 ≤ held.machine.cost
+  begun_below =
+      let here : held.machine.cost ≡ stands.here.cost + 1 = ap (λ (w : World). w.cost) machine_is ∙ over.cost in
+      let way = stands.within.cost in let since = stands.within.since in omega arith
+
+  pub nothing_waits : waiter_of under.choice.thread.number stands.waiting ≡ None
+  nothing_waits = none_waiting stands.waiting under.choice.thread.number
+      (subst (λ (n : ℕ). waits stands.waiting n ≡ false) (sym stands.thread_is) (stands.within.threads.running stands.segment.thread stands.within.running))
+
+  module _ (uses : List ℕ) (uses_is : uses ≡ uses_in (held_chunks held.machine) held.machine.exchange) (exchange : Exchange)
+      (exchange_is : after.exchange ≡ exchange) where
+    uses_same : uses ≡ uses_in (held_chunks after) exchange
+    uses_same = uses_is ∙ ap (λ (w : World). uses_in (held_chunks w) w.exchange) machine_is
+        ∙ ap (λ (x : Exchange). (after.areas.pool.count - free_count after.areas.pool) ∷ drop 1 x.uses) exchange_is
+
+    -- the edge is that of the segment's record
+    pub edges_after : (cost : ℕ) → cost ≡ segment_cost held → (node to : ℕ) → node ≡ to → (edges : List EdgeLine) →
+        edges ≡ edges_with k.graph.edges (record { from = under.choice.node; to = node; cost = cost; change = changes under.before uses }) →
+        edges ≡ edges_with (edges_of state.past.records) (record {
+          from = stands.segment.node;
+          to = to;
+          cost = cost_of g state stands.segment held.begun stands.here stands.waiting stands.within;
+          change = changes stands.segment.uses (uses_in (held_chunks after) exchange);
+        })
+    edges_after cost told node to node_is edges edges_are =
+        edges_are ∙ rw (stands.past.graph_is.edges, stands.node_is, node_is, ← cost_after cost told, stands.before_is, uses_same) refl
+
 module _ (g : Setup) (state : State) (k : Kept) (held : Held) (left : Rest) (under : Under) (stands : StandsWithin g state k held left under) (law : StepsAsSource g state stands.segment.thread)
     (key : List ℕ) (cost : ℕ) (told : TellsBlock (step (setting_of g) stands.here) key cost stands.segment.thread held) where
   pub reaches : IsFinishedIn (checked_of g) g.program (setting_of g) state.source stands.segment.thread stands.segment.puts told.after
@@ -57,9 +92,8 @@ module _ (g : Setup) (state : State) (k : Kept) (held : Held) (left : Rest) (und
   abbrev pub over_state : State
   over_state = blocked_state g state stands.segment held.begun stands.here stands.waiting stands.within told.after reaches.0 key
 
-  pub cost_same : cost_of g state stands.segment held.begun stands.here stands.waiting stands.within ≡ cost
-  cost_same = cost_is g state stands.segment held.begun stands.here stands.waiting stands.within told.after (over_block g state stands.segment held.begun stands.here stands.waiting stands.within told.after told.step_is)
-      ∙ ap (λ (w : World). w.cost - held.begun) (sym told.machine) ∙ sym told.cost_is
+  over : IsOver stands.here told.after
+  over = over_block g state stands.segment held.begun stands.here stands.waiting stands.within told.after told.step_is
 
   pub block_is : (node : ℕ) → node ≡ node_number k.graph.keys key → IsBlock g state under.choice.thread.number node key cost (free_count held.machine.areas.pool) over_state
   block_is node node_is =
@@ -67,7 +101,8 @@ module _ (g : Setup) (state : State) (k : Kept) (held : Held) (left : Rest) (und
       block_allowed g state stands.segment held.begun stands.here stands.waiting stands.within told.after reaches.0 key (free_count held.machine.areas.pool) told.step_is run_is rests key_same (ap (λ (w : World). free_count w.areas.pool) told.machine) in
       subst (λ (n : ℕ). IsBlock g state n node key cost (free_count held.machine.areas.pool) over_state) (sym stands.thread_is)
       (subst (λ (n : ℕ). IsBlock g state stands.segment.thread n key cost (free_count held.machine.areas.pool) over_state) (sym (node_is ∙ ap (λ (ks : List (List ℕ)). node_number ks key) stands.past.graph_is.keys))
-      (subst (λ (n : ℕ). IsBlock g state stands.segment.thread (node_number state.past.keys key) key n (free_count held.machine.areas.pool) over_state) cost_same there))
+      (subst (λ (n : ℕ). IsBlock g state stands.segment.thread (node_number state.past.keys key) key n (free_count held.machine.areas.pool) over_state)
+      (cost_after g state k held left under stands told.after told.machine over cost told.cost_is) there))
 
   pub live_is : thread_of held.machine under.choice.thread.number ≡ Some rests.thread
   live_is = ap (λ (n : ℕ). thread_of held.machine n) stands.thread_is ∙ ap (λ (w : World). thread_of w stands.segment.thread) told.machine ∙ rests.live
@@ -82,46 +117,27 @@ module _ (g : Setup) (state : State) (k : Kept) (held : Held) (left : Rest) (und
       (keys_are : graph.keys ≡ keys_with k.graph.keys key)
       (edges_are : graph.edges ≡ edges_with k.graph.edges (record { from = under.choice.node; to = node; cost = cost; change = changes under.before uses }))
       (counted : count_of graph.edges ≡ count_of k.graph.edges + 1) (few : length graph.keys ≤ length k.graph.keys + 1) where
-    uses_same : uses ≡ uses_in (held_chunks told.after) reaches.0.exchange
-    uses_same = uses_is ∙ ap (λ (w : World). uses_in (held_chunks w) w.exchange) told.machine
-        ∙ ap (λ (x : Exchange). (told.after.areas.pool.count - free_count told.after.areas.pool) ∷ drop 1 x.uses) reaches.2.stands.exchange
-
     number_same : node ≡ node_number state.past.keys key
     number_same = node_is ∙ ap (λ (ks : List (List ℕ)). node_number ks key) stands.past.graph_is.keys
 
-    record_same : (let r : SegmentRecord = record { from = under.choice.node; to = node; cost = cost; change = changes under.before uses } in r) ≡
-        record { from = stands.segment.node; to = node_number state.past.keys key; cost = cost_of g state stands.segment held.begun stands.here stands.waiting stands.within; change = changes stands.segment.uses (uses_in (held_chunks told.after) reaches.0.exchange) }
-    record_same =
-        ap (λ (n : ℕ). let r : SegmentRecord = record { from = n; to = node; cost = cost; change = changes under.before uses } in r) stands.node_is
-        ∙ ap (λ (n : ℕ). let r : SegmentRecord = record { from = stands.segment.node; to = n; cost = cost; change = changes under.before uses } in r) number_same
-        ∙ ap (λ (n : ℕ). let r : SegmentRecord = record { from = stands.segment.node; to = node_number state.past.keys key; cost = n; change = changes under.before uses } in r) (sym cost_same)
-        ∙ ap (λ (u : List ℕ). let r : SegmentRecord = record { from = stands.segment.node; to = node_number state.past.keys key; cost = cost_of g state stands.segment held.begun stands.here stands.waiting stands.within; change = changes u uses } in r) stands.before_is
-        ∙ ap (λ (u : List ℕ). let r : SegmentRecord = record { from = stands.segment.node; to = node_number state.past.keys key; cost = cost_of g state stands.segment held.begun stands.here stands.waiting stands.within; change = changes stands.segment.uses u } in r) uses_same
-
     edges_now : graph.edges ≡ edges_of over_state.past.records
-    edges_now = edges_are ∙ ap (λ (es : List EdgeLine). edges_with es (record { from = under.choice.node; to = node; cost = cost; change = changes under.before uses })) stands.past.graph_is.edges
-        ∙ ap (λ (r : SegmentRecord). edges_with (edges_of state.past.records) r) record_same ∙ sym (edges_more state.past.records _)
-
-    nothing_waits : waiter_of under.choice.thread.number stands.waiting ≡ None
-    nothing_waits = none_waiting stands.waiting under.choice.thread.number
-        (subst (λ (n : ℕ). waits stands.waiting n ≡ false) (sym stands.thread_is) (stands.within.threads.running stands.segment.thread stands.within.running))
+    edges_now =
+        edges_after g state k held left under stands told.after told.machine over uses uses_is reaches.0.exchange reaches.2.stands.exchange
+        cost told.cost_is node (node_number state.past.keys key) number_same graph.edges edges_are ∙ sym (edges_more state.past.records _)
 
     kept_now : AreKept held.places rule over_state.waiting
     kept_now =
         let last : ℕ → ℕ → List Waiter = λ thread at. record { thread = thread; node = at; since = told.after.clock } ∷ [] in
         let all : AreKept held.places rule (stands.waiting ++ last under.choice.thread.number node) =
-        kept_rejoined held.places k.rule rule stands.waiting under.choice.thread node told.after.clock need stands.kept joins (stands.placed live_now) nothing_waits in
-        let over = over_block g state stands.segment held.begun stands.here stands.waiting stands.within told.after told.step_is in
+        kept_rejoined held.places k.rule rule stands.waiting under.choice.thread node told.after.clock need stands.kept joins (stands.placed live_now)
+        (nothing_waits g state k held left under stands told.after told.machine over) in
         let next : stands.here.next ≡ length reaches.0.threads = sym over.next ∙ reaches.2.stands.next in
         subst (λ (l : List Waiter). AreKept held.places rule l)
         (ap (λ (n : ℕ). stands.waiting ++ last n node) stands.thread_is ∙ ap (λ (n : ℕ). stands.waiting ++ last stands.segment.thread n) number_same
         ∙ ap (λ (l : List Waiter). l ++ last stands.segment.thread (node_number state.past.keys key)) (stands.within.waiting_is ∙ ap (λ (n : ℕ). state.waiting ++ newcomers state.source n) next)) all
 
-    begun_below : held.begun + 1 ≤ held.machine.cost
-    begun_below =
-        let over = over_block g state stands.segment held.begun stands.here stands.waiting stands.within told.after told.step_is in
-        let here : held.machine.cost ≡ stands.here.cost + 1 = ap (λ (w : World). w.cost) told.machine ∙ over.cost in
-        let way = stands.within.cost in let since = stands.within.since in omega arith
+    below : held.begun + 1 ≤ held.machine.cost
+    below = begun_below g state k held left under stands told.after told.machine over
 
     pub over_stands : StandsBetween g over_state (record k { rule = rule; graph = graph; under = None }) held left
     over_stands = record {
@@ -142,9 +158,9 @@ module _ (g : Setup) (state : State) (k : Kept) (held : Held) (left : Rest) (und
         graph_is = record { keys = keys_are ∙ ap (λ (ks : List (List ℕ)). keys_with ks key) stands.past.graph_is.keys; edges = edges_now };
         monitor_is = stands.past.monitor_is;
         taken = noted_rejoined k.rule rule under.choice.thread node need joins ∙ stands.past.taken;
-        noted = let same = noted_rejoined k.rule rule under.choice.thread node need joins in let most = stands.past.noted in let below = begun_below in omega arith;
-        records = let most = stands.past.records in let below = begun_below in omega arith;
-        keys = let most = stands.past.keys in let below = begun_below in omega arith;
+        noted = let same = noted_rejoined k.rule rule under.choice.thread node need joins in let most = stands.past.noted in let begun = below in omega arith;
+        records = let most = stands.past.records in let begun = below in omega arith;
+        keys = let most = stands.past.keys in let begun = below in omega arith;
       };
       gate = ap (λ (b : Bool). gate_after g.policy.high g.policy.low b (pressures g.policy.curves (uses_in (held_chunks told.after) reaches.0.exchange) (all_caps g.policy))) stands.gate ∙ sym (gate_more g.policy state.past (uses_in (held_chunks told.after) reaches.0.exchange));
       read = stands.read;

@@ -1,5 +1,5 @@
 -- What the next line of the trace is to the run.
-use Rattle.run_course.proofs.Common.{◌≡◌, ℕ, ◌+◌, ◌≤◌, List, [], ◌++◌, Option, Some, None, Ok, Err, inl, inr, refl, sym, ap, ◌∙◌, subst, arith, Event, TraceError, FitsEvent, rest_of, ReaderState, GivesEvent, RefusesLine, RefusesOrder, NextAnswers, NextTold, Trace, IsRefused, behind, Setup, State, IsBetween, between_read, Held, Next, Kept, known, IsTraceIn, IsTraceOf, IsRead, StandsBetween, Rest, HasBytes, Knows, Unasked, Told, Made}
+use Rattle.run_course.proofs.Common.{◌≡◌, ℕ, ◌+◌, ◌≤◌, List, [], ◌++◌, Option, Some, None, Ok, Err, inl, inr, refl, sym, ap, ◌∙◌, subst, arith, Event, TraceError, FitsEvent, rest_of, ReaderState, GivesEvent, RefusesLine, RefusesOrder, NextAnswers, NextTold, Trace, IsRefused, behind, Setup, State, IsBetween, between_read, Held, Next, Kept, known, IsTraceIn, IsTraceOf, IsRead, StandsBetween, Rest, BackTo, HasBytes, Knows, Unasked, Told, Made}
 use Rattle.run_course.specs.Looks.{Sees, Refuses}
 use Rattle.run_course.proofs.Spelled.{line_and, gives_line, behind_line, bad_line, refuses_bad_line}
 use Rattle.run_course.proofs.Clocks.{clock_same}
@@ -49,6 +49,17 @@ has_back _ told bytes has = has_made told bytes
 pub had_back : (after : Rest) (told : Option (List ℕ)) (bytes : List ℕ) → HasBytes (back after told bytes) → HasBytes after
 had_back Unasked told bytes has = has
 had_back _ told bytes has = tt
+
+-- for every rest after it there is one before it, with these bytes
+pub back_to : (told told' : Option (List ℕ)) (AreSuch : Rest → Rest → Type 0) (bytes : Rest → List ℕ) →
+    ((after : Rest) → Knows after told' → AreSuch (back after told (bytes after)) after) → BackTo told told' AreSuch
+back_to told told' AreSuch bytes such after knows = (
+  back after told (bytes after),
+  knows_back after told (bytes after),
+  had_back after told (bytes after),
+  has_back after told (bytes after),
+  such after knows,
+)
 
 -- ---- the next line of the trace
 
