@@ -18,7 +18,8 @@ pub use Rattle.blocking_graph.specs.Edges.{count_of, edges_of, edges_with, first
 pub use Rattle.blocking_graph.specs.Nodes.{keys_with, node_number, same_key}
 pub use Rattle.blocking_graph.specs.declared.edges.EdgeLine.{EdgeLine}
 pub use Rattle.blocking_graph.specs.declared.segments.SegmentRecord.{SegmentRecord}
-pub use Rattle.c_hoist.specs.NestedText.{MeansText, ReadsNested}
+pub use Rattle.c_hoist.proofs.Meaning.{program_means}
+pub use Rattle.c_hoist.specs.NestedText.{ReadsNested}
 pub use Rattle.c_lower.specs.ProgramCode.{lowered}
 pub use Rattle.c_mean.specs.Frames.{Running, Waiting, WaitingFrame, function_at, key_of}
 pub use Rattle.c_mean.specs.ModelledCalls.{Arrival, Delivery, Exchange, ImmediateRow, Message, blocking_row, cap_of, immediate_row, is_dropped, ticks_of, use_of, wakes_at, with_delivery, with_use}

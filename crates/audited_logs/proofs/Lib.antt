@@ -28,7 +28,6 @@ pub mod Positions
 pub mod Logs
 pub mod ReadRuns
 pub mod ReadWorlds
-pub mod TextMeaning
 pub mod Rests
 pub mod Values
 pub mod Lines

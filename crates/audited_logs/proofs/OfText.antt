@@ -1,8 +1,7 @@
 -- The lawful log of a valid pair is the log of the text that its program is read from.
 use Rattle.audited_logs.proofs.Positions.{live_at_stop}
-use Rattle.audited_logs.proofs.Common.{ℕ, ◌≤◌, List, ReadsNested, lowered, IsWellScoped, IsValid, deep_program, checked_of, IsLawfulLog, Setup, start_areas, World, AreWellFormed, most_fuel, Entry, StopLine, IsTextLog}
+use Rattle.audited_logs.proofs.Common.{ℕ, ◌≤◌, List, ReadsNested, lowered, IsWellScoped, IsValid, deep_program, checked_of, IsLawfulLog, Setup, start_areas, World, AreWellFormed, most_fuel, Entry, StopLine, IsTextLog, program_means}
 use Rattle.audited_logs.proofs.Lines.{log_of_same}
-use Rattle.audited_logs.proofs.TextMeaning.{program_means}
 
 pub log_of_text : (source : List ℕ) (g : Setup) (trace : List ℕ) (entries : List Entry) (stop : StopLine) (end : World) (read : ReadsNested source g.program) → IsWellScoped g.program →
     IsValid (lowered g.program) g.image g.certificate → AreWellFormed (checked_of g) (start_areas g) → g.policy.fuel ≤ most_fuel →

@@ -1,11 +1,10 @@
 -- The lines of a log that is lawful as it is read are those of the text: line by line, beside where they have led.
-use Rattle.audited_logs.proofs.Common.{ℕ, ℤ, ◌≡◌, true, false, refl, sym, ap, subst, ◌∙◌, List, [], ◌∷◌, ◌++◌, Option, Some, None, is_some, signed, Stop, TrapKind, ReadsNested, Delivery, with_delivery, IsWellScoped, delivery_of, received, DeepProgram, DeepRest, DeepWorld, deep_program, RunsTheSame, WorldsAlike, delivered, IsComing, IsRun, Given, IsAllowed, Leads, nowhere, by_line, IsLawful, IsOut, IsBlock, IsEnd, IsClosed, Entry, Item, StopLine, lines_of, ComesTo, HaveAllEnded, IsSomeLive, IsBlockedAt, HasEnded, ComesToTrap, ComesToCut, StopsSo, AreTextLines, IsTextLog}
+use Rattle.audited_logs.proofs.Common.{ℕ, ℤ, ◌≡◌, true, false, refl, sym, ap, subst, ◌∙◌, List, [], ◌∷◌, ◌++◌, Option, Some, None, is_some, signed, Stop, TrapKind, ReadsNested, Delivery, with_delivery, IsWellScoped, delivery_of, received, DeepProgram, DeepRest, DeepWorld, deep_program, RunsTheSame, WorldsAlike, delivered, IsComing, IsRun, Given, IsAllowed, Leads, nowhere, by_line, IsLawful, IsOut, IsBlock, IsEnd, IsClosed, Entry, Item, StopLine, lines_of, ComesTo, HaveAllEnded, IsSomeLive, IsBlockedAt, HasEnded, ComesToTrap, ComesToCut, StopsSo, AreTextLines, IsTextLog, program_means}
 use Rattle.c_mean.specs.World as source
 use Rattle.lawful_reading.specs.Ends.{IsCut, StopsBy}
 use Rattle.lawful_reading.specs.State.{Segment, State, start_of}
 use Rattle.audited_logs.proofs.ReadRuns.{outputs_at_first, rests_on, rested_outputs, cut_there}
 use Rattle.audited_logs.proofs.ReadWorlds.{IsFollowed, after_more, delivers, follow_on, ran, start_followed}
-use Rattle.audited_logs.proofs.TextMeaning.{program_means}
 use Rattle.audited_logs.proofs.Rests.{rest_at, blocked_in, ended_in, all_ended, some_live}
 
 -- what has been put where the lines have led: within a segment, with what its thread has put

@@ -3,6 +3,7 @@ pub use Rattle.std.proofs.Common.{[], ◌++◌, ◌+◌, ◌∙◌, ◌∷◌, �
 pub use Rattle.std.specs.Prelude.{Err, IfErr, IfOk, IsErrOf, MatchResult, Ok, option_map, slice_index_or}
 pub use Rattle.std.specs.Vec.Iter.{into_iter_items, into_iter_len}
 pub use Rattle.c_lex.proofs.PlaceLemmas.{tokens_stand}
+pub use Rattle.c_parse.proofs.ForWhole.{for_parts_whole}
 pub use Rattle.c_scope.specs.declared.source_errors.SourceError.{SourceError}
 pub use Rattle.c_tree.specs.ProgramView.{program_tree}
 pub use Rattle.c_tree.specs.RawTrees.{NameTree, NoRawStmts, RawBlock, RawDo, RawExprTree, RawFor, RawFunctionItem, RawIf, RawIfElse, RawItemTree, RawReturn, RawStmtTree, RawStmtTrees, RawThen, RawWhile}

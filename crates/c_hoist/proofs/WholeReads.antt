@@ -4,6 +4,8 @@ use Rattle.c_lex.specs.Tokens.{AreTokensOf}
 use Rattle.c_hoist.proofs.Common.{ℕ, sym, subst, ◌∙◌, List, length, tokens_stand, RawItemTree, ProgramTree, counting, AreCallsWhole, is_call, items_places, site_numbers, program_rises, program_of, IsResolvedBy, IsResolved, IsHoistedTo, ReadsNested}
 use Rattle.c_grammar.specs.Grammar.{IsProgram}
 use Rattle.c_tree.proofs.WholeInFors.{parts_whole}
+use Rattle.c_parse.proofs.NestedWhole.{items_whole}
+use Rattle.c_parse.proofs.ForWhole.{for_parts_none}
 use Rattle.grammar_laws.proofs.RankLaws.{rising_ranks}
 use Rattle.c_scope.specs.SourceText.{ReadsAs}
 use Rattle.c_hoist.proofs.SameNumbers.{same_numbers}
@@ -20,10 +22,12 @@ hoisted_to : (tree : List RawItemTree) (program : ProgramTree) → AreCallsWhole
 hoisted_to tree program h c r = let P : List RawItemTree → Type 0 = λ t. IsResolvedBy (site_numbers t) t program in subst P (sym (items_kept tree h)) (resolved_so tree program c r)
 
 pub reads_nested : (source : List ℕ) (program : ProgramTree) → ReadsAs source program → ReadsNested source program
-reads_nested source program r = record {
-  tokens = r.tokens;
-  tree = r.tree;
-  lexed = r.lexed;
-  parsed = record { within = r.parsed.within; tree = r.parsed.tree; whole = parts_whole r.tree r.parsed.whole };
-  resolved = hoisted_to r.tree program r.parsed.whole (numbered_in_order source r.tokens r.tree r.lexed r.parsed.tree) r.resolved;
-}
+reads_nested source program r =
+    let whole = items_whole r.tree r.parsed.none_nested in
+    record {
+      tokens = r.tokens;
+      tree = r.tree;
+      lexed = r.lexed;
+      parsed = record { within = r.parsed.within; tree = r.parsed.tree; none_nested = for_parts_none r.tree (parts_whole r.tree whole) };
+      resolved = hoisted_to r.tree program whole (numbered_in_order source r.tokens r.tree r.lexed r.parsed.tree) r.resolved;
+    }

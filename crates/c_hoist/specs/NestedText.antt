@@ -2,7 +2,6 @@
 use Rattle.std.specs.Prelude.{ℕ, List}
 use Rattle.c_tree.specs.RawTrees.{RawItemTree}
 use Rattle.c_tree.specs.Trees.{ProgramTree}
-use Rattle.c_tree.specs.WholeForParts.{AreForPartsWhole}
 use Rattle.c_parse.specs.ForParts.{nested_in_fors}
 use Rattle.scope_rules.specs.declared.errors.ScopeError.{ScopeError}
 use Rattle.scope_rules.specs.Outcomes.{IsRefused}
@@ -22,9 +21,9 @@ IsHoistedTo tree program = IsResolvedBy (site_numbers (items_hoisted tree)) (ite
 abbrev pub IsRefusedHoisted : List RawItemTree → ScopeError → Type 0
 IsRefusedHoisted tree error = IsRefused (items_hoisted tree) error
 
--- the source is read as this program: every call in the parentheses of a `for` is whole
+-- the source is read as this program: no call in the parentheses of a `for` is nested
 abbrev pub ReadsNested : List ℕ → ProgramTree → Type 0
-ReadsNested source program = ReadsWhere AreForPartsWhole IsHoistedTo source program
+ReadsNested source program = ReadsWhere nested_in_fors IsHoistedTo source program
 
 -- The program does what the source means, with calls inside expressions: both have the same runs (`SameRuns` of
 -- hoist_meaning), for every tree of the source.
@@ -33,4 +32,4 @@ MeansText source program = (read : ReadsNested source program) → RunsTheSame p
 
 -- the refusal of the source
 abbrev pub IsNestedSourceErrorOf : List ℕ → SourceError → Type 0
-IsNestedSourceErrorOf source error = IsSourceErrorWhere AreForPartsWhole nested_in_fors IsRefusedHoisted source error
+IsNestedSourceErrorOf source error = IsSourceErrorWhere nested_in_fors IsRefusedHoisted source error

@@ -1,11 +1,11 @@
 // From the bytes of a source to a program.
-ghost use Rattle.std.specs.Prelude.{◌≡◌, ◌≢◌, ◌≤◌, ◌⊎◌, ◌∷◌, ◌++◌, [], List, length, IfOk, IfErr, IsErrOf, MatchResult};
+ghost use Rattle.std.specs.Prelude.{◌≡◌, ◌≢◌, ◌≤◌, ◌⊎◌, ◌∷◌, ◌++◌, [], List, None, length, IfOk, IfErr, IsErrOf, MatchResult};
 ghost use Rattle.c_tree.specs.RawTrees.{RawItemTree};
 ghost use Rattle.c_tree.specs.Trees.{ProgramTree};
 ghost use Rattle.c_tree.specs.ProgramView.{program_tree};
 ghost use Rattle.c_tree.specs.RawProgramView.{raw_program_tree};
 ghost use Rattle.c_tree.specs.RawViews.{raw_item_tree, raw_item_trees};
-ghost use Rattle.c_tree.specs.WholeForParts.{AreForPartsWhole};
+ghost use Rattle.c_parse.specs.ForParts.{nested_in_fors};
 ghost use Rattle.grammar_laws.specs.Nested.{is_call};
 ghost use Rattle.grammar_laws.specs.Places.{item_places, items_places};
 ghost use Rattle.scope_rules.specs.Reading.{HasRead};
@@ -129,7 +129,7 @@ fn rewritten(alloc: Global, raw: Vec<RawItem>) -> Result<Rewriting, AllocError>
 
 // The program of the rewritten tree, or a refusal of it. It frees the tree as it was read.
 fn resolve_hoisted(alloc: Global, raw: RawProgram) -> Result<Program, ScopeError>
-    requires { AreForPartsWhole (raw_program_tree raw) }
+    requires { nested_in_fors (raw_program_tree raw) ≡ None }
     ensures resolved { IfOk result (λ p. IsHoistedTo (raw_program_tree raw) (program_tree p)) }
     ensures refused { IfErr result (λ e. IsRefusedHoisted (raw_program_tree raw) e) }
 {

@@ -1,4 +1,4 @@
--- The first call in the three parts in the parentheses of a `for` that isn't whole, in the order of the text.
+-- The first nested call in the three parts in the parentheses of a `for`, in the order of the text.
 use Rattle.std.specs.Prelude.{ℕ, List, [], ◌∷◌, Option, None}
 use Rattle.c_tree.specs.RawTrees.{RawStmtTree, RawStmtTrees, RawDo, RawEmpty, RawBlock, RawIf, RawIfElse, RawWhile, RawFor, RawBreak, RawContinue, RawReturn, NoRawStmts, RawThen, RawItemTree, RawGlobal, RawGlobalArray, RawTableItem, RawPrototypeItem, RawFunctionItem}
 use Rattle.c_parse.specs.NestedCalls.{earlier, nested_in_simples, nested_in_condition, nested_in_step}
@@ -27,7 +27,7 @@ nested_in_item_for (RawTableItem n size members) = None
 nested_in_item_for (RawPrototypeItem gives n params) = None
 nested_in_item_for (RawFunctionItem gives n params body) = nested_in_all_for body
 
--- the place of the name of the first call that isn't whole there
+-- the place of the name of the first nested call in the parentheses of a `for`
 abbrev pub nested_in_fors : List RawItemTree → Option ℕ
 nested_in_fors [] = None
 nested_in_fors (i ∷ is) = earlier (nested_in_item_for i) (nested_in_fors is)

@@ -1,4 +1,4 @@
--- The first call that isn't whole, in the order of the text.
+-- The first nested call, in the order of the text.
 use Rattle.std.specs.Prelude.{ℕ, List, [], ◌∷◌, Option, Some, None}
 use Rattle.c_tree.specs.RawTrees.{RawExprTree, RawExprTrees, RawNumber, RawName, RawElement, RawUnary, RawParenthesized, RawBinary, RawLogicalAnd, RawLogicalOr, RawConditional, RawCall, RawTableCall, NoExprs, And, RawSimpleTree, RawDeclareScalar, RawDeclareArray, RawDeclareWith, RawSet, RawSetElement, RawCalling, RawTableCalling, RawStmtTree, RawStmtTrees, RawDo, RawEmpty, RawBlock, RawIf, RawIfElse, RawWhile, RawFor, RawBreak, RawContinue, RawReturn, NoRawStmts, RawThen, RawItemTree, RawGlobal, RawGlobalArray, RawTableItem, RawPrototypeItem, RawFunctionItem}
 
@@ -25,7 +25,7 @@ abbrev pub first_call_of : RawExprTrees → Option ℕ
 first_call_of NoExprs = None
 first_call_of (And e es) = earlier (first_call e) (first_call_of es)
 
--- the first call that isn't whole in a right side or a returned value, which itself may be a call
+-- the first nested call in a right side or a returned value, which itself may be a call
 abbrev pub nested_in_value : RawExprTree → Option ℕ
 nested_in_value (RawNumber v) = None
 nested_in_value (RawName n) = None
@@ -88,7 +88,7 @@ nested_in_item (RawTableItem n size members) = None
 nested_in_item (RawPrototypeItem gives n params) = None
 nested_in_item (RawFunctionItem gives n params body) = nested_in_stmts body
 
--- the place of the name of the first call that isn't whole
+-- the place of the name of the first nested call
 abbrev pub nested_in_items : List RawItemTree → Option ℕ
 nested_in_items [] = None
 nested_in_items (i ∷ is) = earlier (nested_in_item i) (nested_in_items is)

@@ -6,7 +6,6 @@ use Rattle.c_lex.specs.Tokens.{AreTokensOf, IsLexErrorOf}
 use Rattle.c_tree.specs.RawTrees.{RawItemTree}
 use Rattle.c_tree.specs.Trees.{ProgramTree}
 use Rattle.c_grammar.specs.declared.errors.ParseError.{ParseError}
-use Rattle.c_tree.specs.WholeCalls.{AreCallsWhole}
 use Rattle.c_parse.specs.NestedCalls.{nested_in_items}
 use Rattle.c_parse.specs.Parsed.{IsParsedWhere, IsRefusedWhere}
 use Rattle.scope_rules.specs.declared.errors.ScopeError.{ScopeError}
@@ -14,16 +13,17 @@ use Rattle.c_scope.specs.declared.source_errors.SourceError.{SourceError}
 use Rattle.c_scope.specs.declared.source_errors.SourceError.TheVariants as refusals
 use Rattle.scope_rules.specs.Outcomes.{IsResolved, IsRefused}
 
--- ---- by which calls have to be whole, the first that isn't, and how a tree is resolved and refused
+-- ---- by the first call that is nested where it may not be, and how a tree is resolved and refused
 
 -- The bytes of the source split into these tokens, by maximal munch, with white space and comments between them; the
--- tokens are this tree of the grammar, in which nothing is too deep and each call that has to be whole is whole; and
--- the tree is resolved to the program.
-pub record ReadsWhere (Whole : List RawItemTree → Type 0) (Resolved : List RawItemTree → ProgramTree → Type 0) (source : List ℕ) (program : ProgramTree) : Type 0 where
+-- tokens are this tree of the grammar, in which nothing is too deep and `first_nested` finds no call; and the tree is
+-- resolved to the program.
+pub record ReadsWhere (first_nested : List RawItemTree → Option ℕ) (Resolved : List RawItemTree → ProgramTree → Type 0)
+    (source : List ℕ) (program : ProgramTree) : Type 0 where
   pub tokens : List Token
   pub tree : List RawItemTree
   pub lexed : AreTokensOf source tokens
-  pub parsed : IsParsedWhere Whole source tokens tree
+  pub parsed : IsParsedWhere first_nested source tokens tree
   pub resolved : Resolved tree program
 
 -- the bytes split into tokens, which are refused as a tree
@@ -33,38 +33,39 @@ pub record IsNoTreeWhere (first_nested : List RawItemTree → Option ℕ) (sourc
   pub refused : IsRefusedWhere first_nested source tokens error
 
 -- the bytes split into tokens, which are a tree that is refused
-pub record IsNoProgramWhere (Whole : List RawItemTree → Type 0) (Refused : List RawItemTree → ScopeError → Type 0) (source : List ℕ) (error : ScopeError) : Type 0 where
+pub record IsNoProgramWhere (first_nested : List RawItemTree → Option ℕ) (Refused : List RawItemTree → ScopeError → Type 0)
+    (source : List ℕ) (error : ScopeError) : Type 0 where
   pub tokens : List Token
   pub tree : List RawItemTree
   pub lexed : AreTokensOf source tokens
-  pub parsed : IsParsedWhere Whole source tokens tree
+  pub parsed : IsParsedWhere first_nested source tokens tree
   pub refused : Refused tree error
 
 -- The refusal of the source: that of the first of the three stages that has one.
-abbrev pub IsSourceErrorWhere : (List RawItemTree → Type 0) → (List RawItemTree → Option ℕ) → (List RawItemTree → ScopeError → Type 0) → List ℕ → SourceError → Type 0
-IsSourceErrorWhere Whole first_nested Refused source (refusals.BadByte at) = IsLexErrorOf source (LexError.BadByte at)
-IsSourceErrorWhere Whole first_nested Refused source (refusals.OpenComment at) = IsLexErrorOf source (LexError.OpenComment at)
-IsSourceErrorWhere Whole first_nested Refused source (refusals.BadNumber at) = IsLexErrorOf source (LexError.BadNumber at)
-IsSourceErrorWhere Whole first_nested Refused source (refusals.Unexpected at) = IsNoTreeWhere first_nested source (ParseError.Unexpected at)
-IsSourceErrorWhere Whole first_nested Refused source (refusals.TooDeep at) = IsNoTreeWhere first_nested source (ParseError.TooDeep at)
-IsSourceErrorWhere Whole first_nested Refused source (refusals.NestedCall at) = IsNoTreeWhere first_nested source (ParseError.NestedCall at)
-IsSourceErrorWhere Whole first_nested Refused source (refusals.Unknown at) = IsNoProgramWhere Whole Refused source (ScopeError.Unknown at)
-IsSourceErrorWhere Whole first_nested Refused source (refusals.Twice at) = IsNoProgramWhere Whole Refused source (ScopeError.Twice at)
-IsSourceErrorWhere Whole first_nested Refused source (refusals.Arity at) = IsNoProgramWhere Whole Refused source (ScopeError.Arity at)
-IsSourceErrorWhere Whole first_nested Refused source (refusals.Kind at) = IsNoProgramWhere Whole Refused source (ScopeError.Kind at)
-IsSourceErrorWhere Whole first_nested Refused source refusals.NoMain = IsNoProgramWhere Whole Refused source ScopeError.NoMain
-IsSourceErrorWhere Whole first_nested Refused source (refusals.Limit which) = IsNoProgramWhere Whole Refused source (ScopeError.Limit which)
-IsSourceErrorWhere Whole first_nested Refused source refusals.Memory = ⊥
+abbrev pub IsSourceErrorWhere : (List RawItemTree → Option ℕ) → (List RawItemTree → ScopeError → Type 0) → List ℕ → SourceError → Type 0
+IsSourceErrorWhere first_nested Refused source (refusals.BadByte at) = IsLexErrorOf source (LexError.BadByte at)
+IsSourceErrorWhere first_nested Refused source (refusals.OpenComment at) = IsLexErrorOf source (LexError.OpenComment at)
+IsSourceErrorWhere first_nested Refused source (refusals.BadNumber at) = IsLexErrorOf source (LexError.BadNumber at)
+IsSourceErrorWhere first_nested Refused source (refusals.Unexpected at) = IsNoTreeWhere first_nested source (ParseError.Unexpected at)
+IsSourceErrorWhere first_nested Refused source (refusals.TooDeep at) = IsNoTreeWhere first_nested source (ParseError.TooDeep at)
+IsSourceErrorWhere first_nested Refused source (refusals.NestedCall at) = IsNoTreeWhere first_nested source (ParseError.NestedCall at)
+IsSourceErrorWhere first_nested Refused source (refusals.Unknown at) = IsNoProgramWhere first_nested Refused source (ScopeError.Unknown at)
+IsSourceErrorWhere first_nested Refused source (refusals.Twice at) = IsNoProgramWhere first_nested Refused source (ScopeError.Twice at)
+IsSourceErrorWhere first_nested Refused source (refusals.Arity at) = IsNoProgramWhere first_nested Refused source (ScopeError.Arity at)
+IsSourceErrorWhere first_nested Refused source (refusals.Kind at) = IsNoProgramWhere first_nested Refused source (ScopeError.Kind at)
+IsSourceErrorWhere first_nested Refused source refusals.NoMain = IsNoProgramWhere first_nested Refused source ScopeError.NoMain
+IsSourceErrorWhere first_nested Refused source (refusals.Limit which) = IsNoProgramWhere first_nested Refused source (ScopeError.Limit which)
+IsSourceErrorWhere first_nested Refused source refusals.Memory = ⊥
 
--- ---- every call has to be whole
+-- ---- no call is nested
 
--- The source is read as this program: each call of its tree is whole, and the tree breaks no rule of scope, defines
--- `main`, exceeds no limit, and is the program with numbers in place of names.
+-- The source is read as this program: its tree has no nested call, breaks no rule of scope, defines `main`, exceeds no
+-- limit, and is the program with numbers in place of names.
 abbrev pub ReadsAs : List ℕ → ProgramTree → Type 0
-ReadsAs source program = ReadsWhere AreCallsWhole IsResolved source program
+ReadsAs source program = ReadsWhere nested_in_items IsResolved source program
 
 abbrev pub IsSourceErrorOf : List ℕ → SourceError → Type 0
-IsSourceErrorOf source error = IsSourceErrorWhere AreCallsWhole nested_in_items IsRefused source error
+IsSourceErrorOf source error = IsSourceErrorWhere nested_in_items IsRefused source error
 
 -- each stage's refusal as one of the source
 abbrev pub by_lex : LexError → SourceError

@@ -54,7 +54,6 @@ pub use Rattle.c_tree.specs.RawTrees.{And, NameTree, NoExprs, NoRawStmts, RawBin
 pub use Rattle.c_tree.specs.TextOrder.{program_sites}
 pub use Rattle.c_tree.specs.Trees.{Binary, Block, CallFunction, CallModelled, CallSpawn, CallTable, CallTree, Called, Calling, Computed, Conditional, DeclareWith, Do, ExprTree, For, FunctionTree, GlobalElement, If, IfElse, LocalElement, LogicalAnd, LogicalOr, NoStmts, Parenthesized, ProgramTree, Return, RightTree, SetGlobal, SetGlobalElement, SetLocal, SetLocalElement, SimpleTree, StmtTree, StmtTrees, Then, Unary, While}
 pub use Rattle.c_tree.specs.WellScoped.{AreFunctionsScoped, AreSiteNumbers, IsFunctionScoped, IsWellScoped}
-pub use Rattle.c_tree.specs.WholeForParts.{AreForPartsWhole}
 pub use Rattle.c_tree.specs.declared.facts.GlobalFact.{GlobalFact}
 pub use Rattle.c_tree.specs.declared.operators.Infix.{Infix}
 pub use Rattle.c_tree.specs.declared.operators.UnaryOperator.{UnaryOperator}

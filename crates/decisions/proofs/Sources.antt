@@ -1,5 +1,5 @@
 -- A source is a program, or has a refusal.
-use Rattle.decisions.proofs.Common.{ℕ, ◌⊎◌, inl, inr, List, Token, LexError, AreTokensOf, IsLexErrorOf, RawItemTree, AreWithinTemporaries, ProgramTree, IsWellScoped, ParseError, AreForPartsWhole, nested_in_fors, IsParsedWhere, IsRefusedWhere, for_parts_whole, ScopeError, program_of, numbered, items_hoisted, ReadsNested, IsNestedSourceErrorOf}
+use Rattle.decisions.proofs.Common.{ℕ, ◌⊎◌, inl, inr, List, Token, LexError, AreTokensOf, IsLexErrorOf, RawItemTree, AreWithinTemporaries, ProgramTree, IsWellScoped, ParseError, nested_in_fors, IsParsedWhere, IsRefusedWhere, for_parts_whole, ScopeError, program_of, numbered, items_hoisted, ReadsNested, IsNestedSourceErrorOf}
 use Rattle.c_scope.specs.declared.source_errors.SourceError.{SourceError}
 use Rattle.c_scope.specs.declared.source_errors.SourceError.TheVariants as refusals
 use Rattle.hoist_parts.proofs.Whole.{items_hoisted_whole}
@@ -34,7 +34,8 @@ no_tree source tokens lexed (ParseError.TooDeep at) e = (refusals.TooDeep at, re
 no_tree source tokens lexed (ParseError.NestedCall at) e = (refusals.NestedCall at, record { tokens = tokens; lexed = lexed; refused = e })
 no_tree source tokens lexed ParseError.Memory e = absurd e
 
-module _ (source : List ℕ) (tokens : List Token) (lexed : AreTokensOf source tokens) (tree : List RawItemTree) (parsed : IsParsedWhere AreForPartsWhole source tokens tree) where
+module _ (source : List ℕ) (tokens : List Token) (lexed : AreTokensOf source tokens) (tree : List RawItemTree)
+    (parsed : IsParsedWhere nested_in_fors source tokens tree) where
   no_program : Refused (items_hoisted tree) → AnError source
   no_program (ScopeError.Unknown at, e) = (refusals.Unknown at, record { tokens = tokens; tree = tree; lexed = lexed; parsed = parsed; refused = e.1 })
   no_program (ScopeError.Twice at, e) = (refusals.Twice at, record { tokens = tokens; tree = tree; lexed = lexed; parsed = parsed; refused = e.1 })
@@ -48,7 +49,7 @@ module _ (source : List ℕ) (tokens : List Token) (lexed : AreTokensOf source t
 
   a_program : AreWithinTemporaries tree → IsFree (items_hoisted tree) → AProgram source
   a_program small free =
-      let whole = items_hoisted_whole tree parsed.whole in
+      let whole = items_hoisted_whole tree (for_parts_whole tree parsed.none_nested) in
       record {
         program = numbered (site_numbers (items_hoisted tree)) (program_of (items_hoisted tree));
         reads = record { tokens = tokens; tree = tree; lexed = lexed; parsed = parsed; resolved = resolved_by (site_numbers (items_hoisted tree)) (items_hoisted tree) free };
@@ -59,7 +60,7 @@ module _ (source : List ℕ) (tokens : List Token) (lexed : AreTokensOf source t
   by_scope small (inl free) = inl (a_program small free)
   by_scope small (inr refused) = inr (no_program refused)
 
-by_tree : (source : List ℕ) (tokens : List Token) → AreTokensOf source tokens → ParsesOrNot AreForPartsWhole nested_in_fors for_parts_whole source tokens → AProgram source ⊎ AnError source
+by_tree : (source : List ℕ) (tokens : List Token) → AreTokensOf source tokens → ParsesOrNot nested_in_fors source tokens → AProgram source ⊎ AnError source
 by_tree source tokens lexed (inl t) = by_scope source tokens lexed t.tree t.parsed t.small (free_or_refused (items_hoisted t.tree))
 by_tree source tokens lexed (inr refused) = inr (no_tree source tokens lexed refused.0 refused.1)
 

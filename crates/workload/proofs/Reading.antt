@@ -4,7 +4,7 @@ use Rattle.c_scope.proofs.EveryWhole.{one_program}
 use Rattle.workload.proofs.Lexed.{program_tokens, program_lexed}
 use Rattle.workload.proofs.Items.{program_items}
 use Rattle.workload.proofs.Trees.{program_derived}
-use Rattle.workload.proofs.Within.{program_within, program_whole}
+use Rattle.workload.proofs.Within.{program_within, program_none_nested}
 use Rattle.workload.proofs.Resolved.{main_trees, program_functions, program_resolved}
 
 reads_so : (n : ℕ) → 1 ≤ n → n ≤ 1000 → ReadsAs (program_text n) (program_of (program_items n))
@@ -12,7 +12,7 @@ reads_so n low high = record {
   tokens = program_tokens n;
   tree = program_items n;
   lexed = program_lexed n low high;
-  parsed = record { within = program_within n; tree = program_derived n; whole = program_whole n };
+  parsed = record { within = program_within n; tree = program_derived n; none_nested = program_none_nested n };
   resolved = program_resolved n high;
 }
 

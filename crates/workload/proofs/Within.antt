@@ -1,8 +1,8 @@
--- The tokens of the workload's source are a program in which nothing is too deep, and every call in it is whole.
+-- The tokens of the workload's source are a program in which nothing is too deep, and no call in it is nested.
 use Rattle.workload.proofs.Common.{ℕ, zero, suc, ◌≡◌, List, [], ◌∷◌, None, refl, ◌∙◌, subst, Token, RawItemTree}
-use Rattle.c_tree.specs.WholeCalls.{AreCallsWhole}
 use Rattle.c_grammar.specs.Reading.{run}
 use Rattle.c_grammar.specs.Refusals.{IsWithin, Verdict}
+use Rattle.c_parse.specs.NestedCalls.{nested_in_items}
 use Rattle.grammar_laws.proofs.Verdicts.{start}
 use Rattle.grammar_laws.proofs.Outcome.{run_is_verdict}
 use Rattle.workload.proofs.Spelling.{tokens_of}
@@ -41,12 +41,9 @@ program_within n =
     chain_run n 0 (worker_tokens n) ∙ worker_run n 0 (worker_place n) (main_tokens n) ∙ main_run n 0 (main_place n) [] ∙ nothing_run 0 in
     subst (Verdict 0 (program_tokens n)) read (run_is_verdict 0 (program_tokens n))
 
-chain_whole : (m : ℕ) (items : List RawItemTree) → AreCallsWhole items → AreCallsWhole (chain_items m items)
-chain_whole zero items whole = ((tt, tt), whole)
-chain_whole (suc m) items whole = chain_whole m (link_item (link_places m) (suc m) m ∷ items) ((tt, (((tt, tt), tt), (tt, tt))), whole)
+chain_none_nested : (m : ℕ) (items : List RawItemTree) → nested_in_items items ≡ None → nested_in_items (chain_items m items) ≡ None
+chain_none_nested zero items none = none
+chain_none_nested (suc m) items none = chain_none_nested m (link_item (link_places m) (suc m) m ∷ items) none
 
-pub program_whole : (n : ℕ) → AreCallsWhole (program_items n)
-program_whole n = chain_whole n (worker_item (worker_places n) n ∷ main_item (main_places n) n ∷ []) (
-  (tt, (tt, (tt, ((tt, tt), ((tt, tt), ((tt, tt), tt)))))),
-  ((tt, (((tt, tt), (tt, tt), (tt, tt), (tt, (tt, tt))), (tt, tt))), tt),
-)
+pub program_none_nested : (n : ℕ) → nested_in_items (program_items n) ≡ None
+program_none_nested n = chain_none_nested n (worker_item (worker_places n) n ∷ main_item (main_places n) n ∷ []) refl

@@ -1,5 +1,5 @@
 use Rattle.c_tree.specs.RawProgramView.{raw_program_tree}
-use Rattle.c_hoist.proofs.Common.{ap, sym, subst, ◌∙◌, length, program_tree, is_call, items_places, ranks, HasRead, IsResolvedBy, items_hoisted}
+use Rattle.c_hoist.proofs.Common.{ap, sym, subst, ◌∙◌, length, for_parts_whole, program_tree, is_call, items_places, ranks, HasRead, IsResolvedBy, items_hoisted}
 use Rattle.c_tree.specs.WellScoped.{AreSiteNumbers}
 use Rattle.hoist_parts.proofs.Temporaries.{items_small}
 use Rattle.hoist_parts.proofs.Whole.{items_hoisted_whole}
@@ -9,7 +9,7 @@ use Rattle.c_hoist.proofs.nested_text.resolve_hoisted.Goals as goal
 pub finish-requires : goal.finish-requires
 finish-requires c =
     let t = raw_program_tree c.args.raw in
-    let whole = items_hoisted_whole t c.requires in
+    let whole = items_hoisted_whole t (for_parts_whole t c.requires) in
     let places = c.deref.ensures.value ∙ c.in-Ok.ensures.places ∙ ap (λ x. items_places is_call (items_hoisted x)) c.into_items.ensures in
     let ns = c.deref-2.ensures.value ∙ c.in-Ok-numbers_by_places.ensures.numbers ∙ ap ranks places in
     record {
