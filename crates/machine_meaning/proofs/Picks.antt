@@ -9,7 +9,8 @@ use Rattle.machine_world.specs.Places.{Checked, Place, InOperation, IsAt, size_i
 use Rattle.machine_meaning.proofs.Past.{ecall_inside}
 use Rattle.machine_meaning.proofs.Sites.{has_operation}
 use Rattle.machine_meaning.proofs.Forms.{has_form}
-use Rattle.machine_meaning.proofs.Modelled.{call_is, block_gives}
+use Rattle.machine_meaning.proofs.Modelled.{call_is}
+use Rattle.std.specs.Prelude.{is_some}
 use Rattle.machine_meaning.proofs.Outputs.{cut_at}
 use Rattle.machine_meaning.proofs.Staying.{holds_by}
 use Rattle.machine_meaning.proofs.SegmentSteps.{facts, runs_from, wanted}
@@ -56,7 +57,7 @@ kept_pool pool chain = record { shape = refl; words = all chain }
     all (chunk ∷ chain) = (refl, all chain)
 
 -- the result of a blocking call, where it gives one
-block_result : (n result : ℕ) (block : Block) → modelled_gives n ≡ block_gives block → modelled_gives n ≡ true → result_on block result ≡ Some result
+block_result : (n result : ℕ) (block : Block) → modelled_gives n ≡ is_some (result_on block 0) → modelled_gives n ≡ true → result_on block result ≡ Some result
 block_result n result Block.Accept gives does = refl
 block_result n result (Block.Wait channel) gives does = refl
 block_result n result (Block.Sleep ticks) gives does = absurd (let no : true ≡ false = sym does ∙ gives in cc)
