@@ -210,15 +210,18 @@ pub record IsGiven (a : Inside) (p : Pool) (id : ℕ) : Type 0 where
   pub pool : pool_of a ≡ after_give p id
   pub kept : IsKept a
 
--- what the region has in the first word of a chunk into which a number was written
-link_is : (a : Inside) (p : Pool) (id value : ℕ) → pool_of a ≡ with_word p id 0 value → IsKept a → IsPool p → id < p.count → get_or a.region (start_in a.shape id) 0 ≡ value
-link_is a p id value is kept sound within =
+-- a chunk in front of a free list, whose first number was written into the chunk's first word
+put_front : (a : Inside) (p : Pool) (id link first free : ℕ) → pool_of a ≡ with_word p id 0 link → IsKept a → IsPool p → id < p.count → link ≡ first →
+    followed a.shape a.region id (free + 1) ≡ id ∷ followed a.shape a.region first free
+put_front a p id link first free is kept sound within same =
     let at : start_in a.shape id ≡ start_in a.shape id + 0 = omega arith in
     let here : id < a.shape.count = subst (λ (q : Pool). id < q.count) (sym is) within in
+    let next : get_or a.region (start_in a.shape id) 0 ≡ first =
     ap (λ (i : ℕ). get_or a.region i 0) at
     ∙ sym (word_in_region a.shape id 0 a.region here (omega (arith, words_in-some a.shape id kept.pool.shape)))
     ∙ ap (λ (q : Pool). word_of q id 0) is
-    ∙ word_of-with_word_same p id 0 value sound within (omega (arith, words_in-some (shape_of p) id sound.shape))
+    ∙ word_of-with_word_same p id 0 link sound within (omega (arith, words_in-some (shape_of p) id sound.shape)) ∙ same in
+    followed-step a.shape a.region id (free + 1) free refl ∙ ap (λ (n : ℕ). id ∷ followed a.shape a.region n free) next
 
 -- the link is written, and then the number is in front
 pub given_to_first : (old a : Inside) (p : Pool) (id : ℕ) → pool_of old ≡ p → IsKept old → pool_of a ≡ with_word p id 0 old.first → IsKept a → IsHeld p id → id < p.first_count → IsGiven (first_given a id) p id
@@ -227,10 +230,8 @@ given_to_first old a p id old_is old_kept is kept held below =
     let s = a.shape in
     let link : old.first ≡ first_or p.free p.count = old_kept.first ∙ ap (λ (q : Pool). first_or q.free q.count) old_is in
     let first : a.first ≡ first_or p.free p.count = kept.first ∙ ap (λ (q : Pool). first_or q.free q.count) is in
-    let next : get_or a.region (start_in s id) 0 ≡ a.first = link_is a p id old.first is kept sound held.0 ∙ link ∙ sym first in
     let free : List ℕ = followed s a.region id (a.free + 1) in
-    let split : free ≡ id ∷ followed s a.region a.first a.free =
-    followed-step s a.region id (a.free + 1) a.free refl ∙ ap (λ (n : ℕ). id ∷ followed s a.region n a.free) next in
+    let split : free ≡ id ∷ followed s a.region a.first a.free = put_front a p id old.first a.first a.free is kept sound held.0 (link ∙ sym first) in
     let given : pool_of (first_given a id) ≡ given_first p id =
     ap (λ (q : Pool). record q { free = free }) is
     ∙ ap (λ (ids : List ℕ). record (with_word p id 0 old.first) { free = ids }) (split ∙ ap (λ (q : Pool). id ∷ q.free) is)
@@ -251,10 +252,9 @@ given_to_extra old a p id old_is old_kept is kept held from =
     let s = a.shape in
     let link : old.extra_first ≡ first_or p.extra_free p.count = old_kept.extra_first ∙ ap (λ (q : Pool). first_or q.extra_free q.count) old_is in
     let first : a.extra_first ≡ first_or p.extra_free p.count = kept.extra_first ∙ ap (λ (q : Pool). first_or q.extra_free q.count) is in
-    let next : get_or a.region (start_in s id) 0 ≡ a.extra_first = link_is a p id old.extra_first is kept sound held.0 ∙ link ∙ sym first in
     let free : List ℕ = followed s a.region id (a.extra_free + 1) in
     let split : free ≡ id ∷ followed s a.region a.extra_first a.extra_free =
-    followed-step s a.region id (a.extra_free + 1) a.extra_free refl ∙ ap (λ (n : ℕ). id ∷ followed s a.region n a.extra_free) next in
+    put_front a p id old.extra_first a.extra_first a.extra_free is kept sound held.0 (link ∙ sym first) in
     let given : pool_of (extra_given a id) ≡ given_extra p id =
     ap (λ (q : Pool). record q { extra_free = free }) is
     ∙ ap (λ (ids : List ℕ). record (with_word p id 0 old.extra_first) { extra_free = ids }) (split ∙ ap (λ (q : Pool). id ∷ q.extra_free) is)
