@@ -1,7 +1,6 @@
 -- What is due of a log that is judged, and how the command ends by what is said of it.
-use Rattle.std.proofs.Common.{◌≡◌, ◌≢◌, ℕ, List, Option, Some, None, Result, Ok, Err, refl, sym, subst, ◌∙◌, inl, arith}
+use Rattle.std.proofs.Common.{◌≡◌, ◌≢◌, ℕ, List, Option, Some, None, Result, Ok, Err, refl, subst, ◌∙◌, inl, arith}
 use Rattle.std.specs.Prelude.{true}
-use Rattle.std.specs.Io.KnownBytes.{Keeps}
 use Rattle.std.proofs.KnownBytes.{Keeps-refl}
 use Rattle.cap_io.specs.Files.{Files, KeepsFiles}
 use Rattle.c_tree.specs.Trees.{ProgramTree}
@@ -21,7 +20,7 @@ use Rattle.command_outcomes.specs.declared.stops.Stop.TheVariants.{Refused, Fail
 use Rattle.command_outcomes.specs.Done.{Outside}
 use Rattle.command_files.specs.Loads.{AfterLoad, AfterSource, IsSourceText}
 use Rattle.command_outcomes.specs.Outcome.{Outcome, NoMore}
-use Rattle.command_outcomes.specs.Steps.{EndsAs, IsPrinted, IsShelfStop, IsStatus, IsStop}
+use Rattle.command_outcomes.specs.Steps.{IsPrinted, IsShelfStop, IsStatus, IsStop, RunEnds}
 use Rattle.command_files.specs.Loaded.{IsLoaded}
 use Rattle.command_outcomes.proofs.Ending.{kept-are-stored, printed-ends, stopped-reading}
 use Rattle.command_files.proofs.Follows.{load-before, load-follows, loaded, shelf-stop-follows, source-follows, stop-on-shelf}
@@ -86,26 +85,26 @@ reads-no-run None options log program all = all (judged_outcome Verdict.Lawful) 
 reads-no-run (Some bytes) options log program all = let said = some_verdict (reading_of program options) bytes log in all (judged_outcome said.0)
     (said.0, said.1, refl) refl refl
 
-pub unjudged : (before after : Outside) (options : AuditOptions) (log : List ℕ) (program : ProgramTree) (stop : Stop) → KeepsFiles before.files after.files
-    → after.loads ≡ before.loads → after.stores ≡ before.stores →
-    after.taken ≡ before.taken → after.writes ≡ before.writes → IsJudged (reading_of program options) before.left log before.reads after.reads (Err stop) →
-    EndsAs IsStatus (AuditsProgram before.left options log program) before after (Err stop)
-unjudged before after options log program (Failed fault) files loads stores taken writes h =
-    stopped-reading IsStatus (AuditsProgram before.left options log program) before after fault (reads-no-run before.left options log program) files
-    (same before.taken after.taken taken) loads stores writes h
-  where
-    same : (old new : Option (List ℕ)) → new ≡ old → Keeps old new
-    same old new e = subst (λ (t : Option (List ℕ)). Keeps old t) (sym e) (Keeps-refl old)
-unjudged before after options log program (Refused cause) files loads stores taken writes h = absurd h
+abbrev outside : Option Files → ℕ → ℕ → Option (List ℕ) → ℕ → Option (List ℕ) → ℕ → Outside
+outside files loads stores left reads taken writes =
+    record { files = files; loads = loads; stores = stores; left = left; reads = reads; taken = taken; writes = writes }
 
-pub judgement-told : (before after : Outside) (options : AuditOptions) (log : List ℕ) (program : ProgramTree) (is : Verdict) (answer : Result ℕ Stop)
-    → KeepsFiles before.files after.files → after.loads ≡ before.loads → after.stores ≡ before.stores →
-    IsJudged (reading_of program options) before.left log before.reads after.reads (Ok is)
-    → IsPrinted (judgement_status is) (judgement_line is) before.taken after.taken before.writes after.writes answer →
-    EndsAs IsStatus (AuditsProgram before.left options log program) before after answer
-judgement-told before after options log program is answer files loads stores h printed =
-    printed-ends (AuditsProgram before.left options log program) before after (judged_outcome is) answer (is, h.0, refl) refl refl tt
-    (kept-are-stored before.files after.files files) loads stores h.1 printed
+module _ (options : AuditOptions) (log : List ℕ) (program : ProgramTree) (left left' : Option (List ℕ)) (reads reads' : ℕ) where
+  pub unjudged : (taken : Option (List ℕ)) (writes : ℕ) (stop : Stop) → IsJudged (reading_of program options) left log reads reads' (Err stop) →
+      RunEnds IsStatus (AuditsProgram left options log program) left left' reads reads' taken taken writes writes (Err stop)
+  unjudged taken writes (Failed fault) h = λ files files' loads loads' stores stores' keeps same again.
+      stopped-reading IsStatus (AuditsProgram left options log program) (outside files loads stores left reads taken writes)
+      (outside files' loads' stores' left' reads' taken writes) fault (reads-no-run left options log program) keeps (Keeps-refl taken) same again refl h
+  unjudged taken writes (Refused cause) h = absurd h
+
+  pub judgement-told : (taken taken' : Option (List ℕ)) (writes writes' : ℕ) (is : Verdict) (answer : Result ℕ Stop) →
+      IsJudged (reading_of program options) left log reads reads' (Ok is) →
+      IsPrinted (judgement_status is) (judgement_line is) taken taken' writes writes' answer →
+      RunEnds IsStatus (AuditsProgram left options log program) left left' reads reads' taken taken' writes writes' answer
+  judgement-told taken taken' writes writes' is answer h printed = λ files files' loads loads' stores stores' keeps same again.
+      printed-ends (AuditsProgram left options log program) (outside files loads stores left reads taken writes)
+      (outside files' loads' stores' left' reads' taken' writes') (judged_outcome is) answer (is, h.0, refl) refl refl tt
+      (kept-are-stored files files' keeps) same again h.1 printed
 
 -- ---- the loads
 
