@@ -31,11 +31,10 @@ module _ (c : Checked) (code : List ℕ) (l : Local) (t : FlatThread) (d x y a b
       let whole = Op.Bin op d x y in
       let word = (λ (w : ℕ) (small : w < 3). (let is : IsWholeWord c f w whole = record { small = omega (arith, more); row_is = refl } in is)) in
       let both = load_both c code l t op d x y a b facts there simulates sa sb (word 0 (omega arith)) (word 1 (omega arith)) in
-      let fetch = fetch_at c code both.next f t.frame.next 2 whole simulates.frame simulates.below instr there both.during.inside e2 in (
-        both,
-        set_value c code both.next t 2 whole simulates.frame simulates.below instr 5 result there (word 2 (omega arith)) both.during fetch
-            (makes (machine_of both.next) both.left both.right) (none (machine_of both.next)) is_t0,
-      )
+      let fetch = fetch_at c code both.next f t.frame.next 2 whole simulates.frame simulates.below instr there both.during.inside e2 in
+      let set = set_value c code both.next t 2 whole simulates.frame simulates.below instr 5 result there (word 2 (omega arith)) both.during fetch
+      (makes (machine_of both.next) both.left both.right) (none (machine_of both.next)) is_t0 in
+      (both, set)
 
   bin_one : (op : BinOp) (instr : Instr) (result : ℕ) → IsOperationAt c code t.frame.function t.frame.next (Op.Bin op d x y) →
       4 ≡ size (function_at c.flat t.frame.function).sizes (kind_of c.certificate (Op.Bin op d x y)) (Op.Bin op d x y) →
@@ -64,15 +63,14 @@ module _ (c : Checked) (code : List ℕ) (l : Local) (t : FlatThread) (d x y a b
       let frame = simulates.frame in
       let below = simulates.below in
       let whole = Op.Bin op d x y in
-      let w3 : IsWholeWord c f 3 whole = record { small = omega (arith, size_is); row_is = refl } in
-      let w4 : IsWholeWord c f 4 whole = record { small = omega (arith, size_is); row_is = refl } in
+      let word = (λ (w : ℕ) (small : w < 5). (let is : IsWholeWord c f w whole = record { small = omega (arith, size_is); row_is = refl } in is)) in
       let (both, made) = bin_first op instr middle there (omega (arith, size_is)) e2 makes none in
       let a_below : a < 2 ^ 32 = subst (λ (n : ℕ). n < 2 ^ 32) both.left (read-below both.next.core.x 5 both.during.inside.form.core.registers) in
       let b_below : b < 2 ^ 32 = subst (λ (n : ℕ). n < 2 ^ 32) both.right (read-below both.next.core.x 6 both.during.inside.form.core.registers) in
       let does = makes' a_below b_below (machine_of made.next) made.value_is (made.others 6 (λ e. absurd (omega arith)) ∙ both.right) in
-      let turned = set_value c code made.next t 3 whole frame below second 5 result there w3 made.during
+      let turned = set_value c code made.next t 3 whole frame below second 5 result there (word 3 (omega arith)) made.during
       (fetch_at c code made.next f i 3 whole frame below second there made.during.inside e3) does (none' (machine_of made.next)) is_t0 in
-      let stored = store_scalar c code turned.next t 4 whole frame below 5 d result facts there w4 turned.during
+      let stored = store_scalar c code turned.next t 4 whole frame below 5 d result facts there (word 4 (omega arith)) turned.during
       (fetch_at c code turned.next f i 4 whole frame below _ there turned.during.inside e4) (one_word c f d there.formed.0) turned.value_is size_is in
       Reaches-after c code 4 l turned.next (flat_set t d result)
       (Leads-then c code 3 1 l made.next turned.next (Leads-then c code 2 1 l both.next made.next both.leads made.leads) turned.leads) stored

@@ -1,16 +1,16 @@
 -- Operations on globals and their elements.
-use Rattle.segment_laws.proofs.Common.{◌≡◌, ℕ, ◌+◌, ◌*◌, ◌^◌, ◌<◌, ◌≤◌, ◌++◌, List, [], ◌∷◌, length, get_or, map, pos, Some, refl, sym, ap, subst, ◌∙◌, arith, slice_get, length-map, get_or-map, get_or-le-sum_by, word_of, width, word_at, with_word, Instr, read, Op, FlatGlobal, FlatCode, FlatThread, passed, scalar, fact_at, global_address, global_words, guard, li, AreGlobals, global_widths, Frame, Local, Checked}
+use Rattle.segment_laws.proofs.Common.{◌≡◌, ℕ, ◌+◌, ◌*◌, ◌^◌, ◌<◌, ◌≤◌, ◌++◌, List, [], ◌∷◌, length, get_or, map, pos, Some, refl, sym, ap, subst, ◌∙◌, arith, slice_get, length-map, get_or-map, get_or-le-sum_by, word_of, width, word_at, with_word, Instr, read, Op, FlatGlobal, FlatCode, FlatThread, passed, scalar, global_address, global_words, li, AreGlobals, global_widths, Frame, Local, Checked}
 use Rattle.cap_word.specs.Word as word
 use Rattle.segment_laws.proofs.Facts.{CodeFacts, IsOperationAt}
 use Rattle.segment_laws.proofs.Finish.{store_scalar, Simulates-at, behind_last, Reaches-after}
 use Rattle.segment_laws.proofs.GlobalWords.{element_of, load_global, store_global}
 use Rattle.segment_laws.proofs.Guards.{IsGuarded, guard_passes}
-use Rattle.segment_laws.proofs.Immediate.{words_of, fetch_at, is_t0, is_t1, load_immediate}
+use Rattle.segment_laws.proofs.Immediate.{fetch_at, is_t0, is_t1, load_immediate}
 use Rattle.segment_laws.proofs.Inside.{IsWholeWord}
 use Rattle.segment_laws.proofs.LocalArrays.{scales, adds}
 use Rattle.segment_laws.proofs.Registers.{add-small, word_of-small}
 use Rattle.segment_laws.proofs.Rows.{HasGlobal, HasGlobal-at}
-use Rattle.segment_laws.proofs.Simulation.{During, Simulates, Reaches, IsOneWord, load_scalar}
+use Rattle.segment_laws.proofs.Simulation.{During, Simulates, Reaches, load_scalar}
 use Rattle.segment_laws.proofs.Straight.{one_word, flat_set}
 use Rattle.segment_laws.proofs.Ways.{Leads, Leads-then}
 
@@ -92,32 +92,24 @@ few_words c code g facts there =
     let count : length (global_widths c.flat) ≡ length c.flat.globals = length-map c.flat.globals (λ (x : FlatGlobal). x.words) in
     omega (arith, facts.globals_small, get_or-le-sum_by (λ (n : ℕ). n) (global_widths c.flat) g 0 (omega (arith, count, there)))
 
--- the words of an operation begin with those for the address of an element of global g, whose index is scalar x
-pub record HasElement (c : Checked) (f i : ℕ) (op : Op) (g x : ℕ) : Type 0 where
-  pub rest : List Instr
-  pub words : words_of c f i op ≡
-      guard (fact_at c.certificate f) x (global_words c.flat g) 1 ++ (Instr.Slli 5 5 (pos 2) ∷ li 6 (global_address c.flat g) ++ (Instr.Add 5 5 6 ∷ rest))
-  pub whole : (w : ℕ) → w < 13 → IsWholeWord c f w op
-  pub there : g < length c.flat.globals
-  pub one : IsOneWord c f x
+-- the operation is on an element of global g, whose index is scalar x
+abbrev pub HasElement : Checked → ℕ → ℕ → Op → ℕ → ℕ → Type 0
+HasElement c f i op g x =
+    IsGuarded c f i op x (global_words c.flat g) 1 13 (Instr.Slli 5 5 (pos 2) ∷ li 6 (global_address c.flat g) ++ (Instr.Add 5 5 6 ∷ []))
 
-pub load_element : (c : Checked) (code : List ℕ) (f i d g x : ℕ) → IsOperationAt c code f i (Op.LoadArray d g x) → HasElement c f i (Op.LoadArray d g x) g x
-load_element c code f i d g x at =
-    let there = global_there c.flat g at.formed.1 in
-    record { rest = _; words = refl; whole = λ w small. record { small = small; row_is = refl }; there = there; one = one_word c f x at.formed.2 }
+pub load_element : (c : Checked) (code : List ℕ) (f i d g x : ℕ) → CodeFacts c code → IsOperationAt c code f i (Op.LoadArray d g x) →
+    HasElement c f i (Op.LoadArray d g x) g x
+load_element c code f i d g x facts at =
+    let few = few_words c code g facts (global_there c.flat g at.formed.1) in
+    let whole = (λ (w : ℕ) (small : w < 13). (let word : IsWholeWord c f w (Op.LoadArray d g x) = record { small = small; row_is = refl } in word)) in
+    record { rest = _; words = refl; whole = whole; one = one_word c f x at.formed.2; small = omega (arith, few); more = omega arith }
 
-pub store_element : (c : Checked) (code : List ℕ) (f i g x y : ℕ) → IsOperationAt c code f i (Op.StoreArray g x y) → HasElement c f i (Op.StoreArray g x y) g x
-store_element c code f i g x y at =
-    let there = global_there c.flat g at.formed.0 in
-    record { rest = _; words = refl; whole = λ w small. record { small = small; row_is = refl }; there = there; one = one_word c f x at.formed.1 }
-
-pub guarded_element : (c : Checked) (code : List ℕ) (f i : ℕ) (op : Op) (g x : ℕ) → CodeFacts c code → HasElement c f i op g x →
-    IsGuarded c f i op x (global_words c.flat g) 1
-guarded_element c code f i op g x facts element =
-    let few = few_words c code g facts element.there in
-    let last = (element.whole 12 (omega arith)).small in
-    let whole = (λ (w : ℕ) (small : w < 7). element.whole w (omega arith)) in
-    record { rest = _; words = element.words; whole = whole; one = element.one; small = omega (arith, few); more = omega (arith, last) }
+pub store_element : (c : Checked) (code : List ℕ) (f i g x y : ℕ) → CodeFacts c code → IsOperationAt c code f i (Op.StoreArray g x y) →
+    HasElement c f i (Op.StoreArray g x y) g x
+store_element c code f i g x y facts at =
+    let few = few_words c code g facts (global_there c.flat g at.formed.0) in
+    let whole = (λ (w : ℕ) (small : w < 13). (let word : IsWholeWord c f w (Op.StoreArray g x y) = record { small = small; row_is = refl } in word)) in
+    record { rest = _; words = refl; whole = whole; one = one_word c f x at.formed.1; small = omega (arith, few); more = omega arith }
 
 -- t0 is the address of the element
 record Addressed (c : Checked) (code : List ℕ) (l : Local) (t : FlatThread) (frame : Frame) (below : List Frame) (g k : ℕ) : Type 0 where
@@ -129,18 +121,17 @@ record Addressed (c : Checked) (code : List ℕ) (l : Local) (t : FlatThread) (f
   below_32 : element_of c g k < 2 ^ 32
 
 addresses : (c : Checked) (code : List ℕ) (l : Local) (t : FlatThread) (op : Op) (frame : Frame) (below : List Frame) (g x k : ℕ) → CodeFacts c code →
-    IsOperationAt c code t.frame.function t.frame.next op → HasElement c t.frame.function t.frame.next op g x → During c l t 0 frame below →
-    scalar t x ≡ Some k → k < width t.globals g → Addressed c code l t frame below g k
-addresses c code l t op frame below g x k facts there element during value within =
-    let width_is = widths_are c.flat t.globals l.areas.globals g during.globals element.there in
+    IsOperationAt c code t.frame.function t.frame.next op → g < length c.flat.globals → HasElement c t.frame.function t.frame.next op g x →
+    During c l t 0 frame below → scalar t x ≡ Some k → k < width t.globals g → Addressed c code l t frame below g k
+addresses c code l t op frame below g x k facts there is_global element during value within =
+    let width_is = widths_are c.flat t.globals l.areas.globals g during.globals is_global in
     let n = global_words c.flat g in
-    let few = few_words c code g facts element.there in
+    let few = few_words c code g facts is_global in
     let e = λ (w : ℕ). ap (λ (words : List Instr). slice_get words w) element.words in
-    let guarded = guarded_element c code t.frame.function t.frame.next op g x facts element in
-    let passed = guard_passes c code l t op frame below x n 1 k facts there guarded during value (omega (arith, within, width_is)) in
+    let passed = guard_passes c code l t op frame below x n 1 k facts there element during value (omega (arith, within, width_is)) in
     let scaled = scales c code passed.next t op frame below k there (element.whole 7 (omega arith)) passed.during (e 7) passed.index
     (omega (arith, within, width_is, few)) in
-    let has0 = HasGlobal-at c.flat t.globals l.areas.globals g k during.globals element.there within in
+    let has0 = HasGlobal-at c.flat t.globals l.areas.globals g k during.globals is_global within in
     let below_32 = address_below c t.globals l.areas.globals g k has0 (few_globals c code l t 0 frame below facts during) in
     let set = load_immediate c code scaled.next t 8 op frame below 6 (global_address c.flat g) there (element.whole 8 (omega arith))
     (element.whole 9 (omega arith)) scaled.during (e 8) (e 9) is_t1 (omega (arith, below_32)) in
@@ -153,7 +144,7 @@ addresses c code l t op frame below g x k facts there element during value withi
       leads = Leads-then c code 7 1 l set.next summed.next leads summed.leads;
       during = summed.during;
       value_is = summed.value_is;
-      has = HasGlobal-at c.flat t.globals summed.next.areas.globals g k summed.during.globals element.there within;
+      has = HasGlobal-at c.flat t.globals summed.next.areas.globals g k summed.during.globals is_global within;
       below_32 = below_32;
     }
 
@@ -167,10 +158,10 @@ load_array_reaches c code l t d g x k facts there simulates value within =
     let i = t.frame.next in
     let frame = simulates.frame in
     let below = simulates.below in
-    let element = load_element c code f i d g x there in
+    let element = load_element c code f i d g x facts there in
     let whole = element.whole in
-    let is_global = element.there in
-    let addressed = addresses c code l t op frame below g x k facts there element simulates.during value within in
+    let is_global = global_there c.flat g there.formed.1 in
+    let addressed = addresses c code l t op frame below g x k facts there is_global element simulates.during value within in
     let loaded = load_global c code addressed.next t 11 op frame below 5 5 g k (pos 0) facts there (whole 11 (omega arith)) addressed.during (fetch_at c code addressed.next f i 11 op frame below _ there addressed.during.inside refl) is_global addressed.has
     (at_zero addressed.next (element_of c g k) addressed.value_is addressed.below_32) is_t0 in
     let stored = store_scalar c code loaded.next t 12 op frame below 5 d (word_at t.globals g k) facts there (whole 12 (omega arith)) loaded.during (fetch_at c code loaded.next f i 12 op frame below _ there loaded.during.inside refl) (one_word c f d there.formed.0) loaded.value_is refl in
@@ -184,10 +175,10 @@ store_array_reaches c code l t g x y k v facts there simulates index value withi
     let i = t.frame.next in
     let frame = simulates.frame in
     let below = simulates.below in
-    let element = store_element c code f i g x y there in
+    let element = store_element c code f i g x y facts there in
     let whole = element.whole in
-    let is_global = element.there in
-    let addressed = addresses c code l t op frame below g x k facts there element simulates.during index within in
+    let is_global = global_there c.flat g there.formed.0 in
+    let addressed = addresses c code l t op frame below g x k facts there is_global element simulates.during index within in
     let loaded = load_scalar c code addressed.next t 11 op frame below 6 y v facts there (whole 11 (omega arith)) addressed.during (fetch_at c code addressed.next f i 11 op frame below _ there addressed.during.inside refl) (one_word c f y there.formed.2) value is_t1 in
     let has = HasGlobal-at c.flat t.globals loaded.next.areas.globals g k loaded.during.globals is_global within in
     let stored = store_global c code loaded.next t 12 op frame below 5 6 g k v (pos 0) facts there (whole 12 (omega arith)) loaded.during (fetch_at c code loaded.next f i 12 op frame below _ there loaded.during.inside refl) is_global has

@@ -1,5 +1,5 @@
 -- The guard of an index: in range it goes on behind the guard with the index in t0, and else it traps.
-use Rattle.segment_laws.proofs.Common.{◌≡◌, ℕ, ◌+◌, ◌^◌, ◌<◌, ◌≤◌, ◌++◌, List, ◌∷◌, pos, true, false, Some, None, refl, sym, ap, subst, ◌∙◌, arith, slice_get, nat_lt, lt-ltb, le-ltb, Instr, accessed, effect, read, branches, Op, function_at, FlatThread, scalar, fact_at, guard, size, kind_of, AreGlobals, Frame, IsGoodAccess, Checked}
+use Rattle.segment_laws.proofs.Common.{◌≡◌, ℕ, ◌+◌, ◌^◌, ◌<◌, ◌≤◌, ◌++◌, List, ◌∷◌, pos, true, false, Some, None, refl, sym, ap, subst, ◌∙◌, arith, slice_get, nat_lt, lt-ltb, le-ltb, Instr, accessed, effect, read, branches, Op, FlatThread, scalar, fact_at, guard, AreGlobals, Frame, IsGoodAccess, Checked}
 use Rattle.cap_word.specs.Word as word
 use Rattle.rv_machine.specs.Rows as rows
 use Rattle.machine_world.specs.Local.{Local, LocalMove, machine_of, local_move, local_step, system_call, trapped}
@@ -11,14 +11,14 @@ use Rattle.segment_laws.proofs.Registers.{step-is, add-small, word_of-small}
 use Rattle.segment_laws.proofs.Simulation.{During, IsOneWord, load_scalar}
 use Rattle.segment_laws.proofs.Ways.{IsGoodState, Leads, Leads-then, ComesTo}
 
--- the first seven words of an operation are the guard of an index below n
-pub record IsGuarded (c : Checked) (f i : ℕ) (op : Op) (x n kind : ℕ) : Type 0 where
+-- the words of an operation are the guard of an index below n, these behind it and others; this number of them is whole
+pub record IsGuarded (c : Checked) (f i : ℕ) (op : Op) (x n kind count : ℕ) (behind : List Instr) : Type 0 where
   pub rest : List Instr
-  pub words : words_of c f i op ≡ guard (fact_at c.certificate f) x n kind ++ rest
-  pub whole : (w : ℕ) → w < 7 → IsWholeWord c f w op
+  pub words : words_of c f i op ≡ guard (fact_at c.certificate f) x n kind ++ (behind ++ rest)
+  pub whole : (w : ℕ) → w < count → IsWholeWord c f w op
   pub one : IsOneWord c f x
   pub small : n < 2 ^ 32
-  pub more : 7 < size (function_at c.flat f).sizes (kind_of c.certificate op) op
+  pub more : 7 < count
 
 -- index and count in t0 and t1
 record Compared (c : Checked) (code : List ℕ) (l : Local) (t : FlatThread) (frame : Frame) (below : List Frame) (k n : ℕ) : Type 0 where
@@ -28,8 +28,9 @@ record Compared (c : Checked) (code : List ℕ) (l : Local) (t : FlatThread) (fr
   index : read next.core.x 5 ≡ k
   count : read next.core.x 6 ≡ n
 
-compares : (c : Checked) (code : List ℕ) (l : Local) (t : FlatThread) (op : Op) (frame : Frame) (below : List Frame) (x n kind k : ℕ) → CodeFacts c code → IsOperationAt c code t.frame.function t.frame.next op → IsGuarded c t.frame.function t.frame.next op x n kind → During c l t 0 frame below → scalar t x ≡ Some k →
-    Compared c code l t frame below k n
+compares : (c : Checked) (code : List ℕ) (l : Local) (t : FlatThread) (op : Op) (frame : Frame) (below : List Frame) (x n kind k : ℕ) {count : ℕ}
+    {behind : List Instr} → CodeFacts c code → IsOperationAt c code t.frame.function t.frame.next op →
+    IsGuarded c t.frame.function t.frame.next op x n kind count behind → During c l t 0 frame below → scalar t x ≡ Some k → Compared c code l t frame below k n
 compares c code l t op frame below x n kind k facts there guarded during value =
     let f = t.frame.function in
     let i = t.frame.next in
@@ -63,7 +64,9 @@ pub record Guarded (c : Checked) (code : List ℕ) (l : Local) (t : FlatThread) 
   pub during : During c next t 7 frame below
   pub index : read next.core.x 5 ≡ k
 
-pub guard_passes : (c : Checked) (code : List ℕ) (l : Local) (t : FlatThread) (op : Op) (frame : Frame) (below : List Frame) (x n kind k : ℕ) → CodeFacts c code → IsOperationAt c code t.frame.function t.frame.next op → IsGuarded c t.frame.function t.frame.next op x n kind → During c l t 0 frame below → scalar t x ≡ Some k → k < n →
+pub guard_passes : (c : Checked) (code : List ℕ) (l : Local) (t : FlatThread) (op : Op) (frame : Frame) (below : List Frame) (x n kind k : ℕ) {count : ℕ}
+    {behind : List Instr} → CodeFacts c code → IsOperationAt c code t.frame.function t.frame.next op →
+    IsGuarded c t.frame.function t.frame.next op x n kind count behind → During c l t 0 frame below → scalar t x ≡ Some k → k < n →
     Guarded c code l t frame below k
 guard_passes c code l t op frame below x n kind k facts there guarded during value within =
     let f = t.frame.function in
@@ -73,7 +76,7 @@ guard_passes c code l t op frame below x n kind k facts there guarded during val
     let pc = compared.during.inside.pc in
     let room = there.room in
     let aligned = there.aligned in
-    let more = guarded.more in
+    let more = (guarded.whole 7 guarded.more).small in
     let moved = moves_within c code compared.next t 3 7 op frame below (Instr.Bltu 5 6 (pos 16)) (compared.next.core.pc + 16) there
     (guarded.whole 3 (omega arith)) compared.during (ap (λ (words : List Instr). slice_get words 3) guarded.words)
     (does_bltu compared.next 16 ∙ move-taken compared.next (pos 16) _ (compared.next.core.pc + 16) test (relative-on (machine_of compared.next) 16 (omega (arith, pc, room, more))) (omega (arith, pc, aligned)))
@@ -109,7 +112,9 @@ pub record AtTrap (c : Checked) (code : List ℕ) (l : Local) (t : FlatThread) (
   pub comes : ComesTo c code 6 l move
   pub globals : AreGlobals c.flat t.globals comes.at.areas.globals
 
-pub guard_traps : (c : Checked) (code : List ℕ) (l : Local) (t : FlatThread) (op : Op) (frame : Frame) (below : List Frame) (x n kind k : ℕ) → CodeFacts c code → IsOperationAt c code t.frame.function t.frame.next op → IsGuarded c t.frame.function t.frame.next op x n kind → During c l t 0 frame below → scalar t x ≡ Some k → n ≤ k → kind < 2048 →
+pub guard_traps : (c : Checked) (code : List ℕ) (l : Local) (t : FlatThread) (op : Op) (frame : Frame) (below : List Frame) (x n kind k : ℕ) {count : ℕ}
+    {behind : List Instr} → CodeFacts c code → IsOperationAt c code t.frame.function t.frame.next op →
+    IsGuarded c t.frame.function t.frame.next op x n kind count behind → During c l t 0 frame below → scalar t x ≡ Some k → n ≤ k → kind < 2048 →
     AtTrap c code l t (trapped kind)
 guard_traps c code l t op frame below x n kind k facts there guarded during value past small =
     let f = t.frame.function in

@@ -1,5 +1,5 @@
 -- Elements of a variable, by an index behind its guard.
-use Rattle.segment_laws.proofs.Common.{◌≡◌, ℕ, ◌+◌, ◌*◌, ◌%◌, ◌^◌, ◌<◌, ◌≤◌, ◌++◌, List, ◌∷◌, length, get_or, set, pos, Some, None, refl, sym, ap, subst, ◌∙◌, arith, get_or-set_same, get_or-set_other, slice_get, length-set, word_of, Instr, accessed, effect, read, sets, Op, function_at, FlatThread, variable, passed, set_to, scalar, fact_at, guard, Frame, word_in, Local, machine_of, Checked, variable_word}
+use Rattle.segment_laws.proofs.Common.{◌≡◌, ℕ, ◌+◌, ◌*◌, ◌%◌, ◌^◌, ◌<◌, ◌≤◌, List, [], ◌∷◌, length, get_or, set, pos, Some, None, refl, sym, ap, subst, ◌∙◌, arith, get_or-set_same, get_or-set_other, slice_get, length-set, word_of, Instr, accessed, effect, read, sets, Op, function_at, FlatThread, variable, passed, set_to, scalar, fact_at, Frame, word_in, Local, machine_of, Checked, variable_word}
 use Rattle.cap_word.specs.Word as word
 use Rattle.rv_machine.specs.Rows as rows
 use Rattle.segment_laws.proofs.Facts.{CodeFacts, IsOperationAt}
@@ -9,7 +9,7 @@ use Rattle.segment_laws.proofs.Guards.{IsGuarded, guard_passes}
 use Rattle.segment_laws.proofs.Immediate.{words_of, fetch_at, is_t0, is_t1}
 use Rattle.segment_laws.proofs.Inside.{IsWholeWord, IsSet}
 use Rattle.segment_laws.proofs.Registers.{add-small, word_of-small}
-use Rattle.segment_laws.proofs.Simulation.{During, Simulates, Reaches, Sets, Sets-register, set_value, IsOneWord, IsWordPlace, IsWordPlace-variable, load_scalar}
+use Rattle.segment_laws.proofs.Simulation.{During, Simulates, Reaches, Sets, Sets-register, set_value, IsWordPlace, IsWordPlace-variable, load_scalar}
 use Rattle.segment_laws.proofs.Straight.{one_word, flat_set}
 use Rattle.segment_laws.proofs.Variables.{HasWord}
 use Rattle.segment_laws.proofs.Ways.{Leads, Leads-then}
@@ -59,30 +59,23 @@ few_words c code f a facts there below =
     let most = fact.most in
     omega (arith, inside, most)
 
--- the words of an operation begin with those for the address of an element of variable a, whose index is scalar x
-pub record HasElement (c : Checked) (f i : ℕ) (op : Op) (a x : ℕ) : Type 0 where
-  pub rest : List Instr
-  pub words : words_of c f i op ≡
-      guard (fact_at c.certificate f) x (get_or (function_at c.flat f).sizes a 0) 1 ++ (Instr.Slli 5 5 (pos 2) ∷ Instr.Add 5 5 2 ∷ rest)
-  pub whole : (w : ℕ) → w < 11 → IsWholeWord c f w op
-  pub there : a < length (function_at c.flat f).sizes
-  pub one : IsOneWord c f x
+-- the operation is on an element of variable a, whose index is scalar x
+abbrev pub HasElement : Checked → ℕ → ℕ → Op → ℕ → ℕ → Type 0
+HasElement c f i op a x = IsGuarded c f i op x (get_or (function_at c.flat f).sizes a 0) 1 11 (Instr.Slli 5 5 (pos 2) ∷ Instr.Add 5 5 2 ∷ [])
 
-pub load_element : (c : Checked) (code : List ℕ) (f i d a x : ℕ) → IsOperationAt c code f i (Op.LoadLocal d a x) → HasElement c f i (Op.LoadLocal d a x) a x
-load_element c code f i d a x at =
-    record { rest = _; words = refl; whole = λ w small. record { small = small; row_is = refl }; there = at.formed.1; one = one_word c f x at.formed.2 }
+pub load_element : (c : Checked) (code : List ℕ) (f i d a x : ℕ) → CodeFacts c code → IsOperationAt c code f i (Op.LoadLocal d a x) →
+    HasElement c f i (Op.LoadLocal d a x) a x
+load_element c code f i d a x facts at =
+    let few = few_words c code f a facts at.function at.formed.1 in
+    let whole = (λ (w : ℕ) (small : w < 11). (let word : IsWholeWord c f w (Op.LoadLocal d a x) = record { small = small; row_is = refl } in word)) in
+    record { rest = _; words = refl; whole = whole; one = one_word c f x at.formed.2; small = omega (arith, few); more = omega arith }
 
-pub store_element : (c : Checked) (code : List ℕ) (f i a x y : ℕ) → IsOperationAt c code f i (Op.StoreLocal a x y) → HasElement c f i (Op.StoreLocal a x y) a x
-store_element c code f i a x y at =
-    record { rest = _; words = refl; whole = λ w small. record { small = small; row_is = refl }; there = at.formed.0; one = one_word c f x at.formed.1 }
-
-pub guarded_element : (c : Checked) (code : List ℕ) (f i : ℕ) (op : Op) (a x : ℕ) → CodeFacts c code → f < length c.flat.functions → HasElement c f i op a x →
-    IsGuarded c f i op x (get_or (function_at c.flat f).sizes a 0) 1
-guarded_element c code f i op a x facts function element =
-    let few = few_words c code f a facts function element.there in
-    let last = (element.whole 10 (omega arith)).small in
-    let whole = (λ (w : ℕ) (small : w < 7). element.whole w (omega arith)) in
-    record { rest = _; words = element.words; whole = whole; one = element.one; small = omega (arith, few); more = omega (arith, last) }
+pub store_element : (c : Checked) (code : List ℕ) (f i a x y : ℕ) → CodeFacts c code → IsOperationAt c code f i (Op.StoreLocal a x y) →
+    HasElement c f i (Op.StoreLocal a x y) a x
+store_element c code f i a x y facts at =
+    let few = few_words c code f a facts at.function at.formed.0 in
+    let whole = (λ (w : ℕ) (small : w < 11). (let word : IsWholeWord c f w (Op.StoreLocal a x y) = record { small = small; row_is = refl } in word)) in
+    record { rest = _; words = refl; whole = whole; one = one_word c f x at.formed.1; small = omega (arith, few); more = omega arith }
 
 -- t0 is the frame's lowest address plus four times the index
 record Addressed (c : Checked) (code : List ℕ) (l : Local) (t : FlatThread) (frame : Frame) (below : List Frame) (a k : ℕ) : Type 0 where
@@ -95,22 +88,22 @@ record Addressed (c : Checked) (code : List ℕ) (l : Local) (t : FlatThread) (f
   below_32 : frame.low + 4 * k + get_or (fact_at c.certificate t.frame.function).places a 0 < 2 ^ 32
 
 addresses : (c : Checked) (code : List ℕ) (l : Local) (t : FlatThread) (op : Op) (frame : Frame) (below : List Frame) (a x k : ℕ) (row : List ℕ) →
-    CodeFacts c code → IsOperationAt c code t.frame.function t.frame.next op → HasElement c t.frame.function t.frame.next op a x → During c l t 0 frame below →
-    scalar t x ≡ Some k → variable t.frame a ≡ Some row → k < length row → Addressed c code l t frame below a k
-addresses c code l t op frame below a x k row facts there element during value set within =
+    CodeFacts c code → IsOperationAt c code t.frame.function t.frame.next op → a < length (function_at c.flat t.frame.function).sizes →
+    HasElement c t.frame.function t.frame.next op a x → During c l t 0 frame below → scalar t x ≡ Some k → variable t.frame a ≡ Some row → k < length row →
+    Addressed c code l t frame below a k
+addresses c code l t op frame below a x k row facts there in_frame element during value set within =
     let f = t.frame.function in
     let n = get_or (function_at c.flat f).sizes a 0 in
     let count : length row ≡ n = during.shape.words a row set in
     let inside : k < n = omega (arith, within, count) in
-    let place = IsWordPlace-variable c code f a k (facts.frame f there.function) element.there inside in
+    let place = IsWordPlace-variable c code f a k (facts.frame f there.function) in_frame inside in
     let fits = place.fits in
     let bytes = during.inside.body.bytes in
     let high = frame_bounded c l f t.frame.next 0 frame below during.inside in
     let below_32 : frame.low + 4 * k + get_or (fact_at c.certificate f).places a 0 < 2 ^ 32 = omega (arith, high, fits, bytes) in
-    let few : 4 * n ≤ 2032 = few_words c code f a facts there.function element.there in
+    let few : 4 * n ≤ 2032 = few_words c code f a facts there.function in_frame in
     let e = λ (w : ℕ). ap (λ (words : List Instr). slice_get words w) element.words in
-    let guarded = guarded_element c code f t.frame.next op a x facts there.function element in
-    let passed = guard_passes c code l t op frame below x n 1 k facts there guarded during value inside in
+    let passed = guard_passes c code l t op frame below x n 1 k facts there element during value inside in
     let scaled = scales c code passed.next t op frame below k there (element.whole 7 (omega arith)) passed.during (e 7) passed.index (omega arith) in
     let summed = adds c code scaled.next t 8 op frame below 2 (4 * k) frame.low (frame.low + 4 * k) there (element.whole 8 (omega arith)) scaled.during (e 8)
     scaled.value_is scaled.during.inside.sp_is
@@ -141,9 +134,9 @@ load_local_reaches c code l t d a x k row facts there simulates value set within
     let frame = simulates.frame in
     let below = simulates.below in
     let place = get_or (fact_at c.certificate f).places a 0 in
-    let element = load_element c code f i d a x there in
+    let element = load_element c code f i d a x facts there in
     let whole = element.whole in
-    let addressed = addresses c code l t op frame below a x k row facts there element simulates.during value set within in
+    let addressed = addresses c code l t op frame below a x k row facts there there.formed.1 element simulates.during value set within in
     let word_place = addressed.place in
     let in_frame = InFrame-inside c code addressed.next f i 9 frame below (place + 4 * k) facts there.function addressed.during.inside word_place.aligned word_place.fits in
     let address = element_address addressed.next frame.low place k addressed.value_is addressed.below_32 in
@@ -168,14 +161,14 @@ store_local_reaches c code l t a x y k v row facts there simulates index value s
     let frame = simulates.frame in
     let below = simulates.below in
     let place = get_or (fact_at c.certificate f).places a 0 in
-    let element = store_element c code f i a x y there in
+    let element = store_element c code f i a x y facts there in
     let whole = element.whole in
     let count = simulates.during.shape.words a row set_row in
-    let addressed = addresses c code l t op frame below a x k row facts there element simulates.during index set_row within in
+    let addressed = addresses c code l t op frame below a x k row facts there there.formed.0 element simulates.during index set_row within in
     let loaded = load_scalar c code addressed.next t 9 op frame below 6 y v facts there (whole 9 (omega arith)) addressed.during (fetch_at c code addressed.next f i 9 op frame below _ there addressed.during.inside refl) (one_word c f y there.formed.2) value is_t1 in
     let function : frame.function ≡ f = simulates.during.inside.body.function in
     let has : HasWord c frame a k = (
-      subst (λ (g : ℕ). a < length (function_at c.flat g).sizes) (sym function) element.there,
+      subst (λ (g : ℕ). a < length (function_at c.flat g).sizes) (sym function) there.formed.0,
       subst (λ (g : ℕ). k < get_or (function_at c.flat g).sizes a 0) (sym function) addressed.inside,
     ) in
     let address = element_address loaded.next frame.low place k (loaded.others 5 (λ e. absurd (omega arith)) ∙ addressed.value_is) addressed.below_32 in

@@ -19,7 +19,8 @@ use Rattle.segment_laws.proofs.Entries.{count_is, few_members, load_entry}
 whole_word : (c : Checked) (f site t i x w : ℕ) (d : Option ℕ) → w < 13 → IsWholeWord c f w (Op.CallTable site d t i x)
 whole_word c f site t i x w d lt = record { small = omega arith; row_is = row_before (kind_of c.certificate (Op.CallTable site d t i x)) 13 w (omega arith) }
 
-pub guarded : (c : Checked) (code : List ℕ) (f n site t i x : ℕ) (d : Option ℕ) → CodeFacts c code → IsOperationAt c code f n (Op.CallTable site d t i x) → IsGuarded c f n (Op.CallTable site d t i x) i (member_count c.flat t) 2
+pub guarded : (c : Checked) (code : List ℕ) (f n site t i x : ℕ) (d : Option ℕ) → CodeFacts c code → IsOperationAt c code f n (Op.CallTable site d t i x) →
+    IsGuarded c f n (Op.CallTable site d t i x) i (member_count c.flat t) 2 13 []
 guarded c code f n site t i x d facts there =
     let count = count_is c t there.formed.0 in
     let few = few_members c t there.formed.0 facts.tables_small in

@@ -1,5 +1,5 @@
 -- Traps: the machine comes to the ECALL of the trap with the globals as they were.
-use Rattle.segment_laws.proofs.Common.{◌≡◌, ℕ, ◌≤◌, List, length, get_or, set, Option, Some, sym, ap, subst, ◌∙◌, arith, Finish, width, word_at, with_word, Goes, Stops, TrapKind, Op, function_at, members_of, FlatThread, Finished, standing, FlatMove, variable, passed, set_to, on, scalar, puts, within, enters_by, does, flat_step, global_words, member_count, Local, Trapped, Checked}
+use Rattle.segment_laws.proofs.Common.{◌≡◌, ℕ, ◌≤◌, List, length, get_or, set, Option, Some, sym, ap, subst, ◌∙◌, arith, Finish, width, word_at, with_word, Goes, Stops, TrapKind, Instr, Op, function_at, members_of, FlatThread, Finished, standing, FlatMove, variable, passed, set_to, on, scalar, puts, within, enters_by, does, flat_step, global_words, member_count, Local, Trapped, Checked}
 use Rattle.segment_laws.proofs.Facts.{CodeFacts, IsOperationAt}
 use Rattle.segment_laws.proofs.FlatSteps.{was_there, IsStraight, function_there}
 use Rattle.segment_laws.proofs.Guards.{IsGuarded, AtTrap, guard_traps}
@@ -8,7 +8,7 @@ use Rattle.segment_laws.proofs.FlatMoves.{NoFinish, goes_alone, past_of}
 use Rattle.segment_laws.proofs.Entries.{count_is}
 use Rattle.segment_laws.proofs.TableSteps.{guarded, lost_never}
 use Rattle.segment_laws.proofs.GlobalOps as array
-use Rattle.segment_laws.proofs.GlobalOps.{widths_are}
+use Rattle.segment_laws.proofs.GlobalOps.{widths_are, global_there}
 use Rattle.segment_laws.proofs.LocalArrays as local
 use Rattle.segment_laws.specs.Straight.{TrapsAlike}
 use Rattle.segment_laws.specs.Tables.{TableTrapsAlike}
@@ -21,9 +21,9 @@ pub record TrapsWith (c : Checked) (code : List ℕ) (l : Local) (t : FlatThread
 -- ---- an operation that stays in its frame
 
 -- a guarded index was out of range
-index_traps : (c : Checked) (code : List ℕ) (l : Local) (t : FlatThread) (op : Op) (x n k : ℕ) (finish : Finish) → CodeFacts c code →
-    IsOperationAt c code t.frame.function t.frame.next op → IsGuarded c t.frame.function t.frame.next op x n 1 → Simulates c l t → scalar t x ≡ Some k → n ≤ k →
-    finish ≡ record { trap = Some TrapKind.Index; globals = t.globals } →
+index_traps : (c : Checked) (code : List ℕ) (l : Local) (t : FlatThread) (op : Op) (x n k : ℕ) (finish : Finish) {count : ℕ} {behind : List Instr} →
+    CodeFacts c code → IsOperationAt c code t.frame.function t.frame.next op → IsGuarded c t.frame.function t.frame.next op x n 1 count behind →
+    Simulates c l t → scalar t x ≡ Some k → n ≤ k → finish ≡ record { trap = Some TrapKind.Index; globals = t.globals } →
     TrapsWith c code l t TrapKind.Index finish
 index_traps c code l t op x n k finish facts there guarded simulates value past finish_is =
     let at = guard_traps c code l t op simulates.frame simulates.below x n 1 k facts there guarded simulates.during value past (omega arith) in
@@ -41,7 +41,7 @@ straight_trap c code l t (Op.LoadLocal d a x) finish facts there simulates strai
     let row = was_there (variable t.frame a) (move index.value) (Stops (Finished finish)) index.move lost in
     let past = past_of t index.value (length row.value) TrapKind.Index _ finish tt row.move in
     let count = simulates.during.shape.words a row.value row.is in
-    let guarded = local.guarded_element c code f t.frame.next op a x facts there.function (local.load_element c code f t.frame.next d a x there) in
+    let guarded = local.load_element c code f t.frame.next d a x facts there in
     index_traps c code l t op x (get_or (function_at c.flat f).sizes a 0) index.value finish facts there guarded simulates index.is
     (omega (arith, past.0, count)) past.1
 straight_trap c code l t (Op.StoreLocal a x y) finish facts there simulates straight e =
@@ -54,26 +54,24 @@ straight_trap c code l t (Op.StoreLocal a x y) finish facts there simulates stra
     let row = was_there (variable t.frame a) (move index.value value.value) (Stops (Finished finish)) value.move lost in
     let past = past_of t index.value (length row.value) TrapKind.Index _ finish tt row.move in
     let count = simulates.during.shape.words a row.value row.is in
-    let guarded = local.guarded_element c code f t.frame.next op a x facts there.function (local.store_element c code f t.frame.next a x y there) in
+    let guarded = local.store_element c code f t.frame.next a x y facts there in
     index_traps c code l t op x (get_or (function_at c.flat f).sizes a 0) index.value finish facts there guarded simulates index.is
     (omega (arith, past.0, count)) past.1
 straight_trap c code l t (Op.LoadArray d g x) finish facts there simulates straight e =
     let op = Op.LoadArray d g x in
-    let element = array.load_element c code t.frame.function t.frame.next d g x there in
-    let width_is = widths_are c.flat t.globals l.areas.globals g simulates.during.globals element.there in
+    let width_is = widths_are c.flat t.globals l.areas.globals g simulates.during.globals (global_there c.flat g there.formed.1) in
     let index = was_there (scalar t x) (λ k. within t k (width t.globals g) (puts t d (word_at t.globals g k))) (Stops (Finished finish)) e (lost_never finish) in
     let past = past_of t index.value (width t.globals g) TrapKind.Index (puts t d (word_at t.globals g index.value)) finish tt index.move in
-    let guarded = array.guarded_element c code t.frame.function t.frame.next op g x facts element in
+    let guarded = array.load_element c code t.frame.function t.frame.next d g x facts there in
     index_traps c code l t op x (global_words c.flat g) index.value finish facts there guarded simulates index.is (omega (arith, past.0, width_is)) past.1
 straight_trap c code l t (Op.StoreArray g x y) finish facts there simulates straight e =
     let op = Op.StoreArray g x y in
-    let element = array.store_element c code t.frame.function t.frame.next g x y there in
-    let width_is = widths_are c.flat t.globals l.areas.globals g simulates.during.globals element.there in
+    let width_is = widths_are c.flat t.globals l.areas.globals g simulates.during.globals (global_there c.flat g there.formed.0) in
     let move : ℕ → ℕ → FlatMove = λ k v. within t k (width t.globals g) (Goes (record t { frame = passed t.frame; globals = with_word t.globals g k v })) in
     let index = was_there (scalar t x) (λ k. on (scalar t y) (move k)) (Stops (Finished finish)) e (lost_never finish) in
     let value = was_there (scalar t y) (move index.value) (Stops (Finished finish)) index.move (lost_never finish) in
     let past = past_of t index.value (width t.globals g) TrapKind.Index _ finish tt value.move in
-    let guarded = array.guarded_element c code t.frame.function t.frame.next op g x facts element in
+    let guarded = array.store_element c code t.frame.function t.frame.next g x y facts there in
     index_traps c code l t op x (global_words c.flat g) index.value finish facts there guarded simulates index.is (omega (arith, past.0, width_is)) past.1
 straight_trap c code l t (Op.Call site d g args) finish facts there simulates straight e = absurd straight
 straight_trap c code l t (Op.CallTable site d table i x) finish facts there simulates straight e = absurd straight
