@@ -22,4 +22,4 @@ mod sums;
 pub use edges::EdgeLine;
 pub use graph::Graph;
 pub use laws::edges_tell_of_records;
-pub use segments::SegmentRecord;
+pub use segments::{SegmentRecord, changes};

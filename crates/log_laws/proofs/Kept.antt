@@ -29,16 +29,16 @@ module _ (g : Setup) (scoped : IsWellScoped g.program) (valid : IsValid (lowered
       let some = laws.somewhere g.program g.image g.certificate (setting_of g) w scoped valid is.form is.settled in
       record { other = some.0; stands = record { stands = some.1; settled = is.settled } }
 
-  formed_after : (w after : World) (action : Action) → DeliversWords action → IsWellFormed (checked_of g) (setting_of g) w → after_action (setting_of g) w action ≡ Some after → IsWellFormed (checked_of g) (setting_of g) after
+  pub formed_after : (w after : World) (action : Action) → DeliversWords action → IsWellFormed (checked_of g) (setting_of g) w → after_action (setting_of g) w action ≡ Some after → IsWellFormed (checked_of g) (setting_of g) after
   formed_after w after action words form e = subst (IsWellFormedIf (checked_of g) (setting_of g)) e (IsWellFormedIf-action (checked_of g) (setting_of g) w action words form)
 
-  formed_step : (w : World) (move : Move) → IsWellFormed (checked_of g) (setting_of g) w → step (setting_of g) w ≡ move → KeepsWellFormed (checked_of g) (setting_of g) move
+  pub formed_step : (w : World) (move : Move) → IsWellFormed (checked_of g) (setting_of g) w → step (setting_of g) w ≡ move → KeepsWellFormed (checked_of g) (setting_of g) move
   formed_step w move form e = subst (KeepsWellFormed (checked_of g) (setting_of g)) e (KeepsWellFormed-step (checked_of g) (setting_of g) w form)
 
-  reaches : (w : World) (move : Move) (is : Runs w) → step (setting_of g) w ≡ move → StepReaches (checked_of g) g.program (setting_of g) is.start is.number is.puts move
-  reaches w move is e =
-      subst (StepReaches (checked_of g) g.program (setting_of g) is.start is.number is.puts) e
-      (laws.steps g.program g.image g.certificate (setting_of g) w is.start is.number is.puts scoped valid refl is.form is.reached)
+  pub reaches : {start : source.World} {number : ℕ} {puts : List ℕ} (w : World) (move : Move) → IsWellFormed (checked_of g) (setting_of g) w →
+      IsReached (checked_of g) g.program (setting_of g) start number puts w → step (setting_of g) w ≡ move → StepReaches (checked_of g) g.program (setting_of g) start number puts move
+  reaches {start} {number} {puts} w move form reached e =
+      subst (StepReaches (checked_of g) g.program (setting_of g) start number puts) e (laws.steps g.program g.image g.certificate (setting_of g) w start number puts scoped valid refl form reached)
 
   pub kept : AreKept (checked_of g) (setting_of g) Rests Runs
   kept = record {
@@ -51,11 +51,11 @@ module _ (g : Setup) (scoped : IsWellScoped g.program) (valid : IsValid (lowered
           puts = [];
           reached = laws.picks g.program g.image g.certificate (setting_of g) w after some.other number scoped valid refl is.form some.stands e;
         };
-    goes = λ w after is e. record { form = formed_step w (Goes after) is.form e; start = is.start; number = is.number; puts = is.puts; reached = reaches w (Goes after) is e };
-    puts = λ w after value is e. record { form = formed_step w (Puts value after) is.form e; start = is.start; number = is.number; puts = _; reached = reaches w (Puts value after) is e };
-    spawns = λ w after number is e. record { form = formed_step w (Spawns number after) is.form e; start = is.start; number = is.number; puts = is.puts; reached = reaches w (Spawns number after) is e };
-    blocks = λ w after is e. record { form = formed_step w (Blocks after) is.form e; settled = (reaches w (Blocks after) is e).2.settled };
-    ends = λ w after is e. record { form = formed_step w (Ends after) is.form e; settled = (reaches w (Ends after) is e).2.settled };
+    goes = λ w after is e. record { form = formed_step w (Goes after) is.form e; start = is.start; number = is.number; puts = is.puts; reached = reaches w (Goes after) is.form is.reached e };
+    puts = λ w after value is e. record { form = formed_step w (Puts value after) is.form e; start = is.start; number = is.number; puts = _; reached = reaches w (Puts value after) is.form is.reached e };
+    spawns = λ w after number is e. record { form = formed_step w (Spawns number after) is.form e; start = is.start; number = is.number; puts = is.puts; reached = reaches w (Spawns number after) is.form is.reached e };
+    blocks = λ w after is e. record { form = formed_step w (Blocks after) is.form e; settled = (reaches w (Blocks after) is.form is.reached e).2.settled };
+    ends = λ w after is e. record { form = formed_step w (Ends after) is.form e; settled = (reaches w (Ends after) is.form is.reached e).2.settled };
     sound = λ w is. under_way_sound (checked_of g) g.program (setting_of g) w is.reached.segment is.form is.reached.under_way;
     rests = λ w is. settled_sound (checked_of g) (setting_of g) w is.form is.settled;
     advances = λ w after to is e.

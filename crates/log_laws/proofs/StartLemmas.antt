@@ -1,6 +1,6 @@
 -- What holds between and within the segments of a run of a valid pair: every thread started with main or a function that some
 -- site starts a thread with.
-use Rattle.log_laws.proofs.Common.{◌≡◌, ℕ, ◌+◌, ◌&&◌, nat_eq, nat_le, List, [], ◌∷◌, ◌++◌, length, length-append, Some, None, refl, sym, ap, subst, ◌∙◌, arith, cond, ⊎_elim, inr, Option, AllByRecursion, cond_both, length-set, lowered, IsWellScoped, Call, Question, Stop, Waiting, Delivery, is_dropped, with_delivery, source_machine, IsValid, IsRoot, shape_of, Shape, Op, Setup, setting_of, checked_of, LocalMove, local_step, Frame, IsAtCall, Blocked, World, Thread, Move, step, moved, thread_of, local_in, IsWellFormed, IsWellFormedIf, KeepsWellFormed, DeliversWords, row_for, on_thread, on_printed, KeepsWellFormed-step, IsWellFormedIf-action, AsksCall, IsStepAsSource, IsAlongSource, first_of, IsGrown, IsUnderWayFrom, RestsFrom, under-way-from, grown-either, rests-from, thread-on, IsReached, StepReaches, IsFinishedIn, StandsSettled, delivered_law, advanced_law, All-push, all_set}
+use Rattle.log_laws.proofs.Common.{◌≡◌, ℕ, ◌+◌, ◌&&◌, nat_eq, nat_le, List, [], ◌∷◌, ◌++◌, length, length-append, Some, None, refl, sym, ap, subst, ◌∙◌, arith, cond, ⊎_elim, inr, Option, AllByRecursion, cond_both, length-set, lowered, IsWellScoped, Call, Question, Stop, Waiting, Delivery, is_dropped, with_delivery, source_machine, IsValid, IsRoot, shape_of, Shape, Op, Setup, setting_of, checked_of, LocalMove, local_step, Frame, IsAtCall, Blocked, World, Thread, Move, step, moved, thread_of, local_in, IsWellFormed, DeliversWords, row_for, on_thread, on_printed, AsksCall, IsStepAsSource, IsAlongSource, first_of, IsGrown, IsUnderWayFrom, RestsFrom, under-way-from, grown-either, rests-from, thread-on, IsReached, IsFinishedIn, StandsSettled, delivered_law, advanced_law, All-push, all_set}
 use Rattle.c_mean.specs.World as source
 use Rattle.c_mean.specs.World.{Rest, Fresh, Segment, thread_moves, segment_machine}
 use Rattle.c_mean.proofs.SegmentLemmas.{asks_in_world}
@@ -10,6 +10,7 @@ use Rattle.machine_world.specs.Runs.{Action, Deliver, Advance, Pick, Step, after
 use Rattle.machine_world.specs.Threads as machine
 use Rattle.machine_meaning.proofs.WorldLaws as laws
 use Rattle.machine_meaning.proofs.WorldSteps.{step_is}
+use Rattle.log_laws.proofs.Kept.{formed_after, formed_step, reaches}
 use Rattle.log_laws.proofs.RestLemmas.{all-left, all-get, none-added, IsRootedRest, began-rooted, first-rooted}
 use Rattle.log_laws.proofs.StepLemmas.{Stays, StaysAt, stays-step}
 
@@ -34,17 +35,6 @@ module _ (g : Setup) (scoped : IsWellScoped g.program) (valid : IsValid (lowered
     pub reached : IsReached (checked_of g) g.program (setting_of g) start number puts w
     pub rooted : AreRooted reached.segment.world.threads
     pub shape_is : shape_of w.areas.pool ≡ shape
-
-  formed_after : (w after : World) (action : Action) → DeliversWords action → IsWellFormed (checked_of g) (setting_of g) w → after_action (setting_of g) w action ≡ Some after → IsWellFormed (checked_of g) (setting_of g) after
-  formed_after w after action words form e = subst (IsWellFormedIf (checked_of g) (setting_of g)) e (IsWellFormedIf-action (checked_of g) (setting_of g) w action words form)
-
-  formed_step : (w : World) (move : Move) → IsWellFormed (checked_of g) (setting_of g) w → step (setting_of g) w ≡ move → KeepsWellFormed (checked_of g) (setting_of g) move
-  formed_step w move form e = subst (KeepsWellFormed (checked_of g) (setting_of g)) e (KeepsWellFormed-step (checked_of g) (setting_of g) w form)
-
-  reaches : (w : World) (move : Move) (is : Runs w) → step (setting_of g) w ≡ move → StepReaches (checked_of g) g.program (setting_of g) is.start is.number is.puts move
-  reaches w move is e =
-      subst (StepReaches (checked_of g) g.program (setting_of g) is.start is.number is.puts) e
-      (laws.steps g.program g.image g.certificate (setting_of g) w is.start is.number is.puts scoped valid refl is.form is.reached)
 
   -- the step of the running thread
   pub step_of_running : (w : World) (is : Runs w) → step (setting_of g) w ≡ cond (nat_eq w.cost (setting_of g).fuel) (machine.Stops Stop.Fuel)
@@ -82,15 +72,15 @@ module _ (g : Setup) (scoped : IsWellScoped g.program) (valid : IsValid (lowered
 
   pub goes : (w after : World) → Runs w → step (setting_of g) w ≡ machine.Goes after → Runs after
   goes w after is e =
-      let r = reaches w (machine.Goes after) is e in
+      let r = reaches g scoped valid w (machine.Goes after) is.form is.reached e in
       let stay : Stays w after 0 = stays w (machine.Goes after) is e in
-      record { form = formed_step w (machine.Goes after) is.form e; start = is.start; number = is.number; puts = is.puts; reached = r; rooted = on w after is is.puts r stay; shape_is = stay.shape ∙ is.shape_is }
+      record { form = formed_step g scoped valid w (machine.Goes after) is.form e; start = is.start; number = is.number; puts = is.puts; reached = r; rooted = on w after is is.puts r stay; shape_is = stay.shape ∙ is.shape_is }
 
   pub puts : (w after : World) (value : ℕ) → Runs w → step (setting_of g) w ≡ machine.Puts value after → Runs after
   puts w after value is e =
-      let r = reaches w (machine.Puts value after) is e in
+      let r = reaches g scoped valid w (machine.Puts value after) is.form is.reached e in
       let stay : Stays w after 0 = stays w (machine.Puts value after) is e in
-      record { form = formed_step w (machine.Puts value after) is.form e; start = is.start; number = is.number; puts = is.puts ++ value ∷ []; reached = r; rooted = on w after is (is.puts ++ value ∷ []) r stay; shape_is = stay.shape ∙ is.shape_is }
+      record { form = formed_step g scoped valid w (machine.Puts value after) is.form e; start = is.start; number = is.number; puts = is.puts ++ value ∷ []; reached = r; rooted = on w after is (is.puts ++ value ∷ []) r stay; shape_is = stay.shape ∙ is.shape_is }
 
   -- ---- the start of a thread
 
@@ -159,7 +149,7 @@ module _ (g : Setup) (scoped : IsWellScoped g.program) (valid : IsValid (lowered
 
   pub spawns : (w after : World) (number : ℕ) → Runs w → step (setting_of g) w ≡ machine.Spawns number after → Runs after
   spawns w after number is e =
-      let r = reaches w (machine.Spawns number after) is e in
+      let r = reaches g scoped valid w (machine.Spawns number after) is.form is.reached e in
       let stay : Stays w after 1 = stays w (machine.Spawns number after) is e in
       let new : HasSpawned w is = step-spawns w is (machine.Spawns number after) e in
       let a = is.reached.under_way.next in
@@ -170,7 +160,7 @@ module _ (g : Setup) (scoped : IsWellScoped g.program) (valid : IsValid (lowered
       let same : length r.segment.world.threads ≡ length new.segment.world.threads = omega (arith, a, b, next, long, one) in
       let threads = same-threads is.start is.number new.steps r.steps new.segment r.segment new.comes r.comes same ∙ new.threads in
       record {
-        form = formed_step w (machine.Spawns number after) is.form e;
+        form = formed_step g scoped valid w (machine.Spawns number after) is.form e;
         start = is.start;
         number = is.number;
         puts = is.puts;
@@ -199,10 +189,10 @@ module _ (g : Setup) (scoped : IsWellScoped g.program) (valid : IsValid (lowered
       record { form = form; other = other; stands = finished.2; rooted = subst AreRooted (sym from.is) all; shape_is = stay.shape ∙ is.shape_is }
 
   pub blocks : (w after : World) → Runs w → step (setting_of g) w ≡ machine.Blocks after → Rests after
-  blocks w after is e = ended w after is (stays w (machine.Blocks after) is e) (formed_step w (machine.Blocks after) is.form e) (reaches w (machine.Blocks after) is e)
+  blocks w after is e = ended w after is (stays w (machine.Blocks after) is e) (formed_step g scoped valid w (machine.Blocks after) is.form e) (reaches g scoped valid w (machine.Blocks after) is.form is.reached e)
 
   pub ends : (w after : World) → Runs w → step (setting_of g) w ≡ machine.Ends after → Rests after
-  ends w after is e = ended w after is (stays w (machine.Ends after) is e) (formed_step w (machine.Ends after) is.form e) (reaches w (machine.Ends after) is e)
+  ends w after is e = ended w after is (stays w (machine.Ends after) is e) (formed_step g scoped valid w (machine.Ends after) is.form e) (reaches g scoped valid w (machine.Ends after) is.form is.reached e)
 
   -- ---- between segments
 
@@ -246,7 +236,7 @@ module _ (g : Setup) (scoped : IsWellScoped g.program) (valid : IsValid (lowered
       let next = kept.next in
       let threads = none-added is.other.threads r.segment.world.threads from.grown (omega (arith, a, b, next)) in
       record {
-        form = formed_after w after (Pick number) tt is.form e;
+        form = formed_after g scoped valid w after (Pick number) tt is.form e;
         start = is.other;
         number = number;
         puts = [];
@@ -257,7 +247,7 @@ module _ (g : Setup) (scoped : IsWellScoped g.program) (valid : IsValid (lowered
 
   pub advances : (w after : World) (to : ℕ) → Rests w → after_action (setting_of g) w (Advance to) ≡ Some after → Rests after
   advances w after to is e = record {
-    form = formed_after w after (Advance to) tt is.form e;
+    form = formed_after g scoped valid w after (Advance to) tt is.form e;
     other = is.other;
     stands = advanced_law (checked_of g) g.program (setting_of g) w after is.other to is.stands e;
     rooted = is.rooted;
@@ -270,7 +260,7 @@ module _ (g : Setup) (scoped : IsWellScoped g.program) (valid : IsValid (lowered
 
   pub delivers : (w after : World) (delivery : Delivery) → DeliversWords (Deliver delivery) → Rests w → after_action (setting_of g) w (Deliver delivery) ≡ Some after → Rests after
   delivers w after delivery words is e = record {
-    form = formed_after w after (Deliver delivery) words is.form e;
+    form = formed_after g scoped valid w after (Deliver delivery) words is.form e;
     other = cond (is_dropped (setting_of g).backlog is.other.exchange delivery) is.other (record is.other { exchange = with_delivery is.other.exchange delivery });
     stands = delivered_law (checked_of g) g.program (setting_of g) w after is.other delivery is.stands e;
     rooted = subst AreRooted (sym (delivered-threads is.other delivery)) is.rooted;

@@ -1,5 +1,5 @@
 -- The names that this crate's proofs cite from other crates and from its definitions, passed on from one place. Declares nothing.
-pub use Rattle.std.proofs.Common.{[], ◌%◌, ◌&&◌, ◌*◌, ◌++◌, ◌+◌, ◌-◌, ◌/◌, ◌<◌, ◌^◌, ◌||◌, ◌∙◌, ◌∷◌, ◌≡◌, ◌≢◌, ◌≤◌, Bool, Err, FitsSigned, List, Ok, Option, Result, Some, add-one, ap, append-nil, append_assoc, arith, below_more, codes, cond, false, find, get_or, get_or-set_other, get_or-set_same, inl, inr, le_refl, length-append, length-set, map, nat_eq, negsuc, not, refl, rules, set, subst, suc, sym, take, true, w64, zero, ℕ, ⊎_elim}
+pub use Rattle.std.proofs.Common.{[], ◌%◌, ◌&&◌, ◌*◌, ◌++◌, ◌+◌, ◌-◌, ◌/◌, ◌<◌, ◌^◌, ◌||◌, ◌∙◌, ◌∷◌, ◌≡◌, ◌≢◌, ◌≤◌, Bool, Err, FitsSigned, List, Ok, Option, Result, Some, add-one, ap, append-nil, append_assoc, arith, codes, cond, false, find, get_or, inl, inr, le_refl, length-append, length-set, map, nat_eq, negsuc, not, refl, rules, set, subst, suc, sym, take, true, zero, ℕ, ⊎_elim}
 pub use Rattle.blocking_graph.proofs.PairLemmas.{by_test}
 pub use Rattle.event_trace.proofs.LineTexts.{fields_visible}
 pub use Rattle.ready_tree.proofs.NeedLaws.{eq_true}
@@ -11,7 +11,7 @@ pub use Rattle.std.proofs.lemmas.List.{drop_all, get_or_default, map-append, map
 pub use Rattle.std.proofs.lemmas.Result.{err_from_is_err_and}
 pub use Rattle.std.specs.Int.{cast_signed, w128, w32}
 pub use Rattle.std.specs.List.{AllByRecursion, flat_map, list_any}
-pub use Rattle.std.specs.Prelude.{IfErr, IfOk, IfSome, IsSome, IsTrue, None, OnOk, drop, if◌then◌else◌, is_none, length, nat_le, pos, slice_get, slice_index, slice_index_or, ℤ, ◌-ℤ◌, ◌==◌}
+pub use Rattle.std.specs.Prelude.{IfErr, IfOk, IfSome, IsSome, IsTrue, None, OnOk, drop, if◌then◌else◌, is_none, length, nat_le, pos, slice_get, slice_index, slice_index_or, ℤ, ◌==◌}
 pub use Rattle.accepted_pairs.specs.Accepting.{accepted_tree}
 pub use Rattle.blocking_graph.specs.Edges.{count_of, edges_of, edges_with}
 pub use Rattle.blocking_graph.specs.Graph.{GraphState, empty_graph}

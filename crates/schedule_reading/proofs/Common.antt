@@ -1,5 +1,5 @@
 -- The names that this crate's proofs cite from other crates and from its definitions, passed on from one place. Declares nothing.
-pub use Rattle.std.proofs.Common.{[], ◌&&◌, ◌++◌, ◌+◌, ◌-◌, ◌<◌, ◌^◌, ◌||◌, ◌∙◌, ◌∷◌, ◌≡◌, ◌≢◌, ◌≤◌, ◌⊎◌, Bool, Err, FitsSigned, IfOk, IsSome, List, None, Ok, Option, Result, Some, add-one, ap, append-nil, append_assoc, arith, below_more, cond, drop-cons, false, find, get_or, get_or-set_other, get_or-set_same, inl, inr, length, length-drop, length-set, nat_eq, not, of_z, option_map, refl, rules, subst, suc, sym, to_z, true, w32, w64, zero, ℕ, ⊎_elim}
+pub use Rattle.std.proofs.Common.{[], ◌&&◌, ◌++◌, ◌+◌, ◌-◌, ◌<◌, ◌^◌, ◌||◌, ◌∙◌, ◌∷◌, ◌≡◌, ◌≢◌, ◌≤◌, ◌⊎◌, Bool, Err, FitsSigned, IfOk, IsSome, List, None, Ok, Option, Result, Some, add-one, ap, append-nil, append_assoc, arith, cond, drop-cons, false, find, get_or, inl, inr, length, length-drop, length-set, nat_eq, not, of_z, option_map, refl, rules, subst, suc, sym, to_z, true, w32, zero, ℕ, ⊎_elim}
 pub use Rattle.choice_rules.proofs.Strides.{both_left}
 pub use Rattle.lawful_reading.proofs.Once.{same_segment}
 pub use Rattle.ready_tree.proofs.NodeLaws.{same_or_not}

@@ -6,8 +6,7 @@ ghost use Rattle.source_runs.specs.Threads.{waiting_of};
 
 use crate::reading::{Reading, Under};
 use crate::rulings::Failure;
-use crate::uses::changes;
-use blocking_graph::SegmentRecord;
+use blocking_graph::{SegmentRecord, changes};
 use cap_word::{Block, SiteKey};
 use resource_monitor::Measure;
 use source_runs::Thread;

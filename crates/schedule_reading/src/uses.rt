@@ -1,5 +1,5 @@
-// The uses of resources, and how they change.
-ghost use Rattle.std.specs.Prelude.{◌≡◌, ◌≤◌, ◌<◌, ◌-ℤ◌, pos, slice_index, slice_index_or, length, ℕ};
+// The uses of resources.
+ghost use Rattle.std.specs.Prelude.{◌≡◌, ◌≤◌, ◌<◌, slice_index, length, ℕ};
 
 use crate::reading::Reading;
 use resource_monitor::Measure;
@@ -34,22 +34,4 @@ impl<C: Measure + Drop> Reading<'_, C> {
             self.threads.used(resource)
         }
     }
-}
-
-/// Returns the change of each use.
-pub(crate) fn changes(before: &[u32; 8], after: &[u32; 8]) -> [i64; 8]
-    ensures { (r : ℕ) → r < 8 → slice_index_or result r (pos 0) ≡ pos (slice_index after.now r) -ℤ pos (slice_index before.now r) }
-{
-    let mut change = [0; 8];
-    for place in 0..8 {
-        change[place] = difference(before[place], after[place]);
-    }
-    change
-}
-
-/// Returns the second use minus the first.
-fn difference(before: u32, after: u32) -> i64
-    ensures { result ≡ pos after -ℤ pos before }
-{
-    i64::from(after) - i64::from(before)
 }

@@ -1,5 +1,5 @@
-use Rattle.schedule_reading.proofs.Common.{w64, FitsSigned, rules, ◌≢◌, ◌<◌, length, arith, ◌∙◌, below_more, get_or-set_other, get_or-set_same, length-set, to_z-of_z}
-use Rattle.schedule_reading.proofs.uses.changes.Goals as goal
+use Rattle.blocking_graph.proofs.Common.{w64, FitsSigned, rules, ◌≢◌, ◌<◌, length, arith, ◌∙◌, below_more, get_or-set_other, get_or-set_same, length-set, to_z-of_z}
+use Rattle.blocking_graph.proofs.segments.changes.Goals as goal
 
 pub loop-place-preserved : goal.loop-place-preserved
 loop-place-preserved c =
