@@ -1,22 +1,6 @@
 -- A call that is answered at once: the thread goes on with its result.
-use Rattle.schedule_reading.proofs.Common.{◌≡◌, ℕ, List, ◌++◌, length, Option, Some, None, sym, ap, ◌∙◌, subst, arith, Ask, ThreadId, TrapKind, Exchange, ImmediateRow, immediate_row, source_resume, Segment, with_printed, with_started, ProgramTree, Given, State, same_next, SchedulerState, IsThread, globals_of, running_of, waiting_of, Thread, Exchanging, Under, CrowdsAt, GoesTo, MayAnswer, TrapsAt, Core, AreBeside, ThreadsState}
-use Rattle.c_mean.specs.World as source
+use Rattle.schedule_reading.proofs.Common.{◌≡◌, ℕ, List, ◌++◌, length, Option, Some, None, sym, ap, ◌∙◌, subst, arith, Ask, TrapKind, ImmediateRow, immediate_row, source_resume, Segment, with_printed, with_started, ProgramTree, Given, State, same_next, SchedulerState, IsThread, globals_of, running_of, waiting_of, Thread, Under, CrowdsAt, GoesTo, MayAnswer, TrapsAt, Core, AreBeside, ThreadsState}
 use Rattle.schedule_reading.proofs.Leading.{answered, goes_on, traps_now}
-
--- what they meet has changed
-pub beside_exchange : (g : Given) (state : State) (rests : List source.Rest) (exchange other : Exchange) (number : ℕ) (threads : ThreadsState) (scheduler : SchedulerState) (running : ThreadId) (y : Exchanging) →
-    y.exchange ≡ other → length other.uses ≡ 8 → AreBeside g state rests exchange number threads scheduler running → AreBeside g state rests other number (record threads { exchange = y }) scheduler running
-beside_exchange g state rests exchange other number threads scheduler running y e eight b = record {
-  are = record { exchange_is = e; uses = eight; count = b.are.count; live = b.are.live; are = b.are.are };
-  started = b.started;
-  away = b.away;
-  away_there = b.away_there;
-  away_number = b.away_number;
-  away_waits = b.away_waits;
-  resting = b.resting;
-  number_is = b.number_is;
-  scheduled = b.scheduled;
-}
 
 -- a thread goes on with a result
 pub record Resumes (tree : ProgramTree) (old : Thread) (old_words : List ℕ) (word : ℕ) (new : Thread) (words : List ℕ) : Type 0 where

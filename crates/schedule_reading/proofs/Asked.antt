@@ -5,7 +5,8 @@ use Rattle.scheduler.specs.State.{SchedulerState, IsJoined, IsTold, last_of}
 use Rattle.thread_exchange.specs.Exchanges.{Exchanging, after_ask}
 use Rattle.schedule_reading.specs.declared.events.Happening.TheVariants as happening
 use Rattle.schedule_reading.proofs.Adding.{beside_more}
-use Rattle.schedule_reading.proofs.Answered.{Resumes, beside_exchange, resumes_in, row, starts_none, trapped, went_on}
+use Rattle.schedule_reading.proofs.Answered.{Resumes, resumes_in, row, starts_none, trapped, went_on}
+use Rattle.schedule_reading.proofs.Keeping.{beside_other}
 use Rattle.schedule_reading.proofs.Leading.{answered, goes_on}
 
 -- the thread went on with this word, after what threads meet and the queues had changed
@@ -83,8 +84,8 @@ module _ (g : Given) (state : State) (last : Segment) (crowds : Bool) (k : Core)
         gone_to g state last k mid new under under' 0 (Ask.Give resource amount) may r [] untrapped refl (sym (append-nil last.world.outputs))
             (subst (λ (t : ThreadsState). AreBeside g state last.world.threads (with_use last.world.exchange resource (use_of last.world.exchange resource - amount)) last.number t mid.scheduler under.choice.thread) (sym threads_is)
             (subst (λ (s : SchedulerState). AreBeside g state last.world.threads (with_use last.world.exchange resource (use_of last.world.exchange resource - amount)) last.number (record k.threads { exchange = after_ask k.threads.exchange (gives k resource amount) }) s under.choice.thread) (sym scheduler_is)
-            (beside_exchange g state last.world.threads last.world.exchange (with_use last.world.exchange resource (use_of last.world.exchange resource - amount)) last.number k.threads k.scheduler under.choice.thread
-            (after_ask k.threads.exchange (gives k resource amount)) y eight may.beside))),
+            (beside_other may.beside state (with_use last.world.exchange resource (use_of last.world.exchange resource - amount))
+            (after_ask k.threads.exchange (gives k resource amount)) y eight))),
         λ asked. starts_none g state last k under (Ask.Give resource amount) may untrapped refl,
       )
     where

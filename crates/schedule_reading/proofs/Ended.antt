@@ -1,5 +1,5 @@
 -- The lines at the end of a log: what they leave standing, and how a ruling on a part of them is one on the line.
-use Rattle.schedule_reading.proofs.Common.{◌≡◌, ◌↔◌, ℕ, suc, ◌+◌, ◌-◌, Bool, ◌<◌, ◌≤◌, true, false, List, [], ◌∷◌, length, drop, map, get_or, drop-cons, add-one, Option, Some, None, Result, Ok, Err, refl, sym, ap, ◌∙◌, subst, arith, ⊎_elim, Vec, is_some, edges_of, EdgeLine, Stop, ThreadId, Exchange, edge_entry, StopsBy, edges_left, Given, IsBeyond, Needs, StopNeeds, Entry, StopLine, SchedulerState, Between, Shown, Happening, Point, End, Under, Failure, Ruling, CrowdsFirst, HasHappened, KeepsBut, MayRun, AreLeft, AreOver, Fits, MayStopHere, RulesCause, RulesCut, RulesEdge, RulesStop, TellsStop, entry_of, stop_line, Core, Kept, ruled, CountsReads, IsPoint, Rules, StandsBetween, Shows, AreBeside, IsCounted, IsEnd, IsLooked, IsOf, IsTold, Stands, StandsAt, StandsBy, StandsUnless, StandsWithin, ThreadsState, same_segment}
+use Rattle.schedule_reading.proofs.Common.{◌≡◌, ◌↔◌, ℕ, suc, ◌+◌, ◌-◌, Bool, ◌<◌, ◌≤◌, true, false, List, [], ◌∷◌, length, drop, map, get_or, drop-cons, add-one, Option, Some, None, Result, Ok, Err, refl, sym, ap, ◌∙◌, subst, arith, ⊎_elim, Vec, is_some, edges_of, EdgeLine, Stop, edge_entry, StopsBy, edges_left, Given, IsBeyond, Needs, StopNeeds, Entry, StopLine, Between, Shown, Happening, Point, End, Under, Failure, Ruling, CrowdsFirst, HasHappened, KeepsBut, MayRun, AreLeft, AreOver, Fits, MayStopHere, RulesCause, RulesCut, RulesEdge, RulesStop, TellsStop, entry_of, stop_line, Core, Kept, ruled, CountsReads, IsPoint, Rules, StandsBetween, Shows, IsCounted, IsEnd, IsLooked, IsOf, IsTold, Stands, StandsAt, StandsBy, StandsUnless, StandsWithin, same_segment}
 use Rattle.std.specs.declared.alloc.Global.{Global}
 use Rattle.c_mean.specs.World as source
 use Rattle.lawful_reading.specs.State as reading
@@ -7,6 +7,7 @@ use Rattle.lawful_reading.specs.State.{Segment, State, seen_of}
 use Rattle.schedule_reading.specs.declared.reading.End.TheVariants as end
 use Rattle.schedule_reading.specs.declared.rulings.Ruling.TheVariants as ruling
 use Rattle.schedule_reading.proofs.Cutting.{cause_fuel, cause_needs}
+use Rattle.schedule_reading.proofs.Keeping.{beside_other}
 use Rattle.schedule_reading.proofs.Proceeding.{may_run}
 use Rattle.schedule_reading.proofs.Unstopped.{between_by, stands_as, stands_by}
 use Rattle.schedule_reading.proofs.Stopping.{edge_allowed, edge_none, edge_refused, left_over, over_left, stop_allowed, stop_refused, stop_within}
@@ -37,19 +38,6 @@ module _ (g : Given) (state : State) (e : reading.End) where
     timely = s.timely;
   }
 
-  beside_end : (rests : List source.Rest) (exchange : Exchange) (number : ℕ) (threads : ThreadsState) (scheduler : SchedulerState) (running : ThreadId) → AreBeside g state rests exchange number threads scheduler running → AreBeside g ended rests exchange number threads scheduler running
-  beside_end rests exchange number threads scheduler running b = record {
-    are = b.are;
-    started = b.started;
-    away = b.away;
-    away_there = b.away_there;
-    away_number = b.away_number;
-    away_waits = b.away_waits;
-    resting = b.resting;
-    number_is = b.number_is;
-    scheduled = b.scheduled;
-  }
-
   within_end : (k : Core) (under : Under) → StandsWithin g state k under → StandsWithin g ended k under
   within_end k under s = record {
     of = s.of;
@@ -58,7 +46,7 @@ module _ (g : Given) (state : State) (e : reading.End) where
     under_way = s.under_way;
     clock_is = s.clock_is;
     runs = record {
-      beside = beside_end s.segment.here.world.threads s.segment.here.world.exchange s.segment.here.number k.threads k.scheduler under.choice.thread s.runs.beside;
+      beside = let b = s.runs.beside in beside_other b ended _ k.threads.exchange b.are.exchange_is b.are.uses;
       thread = s.runs.thread;
       running = s.runs.running;
     };

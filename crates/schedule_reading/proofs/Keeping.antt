@@ -1,5 +1,6 @@
 -- What a part of what is kept doesn't change.
-use Rattle.schedule_reading.proofs.Common.{◌≡◌, ℕ, ◌≤◌, length, refl, sym, ap, ◌∙◌, subst, arith, count_of, GraphState, Past, Given, MonitorState, SchedulerState, last_of, IsReady, tree_of, Interpreter, AuditPolicy, Core, HasPast, IsOf}
+use Rattle.schedule_reading.proofs.Common.{◌≡◌, ℕ, ◌≤◌, List, length, refl, sym, ap, ◌∙◌, subst, arith, count_of, ThreadId, GraphState, Exchange, Past, Given, State, MonitorState, SchedulerState, last_of, IsReady, tree_of, Exchanging, Interpreter, AuditPolicy, Core, AreBeside, HasPast, IsOf, ThreadsState}
+use Rattle.c_mean.specs.World as source
 
 -- what stays the same of a monitor that observes
 pub record SameMonitor (old new : MonitorState) : Type 0 where
@@ -43,4 +44,21 @@ past_with past old new choices most scheduler graph h = record {
   edges = ap (λ (x : GraphState). x.edges) graph ∙ h.edges;
   records = subst (λ (x : GraphState). count_of x.edges ≤ most) (sym graph) h.records;
   keys = subst (λ (x : GraphState). length x.keys ≤ most) (sym graph) h.keys;
+}
+
+-- the threads beside the running one, where what they meet has changed, in a state with the same source and the same waiting threads
+pub beside_other : {g : Given} {state : State} {rests : List source.Rest} {exchange : Exchange} {number : ℕ} {threads : ThreadsState}
+    {scheduler : SchedulerState} {running : ThreadId} → AreBeside g state rests exchange number threads scheduler running → (other : State) (met : Exchange)
+    (y : Exchanging) → y.exchange ≡ met → length met.uses ≡ 8 →
+    AreBeside g (record other { source = state.source; waiting = state.waiting }) rests met number (record threads { exchange = y }) scheduler running
+beside_other b other met y e eight = record {
+  are = record { exchange_is = e; uses = eight; count = b.are.count; live = b.are.live; are = b.are.are };
+  started = b.started;
+  away = b.away;
+  away_there = b.away_there;
+  away_number = b.away_number;
+  away_waits = b.away_waits;
+  resting = b.resting;
+  number_is = b.number_is;
+  scheduled = b.scheduled;
 }

@@ -1,11 +1,11 @@
 -- The thread under way goes on: what is kept then, and how many steps it took.
-use Rattle.schedule_reading.proofs.Common.{◌≡◌, ℕ, ◌+◌, ◌-◌, ◌<◌, ◌≤◌, inl, inr, List, length, Some, Result, Ok, refl, sym, ap, ◌∙◌, subst, arith, ℤ, drop, map, signed, Block, TrapKind, count_of, edge_entry, all_caps, Given, chunks_of, ComesAt, IsSilent, PutsNext, IsBeyond, Needs, IsOut, one_put, silent_puts, silent_rests, Entry, NoneAbove, Choice, Happening, End, Under, Failure, HasProceeded, HasHappened, KeepsBut, MayRun, Rests, Core, AreBeside, HasPast, IsEnd, IsOf, IsRunning, IsTimely, StandsWithin, same_segment}
+use Rattle.schedule_reading.proofs.Common.{◌≡◌, ℕ, ◌+◌, ◌-◌, ◌<◌, ◌≤◌, inl, inr, List, length, Some, Result, Ok, refl, sym, ap, ◌∙◌, subst, arith, ℤ, drop, map, signed, Block, TrapKind, count_of, edge_entry, all_caps, Given, chunks_of, ComesAt, IsSilent, PutsNext, IsBeyond, Needs, IsOut, one_put, silent_puts, silent_rests, Entry, NoneAbove, Choice, Happening, End, Under, Failure, HasProceeded, HasHappened, KeepsBut, MayRun, Rests, Core, HasPast, IsEnd, IsOf, IsRunning, IsTimely, StandsWithin, same_segment}
 use Rattle.c_mean.specs.World as source
 use Rattle.lawful_reading.specs.State as reading
 use Rattle.lawful_reading.specs.State.{Segment, State}
 use Rattle.schedule_reading.specs.declared.events.Happening.TheVariants as happening
 use Rattle.schedule_reading.specs.declared.reading.End.TheVariants as end
-use Rattle.schedule_reading.proofs.Keeping.{of_with}
+use Rattle.schedule_reading.proofs.Keeping.{beside_other, of_with}
 
 -- ---- the end of the log
 
@@ -191,19 +191,6 @@ module _ (g : Given) (state : State) (old : Core) (old_under : Under) (k : Core)
         let both = one_put g.program g.policy.caps p.segment.here q.here here q.steps steps q.word word puts p.happened.next in
         never q.not_over (q.thread_is ∙ ap (λ (s : Segment). s.here.number) same ∙ sym number_is) (q.value_is ∙ ap signed both.words)
 
-    beside_put : AreBeside g state here.world.threads here.world.exchange here.number k.threads k.scheduler under.choice.thread → AreBeside g put_state here.world.threads here.world.exchange here.number k.threads k.scheduler under.choice.thread
-    beside_put b = record {
-      are = b.are;
-      started = b.started;
-      away = b.away;
-      away_there = b.away_there;
-      away_number = b.away_number;
-      away_waits = b.away_waits;
-      resting = b.resting;
-      number_is = b.number_is;
-      scheduled = b.scheduled;
-    }
-
     pub put_stands : StandsWithin g put_state k under
     put_stands = record {
       of = of_left g k old.left (of_keeps g old (record k { left = old.left }) old_under under old.left k.left p.keeps stands.of);
@@ -218,7 +205,11 @@ module _ (g : Given) (state : State) (old : Core) (old_under : Under) (k : Core)
       segment = record p.segment { here = here };
       under_way = refl;
       clock_is = p.keeps.clock ∙ stands.clock_is;
-      runs = record { beside = beside_put p.happened.runs.beside; thread = p.happened.runs.thread; running = p.happened.runs.running };
+      runs = record {
+        beside = let b = p.happened.runs.beside in beside_other b put_state _ k.threads.exchange b.are.exchange_is b.are.uses;
+        thread = p.happened.runs.thread;
+        running = p.happened.runs.running;
+      };
       node_is = ap (λ (c : Choice). c.node) p.keeps.choice ∙ stands.node_is ∙ ap (λ (s : Segment). s.node) (sym (its_segment (Ok (happening.Puts word)) p));
       before_is = p.keeps.before ∙ stands.before_is ∙ ap (λ (s : Segment). s.uses) (sym (its_segment (Ok (happening.Puts word)) p));
       within_caps = subst (λ (uses : List ℕ). NoneAbove uses (all_caps g.policy)) (sym p.keeps.before) stands.within_caps;

@@ -1,22 +1,29 @@
 -- A segment is taken in: its cost, its free chunks, the uses after it and its record.
-use Rattle.schedule_reading.proofs.Common.{◌≡◌, ℕ, ◌+◌, ◌<◌, ◌≤◌, ℤ, pos, List, [], ◌∷◌, length, sym, ap, ◌∙◌, subst, arith, slice_index, slice_index_or, ◌-ℤ◌, count_of, edges_with, GraphState, IsSegment, SegmentRecord, observed, changes, changes_are, same_eight, small_changes, drop_long, Given, MonitorState, NoneAbove, Under, IsWithin, MayClose, closed, uses_after, Core, IsOf, IsTimely, ThreadsState, cap_in, used_in}
+use Rattle.schedule_reading.proofs.Common.{◌≡◌, ℕ, ◌+◌, ◌<◌, ◌≤◌, ℤ, pos, List, length, sym, ap, ◌∙◌, subst, arith, slice_index, slice_index_or, ◌-ℤ◌, count_of, edges_with, GraphState, IsSegment, SegmentRecord, observed, changes, changes_are, same_eight, small_changes, drop_long, Given, MonitorState, NoneAbove, Under, IsWithin, MayClose, closed, uses_after, Core, IsOf, IsTimely, ThreadsState, cap_in, used_in}
 use Rattle.schedule_reading.proofs.Caps.{cap_is, used_is}
 
 module _ (k : Core) (under : Under) (cost free : ℕ) (may : MayClose k under cost free) where
-  -- the core whose uses are taken then
-  abbrev pub then_core : Core
-  then_core = record k { cost = k.cost + cost; free = free; threads = record k.threads { waits = record k.threads.waits { clock = k.threads.waits.clock + cost } } }
+  -- the core whose uses are taken then, with these threads
+  abbrev then_with : ThreadsState → Core
+  then_with threads = record k { cost = k.cost + cost; free = free; threads = threads }
 
-  pub within_cap : (after : List ℕ) → ((r : ℕ) → r < 8 → slice_index after r ≤ cap_in then_core r) → NoneAbove after k.monitor.caps
-  within_cap after within r below = subst (λ (n : ℕ). slice_index after r ≤ n) (may.caps r below) (within r below)
+  -- the threads at the end of the segment, which began at this time
+  abbrev then_threads : ℕ → ThreadsState
+  then_threads clock = record k.threads { waits = record k.threads.waits { clock = clock + cost } }
 
   small : (uses : List ℕ) → NoneAbove uses k.monitor.caps → (r : ℕ) → r < 8 → slice_index uses r ≤ 1000000
   small uses none r below = let at = none r below in let most = may.small r below in omega (arith, at, most)
 
-  module _ (after : List ℕ) (after_eight : length after ≡ 8) (use_is : (r : ℕ) → r < 8 → slice_index after r ≡ used_in then_core r) (within : (r : ℕ) → r < 8 → slice_index after r ≤ cap_in then_core r) where
-    pub after_is : after ≡ uses_after k free
-    after_is = same_eight after (uses_after k free) after_eight
-        (let seven = drop_long k.threads.exchange.exchange.uses may.uses in omega (arith, seven)) (λ r below. use_is r below ∙ used_is then_core r)
+  module _ (clock : ℕ) (threads : ThreadsState) (threads_is : threads ≡ then_threads clock) (after : List ℕ) (after_eight : length after ≡ 8)
+      (use_is : (r : ℕ) → r < 8 → slice_index after r ≡ used_in (then_with threads) r)
+      (within : (r : ℕ) → r < 8 → slice_index after r ≤ cap_in (then_with threads) r) where
+    within_cap : NoneAbove after k.monitor.caps
+    within_cap r below =
+        subst (λ (n : ℕ). slice_index after r ≤ n) (ap (λ (t : ThreadsState). cap_in (then_with t) r) threads_is ∙ may.caps r below) (within r below)
+
+    after_is : after ≡ uses_after k free
+    after_is = same_eight after (uses_after k free) after_eight (let seven = drop_long k.threads.exchange.exchange.uses may.uses in omega (arith, seven))
+        (λ r below. use_is r below ∙ ap (λ (t : ThreadsState). used_in (then_with t) r) threads_is ∙ used_is (then_with (then_threads clock)) r)
 
     module _ (node : ℕ) (change : List ℤ) (change_eight : length change ≡ 8) (before_eight : length under.before ≡ 8)
         (change_is : (r : ℕ) → r < 8 → slice_index_or change r (pos 0) ≡ pos (slice_index after r) -ℤ pos (slice_index under.before r)) where
@@ -26,15 +33,19 @@ module _ (k : Core) (under : Under) (cost free : ℕ) (may : MayClose k under co
       pub in_range : IsSegment segment
       in_range = record {
         cost = let most = may.within.fuel in let fuel = may.fuel in omega (arith, most, fuel);
-        changes = small_changes under.before after change change_eight change_is (small under.before may.before) (small after (within_cap after within));
+        changes = small_changes under.before after change change_eight change_is (small under.before may.before) (small after within_cap);
       }
 
       changes_now : change ≡ changes under.before (uses_after k free)
       changes_now = changes_are under.before after change before_eight after_eight change_eight change_is ∙ ap (λ (us : List ℕ). changes under.before us) after_is
 
-      pub closed_is : (threads : ThreadsState) → threads ≡ then_core.threads → (monitor : MonitorState) → monitor ≡ observed k.monitor after → (graph : GraphState) → graph ≡ record k.graph { edges = edges_with k.graph.edges segment } →
+      pub closed_is : clock ≡ k.threads.waits.clock → (monitor : MonitorState) → monitor ≡ observed k.monitor after → (graph : GraphState) →
+          graph ≡ record k.graph { edges = edges_with k.graph.edges segment } →
           record k { cost = k.cost + cost; free = free; threads = threads; monitor = monitor; graph = graph } ≡ closed k under node cost free
-      closed_is threads threads_is monitor monitor_is graph graph_is = λ i. record k { cost = k.cost + cost; free = free; threads = threads_is i; monitor = monitor_same i; graph = graph_same i } where
+      closed_is clock_is monitor monitor_is graph graph_is = λ i. record (then_with (threads_same i)) { monitor = monitor_same i; graph = graph_same i } where
+        threads_same : threads ≡ then_threads k.threads.waits.clock
+        threads_same = threads_is ∙ ap then_threads clock_is
+
         monitor_same : monitor ≡ observed k.monitor (uses_after k free)
         monitor_same = monitor_is ∙ ap (λ (us : List ℕ). observed k.monitor us) after_is
 

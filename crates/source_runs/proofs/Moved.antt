@@ -32,15 +32,19 @@ module _ (tree : ProgramTree) where
 
   -- ---- items
 
+  -- the thread with as many other words of the front's names, other items, and something else to do next
+  pub front-with : {thread : Thread} {words : List ℕ} → IsThread tree thread words → (names : Vec ℕ Global) (now : Next) (items : Vec Item Global) →
+      length names.items ≡ length thread.front.names.items → AreItems (context_at tree thread.front.function) items.items →
+      IsThread tree (record thread { front = record thread.front { names = names; next = now; items = items } }) words
+  front-with h names now items same fits =
+      record { front = record { function = h.front.function; full = same ∙ h.front.full; items = fits }; place = h.place; below = h.below; globals = h.globals }
+
   -- a thread whose frame has other items to do
   pub goes-with : (thread : Thread) (words : List ℕ) (vec : Vec Item Global) (items : List todo.Item) → thread.front.next ≡ next.Items →
       IsThread tree thread words → to_do vec.items ≡ items → AreItems (context_at tree thread.front.function) vec.items →
       HasStepped tree (Goes (steps.to_do (running_of tree thread words) items)) (record thread { front = record thread.front { items = vec } })
       words (Ok move.Goes)
-  goes-with thread words vec items is h list fits = (
-    rw (is, list) refl,
-    record { front = record { function = h.front.function; full = h.front.full; items = fits }; place = h.place; below = h.below; globals = h.globals },
-  )
+  goes-with thread words vec items is h list fits = (rw (is, list) refl, front-with h _ _ vec refl fits)
 
   -- the same where memory was wanted for them
   pub pushed-so : {E : Type 0} (thread : Thread) (words : List ℕ) (vec : Vec Item Global) (items : List todo.Item) (pushed : Result (Unit {0}) E)

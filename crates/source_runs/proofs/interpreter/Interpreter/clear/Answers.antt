@@ -1,4 +1,5 @@
 use Rattle.source_runs.proofs.Common.{arith, ℕ, List, length, ap, sym, ◌∙◌, with_items_is, with_zeros, rows_of, slice_index, sum_next-le, with_names, sizes_at, tree_of, running_of}
+use Rattle.source_runs.proofs.Moved.{front-with}
 use Rattle.source_runs.proofs.interpreter.Interpreter.clear.Goals as goal
 
 pub local_start-start-requires-clause-ready : goal.local_start-start-requires-clause-ready
@@ -35,9 +36,4 @@ returns-clause-thread c = λ words h.
     let names = c.args.thread.now.front.names in
     let count = c.clear_row.ensures.count ∙ ap (λ (xs : List ℕ). length xs) c.deref_mut.ensures.value in
     let is = with_items_is names c.clear_row.new.words (count ∙ sym names.ok.0) in
-    record {
-      front = record { function = h.front.function; full = ap (λ (xs : List ℕ). length xs) is ∙ (count ∙ h.front.full); items = h.front.items };
-      place = h.place;
-      below = h.below;
-      globals = h.globals;
-    }
+    front-with _ h _ _ _ (ap (λ (xs : List ℕ). length xs) is ∙ count) h.front.items

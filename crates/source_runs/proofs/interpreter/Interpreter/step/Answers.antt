@@ -1,5 +1,5 @@
 use Rattle.source_runs.proofs.Common.{refl, Ok, item_of, context_at, tree_of, running_of, Thread}
-use Rattle.source_runs.proofs.Moved.{made-so, step-fails, step-gives, step-item, step-none}
+use Rattle.source_runs.proofs.Moved.{front-with, made-so, step-fails, step-gives, step-item, step-none}
 use Rattle.source_runs.proofs.interpreter.Interpreter.step.Goals as goal
 
 pub perform-requires-clause-item : goal.perform-requires-clause-item
@@ -8,7 +8,7 @@ perform-requires-clause-item c = (c.in-Some.ensures (context_at (tree_of c.args.
 pub perform-requires-clause-thread : goal.perform-requires-clause-thread
 perform-requires-clause-thread c =
     let found = c.in-Some.ensures (context_at (tree_of c.args.self.now) c.args.thread.now.front.function) c.requires.thread.front.items in
-    record { front = record { function = c.requires.thread.front.function; full = c.requires.thread.front.full; items = found.2 }; place = c.requires.thread.place; below = c.requires.thread.below; globals = c.requires.thread.globals }
+    front-with _ c.requires.thread _ _ _ refl found.2
 
 pub returns-in-None : goal.returns-in-None
 returns-in-None c =

@@ -2,6 +2,7 @@ use Rattle.std.proofs.Common.{◌≡◌, ℕ, List, ap, ◌∙◌, subst, refl}
 use Rattle.std.proofs.Common.{arith, ◌<◌, ◌≤◌, length}
 use Rattle.source_runs.proofs.Common.{slice_index, widths_of, sum_next-le, get_or_read, length-set, sizes_at, tree_of}
 use Rattle.source_runs.proofs.Functions.{widths-there}
+use Rattle.source_runs.proofs.Moved.{front-with}
 use Rattle.source_runs.proofs.Stored.{stored-local, stored-local_element, beyond-local, stored-global, stored-global_element, beyond-global}
 use Rattle.source_runs.proofs.interpreter.Interpreter.store.Goals as goal
 use Rattle.source_runs.proofs.interpreter.Interpreter.store.Goals.{After-index}
@@ -12,16 +13,7 @@ returns-in-Nowhere c = record { stored = rw c.in-Nowhere.is refl; thread = c.req
 pub returns-in-Returned : goal.returns-in-Returned
 returns-in-Returned c =
     let h = c.requires.thread in
-    record {
-      stored = rw c.in-Returned.is refl;
-      thread = record {
-        front = record { function = h.front.function; full = h.front.full; items = h.front.items };
-        place = h.place;
-        below = h.below;
-        globals = h.globals;
-      };
-      kept = tt {0};
-    }
+    record { stored = rw c.in-Returned.is refl; thread = front-with _ h _ _ _ refl h.front.items; kept = tt {0} }
 
 -- ---- a local name
 
@@ -29,16 +21,10 @@ pub returns-in-Local : goal.returns-in-Local
 returns-in-Local c =
     let h = c.requires.thread in
     let place = rw c.in-Local.is at c.requires.place in
-    let full = length-set c.args.thread.now.front.names.items _ c.args.word ∙ h.front.full in
     record {
       stored = stored-local (tree_of c.args.self.now) c.args.thread.now c.args.globals.now.items c.args.place _ c.in-Local.x _ c.args.word c.in-Local.is
           refl c.local_start-start.ensures place.1;
-      thread = record {
-        front = record { function = h.front.function; full = full; items = h.front.items };
-        place = h.place;
-        below = h.below;
-        globals = h.globals;
-      };
+      thread = front-with _ h _ _ _ (length-set c.args.thread.now.front.names.items _ c.args.word) h.front.items;
       kept = tt {0};
     }
 
@@ -67,15 +53,9 @@ returns-else-index-sizes c =
     let start = c.local_start-start-in-LocalElement in
     let within = subst (λ (ns : List ℕ). f.index < slice_index ns f.array) c.sizes.ensures c.if-index-sizes.false in
     let there = rw f.is at c.requires.place in
-    let full = length-set c.args.thread.now.front.names.items _ c.args.word ∙ h.front.full in
     record {
       stored = stored-local_element _ _ _ c.args.place _ f.array f.index start.result c.args.word f.is refl start.ensures within there h;
-      thread = record {
-        front = record { function = h.front.function; full = full; items = h.front.items };
-        place = h.place;
-        below = h.below;
-        globals = h.globals;
-      };
+      thread = front-with _ h _ _ _ (length-set c.args.thread.now.front.names.items _ c.args.word) h.front.items;
       kept = tt {0};
     }
 
