@@ -1,6 +1,5 @@
 -- What actions between segments, and steps, leave of the clock, the cost, the chunks and the number of threads.
 use Rattle.audited_logs.proofs.Common.{◌≡◌, ℕ, suc, ◌<◌, ◌≤◌, ◌&&◌, Bool, true, false, nat_eq, nat_le, not, List, [], ◌∷◌, length, Option, Some, None, refl, ◌∙◌, subst, arith, length-append, if◌then◌else◌, IfSome, cond_both, nat_tests, length-map, most_threads, Delivery, is_dropped, with_delivery, row_for, on_step, on_printed, given_if}
-use Rattle.cap_word.specs.Runs as runs
 use Rattle.machine_world.specs.Runs.{Action, Deliver, Advance, Pick, is_between, delivered, advanced, may_run, picked_at, picked, after_action, after_actions, and_then, world_of}
 use Rattle.machine_world.specs.Threads.{Blocked, Thread, World, Setting, thread_of, replaced, without, resumed, start_core, Move, step}
 use Rattle.lawful_log.proofs.Picked.{between_if}

@@ -1,7 +1,6 @@
 -- What comes from outside, in a lawful log and in its reading.
 use Rattle.audited_logs.proofs.Common.{◌≡◌, ℕ, ◌-◌, Bool, true, false, cond, Some, refl, sym, ap, ◌∙◌, subst, arith, Delivery, is_dropped, with_delivery, delivery_of, received, IsDelivery, Seen, behind, free_count, checked_of, Setup, setting_of, State, held_chunks, Areas, Action, Deliver, Advance, after_action, World, IsWellFormedIf, DeliversWords, IsWellFormedIf-action, Item, StandsSettled, delivered_law, advanced_law, given_of, delivers_words}
 use Rattle.c_mean.specs.World as source
-use Rattle.event_trace.specs.declared.events.EventKind.TheVariants as events
 use Rattle.lawful_log.specs.Deliveries as log
 use Rattle.lawful_reading.specs.Choice as reading
 use Rattle.lawful_reading.specs.State as reading_state

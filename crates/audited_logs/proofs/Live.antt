@@ -1,5 +1,5 @@
 -- As many threads of the machine are live as have not ended in the source world for which it stands.
-use Rattle.audited_logs.proofs.Common.{◌≡◌, ℕ, suc, ◌+◌, ◌<◌, ◌≤◌, Bool, true, false, cond, nat_eq, List, [], ◌∷◌, length, count_by, Option, Some, None, refl, sym, ap, ◌∙◌, subst, arith, ⊎_elim, slice_get, cases_eq, cond-true, cond-false, eq-eqb, ne_eqb, sum_by-cons, Rest, Fresh, Blocked, Ended, ProgramTree, Pool, lives, live_in, Checked, Thread, World, Setting, first_with, thread_of, IsUnderWay, RiseBetween-bound}
+use Rattle.audited_logs.proofs.Common.{◌≡◌, ℕ, suc, ◌+◌, ◌<◌, Bool, true, false, cond, nat_eq, List, [], ◌∷◌, length, count_by, Option, Some, None, refl, sym, ap, ◌∙◌, subst, arith, ⊎_elim, slice_get, cases_eq, cond-true, cond-false, eq-eqb, ne_eqb, sum_by-cons, Rest, Fresh, Blocked, Ended, ProgramTree, Pool, lives, live_in, Checked, Thread, World, Setting, first_with, thread_of, IsUnderWay, RiseBetween-bound}
 use Rattle.c_mean.specs.World as source
 use Rattle.machine_world.specs.Numbered.{RiseBetween, IsNumbered}
 use Rattle.machine_world.specs.StandsForWorld.{StandsForRest, StandsForWorld}

@@ -1,7 +1,6 @@
 -- Where the lines of a log have led as they are read, the source's world is the one under the schedule that they print.
-use Rattle.audited_logs.proofs.Common.{◌≡◌, ℕ, ◌<◌, ◌^◌, Bool, false, true, List, [], ◌∷◌, ◌++◌, append_assoc, append-nil, map, Option, Some, None, refl, sym, ap, ◌∙◌, subst, is_some, map-append, same_Some, SegmentRecord, ProgramTree, Delivery, with_delivery, delivery_of, received, delivered, IsComing, Given, chunks_of, IsAllowed, Leads, nowhere, by_line, IsBlock, IsEnd, IsClosed, Entry, Item, delivered_is}
+use Rattle.audited_logs.proofs.Common.{◌≡◌, ℕ, Bool, false, true, List, [], ◌∷◌, ◌++◌, append_assoc, append-nil, map, Option, Some, None, refl, sym, ap, ◌∙◌, subst, is_some, map-append, same_Some, SegmentRecord, ProgramTree, Delivery, with_delivery, delivery_of, received, delivered, IsComing, Given, chunks_of, IsAllowed, Leads, nowhere, by_line, IsBlock, IsEnd, IsClosed, Entry, Item, delivered_is}
 use Rattle.c_mean.specs.World as source
-use Rattle.event_trace.specs.declared.events.EventKind.TheVariants as events
 use Rattle.lawful_reading.specs.State.{Segment, State, start_of}
 use Rattle.audited_logs.specs.Printed.{schedule_of, costs_of, clock_after, held_after, IsPrintedChoice, AreLawfulChoices}
 use Rattle.audited_logs.proofs.ReadRuns.{IsUnderWay, at_first, puts_on, rests_on}

@@ -1,7 +1,6 @@
 -- What lines print, and which deliveries they name.
-use Rattle.audited_logs.proofs.Common.{ℕ, ℤ, ◌≡◌, ◌^◌, ◌<◌, refl, ap, subst, ◌∙◌, List, [], ◌∷◌, ◌++◌, signed, ProgramTree, outputs_of, lines_of}
+use Rattle.audited_logs.proofs.Common.{ℕ, ℤ, ◌≡◌, refl, ap, subst, List, [], ◌∷◌, ◌++◌, signed, ProgramTree, outputs_of, lines_of}
 use Rattle.c_mean.specs.World as source
-use Rattle.event_trace.specs.declared.events.EventKind.TheVariants as events
 
 -- one word more
 pub put_more : (thread : ℕ) (before : List (ℕ × ℕ)) (words : List ℕ) (word : ℕ) → lines_of (before ++ outputs_of thread (words ++ word ∷ [])) ≡ lines_of (before ++ outputs_of thread words) ++ (thread, signed word) ∷ []

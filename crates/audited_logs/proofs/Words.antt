@@ -1,5 +1,5 @@
 -- What a thread of the machine puts is a word.
-use Rattle.audited_logs.proofs.Common.{◌≡◌, ℕ, ◌^◌, ◌<◌, List, [], Option, Some, None, sym, subst, option_map, Call, Immediate, call_with, Asks, Ask, Exchange, immediate_row, Local, LocalMove, local_step, Thread, World, Setting, Move, step, local_in, AreWords, Ways, row_for, on_thread, on_printed, step_is}
+use Rattle.audited_logs.proofs.Common.{◌≡◌, ℕ, ◌^◌, ◌<◌, List, Option, Some, None, sym, subst, option_map, Call, Immediate, call_with, Asks, Ask, Exchange, immediate_row, Local, LocalMove, local_step, Thread, World, Setting, Move, step, local_in, AreWords, Ways, row_for, on_thread, on_printed, step_is}
 use Rattle.cap_word.specs.ModelledCalls.{call_numbered}
 use Rattle.cap_word.specs.declared.modelled_calls.ModelledCall.{ModelledCall}
 use Rattle.machine_world.specs.Local as local

@@ -1,5 +1,5 @@
 -- Every thread of a world that is blocked waits, in all its frames, at calls of its functions' texts.
-use Rattle.c_mean.proofs.Common.{◌≡◌, ℕ, zero, suc, List, [], ◌∷◌, ◌++◌, length, Option, Some, None, option_map, refl, sym, subst, slice_get, slice_set, AllByRecursion, Call, Blocking, Immediate, Goes, Asks, Stops, and_then, moves, Block, TrapKind, ProgramTree, Waiting, SourceMove, source_step, WaitsInText, blocking_row, immediate_row, Rest, Fresh, Blocked, Ended, World, Segment, SegmentMove, rests, unless_trap, with_started, calls, segment_move, segment_step, segment_machine, begun_at, Entry, Deliver, Run, IsAfterEntry, IsAfter, start_world, All-push}
+use Rattle.c_mean.proofs.Common.{◌≡◌, ℕ, zero, suc, List, [], ◌∷◌, length, Option, Some, None, option_map, refl, sym, subst, slice_get, slice_set, AllByRecursion, Call, Blocking, Immediate, Goes, Asks, Stops, and_then, moves, Block, TrapKind, ProgramTree, Waiting, SourceMove, source_step, WaitsInText, blocking_row, immediate_row, Rest, Fresh, Blocked, Ended, World, Segment, SegmentMove, rests, unless_trap, with_started, calls, segment_move, segment_step, segment_machine, begun_at, Entry, Deliver, Run, IsAfterEntry, IsAfter, start_world, All-push}
 use Rattle.c_mean.proofs.StandLemmas.{Stands, MoveStands, step_stands, resume_stands, started_stands}
 
 pub all_set : {A : Type 0} (P : A → Type 0) (xs : List A) (i : ℕ) (a : A) → AllByRecursion P xs → P a → AllByRecursion P (slice_set xs i a)

@@ -1,5 +1,5 @@
 -- The laws of the lines of a text.
-use Rattle.cap_text.proofs.Common.{◌≡◌, ℕ, ◌+◌, ◌<◌, ◌≤◌, Bool, true, false, cond, List, [], ◌∷◌, ◌++◌, length, take, drop, refl, ap, sym, ◌∙◌, arith, All, ◌==◌, Option, Some, None, append_assoc, slice_split, position, position_or_len, before_first, after_first, slice_split_none, slice_split_at, slice_split_first, length-slice_split, fails_before_first, ne_eqb, AllByRecursion, Lacks, lines_of, without_empty_last, ended_lines}
+use Rattle.cap_text.proofs.Common.{◌≡◌, ℕ, ◌+◌, ◌<◌, Bool, true, false, cond, List, [], ◌∷◌, ◌++◌, length, take, drop, refl, ap, sym, ◌∙◌, arith, All, ◌==◌, Option, Some, None, append_assoc, slice_split, position, position_or_len, before_first, after_first, slice_split_none, slice_split_at, slice_split_first, length-slice_split, fails_before_first, ne_eqb, AllByRecursion, Lacks, lines_of, without_empty_last, ended_lines}
 use Rattle.cap_text.proofs.PieceLaws.{all_by}
 use Rattle.cap_text.proofs.PieceSteps.{found, lost}
 

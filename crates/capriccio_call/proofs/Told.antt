@@ -1,5 +1,5 @@
 -- What is told of how a command ended.
-use Rattle.capriccio_call.proofs.Common.{◌≡◌, ℕ, List, [], Option, Some, None, Result, Ok, Err, refl, sym, ◌∙◌, subst, inl, ⊎_elim, Keeps, Files, KeepsFiles, Cause, Stop, Refused, Failed, Fault, Memory, Ended, Outcome, refusal, Held, Outside, WhereTold, AreStored, IsDone, IsExact, IsTold, IsEnd, IsLast, EndsAs, IsFinished, append-nothing, IsAnswerOf, keeps_by_none}
+use Rattle.capriccio_call.proofs.Common.{◌≡◌, ℕ, List, [], Option, Some, None, Result, Ok, Err, refl, sym, subst, inl, ⊎_elim, Keeps, Files, KeepsFiles, Cause, Stop, Refused, Failed, Fault, Memory, Ended, Outcome, refusal, Held, Outside, WhereTold, AreStored, IsDone, IsExact, IsTold, IsEnd, IsLast, EndsAs, IsFinished, append-nothing, IsAnswerOf, keeps_by_none}
 
 pub stored-none : (old new : Option Files) → WhereTold (AreStored []) old new → KeepsFiles old new
 stored-none None new h = tt

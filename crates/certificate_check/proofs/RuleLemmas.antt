@@ -1,5 +1,5 @@
 -- The first failure of a rule's own definition is that of the rule of its number.
-use Rattle.certificate_check.proofs.Common.{◌≡◌, ℕ, zero, ◌<◌, arith, refl, sym, subst, Option, Some, None, FlatCode, Image, Certificate, V2, V3, V4, V5, V6, V7, V8, V9, V10, V11, V12, Holds, holds_v2, holds_v3, holds_v4, holds_v5, holds_v6, holds_v7, holds_v8, holds_v9, holds_v10, holds_v11, holds_v12, Spot, IsFirst, IsFirstSpot, at_zero}
+use Rattle.certificate_check.proofs.Common.{◌≡◌, ℕ, zero, arith, refl, sym, subst, Option, Some, None, FlatCode, Image, Certificate, V2, V3, V4, V5, V6, V7, V8, V9, V10, V11, V12, Holds, holds_v2, holds_v3, holds_v4, holds_v5, holds_v6, holds_v7, holds_v8, holds_v9, holds_v10, holds_v11, holds_v12, Spot, IsFirst, IsFirstSpot, at_zero}
 use Rattle.rule_failures.proofs.FirstLemmas.{first_same, spot_same}
 
 -- a rule that means no function fails first at function 0

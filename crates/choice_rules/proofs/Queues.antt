@@ -1,5 +1,5 @@
 -- Queues of a scheduler beside the threads that wait.
-use Rattle.choice_rules.proofs.Common.{◌≡◌, ◌≢◌, ℕ, ◌==◌, ◌&&◌, Bool, true, false, nat_eq, not, List, [], ◌∷◌, ◌++◌, Option, Some, find, refl, sym, ap, ◌∙◌, subst, cond, IsSome, AllByRecursion, cond-true, cond-false, eq-eqb, ne_eqb, ThreadId, Waiter, is_same, without, IsOnce, at_node, IsPlaced, IsQueue, and_from, and_right}
+use Rattle.choice_rules.proofs.Common.{◌≡◌, ◌≢◌, ℕ, ◌==◌, Bool, true, false, nat_eq, not, List, [], ◌∷◌, ◌++◌, Option, Some, find, refl, sym, ap, ◌∙◌, subst, cond, IsSome, AllByRecursion, cond-true, cond-false, eq-eqb, ne_eqb, ThreadId, Waiter, is_same, without, IsOnce, at_node, IsPlaced, IsQueue, and_from, and_right}
 use Rattle.choice_rules.proofs.Waiters.{but}
 
 -- ---- more at the end

@@ -1,5 +1,5 @@
 -- The certificate that is laid out names just the sites of the program, and says the bounds of the plan.
-use Rattle.codegen_link.proofs.Common.{◌≡◌, ℕ, zero, suc, ◌<◌, ◌≤◌, inl, inr, Bool, true, false, List, [], ◌∷◌, ◌++◌, length, map, max, Some, None, refl, sym, ap, ◌∙◌, arith, nat_eq, ◌||◌, slice_get, slice_index, slice_index_or, filter_map, flat_map, AllByRecursion, cons_option, list_any, cases_lt, nat_tests, length-map, list_any-IsPermutation, slice_get-get_or, Op, FlatFunction, FlatCode, function_at, operation_at, members_of, IsWellFormed, signature_of, greatest, Plan, Certificate, SiteFact, all_at, IsNeed, callee_bound, callees_of, certified_site, greatest_bound, has_site, is_named, is_site, is_spawned, starts_thread, NamesThere, HasFacts, link, linked_if, need, site_fact, site_facts, list_any-append, any_passes_from_place}
+use Rattle.codegen_link.proofs.Common.{◌≡◌, ℕ, zero, suc, ◌<◌, ◌≤◌, inl, inr, Bool, true, false, List, [], ◌∷◌, length, map, max, Some, None, refl, sym, ap, ◌∙◌, arith, nat_eq, ◌||◌, slice_get, slice_index, slice_index_or, filter_map, flat_map, AllByRecursion, cons_option, list_any, cases_lt, nat_tests, length-map, list_any-IsPermutation, slice_get-get_or, Op, FlatFunction, FlatCode, function_at, operation_at, members_of, IsWellFormed, signature_of, greatest, Plan, Certificate, SiteFact, all_at, IsNeed, callee_bound, callees_of, certified_site, greatest_bound, has_site, is_named, is_site, is_spawned, starts_thread, NamesThere, HasFacts, link, linked_if, need, site_fact, site_facts, list_any-append, any_passes_from_place}
 use Rattle.cap_word.specs.Signatures.{IsMember, IsTable}
 use Rattle.codegen_link.proofs.FactLemmas.{fact-is}
 

@@ -1,5 +1,5 @@
 -- What a call changes outside: everything that a due outcome says, or a part of it after a fault or out of memory.
-use Rattle.std.specs.Prelude.{ℕ, ◌≡◌, ◌≢◌, ◌≤◌, ◌⊎◌, Bool, true, false, List, [], ◌∷◌, Option, Some, None, Result, Ok, Err}
+use Rattle.std.specs.Prelude.{ℕ, ◌≡◌, ◌≢◌, ◌⊎◌, Bool, true, false, List, [], ◌∷◌, Option, Some, None, Result, Ok, Err}
 use Rattle.std.specs.Io.KnownBytes.{Keeps, Appends}
 use Rattle.cap_io.specs.Faults.{IsRisen, Rose, Stayed}
 use Rattle.cap_io.specs.Files.{Files, KeepsFiles, KeepsOthers}

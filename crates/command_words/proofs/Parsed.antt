@@ -1,5 +1,5 @@
 -- What the parser makes of the words as a whole.
-use Rattle.command_words.proofs.Common.{◌≡◌, ◌≢◌, ◌∙◌, inl, inr, ℕ, refl, ap, sym, subst, Bool, true, false, true≢false, ◌==◌, List, [], ◌∷◌, ◌||◌, ◌≤◌, length, Option, Some, None, codes, cond, map, fold, is_some, flat_map, AllByRecursion, Kinds, or_else, built_fault, check_fault, default_fault, defaults_fault, entered_fault, fault_of, level_fault, settle_fault, walk_fault, Held, Row, Rule, Text, finished, has_row, first_of, nothing_held, rows_after, walk, walk_from, with_default, default_rows, reading_by, Said, words_of, IsPlain, positionals_of, options_of, value_of, IsOneOf, AreOnce, words_app, all_options, IsWord, IsReadable, command_names, IsSaid, Tells, IsReadAs, all_table, long_name_of, name_of, CommandOption, or-true}
+use Rattle.command_words.proofs.Common.{◌≡◌, ◌≢◌, ◌∙◌, inl, inr, ℕ, refl, ap, sym, subst, Bool, true, false, true≢false, ◌==◌, List, [], ◌∷◌, ◌≤◌, length, Option, Some, None, codes, cond, map, fold, is_some, flat_map, AllByRecursion, Kinds, or_else, built_fault, check_fault, default_fault, defaults_fault, entered_fault, fault_of, level_fault, settle_fault, walk_fault, Held, Row, Rule, Text, finished, has_row, first_of, nothing_held, rows_after, walk, walk_from, with_default, default_rows, reading_by, Said, words_of, IsPlain, positionals_of, options_of, value_of, IsOneOf, AreOnce, words_app, all_options, IsWord, IsReadable, command_names, IsSaid, Tells, IsReadAs, all_table, long_name_of, name_of, CommandOption, or-true}
 use Rattle.clap.specs.Simple.{App, entered, matches_of, names_of}
 use Rattle.command_words.proofs.GivenOptions.{all_among}
 use Rattle.command_words.proofs.Rules.{rules, top, top_is, are_places, places, is_option, option_rule}

@@ -1,5 +1,5 @@
 -- Numbers that are some of others, in their order.
-use Rattle.decisions.proofs.Common.{ℕ, ◌+◌, List, [], ◌++◌, eqb, IsDistinct, FlatCode, call_sites_from, site_numbers, part-distinct, part-functions}
+use Rattle.decisions.proofs.Common.{ℕ, ◌+◌, List, ◌++◌, eqb, IsDistinct, FlatCode, call_sites_from, site_numbers, part-distinct, part-functions}
 pub use Rattle.call_graph.proofs.FlatLemmas.{IsPart, keep, none, numbers, skip}
 
 pub part_append : {a b c d : List ℕ} → IsPart a b → IsPart c d → IsPart (a ++ c) (b ++ d)

@@ -1,5 +1,5 @@
 -- The first failure of what is decided and has bounds.
-use Rattle.decisions.proofs.Common.{ℕ, suc, ◌≡◌, ◌<◌, ◌≤◌, ◌⊎◌, inl, inr, refl, subst, arith, [], Option, Some, None, cases_lt, Decided, everywhere}
+use Rattle.decisions.proofs.Common.{ℕ, suc, ◌≡◌, ◌<◌, ◌≤◌, ◌⊎◌, inl, inr, refl, subst, arith, Option, Some, None, cases_lt, Decided, everywhere}
 use Rattle.decisions.proofs.Decisions.{first_without, IsFirstWithout}
 
 -- what an option holds, if anything

@@ -1,6 +1,6 @@
 -- Small programs in flat code, and what a thread that runs `main` asks and how it stops.
 use Rattle.std.specs.Prelude.{ℕ, true, List, [], ◌∷◌, Some, None}
-use Rattle.cap_word.specs.Calls.{Question, Answer}
+use Rattle.cap_word.specs.Calls.{Question}
 use Rattle.cap_word.specs.Runs.{Seen, run, seen}
 use Rattle.flat_code.specs.declared.operations.Op.{Op}
 use Rattle.flat_code.specs.declared.operators.BinOp.{BinOp}

@@ -1,6 +1,6 @@
 -- What `==` and `!=` on signs tell of the next token.
 use mathlib.Core.Bool.{not}
-use Rattle.grammar_reader.proofs.Common.{◌≡◌, ◌≢◌, ◌∙◌, refl, sym, Bool, true, false, sameb, Sign, the_type}
+use Rattle.grammar_reader.proofs.Common.{◌≡◌, ◌≢◌, refl, sym, Bool, true, false, sameb, Sign, the_type}
 use Rattle.grammar_reader.proofs.Paths.{sign_is, sign_other}
 
 not_false : (b : Bool) → false ≡ not b → true ≡ b

@@ -1,6 +1,5 @@
 -- No lawful log stops for want of a chunk where its pool has as many chunks that are large enough as the budget says.
 use Rattle.log_laws.proofs.Common.{◌≡◌, inl, ℕ, zero, suc, ◌*◌, ◌≤◌, Bool, List, [], ◌∷◌, Some, refl, sym, ap, subst, ◌∙◌, arith, none-some, same_Some, lowered, IsWellScoped, Stop, IsValid, delivery_of, Budget, IsBudget, shape_of, Shape, IsRun, IsComing, checked_of, IsAllowed, Leads, nowhere, by_entry, IsLawfulLog, quiet_world, after_quiet, Setup, setting_of, start_machine, start_areas, State, start_of, Advance, Deliver, Pick, Step, world_of, World, Move, step, AreWellFormed, most_fuel, Entry, Item, StopLine, live, roomy}
-use Rattle.event_trace.specs.declared.events.EventKind.TheVariants as events
 use Rattle.machine_world.specs.Threads as machine
 use Rattle.log_laws.proofs.RoomLemmas.{first_roomy, start-shape}
 use Rattle.log_laws.proofs.RunLemmas.{Stage, stage-on, then-on, all-on, starts, stage-short, stage-shape, roomy-same}

@@ -1,5 +1,5 @@
 -- The start of a valid pair, and the log from there.
-use Rattle.log_laws.proofs.Common.{◌≡◌, ℕ, ◌+◌, ◌*◌, ◌/◌, ◌≤◌, ◌||◌, List, [], ◌∷◌, ◌++◌, Some, refl, ap, subst, arith, if◌then◌else◌, lowered, IsWellScoped, IsValid, Taken, taken_for, checked_of, ending, IsLawfulLog, Setup, setting_of, main_fact, start_machine, start_areas, start_of, formed, Areas, empty_world, started_on, start_world, World, with_thread, AreWellFormed, IsWellFormed, IsWellFormedIf, most_fuel, IsWellFormedIf-start, CallFacts-valid, fact_at, StandsSettled, starts_law, between_after, taken_for-start, all_free-new}
+use Rattle.log_laws.proofs.Common.{◌≡◌, ℕ, ◌+◌, ◌*◌, ◌/◌, ◌≤◌, List, ◌++◌, Some, refl, ap, subst, arith, lowered, IsWellScoped, IsValid, Taken, taken_for, checked_of, ending, IsLawfulLog, Setup, setting_of, main_fact, start_machine, start_areas, start_of, formed, Areas, empty_world, started_on, start_world, World, with_thread, AreWellFormed, IsWellFormed, IsWellFormedIf, most_fuel, IsWellFormedIf-start, CallFacts-valid, fact_at, StandsSettled, starts_law, between_after, taken_for-start, all_free-new}
 use Rattle.lawful_log.proofs.AtMostOne.{same_entries, same_stops}
 use Rattle.c_mean.specs.World as source
 use Rattle.lawful_log.proofs.Kept.{first_waits}

@@ -1,5 +1,5 @@
 -- The function in which a thread stands just past an ECALL is that of the ECALL's operation.
-use Rattle.machine_meaning.proofs.Common.{◌≡◌, ℕ, ◌+◌, ◌*◌, ◌<◌, ◌≤◌, List, [], length, Option, Some, None, refl, sym, ap, ◌∙◌, arith, length-map, lowered_function, lowered, ProgramTree, IsWellScoped, IsValid, Op, FlatCode, operation_at, site_of, ecall_word, fact_at, words_before, begin, size, kind_of, Certificate, Image, before_next, before-front, same_function}
+use Rattle.machine_meaning.proofs.Common.{◌≡◌, ℕ, ◌+◌, ◌*◌, ◌<◌, ◌≤◌, List, length, Option, Some, None, refl, sym, ap, ◌∙◌, arith, length-map, lowered_function, lowered, ProgramTree, IsWellScoped, IsValid, Op, FlatCode, operation_at, site_of, ecall_word, fact_at, words_before, begin, size, kind_of, Certificate, Image, before_next, before-front, same_function}
 use Rattle.flat_code.specs.Codes as codes
 use Rattle.machine_world.specs.Places.{Place, InStub, InPrologue, InOperation, IsAt, function_of}
 use Rattle.machine_meaning.proofs.Ends.{function_ends, before_last}

@@ -1,6 +1,5 @@
 -- Each step of the world keeps it counted: numbers rise, and held and free chunks are exactly the pool.
 use Rattle.machine_world.proofs.Common.{◌≡◌, ℕ, zero, suc, ◌+◌, ◌<◌, ◌≤◌, Bool, ltb, nat_eq, not, List, [], ◌∷◌, ◌++◌, Option, Some, None, refl, sym, ap, subst, ◌∙◌, arith, cond, ⊎_elim, range_with_len, cond_both, cases_eq, cases_lt, lt-ltb, le-ltb, cond-true, cond-false, eq-eqb, ne_eqb, eqb-true, nat_le, ◌&&◌, blocking_row, is_dropped, with_delivery, Taken, taken_for, start_pool, shape_of, all_free, taken_for-leaves, taken_for-shape, Areas, local_step, with_result, copies, KeepsCopies, KeepsShape, Blocked, Thread, World, Setting, first_with, thread_of, replaced, without, with_thread, start_core, retired, resumed, result_of, step, local_in, result_on, empty_world, started_on, start_world, Action, Deliver, Advance, Pick, Step, delivered, advanced, may_run, picked_at, picked, is_between, after_action, and_then, after_actions, held_copies, AreAllFree, RiseBetween, IsCounted, KeepsCounted, IsCountedIf}
-use Rattle.cap_word.specs.Runs as runs
 use Rattle.chunk_pool.specs.declared.shape.Shape.{Shape}
 use Rattle.machine_world.proofs.StepCases.{Ways, blocked_at, row_for, answered_by, on_step, on_printed}
 use Rattle.machine_world.proofs.HeldLaws.{copies-cons, KeepsCopies-step, KeepsShape-step}

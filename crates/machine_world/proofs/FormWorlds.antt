@@ -1,6 +1,5 @@
 -- Every world of a run is well formed: at the start, after each step, and after each action.
 use Rattle.machine_world.proofs.Common.{◌≡◌, ℕ, ◌+◌, ◌^◌, ◌<◌, ◌≤◌, nat_eq, Bool, true, false, not, List, [], ◌∷◌, ◌++◌, length, set, Option, Some, None, refl, sym, subst, ◌∙◌, arith, lit<, ⊎_elim, IfSome, nat_le, ◌&&◌, if◌then◌else◌, AllByRecursion, cond_both, cases_eq, cases_lt, cond-true, cond-false, eq-eqb, ne_eqb, eqb-false, length-set, get_or_past, All-set, All-get_or, All-append, All-drop, All-replicate, All-from_recursion, Ask, Block, Exchange, channel_of, holds_some, blocking_row, immediate_row, Delivery, Arrival, Message, is_dropped, with_delivery, Pool, Taken, taken_for, end_of, payload_place_of, IsPool, Areas, held_copies, AreAllFree, IsCounted, KeepsCounted, IsCountedIf, copies, local_step, RiseBetween, Checked, empty_world, started_on, start_world, Action, Deliver, Advance, Pick, Step, delivered, advanced, may_run, picked_at, picked, is_between, world_of, after_action, Blocked, Thread, World, Setting, first_with, thread_of, replaced, without, with_thread, start_core, start_registers, Move, Goes, Puts, Spawns, Blocks, Ends, retired, resumed, result_of, result_on, step, local_in, AreWords, AreWellFormed, IsCore, IsExchange, most_fuel, IsWellFormed, KeepsWellFormed, IsWellFormedIf, DeliversWords}
-use Rattle.cap_word.specs.Runs as runs
 use Rattle.c_mean.specs.World.{empty_exchange}
 use Rattle.machine_world.proofs.StepCases.{Ways, blocked_at, row_for, on_step, on_printed}
 use Rattle.machine_world.proofs.CountedLaws.{counted_start, counted_step, counted_action}

@@ -1,6 +1,5 @@
 -- A step of the world leaves every thread but the running one.
 use Rattle.machine_world.proofs.Common.{◌≡◌, ◌≢◌, ℕ, Bool, nat_eq, not, List, [], ◌∷◌, ◌++◌, Some, None, refl, sym, ap, ◌∙◌, cond, ⊎_elim, cond_both, cases_eq, cond-false, eq-eqb, ne_eqb, eqb-true, KeepsThread, Thread, World, Setting, first_with, replaced, without, resumed, step}
-use Rattle.cap_word.specs.Runs as runs
 use Rattle.machine_world.proofs.StepCases.{Ways, row_for, on_step, on_printed}
 use Rattle.machine_world.proofs.CountedLaws.{first_with-number}
 

@@ -1,5 +1,5 @@
 -- The pair that is laid out for a program is within the limits of its files.
-use Rattle.one_plan.proofs.Common.{◌≡◌, ℕ, false, suc, ◌+◌, ◌*◌, ◌/◌, ◌<◌, ◌≤◌, List, [], ◌∷◌, ◌++◌, length, length-append, map, get_or, refl, ap, subst, ◌∙◌, arith, sum, flat_map, replicate, Option, Some, None, AllByRecursion, filter_map, cons_option, IsStrictlyIncreasing, length-map, length-replicate, length_permutation, scalars, below, declared_words, function_temporaries, FunctionTree, ProgramTree, IsFunctionScoped, AreFunctionsScoped, IsWellScoped, context_of, Op, FlatFunction, FlatCode, function_at, site_of, weight_of, site_numbers, lowered, lowered_function, lowered_global, function_sizes, map-map, all-at, Plan, scalars_words, sum_both}
+use Rattle.one_plan.proofs.Common.{◌≡◌, ℕ, false, suc, ◌+◌, ◌*◌, ◌/◌, ◌<◌, ◌≤◌, List, [], ◌∷◌, length, length-append, map, get_or, refl, ap, subst, ◌∙◌, arith, sum, flat_map, replicate, Option, Some, None, AllByRecursion, filter_map, cons_option, IsStrictlyIncreasing, length-map, length-replicate, length_permutation, scalars, below, declared_words, function_temporaries, FunctionTree, ProgramTree, IsFunctionScoped, AreFunctionsScoped, IsWellScoped, context_of, Op, FlatFunction, FlatCode, function_at, site_of, weight_of, site_numbers, lowered, lowered_function, lowered_global, function_sizes, map-map, all-at, Plan, scalars_words, sum_both}
 use Rattle.std.proofs.lemmas.List.Sums.{sum_by-cons}
 use Rattle.c_tree.specs.TextOrder.{program_sites, stmts_names}
 use Rattle.flat_code.specs.declared.programs.FlatGlobal.{FlatGlobal}

@@ -1,5 +1,5 @@
 -- The call graph of a well scoped program's code keeps what a graph keeps, however many operations there are.
-use Rattle.one_plan.proofs.Common.{◌≡◌, ℕ, zero, suc, ◌+◌, ◌<◌, ◌≤◌, Bool, true, false, List, [], ◌∷◌, ◌++◌, length, length-append, map, get_or, refl, sym, ap, subst, ◌∙◌, arith, AllByRecursion, filter_map, cons_option, length-map, All-from_recursion, recursion_from_All, All-permutation, scalars, below, function_temporaries, FunctionTree, ProgramTree, IsFunctionScoped, AreFunctionsScoped, IsWellScoped, Op, FlatFunction, weight_of, IsOperation, closing_code, first_temporary, lowered_function, lowered, GraphSite, call_site, call_sites_from, CallGraphState, function_count, IsTargetOf, IsSiteOf, IsCallGraph, all-at, IsGraphOf, All-weaker, All-append, temporary_word}
+use Rattle.one_plan.proofs.Common.{◌≡◌, ℕ, zero, suc, ◌+◌, ◌<◌, Bool, true, false, List, [], ◌∷◌, ◌++◌, length, length-append, map, get_or, refl, sym, ap, subst, ◌∙◌, arith, AllByRecursion, filter_map, cons_option, length-map, All-from_recursion, recursion_from_All, All-permutation, scalars, below, function_temporaries, FunctionTree, ProgramTree, IsFunctionScoped, AreFunctionsScoped, IsWellScoped, Op, FlatFunction, weight_of, IsOperation, closing_code, first_temporary, lowered_function, lowered, GraphSite, call_site, call_sites_from, CallGraphState, function_count, IsTargetOf, IsSiteOf, IsCallGraph, all-at, IsGraphOf, All-weaker, All-append, temporary_word}
 use Rattle.std.proofs.Math.ListN.{get_or-append}
 use Rattle.std.proofs.lemmas.Bool.{false≢true}
 use Rattle.cap_word.specs.Signatures.{IsMember, IsTable}

@@ -1,5 +1,5 @@
 -- The counts of faults before and after a step.
-use Rattle.std.specs.Prelude.{◌≡◌, ◌≤◌, ℕ, Result, Ok, Err}
+use Rattle.std.specs.Prelude.{◌≡◌, ℕ, Result, Ok, Err}
 use Rattle.cap_io.specs.Faults.{IsRisen}
 use Rattle.run_course.specs.declared.ends.Failure.{Failure}
 

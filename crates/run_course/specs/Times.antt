@@ -1,6 +1,6 @@
 -- The latest clock of a run: the latest time of an event, plus, for each retired instruction, its one tick and the
 -- ticks of one sleep or one timed wait.
-use Rattle.std.specs.Prelude.{ℕ, ◌+◌, ◌*◌, ◌^◌, ◌≤◌, IfSome}
+use Rattle.std.specs.Prelude.{◌≤◌, IfSome}
 use Rattle.std.specs.List.{AllByRecursion}
 use Rattle.choice_rules.specs.Clock.{latest}
 use Rattle.lawful_log.specs.Waking.{waking_time}

@@ -1,5 +1,5 @@
 -- What an observer sees while a log is read.
-use Rattle.std.specs.Prelude.{ℕ, Bool, List, [], ◌∷◌, ◌++◌}
+use Rattle.std.specs.Prelude.{Bool, List, [], ◌∷◌, ◌++◌}
 use Rattle.schedule_log.specs.declared.entries.Entry.{Entry}
 use Rattle.run_history.specs.declared.answering.Answering.{Answering}
 use Rattle.run_history.specs.declared.answering.Answering.TheVariants.{ByThread, ByPairing, BySpawn}

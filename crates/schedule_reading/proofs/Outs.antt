@@ -2,7 +2,6 @@
 use Rattle.schedule_reading.proofs.Common.{◌≡◌, ℕ, Bool, true, false, Some, Ok, refl, ℤ, signed, Given, State, Entry, Under, AllowsWithin, HasProceeded, RulesWithin, Core, Kept, ruled, Refuses, IsEnd, StandsWithin}
 use Rattle.schedule_reading.specs.declared.events.Happening.TheVariants as happening
 use Rattle.schedule_reading.specs.declared.reading.End.TheVariants as end
-use Rattle.schedule_reading.specs.declared.rulings.Ruling.TheVariants as ruling
 use Rattle.schedule_reading.proofs.Proceeding.{came_beyond, came_puts, end_as, in_steps, not_yet, out_is, out_not, put_stands, put_state, yet_not}
 
 -- the line is that of the output

@@ -1,5 +1,5 @@
 -- The thread under way rests, and its segment is taken in: what is kept stands beside the state after it.
-use Rattle.schedule_reading.proofs.Common.{◌≡◌, ℕ, ◌+◌, ◌-◌, ◌^◌, ◌≤◌, Bool, true, false, List, [], length, Option, Some, None, IsSome, refl, sym, ap, ◌∙◌, arith, if◌then◌else◌, IfSome, slice_set, nat_le, list_all, list_any, count_of, edges_of, edges_with, GraphState, EdgeLine, SegmentRecord, Block, Exchange, wakes_at, is_open, observed, latest, all_caps, Waiter, changes, uses_in, uses_of, Given, chunks_of, rested, gate, gate_after, pressures, SchedulerState, last_of, Choice, get, IsFull, globals_of, Exchanging, wake_of, Under, Slot, IsClosing, uses_after, KeepsBut, Core, AreBeside, AreLive, IsOf, IsScheduled, StandsAt, StandsWithin, ThreadsState, at_place}
+use Rattle.schedule_reading.proofs.Common.{◌≡◌, ℕ, ◌+◌, ◌-◌, ◌^◌, ◌≤◌, Bool, true, false, List, length, Option, Some, None, IsSome, refl, sym, ap, ◌∙◌, arith, if◌then◌else◌, IfSome, slice_set, nat_le, list_all, list_any, count_of, edges_of, edges_with, GraphState, EdgeLine, SegmentRecord, Block, Exchange, wakes_at, is_open, observed, latest, all_caps, Waiter, changes, uses_in, uses_of, Given, chunks_of, rested, gate, gate_after, pressures, SchedulerState, last_of, Choice, get, IsFull, globals_of, Exchanging, wake_of, Under, Slot, IsClosing, uses_after, KeepsBut, Core, AreBeside, AreLive, IsOf, IsScheduled, StandsAt, StandsWithin, ThreadsState, at_place}
 use Rattle.c_mean.specs.World as source
 use Rattle.choice_rules.proofs.Past.{edges_more, gate_more}
 use Rattle.lawful_reading.specs.State.{Segment, State, seen_of}

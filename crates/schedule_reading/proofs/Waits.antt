@@ -1,5 +1,5 @@
 -- What is waited for at a place.
-use Rattle.schedule_reading.proofs.Common.{◌≡◌, ◌≢◌, ℕ, zero, suc, ◌<◌, ◌⊎◌, List, [], ◌∷◌, length, Option, None, IsSome, arith, slice_set, slice_index_or, Waiting, wait_at, Wait}
+use Rattle.schedule_reading.proofs.Common.{◌≡◌, ◌≢◌, ℕ, zero, suc, ◌<◌, List, [], ◌∷◌, length, Option, None, IsSome, arith, slice_set, slice_index_or, Waiting, wait_at, Wait}
 use Rattle.std.proofs.lemmas.List.{get_or-set_same, get_or-set_other}
 
 pub there_if : {X : Type 0} (xs : List (Option X)) (k : ℕ) → IsSome (slice_index_or xs k None) → k < length xs

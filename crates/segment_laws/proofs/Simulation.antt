@@ -1,6 +1,6 @@
 -- A machine thread within an operation of a flat thread, and at its start, where it stands for it. What one instruction that
 -- sets a register or stores a scalar leaves of that.
-use Rattle.segment_laws.proofs.Common.{◌≡◌, ℕ, ◌+◌, ◌*◌, ◌%◌, ◌<◌, ◌≤◌, List, [], ◌∷◌, length, get_or, set, pos, Option, Some, None, Ok, sym, ap, subst, ◌∙◌, arith, Pool, Instr, accessed, effect, read, sets, instruction_at, Op, function_at, FlatThread, variable, first, scalar, fact_at, Areas, AreGlobals, Frame, word_in, frame_bytes, IsGoodAccess, Local, machine_of, Checked, variable_word, HoldsVariables, AreFlatFrames}
+use Rattle.segment_laws.proofs.Common.{◌≡◌, ℕ, ◌+◌, ◌*◌, ◌%◌, ◌<◌, ◌≤◌, List, ◌∷◌, length, get_or, set, pos, Option, Some, None, Ok, sym, ap, subst, ◌∙◌, arith, Pool, Instr, accessed, effect, read, sets, instruction_at, Op, function_at, FlatThread, variable, first, scalar, fact_at, Areas, AreGlobals, Frame, word_in, frame_bytes, IsGoodAccess, Local, machine_of, Checked, variable_word, HoldsVariables, AreFlatFrames}
 use Rattle.segment_laws.proofs.Facts.{CodeFacts, FrameFacts, IsOperationAt}
 use Rattle.segment_laws.proofs.FrameWords.{load_word}
 use Rattle.segment_laws.proofs.Inside.{IsWholeWord, IsValueRegister, IsSet, set_register}

@@ -1,6 +1,5 @@
 -- A thread at any place at which its running frame lies in the front chunk: at a function's first words, in its prologue,
 -- within an operation and at a return. What one instruction there needs, and what a store in the frame leaves.
-use Rattle.cap_word.specs.Word as word
 use Rattle.segment_laws.proofs.Common.{◌≡◌, ℕ, ◌+◌, ◌%◌, ◌^◌, ◌<◌, ◌≤◌, List, ◌∷◌, length, pos, Ok, refl, sym, ap, subst, ◌∙◌, arith, inl, Goes, Instr, accessed, read, instruction_at, read-below, Areas, with_byte, Frame, frame_bytes, return_word, IsStack, FramesAt, HeadersName, TpIsFront, HasFrames, IsGoodAccess, ra, sp, tp, Local, machine_of, local_step, Checked, Place, IsAt, Row, NoFrame, Empty, Fresh, Linking, Whole, row_of, function_of, operation_of, HasForm}
 use Rattle.chunk_pool.specs.Pool.{Pool, with_word as with_pool_word, payload_place_of}
 use Rattle.rv_machine.specs.Bytes.{with_word}

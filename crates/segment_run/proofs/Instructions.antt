@@ -1,5 +1,5 @@
 -- One instruction of the machine over the areas is one step of the thread.
-use Rattle.segment_run.proofs.Common.{◌≡◌, ℕ, ◌^◌, ◌<◌, List, Result, Ok, Err, refl, sym, ap, subst, ◌∙◌, Stops, IsPool, shape_of, with_stored, Outcome, instruction_at, started, outcome, answer, regs_after, memory_after, TellsWords, Regs, Areas, spot_of, with_byte, KeepsShape, Local, Wrong, machine_of, local_move, local_step, system_call, IsCore, KeepsShape-step, Checked, Instr, IsSafe, IsSafeMove, thread_of, Thread, FaultKind, bytes_on}
+use Rattle.segment_run.proofs.Common.{◌≡◌, ℕ, List, Result, Ok, Err, refl, sym, ap, subst, ◌∙◌, Stops, IsPool, shape_of, with_stored, Outcome, instruction_at, started, outcome, answer, regs_after, memory_after, TellsWords, Regs, Areas, spot_of, with_byte, KeepsShape, Local, Wrong, machine_of, local_move, local_step, system_call, IsCore, KeepsShape-step, Checked, Instr, IsSafe, IsSafeMove, thread_of, Thread, FaultKind, bytes_on}
 use Rattle.cap_word.specs.Runs as runs
 use Rattle.rv_machine.specs.Rows as rows
 use Rattle.rv_machine.specs.declared.results.StepResult.TheVariants as results

@@ -1,5 +1,5 @@
 -- Frames as they are read from the chunks of a thread.
-use Rattle.segment_run.proofs.Common.{◌≡◌, ℕ, ◌+◌, ◌-◌, ◌/◌, ◌<◌, ◌≤◌, Bool, true, false, List, [], ◌∷◌, length, get_or, Some, sym, ap, subst, ◌∙◌, arith, nat_eq, slice_get, eq-eqb, ne_eqb, get_or-drop, length-drop, lowered, ProgramTree, IsWellScoped, IsValid, Pool, chunk_of, payload_of, place_of, end_of, payload_place_of, chunk_at, IsPool, words_of, chunk_at-some, formed, program_zeroes, Frame, IsAbove, HeadersName, chain_below, low_below, frame_bytes, return_word, saved_tp, saved_sp, Checked, CodeFacts-valid, fact_at, Certificate, Image, IsReadOf, IsChunk-chunk_of, words_of-payload, as_many, stack_frame, rest_is}
+use Rattle.segment_run.proofs.Common.{◌≡◌, ℕ, ◌+◌, ◌-◌, ◌/◌, ◌<◌, ◌≤◌, Bool, true, false, List, ◌∷◌, length, get_or, Some, sym, ap, subst, ◌∙◌, arith, nat_eq, slice_get, eq-eqb, ne_eqb, get_or-drop, length-drop, lowered, ProgramTree, IsWellScoped, IsValid, Pool, chunk_of, payload_of, place_of, end_of, payload_place_of, chunk_at, IsPool, words_of, chunk_at-some, formed, program_zeroes, Frame, IsAbove, HeadersName, chain_below, low_below, frame_bytes, return_word, saved_tp, saved_sp, Checked, CodeFacts-valid, fact_at, Certificate, Image, IsReadOf, IsChunk-chunk_of, words_of-payload, as_many, stack_frame, rest_is}
 use Rattle.segment_run.specs.declared.walking.Frame.{Frame as ReadFrame}
 
 -- where a frame that is read lies

@@ -1,5 +1,5 @@
 -- What the code returns for one instruction of a thread.
-use Rattle.std.specs.Prelude.{◌≡◌, ℕ, ◌+◌, ◌<◌, List, [], ◌∷◌, Bool, true, false}
+use Rattle.std.specs.Prelude.{◌≡◌, ℕ, ◌+◌, ◌<◌, List, [], Bool, true, false}
 use Rattle.cap_word.specs.Calls.{Call, Blocking, Immediate}
 use Rattle.cap_word.specs.Runs as runs
 use Rattle.cap_word.specs.Runs.{Stops}

@@ -1,7 +1,5 @@
 -- What the steps of a build say together.
 use Rattle.stack_build.proofs.Common.{◌≡◌, ◌-◌, ℕ, List, ap, ◌∙◌, CallGraphState, GraphSite}
-use Rattle.checkpoint_place.specs.declared.refusals.PlaceError.TheVariants as place
-use Rattle.codegen_link.specs.declared.refusals.GenError.TheVariants as gen
 
 -- a graph is its parts
 pub same-graph : (g : CallGraphState) (ws : List ℕ) (ts : List (List ℕ)) (ss : List GraphSite) (m : ℕ) → ws ≡ g.weights → ts ≡ g.tables → ss ≡ g.sites → m ≡ g.main → record { weights = ws; tables = ts; sites = ss; main = m } ≡ g

@@ -1,5 +1,5 @@
 -- A choice that `choose` or `first` gave may be noted, where no choice is under way.
-use Rattle.stride_rule.proofs.Common.{◌≡◌, ℕ, ◌&&◌, ◌||◌, not, Bool, true, false, IsTrue, Option, Some, None, List, [], ◌∷◌, refl, sym, ap, ◌∙◌, subst, IsSome, IfSome, AllByRecursion, list_all, ThreadId, Bounds, Need, is_met, StrideChoice, Client, IsFirst, IsFirstEligible, IsLawfulStrideChoice, IsLawfulStrideThread, choice_among, client_of, is_before, need_of, StrideState, AreExact, AreKnown, IsNotedAs, IsNotedAsIf, after_choice, waiting_in, waiting_of, and_parts}
+use Rattle.stride_rule.proofs.Common.{◌≡◌, ℕ, ◌||◌, not, Bool, true, false, IsTrue, Option, Some, None, List, [], ◌∷◌, refl, sym, ap, ◌∙◌, subst, IsSome, IfSome, AllByRecursion, list_all, ThreadId, Bounds, Need, is_met, StrideChoice, Client, IsFirst, IsFirstEligible, IsLawfulStrideChoice, IsLawfulStrideThread, choice_among, client_of, is_before, need_of, StrideState, AreExact, AreKnown, IsNotedAs, IsNotedAsIf, after_choice, waiting_in, waiting_of, and_parts}
 use Rattle.stride_rule.proofs.ClientLemmas.{all_to}
 
 -- all clients wait

@@ -1,6 +1,6 @@
 -- What a summary says of the places that it covers.
 use Rattle.std.proofs.Math.Seq.{drop-nil}
-use Rattle.stride_rule.proofs.Common.{◌≡◌, ℕ, zero, suc, ◌<◌, ◌≤◌, ◌||◌, Bool, true, false, Option, Some, None, List, [], ◌∷◌, length, drop, refl, ap, ◌∙◌, arith, Bounds, is_met, is_some_met, Client, Row, Summary, goes_before, is_before, row_at, met_with, met_among, Covers, Includes, may_help, by_test}
+use Rattle.stride_rule.proofs.Common.{◌≡◌, ℕ, zero, suc, ◌<◌, ◌≤◌, Bool, true, false, Option, Some, None, List, [], ◌∷◌, length, drop, refl, ap, ◌∙◌, arith, Bounds, is_met, is_some_met, Client, Row, Summary, goes_before, is_before, row_at, met_with, met_among, Covers, Includes, may_help, by_test}
 use Rattle.stride_rule.proofs.OrderLemmas.{goes_before-self, goes_before-cotrans}
 
 pub includes_self : (s : Summary) → Includes s s

@@ -1,5 +1,5 @@
 -- The world with its first thread.
-use Rattle.thread_core.proofs.Common.{◌≡◌, ◌≢◌, ℕ, zero, suc, ◌+◌, ◌-◌, ◌*◌, ◌/◌, ◌%◌, ◌<◌, ◌≤◌, ◌^◌, ◌⊎◌, inl, inr, List, [], ◌∷◌, length, map, slice_set, Option, Some, None, option_map, IsSome, if◌then◌else◌, refl, sym, ◌∙◌, ap, subst, arith, slice_index_or, cases_eq, get, Updates, ThreadId, lowered, lowered_function, ProgramTree, IsWellScoped, Acceptance, accepted_tree, IsValid, Pool, Taken, IsPool, FitsNone, start_pool, taken_for, Areas, Core, with_header, start_world, started_on, empty_world, StandsForWorld, World, start_core, with_thread, AreWords, AreWellFormed, IsWellFormed, IsWellFormedIf, IsWellFormedIf-start, AreOf, checked_of, core_of, IsStarted, Context, NeedsFit-valid, fact_at, Certificate, Image, Exchanging, wait_at, Waiting, IsUntrapped, Wait, at_place, IsNumbered, record_added, StandsSettled, AreAligned, IsKept, HasCome, RunsAt, IsRunningThere, IsPolicy, start_areas, number_of, numbers_of, number_in, blocked_of, threads_of, machine_of, setting_of, thread_of_record, Record, State, first_bytes-start, taken_for-count, taken_for-none, taken_for-start}
+use Rattle.thread_core.proofs.Common.{◌≡◌, ◌≢◌, ℕ, zero, suc, ◌+◌, ◌-◌, ◌*◌, ◌/◌, ◌%◌, ◌<◌, ◌≤◌, ◌^◌, ◌⊎◌, inl, inr, List, [], ◌∷◌, length, map, slice_set, Option, Some, None, option_map, IsSome, refl, sym, ◌∙◌, ap, subst, arith, slice_index_or, cases_eq, get, Updates, ThreadId, lowered, lowered_function, ProgramTree, IsWellScoped, Acceptance, accepted_tree, IsValid, Pool, Taken, IsPool, FitsNone, start_pool, taken_for, Areas, Core, with_header, start_world, started_on, empty_world, StandsForWorld, World, start_core, with_thread, AreWords, AreWellFormed, IsWellFormed, IsWellFormedIf, IsWellFormedIf-start, AreOf, checked_of, core_of, IsStarted, Context, NeedsFit-valid, fact_at, Certificate, Image, Exchanging, wait_at, Waiting, IsUntrapped, Wait, at_place, IsNumbered, record_added, StandsSettled, AreAligned, IsKept, HasCome, RunsAt, IsRunningThere, IsPolicy, start_areas, number_of, numbers_of, number_in, blocked_of, threads_of, machine_of, setting_of, thread_of_record, Record, State, first_bytes-start, taken_for-count, taken_for-none, taken_for-start}
 use Rattle.c_mean.specs.World as source
 use Rattle.segment_run.proofs.Forming.{areas_formed}
 use Rattle.machine_meaning.proofs.BetweenSegments.{starts_law}

@@ -1,6 +1,5 @@
 -- What a step of the world leaves of the numbers of threads, and of the thread whose segment ends.
 use Rattle.thread_core.proofs.Common.{◌≡◌, ℕ, zero, suc, ◌+◌, List, [], ◌∷◌, ◌++◌, Option, Some, None, refl, sym, ◌∙◌, ap, subst, cond_both, may_run, picked, picked_at, is_between, after_action, Pick, Blocked, Thread, World, Setting, thread_of, Move, Goes, Puts, Spawns, Blocks, Ends, step, GoesOn, Counts, counts_step, AreFrom, first_with-number}
-use Rattle.cap_word.specs.Runs as runs
 use Rattle.machine_world.proofs.StepCases.{Ways, blocked_at, row_for, on_step, on_printed}
 use Rattle.machine_meaning.proofs.Threads.{replaced_same, without_same}
 

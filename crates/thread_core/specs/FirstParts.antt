@@ -1,5 +1,5 @@
 -- The parts of a world before its first thread.
-use Rattle.std.specs.Prelude.{◌≡◌, ◌/◌, ◌≤◌, [], ◌∷◌, None}
+use Rattle.std.specs.Prelude.{◌≡◌, ◌≤◌, [], ◌∷◌, None}
 use Rattle.c_mean.specs.World.{empty_exchange}
 use Rattle.accepted_pairs.specs.Acceptance.{Acceptance}
 use Rattle.machine_world.specs.WellFormed.{AreWellFormed}

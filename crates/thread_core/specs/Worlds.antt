@@ -1,6 +1,6 @@
 -- What a world holds: the machine world, which its calls change, what a run doesn't change, the places of the threads'
 -- records, and how the run has stopped.
-use Rattle.std.specs.Prelude.{◌≡◌, ℕ, ◌-◌, List, length, Option, Some, None, IsSome, if◌then◌else◌, nat_eq, slice_index_or}
+use Rattle.std.specs.Prelude.{◌≡◌, ℕ, ◌-◌, List, Option, Some, None, IsSome, if◌then◌else◌, nat_eq, slice_index_or}
 use Rattle.c_mean.specs.ModelledCalls.{cap_of, use_of}
 use Rattle.accepted_pairs.specs.Acceptance.{Acceptance}
 use Rattle.cap_word.specs.declared.threads.ThreadId.{ThreadId}

@@ -1,5 +1,5 @@
 -- Needs are met where those who wait are ready.
-use Rattle.thread_waits.proofs.Common.{◌≡◌, ◌≢◌, ℕ, ◌+◌, ◌-◌, ◌*◌, ◌<◌, ◌≤◌, ◌^◌, Bool, true, false, ◌&&◌, ◌||◌, ◌==◌, not, cond, nat_le, nat_lt, bit_or, w64, zero, suc, Option, Some, None, All, List, [], ◌∷◌, length, refl, ◌∙◌, sym, ap, subst, arith, slice_index, slice_index_or, slice_set, below_more, length-set, get_or-set_same, get_or-set_other, ◌%◌, nat_tests, and_pow, bit_at_set_same, bit_at_set_other, All-get_or, Block, Exchange, cap_of, channel_of, holds_some, is_ready, use_of, IsBlockInRange, IsWaitInRange, IsWaitInRangeIf, is_ready_for, latest, Wait, or-false}
+use Rattle.thread_waits.proofs.Common.{◌≡◌, ◌≢◌, ℕ, ◌+◌, ◌-◌, ◌*◌, ◌<◌, ◌≤◌, ◌^◌, Bool, true, false, ◌&&◌, ◌==◌, not, cond, nat_le, nat_lt, bit_or, w64, zero, suc, Option, Some, None, All, List, [], ◌∷◌, length, refl, ◌∙◌, sym, ap, subst, arith, slice_index, slice_index_or, slice_set, below_more, length-set, get_or-set_same, get_or-set_other, ◌%◌, nat_tests, and_pow, bit_at_set_same, bit_at_set_other, All-get_or, Block, Exchange, cap_of, channel_of, holds_some, is_ready, use_of, IsBlockInRange, IsWaitInRange, IsWaitInRangeIf, is_ready_for, latest, Wait, or-false}
 use Rattle.std.proofs.lemmas.Nat.{pow_pos}
 use Rattle.std.specs.Int.{bit_at}
 use lib.Bits.{and_zero_r}

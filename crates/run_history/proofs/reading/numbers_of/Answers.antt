@@ -1,4 +1,4 @@
-use Rattle.run_history.proofs.Common.{◌≡◌, ◌∙◌, ℕ, List, sym, subst, Entry, happenings}
+use Rattle.run_history.proofs.Common.{◌∙◌, ℕ, List, sym, subst, Entry, happenings}
 use Rattle.run_history.proofs.Readings.{IsReading, reading-starts, reading-goes-on, reading-is, reading-log, reading-refuses, reading-stops}
 use Rattle.run_history.proofs.Seen.{Reads, reads-none, reads-more}
 use Rattle.run_history.proofs.reading.numbers_of.Goals as goal
