@@ -13,8 +13,8 @@ def contract_of(path, function):
     module, text = Module(path, rooms.TOP / path), (rooms.TOP / path).read_text()
     for line in text.splitlines():
         module.take_use(line)
-    signature = text[text.index(f"pub fn {function}<") :]
-    return module, signature[: signature.index("\n{\n")]
+    signature = text[re.search(rf"^pub fn {function}\b", text, re.M).start() :]
+    return module, signature[: re.search(r"^\{", signature, re.M).start()]
 
 
 def under(path, function):
@@ -22,7 +22,12 @@ def under(path, function):
 
     Each comes with the definition that first cited it, None if a clause did.
     """
-    todo = collections.deque((it, None) for it in cited(*contract_of(path, function)))
+    return under_these(cited(*contract_of(path, function)))
+
+
+def under_these(starts):
+    """The same for these definitions, themselves among them."""
+    todo = collections.deque((it, None) for it in starts)
     definitions, types = {}, {}
     while todo:
         it, above = todo.popleft()
@@ -91,7 +96,7 @@ def costs(definitions):
     for it in citations.clauses:
         under_it = [by_id[each] for each in citations.below([id(it)])]
         yield row(f"`{it.name}`", f"{len(under_it):,}", f"{lines_of(under_it):,}")
-    yield from ("", "Without one of these, so many definitions would not be in the list:", "")
+    yield from ("", "Definitions needed only because of one other definition, by that definition:", "")
     yield from table("Definition", "Crate", "Says", "Definitions")
     for number, it in dearest(definitions, citations):
         yield row(f"`{it.name}`", f"`{it.crate}`", says(it), f"{number:,}")
@@ -190,18 +195,15 @@ def by_crate(found):
     return grouped_by
 
 
-def page():
-    """The made part of docs/TRUST.md."""
-    found, types = under(COMMAND, "capriccio")
-    definitions = [it for it, _ in found.values()]
+def listing(definitions, types, between=()):
+    """How many definitions there are, by room, and then all of them, the lowest crate first."""
     defined, declared = by_crate(definitions), by_crate(types)
     by_room = []
     for room in rooms.rooms():
         names = [it.name for it in room.crates if it.name in defined or it.name in declared]
         if names:
             by_room.append((room.name, names))
-    lines = ["## The list", ""]
-    lines += [
+    lines = [
         f"{len(definitions):,} definitions in {lines_of(definitions):,} lines of"
         f" {len({it.module for it in definitions})} files and {len(defined)} crates,"
         f" and {len(types)} types of the code.",
@@ -211,9 +213,16 @@ def page():
     for room, names in by_room:
         here = [it for name in names for it in defined[name]]
         lines.append(row(room, f"{len(here):,}", f"{lines_of(here):,}"))
-    lines += ["", *costs(definitions)]
+    lines += ["", *between]
     for room, names in by_room:
         lines += [f"## {room}", ""]
         for name in names:
             lines += crate_part(name, defined[name], declared[name])
     return "\n".join(lines).rstrip("\n") + "\n"
+
+
+def page():
+    """The made part of docs/TRUST.md."""
+    found, types = under(COMMAND, "capriccio")
+    definitions = [it for it, _ in found.values()]
+    return "## The list\n\n" + listing(definitions, types, costs(definitions))

@@ -78,6 +78,7 @@ impl Accepted {
     pub fn is_valid(&self)
         ensures { IsValid (lowered (accepted_tree self.now)) self.now.image self.now.certificate }
     {
+        // For the prover alone: the invariant is known once a field is read.
         let _words = self.image.code.len();
     }
 

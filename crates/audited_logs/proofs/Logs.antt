@@ -4,7 +4,7 @@ use Rattle.lawful_log.specs.Lawful.{IsAllowed, Leads, nowhere, by_entry, ending,
 use Rattle.lawful_log.specs.State.{State, start_of}
 use Rattle.chunk_pool.proofs.PoolLaws.{count-most}
 use Rattle.lawful_reading.specs.State as reading_state
-use Rattle.lawful_reading.proofs.Verdicts.{lawful_unlawful, unlawful_too_long}
+use Rattle.lawful_reading.proofs.Judgements.{lawful_unlawful, unlawful_too_long}
 use Rattle.audited_logs.proofs.Begun.{begins}
 use Rattle.audited_logs.proofs.Beside.{GoesOn, next_goes}
 use Rattle.audited_logs.proofs.Choices.{chosen}

@@ -7,16 +7,19 @@ ghost use Rattle.buffered_writer.specs.Writing.{KeepsAnswer, Writes, log_state};
 use cap_io::{Sink, SinkError, put_all};
 use std::alloc::{AllocError, Global};
 use std::marker::Model;
+use thiserror::Error;
 
 /// The maximum number of bytes in the buffer.
 const BUFFER_BYTES: usize = 4096;
 
 /// Why bytes weren't written.
-#[derive(Clone, Copy, PartialEq, Eq)]
+#[derive(Clone, Copy, Debug, PartialEq, Eq, Error)]
 pub enum PutError {
     /// A write failed: the sink counted a fault.
+    #[error("a write failed")]
     WriteFault,
     /// An allocation failed, here or in the sink.
+    #[error("out of memory")]
     Memory,
 }
 

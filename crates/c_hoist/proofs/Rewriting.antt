@@ -1,11 +1,12 @@
 -- A source that is rewritten and read item by item.
-use Rattle.c_hoist.proofs.Common.{◌≡◌, sym, ap, subst, ◌∙◌, Bool, List, [], ◌∷◌, ◌++◌, append_assoc, append-nil, None, NameTree, RawStmtTree, RawStmtTrees, RawItemTree, RawFunctionItem, is_call, stmts_places, item_places, items_places, definitions, at_start, items_after, items_faults, Making, IsMaking, with_statements, Agrees, HasRead, items_hoisted}
+use Rattle.c_hoist.proofs.Common.{◌≡◌, sym, ap, subst, ◌∙◌, Bool, List, [], ◌∷◌, ◌++◌, append_assoc, append-nil, None, NameTree, RawStmtTree, RawStmtTrees, RawItemTree, RawFunctionItem, is_call, stmts_places, item_places, items_places, definitions, at_start, items_after, items_faults, Making, IsMaking, with_statements, Agrees, HasRead, items_hoisted, ℕ}
 use Rattle.grammar_laws.proofs.NoNames.{no_declared}
 use Rattle.scope_rules.specs.declared.resolver.Resolver.{Resolver}
 use Rattle.scope_rules.specs.Faults.{least_of}
 use Rattle.scope_rules.specs.ItemViews.{sofar_of}
 use Rattle.scope_rules.proofs.Makings.{next_statements}
 use Rattle.hoist_meaning.proofs.SourceItems.{definitions_same}
+use Rattle.hoist_rules.specs.Receivers.{Received, Resolved, Kept}
 
 -- the rewriting keeps what a source defines
 pub read_of_hoisted : (r : Resolver) (is read : List RawItemTree) → HasRead r is read → HasRead r (items_hoisted is) read
@@ -23,6 +24,15 @@ pub places_of_one_more : (is : List RawItemTree) (i : RawItemTree) → items_pla
 places_of_one_more [] i = append-nil (item_places is_call i)
 places_of_one_more (j ∷ is) i =
     ap (λ ps. item_places is_call j ++ ps) (places_of_one_more is i) ∙ sym (append_assoc (item_places is_call j) (items_places is_call is) (item_places is_call i))
+
+-- the definition so far, and the places of its calls, if the statements are resolved
+abbrev pub making_or : Making → Received → Making
+making_or m (Resolved making places) = making
+making_or m (Kept ss us) = m
+
+abbrev pub places_of : Received → List ℕ
+places_of (Resolved making places) = places
+places_of (Kept ss us) = []
 
 -- a definition, after its statements
 pub all_statements : (m e : Making) (all read : List RawItemTree) (gives : Bool) (n : NameTree) (params : List NameTree) (ss : List RawStmtTree)

@@ -18,7 +18,7 @@ use c_scope::SourceError;
 use c_tree::{Program, RawFunction, RawItem, RawProgram};
 use call_numbers::numbers_by_places;
 use call_places::add_places_of_calls;
-use hoist_rules::{Receiver, hoist_body};
+use hoist_rules::{Resolving, hoist_body};
 use scope_rules::{Resolver, ScopeError};
 use std::alloc::{AllocError, Global};
 
@@ -76,9 +76,9 @@ impl Rewriting {
     {
         let Rewriting { resolver, places } = self;
         let resolver = resolver.begin(alloc, raw.gives, &raw.name, &raw.params)?;
-        let begun = Receiver { resolver, places };
+        let begun = Resolving { resolver, places };
         let ended = hoist_body(alloc, &raw.body, begun)?;
-        let Receiver { resolver, places } = ended;
+        let Resolving { resolver, places } = ended;
         let resolver = resolver.end()?;
         Ok(Rewriting { resolver, places })
     }
@@ -133,14 +133,7 @@ fn resolve_hoisted(alloc: Global, raw: RawProgram) -> Result<Program, ScopeError
     ensures resolved { IfOk result (λ p. IsHoistedTo (raw_program_tree raw) (program_tree p)) }
     ensures refused { IfErr result (λ e. IsRefusedHoisted (raw_program_tree raw) e) }
 {
-    let Ok(read) = rewritten(alloc, raw.into_items()) else {
-        return Err(ScopeError::Memory);
-    };
-    let Ok(numbers) = numbers_by_places(alloc, &read.places) else {
-        return Err(ScopeError::Memory);
-    };
-    match read.resolver.finish(alloc, &numbers) {
-        Ok(program) => Ok(program),
-        Err(error) => Err(error),
-    }
+    let read = rewritten(alloc, raw.into_items())?;
+    let numbers = numbers_by_places(alloc, &read.places)?;
+    read.resolver.finish(alloc, &numbers)
 }

@@ -1,6 +1,7 @@
 // Tokens, their kinds, and why a source has no list of them.
 use crate::keywords::Keyword;
 use crate::marks::Mark;
+use thiserror::Error;
 
 /// A token, with its place in the source.
 #[derive(Clone, Copy, PartialEq, Eq)]
@@ -30,23 +31,27 @@ pub enum TokenKind {
 }
 
 /// Why a source has no list of tokens. `at` is the first place where no token begins, counted from 0.
-#[derive(Clone, Copy)]
+#[derive(Clone, Copy, Debug, Error)]
 pub enum LexError {
     /// The byte there is neither white space nor the beginning of a comment, a word or a mark.
+    #[error("expected a token, white space or a comment at byte {at}")]
     BadByte {
         /// The byte's place.
         at: u32,
     },
     /// The comment that begins there with `/*` has no `*/`.
+    #[error("expected `*/` after the `/*` at byte {at}, found the end of the source")]
     OpenComment {
         /// The place of its `/`.
         at: u32,
     },
     /// The word that begins there with a digit isn't a number, or is one above 4294967295.
+    #[error("expected a number of at most 4294967295 at byte {at}")]
     BadNumber {
         /// The place of its first digit.
         at: u32,
     },
     /// An allocation failed.
+    #[error("out of memory")]
     Memory,
 }

@@ -1,4 +1,6 @@
 -- Rows that are cut from words one after another.
+use Rattle.std.specs.Prelude.{slice_index_or}
+use Rattle.std.proofs.lemmas.List.{length-take, get_or-map}
 use Rattle.c_mean.proofs.Common.{◌≡◌, ℕ, zero, suc, ◌+◌, ◌<◌, ◌≤◌, List, [], ◌∷◌, length, take, drop, sym, ap, ◌∙◌, arith, get_or, refl, true, false, sum, nat_lt, slice_index, Ok, Err, lt-ltb, le-ltb, length-take-le, length-drop, length-map, get_or-take, get_or-drop, TrapKind, rows_of, widths_of, in_range}
 use Rattle.std.proofs.lemmas.List.Sums.{sum_by-cons, sum_by-take-le, sum_by_more_le, sum_by_more}
 use Rattle.cap_word.specs.Rows.{width, word_at}
@@ -55,3 +57,26 @@ element_beyond ns words a i size word e there s h = rw (width_is ns words a e th
 
 pub widths_length : (facts : List GlobalFact) → length (widths_of facts) ≡ length facts
 widths_length facts = length-map facts (λ (f : GlobalFact). f.words)
+
+pub width_at : (facts : List GlobalFact) (g : ℕ) (d : GlobalFact) → g < length facts → slice_index (widths_of facts) g ≡ (slice_index_or facts g d).words
+width_at facts g d h = get_or-map (λ (f : GlobalFact). f.words) facts g d 0 h
+
+-- a global among the first ones
+pub width_front : (facts : List GlobalFact) (n g : ℕ) (d : GlobalFact) → g < length (take n facts) → (slice_index_or (take n facts) g d).words ≡ slice_index (widths_of facts) g
+width_front facts n g d h =
+    let l = length-take n facts in
+    let front : g < n = omega arith in
+    let all : g < length facts = omega arith in
+    ap (λ (f : GlobalFact). f.words) (get_or-take n facts g d front) ∙ sym (width_at facts g d all)
+
+pub global_next-le : (facts : List GlobalFact) (n g : ℕ) (d : GlobalFact) → g < length (take n facts) → sum (take g (widths_of facts)) + (slice_index_or (take n facts) g d).words ≤ sum (widths_of facts)
+global_next-le facts n g d h =
+    let l = length-take n facts in
+    let all : g < length (widths_of facts) = omega (arith, widths_length facts) in
+    omega (arith, width_front facts n g d h, sum_next-le (widths_of facts) g all)
+
+pub global_next : (facts : List GlobalFact) (n g : ℕ) (d : GlobalFact) → g < length (take n facts) → sum (take (g + 1) (widths_of facts)) ≡ sum (take g (widths_of facts)) + (slice_index_or (take n facts) g d).words
+global_next facts n g d h =
+    let l = length-take n facts in
+    let all : g < length (widths_of facts) = omega (arith, widths_length facts) in
+    omega (arith, width_front facts n g d h, sum_next (widths_of facts) g all)

@@ -73,10 +73,7 @@ fn items_of(alloc: Global, source: &[u8], tokens: &[Token]) -> Result<Vec<RawIte
         end: source.len() as u32,
     };
     let mut cursor = Cursor { tokens };
-    match all_items(text, &mut cursor) {
-        Ok(items) => Ok(items),
-        Err(error) => Err(error),
-    }
+    all_items(text, &mut cursor)
 }
 
 // The tree of the tokens, in which every call is whole, or a refusal.

@@ -8,7 +8,7 @@ use Rattle.call_graph.specs.Callees.{callees}
 use Rattle.call_graph.specs.FlatCalls.{call_site, call_sites_from}
 use Rattle.call_graph.specs.Index.{sites_of}
 use Rattle.cycle_break.proofs.SiteLemmas.{all-among, among-all, own-among}
-use Rattle.checkpoint_place.proofs.BoundLemmas.{next-calls}
+use Rattle.cycle_break.proofs.BottomUpOrders.{next-calls}
 
 -- ---- the sites of operations
 
@@ -234,7 +234,7 @@ module _ (code : FlatCode) (graph : CallGraphState) (is : IsGraph code graph) wh
       let one = called (get_or order i 0) g c in
       let own = own-among graph.sites [] one.call.site one.by.site one.by.kept in
       let mine = subst (λ (n : ℕ). IsAmong (sites_of graph.sites [] n) one.call.site) one.by.caller own in
-      let only : CallsOnly graph [] (reverse (take i order)) (get_or order i 0) = next-calls graph [] 0 order i within up in
+      let only : CallsOnly graph [] (reverse (take i order)) (get_or order i 0) = next-calls graph [] order i within up in
       let all = among-all (λ site. AllByRecursion (λ callee. has callee (reverse (take i order)) ≡ true) (callees graph.tables site.target)) (sites_of graph.sites [] (get_or order i 0)) one.call.site only mine in
       let there = all-has (λ callee. has callee (reverse (take i order)) ≡ true) (callees graph.tables one.call.site.target) one.call.callee all one.by.callee in
       stands-take order i g (sym (has-reverse g (take i order)) ∙ subst (λ (n : ℕ). has n (reverse (take i order)) ≡ true) one.callee there)

@@ -9,13 +9,16 @@ use call_graph::{CallGraph, graph};
 use cycle_break::leaving_order;
 use flat_code::FlatProgram;
 use std::alloc::{AllocError, Global};
+use thiserror::Error;
 
 /// Why a program's functions have no order.
-#[derive(Clone, Copy, PartialEq, Eq)]
+#[derive(Clone, Copy, Debug, PartialEq, Eq, Error)]
 pub enum OrderError {
     /// Calls lead from this function, the least one, back to itself.
+    #[error("calls lead from function {function} back to itself")]
     Cycle { function: u32 },
     /// An allocation failed.
+    #[error("out of memory")]
     Memory,
 }
 
@@ -52,6 +55,7 @@ fn graph_of(alloc: Global, flat: &FlatProgram) -> Result<CallGraph, AllocError>
 {
     let weights = vec![in alloc; 0; flat.functions().len()]?;
     let graph = graph(alloc, flat, weights.as_slice())?;
+    // For the prover alone: its contract tells the graph's invariant.
     let _functions = graph.weights().len();
     Ok(graph)
 }

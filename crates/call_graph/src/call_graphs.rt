@@ -1,6 +1,6 @@
 ghost use Rattle.std.specs.Prelude.{◌≡◌};
 
-use crate::callee_lists::Callees;
+use crate::callee_lists::{Callees, callees_of};
 use crate::sites::GraphSite;
 use std::marker::Model;
 
@@ -26,6 +26,7 @@ impl Model for CallGraph {
 }
 
 impl CallGraph {
+    ghost use Rattle.call_graph.specs.Callees.{callees};
     ghost use Rattle.call_graph.specs.Graph.{IsCallGraph};
 
     /// Returns the graph with these weights in bytes, by function, these tables, these sites and this
@@ -67,6 +68,23 @@ impl CallGraph {
         ensures { result.now ≡ self.now.sites }
     {
         self.sites.as_slice()
+    }
+
+    /// Returns the functions that the call at a site may enter, in order. A site of the graph has at least one.
+    pub fn callees<'a>(&'a self, site: &'a GraphSite) -> &'a [u32]
+        ensures { result.now ≡ callees self.now.tables site.now.target }
+    {
+        callees_of(self.tables.as_slice(), site)
+    }
+
+    /// Returns the weights, the members of the tables, and the call sites, in the lists that hold them. It doesn't
+    /// allocate.
+    pub fn into_lists(self) -> (Vec<u32>, Vec<Callees>, Vec<GraphSite>)
+        ensures weights { result.0.items ≡ self.weights }
+        ensures tables { result.1.items ≡ self.tables }
+        ensures sites { result.2.items ≡ self.sites }
+    {
+        (self.weights, self.tables, self.sites)
     }
 
     /// Returns the number of the start function.

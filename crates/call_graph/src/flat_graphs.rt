@@ -50,8 +50,5 @@ pub fn graph(alloc: Global, flat: &FlatProgram, weights: &[u32]) -> Result<CallG
     let sites = sites_of_functions(alloc, flat.functions())?;
     let weights = Vec::from_slice(alloc, weights)?;
     let tables = copies_of(alloc, flat.tables())?;
-    match sorted_graph(weights, tables, sites, flat.main_number()) {
-        Ok(graph) => Ok(graph),
-        Err(error) => Err(error),
-    }
+    sorted_graph(weights, tables, sites, flat.main_number())
 }

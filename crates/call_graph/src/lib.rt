@@ -17,7 +17,7 @@ mod index;
 mod sites;
 
 pub use call_graphs::CallGraph;
-pub use callee_lists::Callees;
+pub use callee_lists::{Callees, callees_of};
 pub use flat_calls::push_sites;
 pub use flat_graphs::{graph, sorted_graph};
 pub use index::{CallerIndex, is_among};

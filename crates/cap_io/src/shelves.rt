@@ -4,13 +4,18 @@ ghost use Rattle.cap_io.specs.Files.{Files, KeepsFiles};
 ghost use Rattle.cap_io.specs.Shelves.{Loads, CountsLoads, Stores, CountsStores};
 
 use std::alloc::Global;
+use thiserror::Error;
 
 /// Why a shelf refused a load or a store. A store returns only Failed or Memory.
-#[derive(Clone, Copy, PartialEq, Eq)]
+#[derive(Clone, Copy, Debug, PartialEq, Eq, Error)]
 pub enum ShelfError {
+    #[error("a load or a store failed")]
     Failed,
+    #[error("the file is longer than the maximum")]
     TooLong,
+    #[error("there is no such file")]
     Absent,
+    #[error("out of memory")]
     Memory,
 }
 

@@ -3,10 +3,14 @@ ghost use Rattle.std.specs.Prelude.{ℕ, ◌^◌, ◌<◌, ◌≤◌, List, leng
 ghost use Rattle.std.specs.Io.KnownBytes.{WriteAppends};
 ghost use Rattle.cap_io.specs.Writes.{CountsWrites};
 
+use thiserror::Error;
+
 /// Why a sink refused a piece: it counted a fault, or an allocation failed.
-#[derive(Clone, Copy, PartialEq, Eq)]
+#[derive(Clone, Copy, Debug, PartialEq, Eq, Error)]
 pub enum SinkError {
+    #[error("a write failed")]
     Failed,
+    #[error("out of memory")]
     Memory,
 }
 

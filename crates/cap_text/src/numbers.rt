@@ -4,15 +4,19 @@ ghost use Rattle.std.specs.Bool.{MatchBool};
 ghost use Rattle.std.specs.Int.{w32, w128};
 ghost use Rattle.cap_text.specs.Decimals.{canonical_decimal, canonical_integer, IsDecimal, IsInteger};
 
+use thiserror::Error;
+
 /// The maximum number of digits with which every number fits in 64 bits.
 const MOST_SHORT_DIGITS: usize = 19;
 
 /// Why bytes are refused as a number.
-#[derive(Clone, Copy, PartialEq, Eq)]
+#[derive(Clone, Copy, Debug, PartialEq, Eq, Error)]
 pub enum NumberError {
     /// The bytes are not a canonical decimal.
+    #[error("expected a canonical decimal")]
     NotANumber,
     /// The bytes are the canonical decimal of a number outside the requested range.
+    #[error("the number is outside the requested range")]
     TooLarge,
 }
 

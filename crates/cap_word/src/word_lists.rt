@@ -28,6 +28,13 @@ impl Words {
         Words { words }
     }
 
+    /// Returns the words, in the `Vec` that holds them. It doesn't allocate.
+    pub fn into_vec(self) -> Vec<u32>
+        ensures { result.items ≡ self }
+    {
+        self.words
+    }
+
     /// The words, in order.
     pub fn as_slice(&self) -> &[u32]
         ensures { result.now ≡ self.now }

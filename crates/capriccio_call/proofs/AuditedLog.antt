@@ -1,5 +1,5 @@
 -- An audit doesn't say of a lawful log that it is unlawful; and what it says to be lawful is the source's, with the choices of the priority rule.
-use Rattle.capriccio_call.proofs.Common.{◌≡◌, ◌⊎◌, ℕ, ◌≤◌, List, Option, Some, Result, Ok, Err, refl, sym, ap, subst, ◌∙◌, arith, inl, inr, ⊎_elim, slice_index, Appends, ProgramTree, Files, Policy, Audit, IsLawfulLog, Setup, World, most_fuel, log_text, Entry, StopLine, Held, Fault, Read, Write, Memory, Outside, IsDone, IsThisCase, IsTold, NoFault, line_of, status_of, fault_status, Outcome, AfterLoad, IsSourceText, AreAuditOptions, Audits, AuditsBytes, AuditsProgram, judged_outcome, judgement_status, reading_of, IsDue, IsVerdictOf, audit-options, IsAnswer}
+use Rattle.capriccio_call.proofs.Common.{◌≡◌, ◌⊎◌, ℕ, ◌≤◌, List, Option, Some, Result, Ok, Err, refl, sym, ap, subst, ◌∙◌, arith, inl, inr, ⊎_elim, slice_index, Appends, ProgramTree, Files, Policy, Audit, IsLawfulLog, Setup, World, most_fuel, log_text, Entry, StopLine, Held, Fault, Read, Write, Memory, Outside, IsDone, IsThisCase, IsTold, NoFault, line_of, status_of, fault_status, Outcome, AfterLoad, IsSourceText, AreAuditOptions, Audits, AuditsBytes, AuditsProgram, judged_outcome, judgement_status, reading_of, IsDue, IsJudgementOf, audit-options, IsAnswer}
 use Rattle.audited_logs.specs.Audited.{AreCapsSmall, IsLawfulOrTooLong}
 use Rattle.audited_logs.proofs.Logs.{log_judged}
 use Rattle.audited_logs.proofs.ReadWorlds.{choices_are_lawful}
@@ -8,8 +8,8 @@ use Rattle.lawful_reading.specs.Given.{Given}
 use Rattle.lawful_reading.specs.Reading.{IsLawful}
 use Rattle.audited_logs.proofs.ReadLines.{log_of_source}
 use Rattle.command_outcomes.specs.declared.documents.Document.TheVariants as document
-use Rattle.lawful_reading.specs.declared.judgement.Verdict.{Verdict}
-use Rattle.lawful_reading.specs.declared.judgement.Verdict.TheVariants.{Lawful, Steps, Unlawful}
+use Rattle.lawful_reading.specs.declared.judgement.Judgement.{Judgement}
+use Rattle.lawful_reading.specs.declared.judgement.Judgement.TheVariants.{Lawful, Steps, Unlawful}
 use Rattle.capriccio_call.specs.Audited.{AsksForAudit, IsAudited, IsRunUnder, IsSourcesLog, SaysOf}
 use Rattle.capriccio_call.proofs.GoodRun.{status-told}
 use Rattle.capriccio_call.proofs.OneRun.{pooled-areas}
@@ -34,8 +34,8 @@ judged options g trace entries stop end ranges run log =
 
 -- ---- what is due, and was done
 
-judged-due : (words : List (List ℕ)) (before : Outside) (options : AuditOptions) (program : ProgramTree) (trace log : List ℕ) (is : Verdict) → AsksForAudit words before options program trace log →
-    IsVerdictOf (reading_of program options) (Some trace) log is → IsDue words before (judged_outcome is)
+judged-due : (words : List (List ℕ)) (before : Outside) (options : AuditOptions) (program : ProgramTree) (trace log : List ℕ) (is : Judgement) → AsksForAudit words before options program trace log →
+    IsJudgementOf (reading_of program options) (Some trace) log is → IsDue words before (judged_outcome is)
 judged-due words before options program trace log is asks says =
     let source = asks.source_there in
     let text = asks.log_there in
@@ -45,7 +45,7 @@ judged-due words before options program trace log is asks says =
     let does : Does before.files before.left = subst (λ (its : Option Files). Does its before.left) (sym asks.files_told) left in
     inl (Audit asks.source_name asks.log_name options, asks.asked, does)
 
-said : (due : Outcome → Type 0) (is : Verdict) (before after : Outside) (given : Result Outcome Fault) (err err' : Option (List ℕ)) (faults faults' status : ℕ) → IsThisCase (judged_outcome is) given → IsDone due before after given →
+said : (due : Outcome → Type 0) (is : Judgement) (before after : Outside) (given : Result Outcome Fault) (err err' : Option (List ℕ)) (faults faults' status : ℕ) → IsThisCase (judged_outcome is) given → IsDone due before after given →
     IsTold (status_of given) (line_of given) err err' faults faults' status → SaysOf is before after status ⊎ (status ≡ fault_status Memory)
 said due is before after (Ok o) err err' faults faults' status same done told =
     let whole = done.1 in
@@ -58,8 +58,8 @@ said due is before after (Err Read) err err' faults faults' status same done tol
 said due is before after (Err Write) err err' faults faults' status same done told = absurd same
 
 -- an audit of which that is due says that
-says : (words : List (List ℕ)) (before after : Outside) (err err' : Option (List ℕ)) (faults faults' : ℕ) (last : Option Held) (status : ℕ) (options : AuditOptions) (program : ProgramTree) (trace log : List ℕ) (is : Verdict) →
-    IsAnswer words before after err err' faults faults' last status → AsksForAudit words before options program trace log → NoFault before after → IsVerdictOf (reading_of program options) (Some trace) log is →
+says : (words : List (List ℕ)) (before after : Outside) (err err' : Option (List ℕ)) (faults faults' : ℕ) (last : Option Held) (status : ℕ) (options : AuditOptions) (program : ProgramTree) (trace log : List ℕ) (is : Judgement) →
+    IsAnswer words before after err err' faults faults' last status → AsksForAudit words before options program trace log → NoFault before after → IsJudgementOf (reading_of program options) (Some trace) log is →
     SaysOf is before after status ⊎ (status ≡ fault_status Memory)
 says words before after err err' faults faults' last status options program trace log is answer asks none judgement =
     let due = judged-due words before options program trace log is asks judgement in
@@ -68,7 +68,7 @@ says words before after err err' faults faults' last status options program trac
 
 -- ---- what `lawful` says
 
-lawful-only : (is : Verdict) → judgement_status is ≡ judgement_status Lawful → is ≡ Lawful
+lawful-only : (is : Judgement) → judgement_status is ≡ judgement_status Lawful → is ≡ Lawful
 lawful-only Lawful e = refl
 lawful-only (Unlawful line) e = absurd (omega (arith, e))
 lawful-only (Steps line) e = absurd (omega (arith, e))
@@ -77,7 +77,7 @@ lawful-only (Steps line) e = absurd (omega (arith, e))
 lawful-by : (options : AuditOptions) (program : ProgramTree) (trace log : List ℕ) (o : Outcome) → AuditsProgram (Some trace) options log program o → o.status ≡ judgement_status Lawful → IsLawful (reading_of program options) trace log
 lawful-by options program trace log o h e =
     let is : h.0 ≡ Lawful = lawful-only h.0 (sym (ap (λ (x : Outcome). x.status) h.2) ∙ e) in
-    subst (λ (it : Verdict). IsVerdictOf (reading_of program options) (Some trace) log it) is h.1
+    subst (λ (it : Judgement). IsJudgementOf (reading_of program options) (Some trace) log it) is h.1
 
 -- what is due is an audit of this log
 audited-so : (words : List (List ℕ)) (before : Outside) (options : AuditOptions) (program : ProgramTree) (trace log : List ℕ) (o : Outcome) → AsksForAudit words before options program trace log → IsDue words before o →
@@ -105,7 +105,7 @@ pub audited : (words : List (List ℕ)) (before after : Outside) (err err' : Opt
 audited words before after err err' faults faults' last status answer = record {
   lawful_log = λ options g trace entries stop end asks run log none.
       let ranges = audit-options words asks.source_name asks.log_name options asks.asked in
-      let on : (is : Verdict) → IsVerdictOf (reading_of g.program options) (Some trace) (log_text entries) is → SaysOf is before after status ⊎ (status ≡ fault_status Memory) =
+      let on : (is : Judgement) → IsJudgementOf (reading_of g.program options) (Some trace) (log_text entries) is → SaysOf is before after status ⊎ (status ≡ fault_status Memory) =
       λ is judgement. says words before after err err' faults faults' last status options g.program trace (log_text entries) is answer asks none judgement in
       ⊎_elim
       (λ lawful. ⊎_elim (λ x. inl x) (λ x. inr (inr x)) (on Lawful lawful))

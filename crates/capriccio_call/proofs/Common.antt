@@ -42,7 +42,7 @@ pub use Rattle.command_words.specs.WordList.{Audit, Budget, Build, Check, Demo, 
 pub use Rattle.flat_code.specs.Codes.{FlatCode}
 pub use Rattle.lawful_log.specs.Lawful.{IsLawfulLog}
 pub use Rattle.lawful_log.specs.Setup.{Setup, setting_of, start_areas}
-pub use Rattle.lawful_reading.specs.Verdicts.{IsVerdictOf}
+pub use Rattle.lawful_reading.specs.Judgements.{IsJudgementOf}
 pub use Rattle.machine_world.specs.Threads.{Setting, World}
 pub use Rattle.machine_world.specs.WellFormed.{AreWellFormed, most_fuel}
 pub use Rattle.pair_commands.proofs.OneBuild.{plans-are-one, texts-are-one, words-are-one}

@@ -99,7 +99,7 @@ took-due due before after (Err Read) done =
 took-due due before after (Err Write) done =
     ⊎_elim (λ x. let cut = x.0 in inl cut.out) (λ x. let cut = x.0 in inr (done.0, done.1, cut.out)) done.2
 took-due due before after (Err Memory) done =
-    ⊎_elim (λ z. ⊎_elim (λ x. inl x.out) (λ x. ⊎_elim (λ y. inl y.out) (λ y. inr (x.0, x.1, y.out)) x.2) z.0) (λ z. let only = z.0 in inl only.out) done
+    ⊎_elim (λ x. inl x.out) (λ z. ⊎_elim (λ x. inl x.out) (λ x. ⊎_elim (λ y. inl y.out) (λ y. inr (x.0, x.1, y.out)) x.2) z) done.0
 
 -- ---- The files.
 
@@ -231,8 +231,8 @@ write-left words before after (Err Write) old new faults faults' status done tol
     ⊎_elim (λ x. let cut = x.0 in cut-left words before after done.0 done.1 cut.some cut.files) (λ x. let cut = x.0 in stored-left words before after done.0 done.1 cut.files) done.2
 write-left words before after (Err Memory) old new faults faults' status done told which =
     ⊎_elim
-    (λ z. ⊎_elim (λ x. inl x.files) (λ x. ⊎_elim (λ y. cut-left words before after x.0 x.1 y.some y.files) (λ y. stored-left words before after x.0 x.1 y.files) x.2) z.0)
-    (λ z. let only = z.0 in inl only.files) done
+    (λ x. inl x.files)
+    (λ z. ⊎_elim (λ x. inl x.files) (λ x. ⊎_elim (λ y. cut-left words before after x.0 x.1 y.some y.files) (λ y. stored-left words before after x.0 x.1 y.files) x.2) z) done.0
 
 -- ---- The whole.
 

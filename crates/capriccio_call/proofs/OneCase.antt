@@ -1,7 +1,7 @@
 -- One outcome is due at most: two that are due for the same words, files and trace are one.
 use Rattle.std.proofs.lemmas.Bool.{cases_order}
 use Rattle.cap_io.specs.Faults.{IsRisen, Rose, Stayed}
-use Rattle.capriccio_call.proofs.Common.{◌≡◌, ◌⊎◌, ℕ, ◌+◌, ◌<◌, ◌≤◌, ◌*◌, List, [], ◌∷◌, ◌++◌, Option, Some, None, Result, Ok, Err, refl, sym, ap, subst, ◌∙◌, arith, inl, inr, ⊎_elim, Files, ProgramTree, IsWellScoped, lowered, FlatCode, Image, Certificate, spelling_unique, first_refused_unique, spelling_unrefused, frame_refusal, IsLaidOut, IsTooLarge, IsWordList, Request, Serve, Run, Build, Check, Graph, Demo, Audit, Budget, one_request, Document, Fault, Read, Write, Memory, Verdict, Accepted, Rejected, Outcome, refused, printed, refusal, frame_words, cycle_words, OfFile, AfterLoad, AfterThree, AfterSource, AfterImage, AfterCertificate, IsImageText, IsCertificateText, Graphs, GraphsProgram, HasFittingFrames, IsFrameRefused, names_of, Checks, ChecksBytes, ChecksPair, IsVerdict, verdict_outcome, IsOnCycle, Budgets, BudgetsBytes, BudgetsPair, IsCycleRefused, IsBudgetPrinted, budget_text, Options, Builds, BuildsProgram, HasFittingCode, IsUnbuilt, built, RunsOn, Serves, ServesProgram, Runs, RunsBytes, RunsPair, pool_bytes, setup_of, IsRunPolicy, sizes_of, Demos, ShowsProgram, ShowsRun, demo_sizes, demo_policy, Audits, AuditsBytes, AuditsProgram, judged_outcome, reading_of, Does, IsDue, program_text, trace_text, Outside, IsDone, IsTraceTold, IsExact, one_program, one_source_error, never, plans-are-one, words-are-one, texts-are-one, IsVerdictOf, serve-policy, serve-pool, run-policy, demo-run-policy, demo-pool}
+use Rattle.capriccio_call.proofs.Common.{◌≡◌, ◌⊎◌, ℕ, ◌+◌, ◌<◌, ◌≤◌, ◌*◌, List, [], ◌∷◌, ◌++◌, Option, Some, None, Result, Ok, Err, refl, sym, ap, subst, ◌∙◌, arith, inl, inr, ⊎_elim, Files, ProgramTree, IsWellScoped, lowered, FlatCode, Image, Certificate, spelling_unique, first_refused_unique, spelling_unrefused, frame_refusal, IsLaidOut, IsTooLarge, IsWordList, Request, Serve, Run, Build, Check, Graph, Demo, Audit, Budget, one_request, Document, Fault, Read, Write, Memory, Verdict, Accepted, Rejected, Outcome, refused, printed, refusal, frame_words, cycle_words, OfFile, AfterLoad, AfterThree, AfterSource, AfterImage, AfterCertificate, IsImageText, IsCertificateText, Graphs, GraphsProgram, HasFittingFrames, IsFrameRefused, names_of, Checks, ChecksBytes, ChecksPair, IsVerdict, verdict_outcome, IsOnCycle, Budgets, BudgetsBytes, BudgetsPair, IsCycleRefused, IsBudgetPrinted, budget_text, Options, Builds, BuildsProgram, HasFittingCode, IsUnbuilt, built, RunsOn, Serves, ServesProgram, Runs, RunsBytes, RunsPair, pool_bytes, setup_of, IsRunPolicy, sizes_of, Demos, ShowsProgram, ShowsRun, demo_sizes, demo_policy, Audits, AuditsBytes, AuditsProgram, judged_outcome, reading_of, Does, IsDue, program_text, trace_text, Outside, IsDone, IsTraceTold, IsExact, one_program, one_source_error, never, plans-are-one, words-are-one, texts-are-one, IsJudgementOf, serve-policy, serve-pool, run-policy, demo-run-policy, demo-pool}
 use Rattle.c_scope.specs.declared.source_errors.SourceError.{SourceError}
 use Rattle.certificate_rules.specs.Validity.{IsFirstFailure}
 use Rattle.stack_image.specs.declared.refusals.ImageError.{ImageError}
@@ -17,7 +17,7 @@ use Rattle.chunk_budget.specs.declared.budgets.Budget as budgets
 use Rattle.command_words.specs.declared.options.Audit.{Audit as AuditOptions}
 use Rattle.command_words.specs.declared.options.Policy.{Policy as RunOptions}
 use Rattle.capriccio_call.proofs.OneBudget.{one-budget, one-least}
-use Rattle.lawful_reading.proofs.OneVerdict.{one_verdict}
+use Rattle.lawful_reading.proofs.OneJudgement.{one_judgement}
 use Rattle.capriccio_call.proofs.OnePair.{pairs-are-one}
 use Rattle.capriccio_call.proofs.OneRun.{IsInRange, one-outcome, one-shown}
 
@@ -294,8 +294,8 @@ judged-case left options log p a b reads h k =
     let bytes = reads (ap (λ (o : Outcome). o.reads_trace) k.2) in
     let g = reading_of p options in
     alike a b (judged_outcome k.0)
-    (h.2 ∙ ap judged_outcome (one_verdict g bytes.0 log h.0 k.0
-    (subst (λ (l : Option (List ℕ)). IsVerdictOf g l log h.0) bytes.1 h.1) (subst (λ (l : Option (List ℕ)). IsVerdictOf g l log k.0) bytes.1 k.1))) k.2
+    (h.2 ∙ ap judged_outcome (one_judgement g bytes.0 log h.0 k.0
+    (subst (λ (l : Option (List ℕ)). IsJudgementOf g l log h.0) bytes.1 h.1) (subst (λ (l : Option (List ℕ)). IsJudgementOf g l log k.0) bytes.1 k.1))) k.2
 
 request-case : (request : Request) (words : List (List ℕ)) (f : Files) (before : Outside) (a b : Outcome) → IsWordList words request → before.files ≡ Some f → IsTraceTold before.left b → Does request before a → Does request before b → a ≡ b
 request-case (Graph source placement) words f before a b asked told reads h k =

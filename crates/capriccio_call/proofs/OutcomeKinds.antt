@@ -9,8 +9,8 @@ use Rattle.stack_image.specs.Spelling as image
 use Rattle.certificate_text.specs.Text as certificate
 use Rattle.command_outcomes.specs.declared.documents.Document.TheVariants as document
 use Rattle.command_outcomes.specs.declared.stops.Cause.TheVariants as cause
-use Rattle.lawful_reading.specs.declared.judgement.Verdict as said
-use Rattle.lawful_reading.specs.declared.judgement.Verdict.TheVariants as judgement
+use Rattle.lawful_reading.specs.declared.judgement.Judgement as said
+use Rattle.lawful_reading.specs.declared.judgement.Judgement.TheVariants as judgement
 
 -- a status that no fault has
 abbrev pub IsFree : ℕ → Type 0
@@ -87,7 +87,7 @@ verdict-free : (verdict : Verdict) → IsFree (verdict_status verdict)
 verdict-free Accepted = inl (omega arith)
 verdict-free (Rejected rule function index) = inl (omega arith)
 
-judgement-free : (is : said.Verdict) → IsFree (judgement_status is)
+judgement-free : (is : said.Judgement) → IsFree (judgement_status is)
 judgement-free judgement.Lawful = inl (omega arith)
 judgement-free (judgement.Unlawful line) = inr (omega arith)
 judgement-free (judgement.Steps line) = inr (omega arith)

@@ -9,7 +9,7 @@ stored-none (Some old) (Some new) h = h
 refused-without : (due : Outcome → Type 0) (before after : Outside) (cause : Cause) → IsDone due before after (Ok (refusal cause)) → IsDone due before after (Err Memory)
 refused-without due before after cause h =
     let whole = h.1 in
-    inl (inl (record { files = stored-none before.files after.files whole.files; trace = whole.trace; out = keeps_by_none before.taken after.taken whole.out }), h.2)
+    (inl (record { files = stored-none before.files after.files whole.files; trace = whole.trace; out = keeps_by_none before.taken after.taken whole.out }), h.2)
 
 told-again : (status : ℕ) (o : Outcome) (old new : Option (List ℕ)) (faults faults' answer : ℕ) → o.status ≡ status → o.line ≡ [] → IsTold status [] old new faults faults' answer → IsTold o.status o.line old new faults faults' answer
 told-again status o old new faults faults' answer same none h =

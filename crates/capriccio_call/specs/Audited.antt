@@ -28,8 +28,8 @@ use Rattle.command_files.specs.Loads.{IsSourceText}
 use Rattle.command_files.specs.Loaded.{IsLoaded}
 use Rattle.command_audit.specs.Audits.{judgement_line, judgement_status, reading_of, reading_policy}
 use Rattle.pair_commands.specs.Runs.{IsAccepted}
-use Rattle.lawful_reading.specs.declared.judgement.Verdict.{Verdict}
-use Rattle.lawful_reading.specs.declared.judgement.Verdict.TheVariants.{Lawful, Steps}
+use Rattle.lawful_reading.specs.declared.judgement.Judgement.{Judgement}
+use Rattle.lawful_reading.specs.declared.judgement.Judgement.TheVariants.{Lawful, Steps}
 
 -- the words ask for the audit of this log of this program, on this trace: the shelf exposes its files, and the trace
 -- its bytes; the file of the source is read as the program, and that of the log has exactly these bytes, at most as
@@ -55,7 +55,7 @@ pub record IsRunUnder (options : AuditOptions) (g : Setup) : Type 0 where
   pub policy : read_policy g.policy ≡ reading_policy options
 
 -- the output took the line of this verdict, and the status is the verdict's
-abbrev pub SaysOf : Verdict → (before after : Outside) → (status : ℕ) → Type 0
+abbrev pub SaysOf : Judgement → (before after : Outside) → (status : ℕ) → Type 0
 SaysOf is before after status = (status ≡ judgement_status is) × Appends before.taken after.taken (judgement_line is)
 
 -- `lawful` with status 0, or `steps LINE` with status 16, or out of memory

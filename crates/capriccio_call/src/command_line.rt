@@ -15,7 +15,7 @@ use std::rt::Env;
 /// `AllocError` if an allocation fails.
 ///
 /// No clause says which words they are, since the contract of `std::env::args` doesn't.
-pub fn words_of<E: Env>(environment: &E, alloc: Global) -> Result<Vec<String>, AllocError> {
+pub fn words_of<E: Env>(alloc: Global, environment: &E) -> Result<Vec<String>, AllocError> {
     match env::args(&(environment, alloc)) {
         Ok(arguments) => words_after_name(arguments, alloc),
         Err(error) if error.kind() == ErrorKind::OutOfMemory => Err(AllocError),

@@ -14,7 +14,7 @@ fn main(rt: HostRuntime) -> ExitCode {
     let mut shelf = DirShelf::new(&rt);
     let mut out = StdSink::new(rt.stdout());
     let mut err = StdSink::new(rt.stderr());
-    let Ok(words) = words_of(&rt, rt.alloc()) else {
+    let Ok(words) = words_of(rt.alloc(), &rt) else {
         return ExitCode::from(tell(&mut err, Fault::Memory.line(), Fault::Memory.status()));
     };
     let mut trace = StdSource::new(rt.stdin());

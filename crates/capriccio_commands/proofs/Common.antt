@@ -1,5 +1,5 @@
 -- The names that this crate's proofs cite from other crates and from its definitions, passed on from one place. Declares nothing.
-pub use Rattle.std.proofs.Common.{[], ◌*◌, ◌++◌, ◌+ℤ◌, ◌+◌, ◌<◌, ◌^◌, ◌∙◌, ◌∷◌, ◌≡◌, ◌≤◌, Bool, Err, FitsSigned, List, None, Ok, Option, Result, Some, ap, append_assoc, arith, eq-zero-or-pos, false, get_or, inl, inr, length, length-append, map, refl, rules, subst, suc, sym, unsigned_abs, zero, ℕ, ℤ, ⊎_elim}
+pub use Rattle.std.proofs.Common.{[], ◌*◌, ◌++◌, ◌+ℤ◌, ◌+◌, ◌<◌, ◌^◌, ◌∙◌, ◌∷◌, ◌≡◌, ◌≤◌, Bool, Err, FitsSigned, List, None, Ok, Option, Result, Some, ap, append_assoc, arith, eq-zero-or-pos, false, get_or, inr, length, length-append, map, refl, rules, subst, suc, sym, unsigned_abs, zero, ℕ, ℤ, ⊎_elim}
 pub use Rattle.std.proofs.KnownBytes.{Keeps-refl}
 pub use Rattle.std.proofs.lemmas.Int.{ints, to_z-of_z, to_z_pos}
 pub use Rattle.std.proofs.lemmas.Result.{MatchResult-weaker, err_from_is_err_and, on_ok_weaker}

@@ -1,5 +1,5 @@
 -- How `demo` ends: what its run did, and what is shown of it.
-use Rattle.capriccio_commands.proofs.Common.{◌≡◌, ℕ, ◌≤◌, Bool, false, List, [], ◌++◌, Option, Some, None, Result, Ok, Err, refl, sym, ap, subst, ◌∙◌, inl, inr, ⊎_elim, append_assoc, arith, MatchResult, OnOk, on_ok_weaker, KeepsFiles, ProgramTree, accepted_tree, Acceptance, Setup, entry_text, log_text, Entry, Held, program_text, trace_text, Read, Write, Memory, Stop, Refused, Failed, Ended, Outcome, Ran, NoMore, Outside, WhereTold, AreStored, IsTraceLeft, IsSourceText, IsStop, IsPrinted, EndsAs, RunEnds, kept-are-stored, refused-at-once, memory-at-once, RunsOn, ServesProgram, run_outcome, setup_of, census_of, tally_of, last_from, summary_text, Demos, ShowsRun, IsAcceptedWorkload, IsShown, ShowsDue, ShowsEnd, shown_outcome, demo_sizes, demo_policy, IsEnd, IsLast}
+use Rattle.capriccio_commands.proofs.Common.{◌≡◌, ℕ, ◌≤◌, Bool, false, List, [], ◌++◌, Option, Some, None, Result, Ok, Err, refl, sym, ap, subst, ◌∙◌, inr, ⊎_elim, append_assoc, arith, MatchResult, OnOk, on_ok_weaker, KeepsFiles, ProgramTree, accepted_tree, Acceptance, Setup, entry_text, log_text, Entry, Held, program_text, trace_text, Read, Write, Memory, Stop, Refused, Failed, Ended, Outcome, Ran, NoMore, Outside, WhereTold, AreStored, IsTraceLeft, IsSourceText, IsStop, IsPrinted, EndsAs, RunEnds, kept-are-stored, refused-at-once, memory-at-once, RunsOn, ServesProgram, run_outcome, setup_of, census_of, tally_of, last_from, summary_text, Demos, ShowsRun, IsAcceptedWorkload, IsShown, ShowsDue, ShowsEnd, shown_outcome, demo_sizes, demo_policy, IsEnd, IsLast}
 use Rattle.std.specs.Io.KnownBytes.{Keeps, Appends}
 use Rattle.cap_io.specs.Faults.{IsRisen, Rose}
 use Rattle.schedule_log.specs.declared.entries.Entry.TheVariants.{Stop as StopEntry}
@@ -185,7 +185,7 @@ shown-cut due before after shown (Failed Memory) is files left loads stores read
     let trace = subst (λ (reads : Bool). IsTraceLeft reads before.left after.left) (sym is.unread) left in
     let taken = h.0 in
     let out = subst (λ (text : List ℕ). TakesPrefix before.taken after.taken text) (sym is.text) taken in
-    inl (inr (is.outcome, is.is_due, inr (record { files = kept; trace = trace; out = out })), record { loads = loads; stores = stores; reads = reads; writes = h.1 })
+    (inr (inr (is.outcome, is.is_due, inr (record { files = kept; trace = trace; out = out }))), record { loads = loads; stores = stores; reads = reads; writes = h.1 })
 shown-cut due before after shown _ is files left loads stores reads h = absurd h
 
 -- nothing was shown

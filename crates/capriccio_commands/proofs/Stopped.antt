@@ -1,5 +1,5 @@
 -- How a command ends whose run came to its stop, or could not go on.
-use Rattle.capriccio_commands.proofs.Common.{◌≡◌, ℕ, List, Option, Some, None, Result, Ok, Err, refl, sym, ap, subst, inl, inr, IfSome, KeepsFiles, checked_of, Setup, IsSound, World, HasLog, IsEndAt, CameTo, IsRunEnd, RunEnd, Entry, StopLine, Held, Read, Write, Memory, Stop, Failed, Ended, Outcome, Outside, IsWhole, IsCutInOut, NoneCounted, TraceCounted, WriteCounted, IsAccepted, IsRun, RunsOn, run_outcome, stop_status, EndsAs, IsClosed, kept-are-stored, IsEnd, IsReachable, IsWorldOf}
+use Rattle.capriccio_commands.proofs.Common.{◌≡◌, ℕ, List, Option, Some, None, Result, Ok, Err, refl, sym, ap, subst, inr, IfSome, KeepsFiles, checked_of, Setup, IsSound, World, HasLog, IsEndAt, CameTo, IsRunEnd, RunEnd, Entry, StopLine, Held, Read, Write, Memory, Stop, Failed, Ended, Outcome, Outside, IsWhole, IsCutInOut, NoneCounted, TraceCounted, WriteCounted, IsAccepted, IsRun, RunsOn, run_outcome, stop_status, EndsAs, IsClosed, kept-are-stored, IsEnd, IsReachable, IsWorldOf}
 use Rattle.runner.specs.declared.ends.RunEnd.TheVariants as end
 use Rattle.cap_word.specs.declared.stops.Stop.TheVariants as cut
 
@@ -81,5 +81,5 @@ closed g before after held end.Memory r ok files loads stores of h is =
     let outcome : Outcome = run_outcome g short.log.entries short.log.stop short.end in
     let cut-short : IsCutInOut outcome before after = record { files = kept-are-stored before.files after.files files; trace = tt; out = (short.count, short.part, short.writes) } in
     let ends : EndsAs IsEnd (RunsOn before.left g) before after (Err (Failed Memory)) =
-    inl (inr (outcome, log-due g before.left short.end held.machine ok short.log, inr cut-short), record { loads = loads; stores = stores; reads = h.1; writes = h.2 }) in
+    (inr (inr (outcome, log-due g before.left short.end held.machine ok short.log, inr cut-short)), record { loads = loads; stores = stores; reads = h.1; writes = h.2 }) in
     subst (λ (a : Result Ended Stop). EndsAs IsEnd (RunsOn before.left g) before after a) (sym is) ends

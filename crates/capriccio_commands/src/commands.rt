@@ -19,7 +19,16 @@ use command_words::Policy;
 use pair_commands::{accept_files, accept_source};
 use std::alloc::Global;
 
-/// Does the command `serve`.
+/// Does the command `serve`: builds, checks and runs the source on the trace, and writes the log to `out`. Returns the
+/// status of the run's stop, and the world at the stop.
+///
+/// Sizes and policy are in the ranges of their options, and all chunks together have at most 67,108,864 bytes.
+///
+/// # Errors
+///
+/// `Refused` if the source is absent, too long or no program, or a frame or the code is too large. `Failed` with `Read`
+/// or `Write` only if a load, a read of the trace or a write failed; `out` then has a prefix of the log. `Failed` with
+/// `Memory` if an allocation fails.
 pub fn serve<F: Shelf, S: Source, K: Sink>(
     alloc: Global,
     shelf: &mut F,
@@ -42,7 +51,16 @@ pub fn serve<F: Shelf, S: Source, K: Sink>(
     run_accepted(alloc, accepted, policy, trace, out)
 }
 
-/// Does the command `run`.
+/// Does the command `run`: checks a source, an image and a certificate, runs them on the trace, and writes the log to
+/// `out`. Returns the status of the run's stop, and the world at the stop.
+///
+/// The policy is in the ranges of its options.
+///
+/// # Errors
+///
+/// `Refused` if a file is absent, too long or malformed, the pair breaks a rule of the certificate, or the pool is too
+/// large. `Failed` with `Read` or `Write` only if a load, a read of the trace or a write failed; `out` then has a
+/// prefix of the log. `Failed` with `Memory` if an allocation fails.
 pub fn run_pair<F: Shelf, S: Source, K: Sink>(
     alloc: Global,
     shelf: &mut F,
@@ -65,7 +83,15 @@ pub fn run_pair<F: Shelf, S: Source, K: Sink>(
     run_accepted(alloc, accepted, policy, trace, out)
 }
 
-/// Does the command `demo`.
+/// Does the command `demo`: builds the workload of `number`, runs it, and writes the summary to `out`. Returns the
+/// status of the run's stop, and the world at the stop.
+///
+/// The number is from 1 to 1,000.
+///
+/// # Errors
+///
+/// `Failed` with `Write` only if a write failed; `out` then has a prefix of the summary. `Failed` with `Memory` if an
+/// allocation fails. It never refuses.
 pub fn demo<K: Sink>(alloc: Global, out: &mut K, number: u32) -> Result<Ended, Stop>
     requires some { 1 ≤ number }
     requires few { number ≤ 1000 }

@@ -15,12 +15,15 @@ use flat_code::FlatProgram;
 use stack_certificate::Certificate;
 use stack_image::Image;
 use std::alloc::Global;
+use std::fmt;
+use thiserror::Error;
 
 /// Why a program isn't accepted with an image and a certificate. Each variant returns the three.
-#[derive(Drop)]
+#[derive(Drop, Error)]
 pub enum CheckError {
     /// This rule, from 1 to 12, is the first to fail, at this function and index. The meaning of an index
     /// depends on the rule; for a rule that isn't about functions, the function is 0.
+    #[error("V{rule} fails first at function {function}, index {index}")]
     Rejected {
         rule: u32,
         function: u32,
@@ -30,11 +33,32 @@ pub enum CheckError {
         certificate: Certificate,
     },
     /// An allocation failed.
+    #[error("out of memory")]
     Memory {
         program: Program,
         image: Image,
         certificate: Certificate,
     },
+}
+
+// Names the cause alone: the program, the image and the certificate have no short form.
+impl fmt::Debug for CheckError {
+    fn fmt<W: fmt::Write>(&self, f: &mut fmt::Formatter<W>) -> fmt::Result {
+        match self {
+            CheckError::Rejected {
+                rule,
+                function,
+                index,
+                ..
+            } => {
+                write!(
+                    f,
+                    "Rejected {{ rule: {rule}, function: {function}, index: {index}, .. }}"
+                )
+            }
+            CheckError::Memory { .. } => write!(f, "Memory {{ .. }}"),
+        }
+    }
 }
 
 /// Accepts a program with an image and a certificate exactly if every rule V1 to V12 holds for them, unless an

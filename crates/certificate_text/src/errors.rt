@@ -3,14 +3,17 @@ ghost use Rattle.std.specs.Prelude.{◌≡◌};
 ghost use Rattle.certificate_text.specs.declared.errors.CertError.TheVariants.{Memory};
 
 use std::alloc::{AllocError, AllocFailed};
+use thiserror::Error;
 
 /// Why bytes aren't read as a certificate.
-#[derive(Clone, Copy)]
+#[derive(Clone, Copy, Debug, Error)]
 pub enum CertError {
     /// The line with this number, counted from 1, is the first that breaks the format, is missing, is one too many, or
     /// lacks its LF.
+    #[error("line {number} is not the expected line of a certificate")]
     Line { number: u32 },
     /// An allocation failed.
+    #[error("out of memory")]
     Memory,
 }
 

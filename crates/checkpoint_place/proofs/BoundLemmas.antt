@@ -1,5 +1,5 @@
 -- One function more has its bound.
-use Rattle.checkpoint_place.proofs.Common.{◌≡◌, ℕ, ◌+◌, ◌<◌, nat_le, true, false, List, [], ◌∷◌, ◌++◌, length, take, drop, set, get_or, filter, reverse, slice_index, refl, sym, ap, ◌∙◌, subst, get_or-set_same, get_or-set_other, take_more, reverse-append, take-append-drop, AllByRecursion, GraphSite, callees, greatest, CallGraphState, sites_of, has, by_test, by_eq, CallsOnly, IsBottomUp, has-tail, has-cases, true_false, callee_bound, is_within, bound_over, All-weaker}
+use Rattle.checkpoint_place.proofs.Common.{◌≡◌, ℕ, ◌+◌, ◌<◌, nat_le, true, false, List, [], ◌∷◌, length, take, set, get_or, filter, reverse, slice_index, refl, sym, ap, ◌∙◌, subst, get_or-set_same, get_or-set_other, AllByRecursion, GraphSite, callees, greatest, CallGraphState, sites_of, has, by_test, by_eq, CallsOnly, IsBottomUp, calls-within, reverse-more, up-front, has-cases, callee_bound, is_within, bound_over, All-weaker}
 
 -- ---- a bound hangs only on the bounds of the callees
 
@@ -17,31 +17,6 @@ most-agree tables p q max_path weight (s ∷ ss) same =
     by_test (is_within tables q max_path weight s)
     (λ t. let t' : is_within tables p max_path weight s ≡ true = test ∙ t in rw (t, t', one, rest) refl)
     (λ e. let e' : is_within tables p max_path weight s ≡ false = test ∙ e in rw (e, e') rest)
-
--- ---- an order from the bottom up
-
-pub up-suffix : (graph : CallGraphState) (back xs ys : List ℕ) → IsBottomUp graph back (xs ++ ys) → IsBottomUp graph back ys
-up-suffix graph back [] ys up = up
-up-suffix graph back (x ∷ xs) ys up = up-suffix graph back xs ys up.1
-
-weaker : (graph : CallGraphState) (back xs ys : List ℕ) (f : ℕ) → ((c : ℕ) → has c xs ≡ true → has c ys ≡ true) → CallsOnly graph back xs f → CallsOnly graph back ys f
-weaker graph back xs ys f sub calls =
-    All-weaker (λ s. AllByRecursion (λ c. has c xs ≡ true) (callees graph.tables s.target)) (λ s. AllByRecursion (λ c. has c ys ≡ true) (callees graph.tables s.target))
-    (λ s all. All-weaker (λ c. has c xs ≡ true) (λ c. has c ys ≡ true) sub (callees graph.tables s.target) all) (sites_of graph.sites back f) calls
-
-pub calls-within : (graph : CallGraphState) (back xs : List ℕ) (f : ℕ) → IsBottomUp graph back xs → has f xs ≡ true → CallsOnly graph back xs f
-calls-within graph back [] f up h = true_false false h refl
-calls-within graph back (x ∷ xs) f up h =
-    weaker graph back xs (x ∷ xs) f (λ c. has-tail c x xs)
-    (has-cases f x xs h (λ e. subst (CallsOnly graph back xs) e up.0) (λ rest. calls-within graph back xs f up.1 rest))
-
-pub reverse-more : (order : List ℕ) (i : ℕ) → i < length order → reverse (take (i + 1) order) ≡ get_or order i 0 ∷ reverse (take i order)
-reverse-more order i within = ap reverse (take_more order i 0 within) ∙ reverse-append (take i order) (get_or order i 0 ∷ [])
-
-pub up-front : (graph : CallGraphState) (back order : List ℕ) (i : ℕ) → IsBottomUp graph back (reverse order) → IsBottomUp graph back (reverse (take i order))
-up-front graph back order i up =
-    up-suffix graph back (reverse (drop i order)) (reverse (take i order))
-    (subst (IsBottomUp graph back) (ap reverse (sym (take-append-drop i order)) ∙ reverse-append (take i order) (drop i order)) up)
 
 -- ---- the table of bounds
 
@@ -70,12 +45,6 @@ module _ (graph : CallGraphState) (back : List ℕ) (max_path : ℕ) where
       by_eq c f
       (λ same. let was : has f (reverse (take i order)) ≡ true = rw (← same) h in rw same (bound f was ∙ sym is ∙ sym (get_or-set_same bounds f value 0 below)))
       (λ ne. sym (get_or-set_other bounds f c value 0 ne))
-
-  -- the next function calls only functions that have their bounds
-  pub next-calls : (order : List ℕ) (i : ℕ) → i < length order → IsBottomUp graph back (reverse order) → CallsOnly graph back (reverse (take i order)) (get_or order i 0)
-  next-calls order i within up =
-      let more : IsBottomUp graph back (get_or order i 0 ∷ reverse (take i order)) = subst (IsBottomUp graph back) (reverse-more order i within) (up-front graph back order (i + 1) up) in
-      more.0
 
   -- the bound of the next function is written
   pub AreBound-more : (order bounds : List ℕ) (i value : ℕ) → i < length order → get_or order i 0 < length bounds → IsBottomUp graph back (reverse order) →

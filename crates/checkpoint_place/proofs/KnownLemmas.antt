@@ -1,6 +1,6 @@
 -- What is known of tables stays so while bounds are written.
-use Rattle.checkpoint_place.proofs.Common.{◌≡◌, ℕ, zero, suc, ◌+◌, ◌<◌, Bool, true, Option, List, [], ◌∷◌, length, get_or, take, reverse, filter, ◌∙◌, arith, AllByRecursion, has, by_test, has-tail, AreAmong, AreKnownAmong, IsKnown, All-weaker}
-use Rattle.checkpoint_place.proofs.BoundLemmas.{greatest-agree, reverse-more}
+use Rattle.checkpoint_place.proofs.Common.{◌≡◌, ℕ, zero, suc, ◌+◌, ◌<◌, Bool, true, Option, List, [], ◌∷◌, length, get_or, take, reverse, filter, ◌∙◌, arith, AllByRecursion, has, by_test, has-tail, reverse-more, AreAmong, AreKnownAmong, IsKnown, All-weaker}
+use Rattle.checkpoint_place.proofs.BoundLemmas.{greatest-agree}
 
 -- ---- other bounds that are the same where it matters
 

@@ -6,3 +6,4 @@ pub mod CheckLemmas
 pub mod MadeLemmas
 pub mod KnownLemmas
 pub mod LeastBudgetLemmas
+pub mod CycleLemmas

@@ -18,3 +18,9 @@ pub record IsLeastBudget (code : FlatCode) (certificate : Certificate) (budget :
 abbrev pub IsCycleRefusal : FlatCode → MakeBudgetError → Type 0
 IsCycleRefusal code (Cycle f) = IsLeast (IsOnCycle code) f
 IsCycleRefusal code Memory = ⊤
+
+-- where a cycle is the reason, the program has no budget: a valid certificate links some call of each cycle, and the height
+-- would be lower behind it
+abbrev pub HasNoBudget : FlatCode → Certificate → MakeBudgetError → Type 0
+HasNoBudget code certificate (Cycle f) = (budget : Budget) → IsBudget code certificate budget → ⊥
+HasNoBudget code certificate Memory = ⊤

@@ -1,6 +1,7 @@
 -- The numbers of which the checker takes the least: sites at which a call isn't covered, and first functions of threads
 -- that are too high.
-use Rattle.std.specs.Prelude.{ℕ, ◌+◌, max, Bool, nat_le, nat_lt, if◌then◌else◌, Option, Some, None, List, [], ◌∷◌}
+use Rattle.std.specs.Prelude.{ℕ, ◌+◌, Bool, nat_le, nat_lt, if◌then◌else◌, Option, Some, None, List}
+use Rattle.call_graph.specs.Callees.{greatest}
 use Rattle.flat_code.specs.declared.operations.Op.{Op}
 use Rattle.flat_code.specs.Codes.{FlatCode, members_of}
 use Rattle.stack_certificate.specs.declared.certificates.Certificate.{Certificate}
@@ -10,8 +11,7 @@ use Rattle.chunk_budget.specs.Budgets.{height_of, chunks_added}
 
 -- the greatest height of some functions, or 0 if there are none
 abbrev pub highest : List ℕ → List ℕ → ℕ
-highest heights [] = 0
-highest heights (g ∷ gs) = max (height_of heights g) (highest heights gs)
+highest heights functions = greatest (height_of heights) functions
 
 -- a number, unless the test holds
 abbrev pub unless : Bool → ℕ → Option ℕ

@@ -7,7 +7,7 @@ ghost use Rattle.certificate_rules.specs.Sites.{fact_numbers};
 ghost use Rattle.flat_code.specs.ProgramView.{program_code};
 ghost use Rattle.call_cycles.specs.Cycles.{IsOnCycle};
 ghost use Rattle.call_cycles.specs.Orders.{IsFromBottom, StandsBefore};
-ghost use Rattle.chunk_budget.specs.LeastBudgets.{IsLeastBudget, IsCycleRefusal};
+ghost use Rattle.chunk_budget.specs.LeastBudgets.{IsLeastBudget, IsCycleRefusal, HasNoBudget};
 
 use crate::budgets::{Budget, MakeBudgetError};
 use crate::made::{highest_root, least_heights};
@@ -24,12 +24,13 @@ use std::alloc::{AllocError, Global};
 /// # Errors
 ///
 /// `Cycle` exactly if some function is on a cycle of calls of functions and tables, with the least one, unless memory
-/// runs out; `Memory` if an allocation fails, or if there are more than 2^32 functions or a height is 2^32 or more,
-/// which is impossible for an accepted program.
+/// runs out; such a program has no budget. `Memory` if an allocation fails, or if there are more than 2^32 functions or
+/// a height is 2^32 or more, which is impossible for an accepted program.
 pub fn make_budget(alloc: Global, accepted: &Accepted) -> Result<Budget, MakeBudgetError>
     ensures least { IfOk result (IsLeastBudget (lowered (accepted_tree accepted.now)) accepted.now.certificate) }
     ensures acyclic { IfOk result (λ _. (f : ℕ) → IsOnCycle (lowered (accepted_tree accepted.now)) f → ⊥) }
     ensures refused { IfErr result (IsCycleRefusal (lowered (accepted_tree accepted.now))) }
+    ensures none { IfErr result (HasNoBudget (lowered (accepted_tree accepted.now)) accepted.now.certificate) }
 {
     accepted.is_valid();
     made_of(alloc, accepted.flat(), accepted.certificate())

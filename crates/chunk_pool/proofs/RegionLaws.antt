@@ -1,26 +1,26 @@
 -- How the chunks and the free list lie in a region of words.
 use Rattle.std.proofs.Common.{◌≡◌, ◌≢◌, ℕ, zero, suc, ◌+◌, ◌-◌, ◌<◌, ◌≤◌, List, [], ◌∷◌, length, map, take, drop, get_or, set, replicate, refl, sym, ◌∙◌, ap, subst, inl, inr, arith, All}
 use Rattle.chunk_pool.proofs.Common.{range_with_len, cases_eq, cases_lt, length-set, length-replicate, get_or-take, get_or-drop, get_or-set_same, get_or-set_other, take-set-le, take-replicate, drop-replicate, drop-set-lt, drop-set-add, drop-take, same_lists, All-head, All-tail, length-map-range_with_len, get_or-map-range_with_len, Shape, contents_with, start_chunk, next_in, words_in, start_in, size_in, IsShape}
-use Rattle.chunk_pool.specs.Chunks.{chunk_in, chunks_in, followed}
+use Rattle.chunk_pool.specs.Chunks.{chunk_words, chunks_in, followed}
 use Rattle.chunk_pool.proofs.Shapes.{start-before, start_fits, words_in-some}
 
 -- ---- one chunk
 
 -- a word of a chunk is one of the region
-pub get_or-chunk_in : (s : Shape) (id word d : ℕ) (region : List ℕ) → word < words_in s id → get_or (chunk_in s region id) word d ≡ get_or region (start_in s id + word) d
-get_or-chunk_in s id word d region below = get_or-take (words_in s id) (drop (start_in s id) region) word d below ∙ get_or-drop (start_in s id) region word d
+pub get_or-chunk_words : (s : Shape) (id word d : ℕ) (region : List ℕ) → word < words_in s id → get_or (chunk_words s region id) word d ≡ get_or region (start_in s id + word) d
+get_or-chunk_words s id word d region below = get_or-take (words_in s id) (drop (start_in s id) region) word d below ∙ get_or-drop (start_in s id) region word d
 
 take-set_within : (n : ℕ) (xs : List ℕ) (i x : ℕ) → i < n → take n (set xs i x) ≡ set (take n xs) i x
 take-set_within zero xs i x below = absurd (omega arith)
 take-set_within (suc n) (y ∷ xs) (suc i) x below = ap (λ (l : List ℕ). y ∷ l) (take-set_within n xs i x (omega arith))
 take-set_within (suc n) _ _ x below = refl
 
-pub chunk_in-set_same : (s : Shape) (id word value : ℕ) (region : List ℕ) → word < words_in s id → chunk_in s (set region (start_in s id + word) value) id ≡ set (chunk_in s region id) word value
-chunk_in-set_same s id word value region below =
+pub chunk_words-set_same : (s : Shape) (id word value : ℕ) (region : List ℕ) → word < words_in s id → chunk_words s (set region (start_in s id + word) value) id ≡ set (chunk_words s region id) word value
+chunk_words-set_same s id word value region below =
     ap (take (words_in s id)) (drop-set-add (start_in s id) region word value) ∙ take-set_within (words_in s id) (drop (start_in s id) region) word value below
 
-pub chunk_in-set_other : (s : Shape) (id word value other : ℕ) (region : List ℕ) → word < words_in s id → other ≢ id → chunk_in s (set region (start_in s id + word) value) other ≡ chunk_in s region other
-chunk_in-set_other s id word value other region below apart = elim (cases_lt id other) [
+pub chunk_words-set_other : (s : Shape) (id word value other : ℕ) (region : List ℕ) → word < words_in s id → other ≢ id → chunk_words s (set region (start_in s id + word) value) other ≡ chunk_words s region other
+chunk_words-set_other s id word value other region below apart = elim (cases_lt id other) [
   | inl before ↦
       let first : start_in s id + words_in s id ≤ start_in s other = start-before s id other before in
       ap (take (words_in s other)) (drop-set-lt (start_in s other) region (start_in s id + word) value (omega arith))
@@ -37,15 +37,15 @@ chunk_in-set_other s id word value other region below apart = elim (cases_lt id 
 -- ---- all chunks
 
 pub length-chunks_in : (s : Shape) (region : List ℕ) → length (chunks_in s region) ≡ s.count
-length-chunks_in s region = length-map-range_with_len (chunk_in s region) 0 s.count
+length-chunks_in s region = length-map-range_with_len (chunk_words s region) 0 s.count
 
-pub get_or-chunks_in : (s : Shape) (id : ℕ) (region d : List ℕ) → id < s.count → get_or (chunks_in s region) id d ≡ chunk_in s region id
-get_or-chunks_in s id region d within = get_or-map-range_with_len (chunk_in s region) 0 s.count id id d within (omega arith)
+pub get_or-chunks_in : (s : Shape) (id : ℕ) (region d : List ℕ) → id < s.count → get_or (chunks_in s region) id d ≡ chunk_words s region id
+get_or-chunks_in s id region d within = get_or-map-range_with_len (chunk_words s region) 0 s.count id id d within (omega arith)
 
 -- a word of the contents is one of the region
 pub word_in_region : (s : Shape) (id word : ℕ) (region : List ℕ) → id < s.count → word < words_in s id → get_or (get_or (chunks_in s region) id []) word 0 ≡ get_or region (start_in s id + word) 0
 word_in_region s id word region within below =
-    ap (λ (chunk : List ℕ). get_or chunk word 0) (get_or-chunks_in s id region [] within) ∙ get_or-chunk_in s id word 0 region below
+    ap (λ (chunk : List ℕ). get_or chunk word 0) (get_or-chunks_in s id region [] within) ∙ get_or-chunk_words s id word 0 region below
 
 -- a word that is written is written in the contents
 pub chunks_in-set : (s : Shape) (id word value : ℕ) (region : List ℕ) → id < s.count → word < words_in s id → chunks_in s (set region (start_in s id + word) value) ≡ contents_with (chunks_in s region) id word value
@@ -61,13 +61,13 @@ chunks_in-set s id word value region within below =
     get_or-chunks_in s k new d k_within
     ∙ elim (cases_eq k id) [
       | inl same ↦
-          let own : chunk_in s new id ≡ get_or (set old id chunk) id d =
-          chunk_in-set_same s id word value region below
+          let own : chunk_words s new id ≡ get_or (set old id chunk) id d =
+          chunk_words-set_same s id word value region below
           ∙ ap (λ (c : List ℕ). set c word value) (sym (get_or-chunks_in s id region [] within))
           ∙ sym (get_or-set_same old id chunk d id_in) in
-          subst (λ (k : ℕ). chunk_in s new k ≡ get_or (set old id chunk) k d) (sym same) own
+          subst (λ (k : ℕ). chunk_words s new k ≡ get_or (set old id chunk) k d) (sym same) own
       | inr apart ↦
-          chunk_in-set_other s id word value k region below apart
+          chunk_words-set_other s id word value k region below apart
           ∙ sym (get_or-chunks_in s k region d k_within)
           ∙ sym (get_or-set_other old id k chunk d apart)
     ])
@@ -114,8 +114,8 @@ followed-range s region first _ end ends next = refl
 -- the chunks of a region whose first words are linked up to this number, and whose other words are 0
 pub record IsLinkedTo (s : Shape) (linked : ℕ) (region : List ℕ) : Type 0 where
   pub size : length region ≡ size_in s
-  pub before : (id : ℕ) → id < linked → chunk_in s region id ≡ start_chunk s id
-  pub after : (id : ℕ) → linked ≤ id → id < s.count → chunk_in s region id ≡ replicate (words_in s id) 0
+  pub before : (id : ℕ) → id < linked → chunk_words s region id ≡ start_chunk s id
+  pub after : (id : ℕ) → linked ≤ id → id < s.count → chunk_words s region id ≡ replicate (words_in s id) 0
 
 pub linked_none : (s : Shape) (region : List ℕ) → IsShape s → region ≡ replicate (size_in s) 0 → IsLinkedTo s 0 region
 linked_none s region sound zeros = record {
@@ -140,14 +140,14 @@ linked_more s id region sound within so_far =
     subst (λ (at : ℕ). P (set region at (next_in s id))) (sym first) (record {
       size = length-set region (start_in s id + 0) (next_in s id) ∙ so_far.size;
       before = λ other below. elim (cases_eq other id) [
-        | inl same ↦ subst (λ (k : ℕ). chunk_in s (set region (start_in s id + 0) (next_in s id)) k ≡ start_chunk s k) (sym same)
-            (chunk_in-set_same s id 0 (next_in s id) region (omega arith)
+        | inl same ↦ subst (λ (k : ℕ). chunk_words s (set region (start_in s id + 0) (next_in s id)) k ≡ start_chunk s k) (sym same)
+            (chunk_words-set_same s id 0 (next_in s id) region (omega arith)
             ∙ ap (λ (c : List ℕ). set c 0 (next_in s id)) (so_far.after id (omega arith) within) ∙ zeros-set (words_in s id) (next_in s id) some)
-        | inr apart ↦ chunk_in-set_other s id 0 (next_in s id) other region (omega arith) apart ∙ so_far.before other (omega (arith, apart))
+        | inr apart ↦ chunk_words-set_other s id 0 (next_in s id) other region (omega arith) apart ∙ so_far.before other (omega (arith, apart))
       ];
       after = λ other from other_in.
           let apart : other ≢ id = omega arith in
-          chunk_in-set_other s id 0 (next_in s id) other region (omega arith) apart ∙ so_far.after other (omega arith) other_in;
+          chunk_words-set_other s id 0 (next_in s id) other region (omega arith) apart ∙ so_far.after other (omega arith) other_in;
     })
 
 pub linked_all : (s : Shape) (region : List ℕ) → IsLinkedTo s s.count region → chunks_in s region ≡ map (start_chunk s) (range_with_len 0 s.count)

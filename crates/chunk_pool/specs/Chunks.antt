@@ -7,12 +7,12 @@ use Rattle.chunk_pool.specs.declared.shape.Shape.{Shape}
 use Rattle.chunk_pool.specs.Pool.{Pool, first_or, words_in, start_in, size_in, IsPool}
 
 -- the words of a chunk in a region
-abbrev pub chunk_in : Shape → List ℕ → ℕ → List ℕ
-chunk_in shape region id = take (words_in shape id) (drop (start_in shape id) region)
+abbrev pub chunk_words : Shape → List ℕ → ℕ → List ℕ
+chunk_words shape region id = take (words_in shape id) (drop (start_in shape id) region)
 
 -- the chunks of a region
 abbrev pub chunks_in : Shape → List ℕ → List (List ℕ)
-chunks_in shape region = map (chunk_in shape region) (range_with_len 0 shape.count)
+chunks_in shape region = map (chunk_words shape region) (range_with_len 0 shape.count)
 
 -- a number of chunk numbers from the first on, each the first word of the chunk before it
 abbrev pub followed : Shape → List ℕ → ℕ → ℕ → List ℕ

@@ -67,7 +67,9 @@ pub(crate) fn allocate<A: Allocator>(
     }
 }
 
-/// Deallocates the block, all words of which are written.
+/// Deallocates the block, all words of which are written. It takes the owner of its words and the right to deallocate
+/// it, so that no block is deallocated twice, or used afterwards. That it is deallocated is no clause: a contract can't
+/// tell what an allocator does with a block that it gets back.
 pub(crate) fn deallocate<A: Allocator>(
     alloc: &A,
     start: Start,

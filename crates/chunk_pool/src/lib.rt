@@ -10,9 +10,9 @@
 //
 // Contracts see a pool as the record `Pool` of specs/Pool.antt: counts, words per chunk of each size, contents, and the
 // two free lists. The crates above use the definitions in that file, among them which chunk a need takes (`taken_for`),
-// the clauses of `ChunkPool`'s calls, `need_laws` and `place_laws`. There four definitions stay closed, and only the
-// laws describe them: the number of words of a chunk, its address, the chunk of an address, and what a need takes. A
-// law has no effect at run time: its contract is the theorem.
+// the clauses of `ChunkPool`'s calls, `need_laws` and `place_laws`. There five definitions stay closed, and only the
+// laws describe them: the number of words of a chunk, that of the words before it, the size of a chunk of the first
+// size, the chunk of an address, and what a need takes. A law has no effect at run time: its contract is the theorem.
 #![tactic(auto)]
 
 mod block;

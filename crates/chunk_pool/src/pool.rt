@@ -42,6 +42,10 @@ impl ChunkPool {
     /// Returns a pool of `count` chunks of `bytes` bytes each, followed by `extra` chunks of `extra_bytes` bytes each.
     /// All are free, in the order of their numbers. All words are 0 except the first word of each chunk, which links
     /// its free list.
+    ///
+    /// # Errors
+    ///
+    /// `AllocError` if an allocation fails.
     pub fn new(
         alloc: Global,
         count: u32,

@@ -61,6 +61,7 @@ pub(crate) fn link_of(flat: &FlatProgram, plan: &Plan, needs: &[u32], op: &Op) -
     requires names { NamesThere (program_code flat.now) op.now }
     ensures { result ≡ link (program_code flat.now) plan.now op.now }
 {
+    // For the prover alone: it reads the program, whose invariant is known from then on.
     let _tables = flat.tables();
     let bounds = plan.bounds.as_slice();
     match op {

@@ -7,12 +7,11 @@ use Rattle.c_tree.specs.Trees.{ProgramTree}
 use Rattle.choice_rules.specs.Policy.{by_graph}
 use Rattle.command_words.specs.declared.options.Audit.{Audit as AuditOptions}
 use Rattle.lawful_reading.specs.Given.{Given}
-use Rattle.lawful_reading.proofs.Found.{some_verdict}
-use Rattle.lawful_reading.specs.declared.judgement.Verdict.{Verdict}
+use Rattle.lawful_reading.proofs.Found.{some_judgement}
+use Rattle.lawful_reading.specs.declared.judgement.Judgement.{Judgement}
 use Rattle.resource_monitor.specs.Monitor.{MonitorState}
-use Rattle.schedule_audit.specs.Judging as audit
-use Rattle.schedule_reading.specs.Rulings.{CountsReads}
-use Rattle.schedule_reading.specs.declared.rulings.Failure.{Failure}
+use Rattle.schedule_audit.specs.Verdicts.{CountsVerdict, IsVerdict}
+use Rattle.schedule_audit.specs.declared.verdicts.Verdict.{Verdict}
 use Rattle.schedule_reading.specs.Limits.{MayAudit, given_of}
 use Rattle.command_outcomes.specs.declared.documents.Document.TheVariants as document
 use Rattle.command_outcomes.specs.declared.stops.Stop.{Stop}
@@ -70,19 +69,21 @@ given-is program options monitor is = λ i. record {
 
 -- ---- what it says
 
-pub judged : (g : Given) (left : Option (List ℕ)) (log : List ℕ) (old new : ℕ) (answer : Result Verdict Failure) → audit.IsJudged g left log answer
-    → CountsReads answer old new → IsJudged g left log old new (judged_as answer)
-judged g left log old new (Ok verdict) is counts = (is, counts)
-judged g left log old new (Err Failure.Read) is counts = counts
-judged g left log old new (Err Failure.Memory) is counts = tt
+pub judged : (g : Given) (left : Option (List ℕ)) (log : List ℕ) (old new : ℕ) (verdict : Verdict) → IsVerdict g left log verdict
+    → CountsVerdict verdict old new → IsJudged g left log old new (judged_as verdict)
+judged g left log old new Verdict.Lawful is counts = (is, counts)
+judged g left log old new (Verdict.Unlawful line) is counts = (is, counts)
+judged g left log old new (Verdict.Steps line) is counts = (is, counts)
+judged g left log old new Verdict.ReadFault is counts = counts
+judged g left log old new Verdict.Memory is counts = counts
 
 -- ---- how the command ends
 
 -- what is due of a log that is judged reads the trace, and is no run
 pub reads-no-run : (trace : Option (List ℕ)) (options : AuditOptions) (log : List ℕ) (program : ProgramTree) →
     ((outcome : Outcome) → AuditsProgram trace options log program outcome → outcome.reads_trace ≡ true → outcome.last ≢ None) → ⊥
-reads-no-run None options log program all = all (judged_outcome Verdict.Lawful) (Verdict.Lawful, tt, refl) refl refl
-reads-no-run (Some bytes) options log program all = let said = some_verdict (reading_of program options) bytes log in all (judged_outcome said.0)
+reads-no-run None options log program all = all (judged_outcome Judgement.Lawful) (Judgement.Lawful, tt, refl) refl refl
+reads-no-run (Some bytes) options log program all = let said = some_judgement (reading_of program options) bytes log in all (judged_outcome said.0)
     (said.0, said.1, refl) refl refl
 
 abbrev outside : Option Files → ℕ → ℕ → Option (List ℕ) → ℕ → Option (List ℕ) → ℕ → Outside
@@ -97,7 +98,7 @@ module _ (options : AuditOptions) (log : List ℕ) (program : ProgramTree) (left
       (outside files' loads' stores' left' reads' taken writes) fault (reads-no-run left options log program) keeps (Keeps-refl taken) same again refl h
   unjudged taken writes (Refused cause) h = absurd h
 
-  pub judgement-told : (taken taken' : Option (List ℕ)) (writes writes' : ℕ) (is : Verdict) (answer : Result ℕ Stop) →
+  pub judgement-told : (taken taken' : Option (List ℕ)) (writes writes' : ℕ) (is : Judgement) (answer : Result ℕ Stop) →
       IsJudged (reading_of program options) left log reads reads' (Ok is) →
       IsPrinted (judgement_status is) (judgement_line is) taken taken' writes writes' answer →
       RunEnds IsStatus (AuditsProgram left options log program) left left' reads reads' taken taken' writes writes' answer

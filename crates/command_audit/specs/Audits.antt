@@ -6,11 +6,11 @@ use Rattle.c_tree.specs.Trees.{ProgramTree}
 use Rattle.choice_rules.specs.Policy.{Policy, by_graph}
 use Rattle.command_words.specs.declared.options.Audit.{Audit as AuditOptions}
 use Rattle.lawful_reading.specs.Given.{Given}
-use Rattle.lawful_reading.specs.Verdicts.{IsVerdictOf}
-use Rattle.lawful_reading.specs.declared.judgement.Verdict.{Verdict}
+use Rattle.lawful_reading.specs.Judgements.{IsJudgementOf}
+use Rattle.lawful_reading.specs.declared.judgement.Judgement.{Judgement}
 use Rattle.resource_monitor.specs.declared.curves.Curve.TheVariants.{Knee}
 use Rattle.schedule_reading.specs.declared.policy.AuditPolicy.{AuditPolicy}
-use Rattle.schedule_reading.specs.declared.rulings.Failure.{Failure}
+use Rattle.schedule_audit.specs.declared.verdicts.Verdict.{Verdict}
 use Rattle.command_outcomes.specs.declared.documents.Document.TheVariants as document
 use Rattle.command_outcomes.specs.declared.faults.Fault.TheVariants.{Read, Memory}
 use Rattle.command_outcomes.specs.declared.stops.Stop.{Stop}
@@ -40,21 +40,21 @@ reading_policy options = record {
 abbrev pub reading_of : ProgramTree → AuditOptions → Given
 reading_of program options = record { program = program; policy = reading_policy options; most_steps = options.steps }
 
--- ---- verdicts
+-- ---- judgements
 
--- the status and the line of a verdict on a log
-abbrev pub judgement_status : Verdict → ℕ
-judgement_status Verdict.Lawful = 0
-judgement_status (Verdict.Unlawful line) = 15
-judgement_status (Verdict.Steps line) = 16
+-- the status and the line of a judgement on a log
+abbrev pub judgement_status : Judgement → ℕ
+judgement_status Judgement.Lawful = 0
+judgement_status (Judgement.Unlawful line) = 15
+judgement_status (Judgement.Steps line) = 16
 
-abbrev pub judgement_line : Verdict → List ℕ
-judgement_line Verdict.Lawful = codes "lawful" ++ 10 ∷ []
-judgement_line (Verdict.Unlawful line) = (codes "unlawful " ++ canonical_decimal line) ++ 10 ∷ []
-judgement_line (Verdict.Steps line) = (codes "steps " ++ canonical_decimal line) ++ 10 ∷ []
+abbrev pub judgement_line : Judgement → List ℕ
+judgement_line Judgement.Lawful = codes "lawful" ++ 10 ∷ []
+judgement_line (Judgement.Unlawful line) = (codes "unlawful " ++ canonical_decimal line) ++ 10 ∷ []
+judgement_line (Judgement.Steps line) = (codes "steps " ++ canonical_decimal line) ++ 10 ∷ []
 
 -- the outcome: the line for the output, and no run
-abbrev pub judged_outcome : Verdict → Outcome
+abbrev pub judged_outcome : Judgement → Outcome
 judged_outcome is = record {
   status = judgement_status is;
   out = judgement_line is;
@@ -69,7 +69,7 @@ judged_outcome is = record {
 -- what is due for a program and a log, and for the bytes of a source and a log
 abbrev pub AuditsProgram : Option (List ℕ) → AuditOptions → (log : List ℕ) → ProgramTree → Outcome → Type 0
 AuditsProgram trace options log program outcome =
-    (is : Verdict) × IsVerdictOf (reading_of program options) trace log is × (outcome ≡ judged_outcome is)
+    (is : Judgement) × IsJudgementOf (reading_of program options) trace log is × (outcome ≡ judged_outcome is)
 
 abbrev pub AuditsBytes : Option (List ℕ) → AuditOptions → (source log : List ℕ) → Outcome → Type 0
 AuditsBytes trace options source log = AfterSource source (AuditsProgram trace options log)
@@ -91,19 +91,21 @@ audit_limits options = record {
   steps = options.steps;
 }
 
--- the command's answer, from that of an audit
-abbrev pub judged_as : Result Verdict Failure → Result Verdict Stop
-judged_as (Ok verdict) = Ok verdict
-judged_as (Err Failure.Read) = Err (Failed Read)
-judged_as (Err Failure.Memory) = Err (Failed Memory)
+-- the judgement on the log, from the answer of an audit
+abbrev pub judged_as : Verdict → Result Judgement Stop
+judged_as Verdict.Lawful = Ok Judgement.Lawful
+judged_as (Verdict.Unlawful line) = Ok (Judgement.Unlawful line)
+judged_as (Verdict.Steps line) = Ok (Judgement.Steps line)
+judged_as Verdict.ReadFault = Err (Failed Read)
+judged_as Verdict.Memory = Err (Failed Memory)
 
 -- a log was judged, and no read failed; or a read failed, or memory ran out
-abbrev pub IsJudged : Given → Option (List ℕ) → (log : List ℕ) → (reads reads' : ℕ) → Result Verdict Stop → Type 0
-IsJudged g trace log reads reads' (Ok is) = IsVerdictOf g trace log is × (reads' ≡ reads)
+abbrev pub IsJudged : Given → Option (List ℕ) → (log : List ℕ) → (reads reads' : ℕ) → Result Judgement Stop → Type 0
+IsJudged g trace log reads reads' (Ok is) = IsJudgementOf g trace log is × (reads' ≡ reads)
 IsJudged g trace log reads reads' (Err (Failed fault)) = IsReadStop fault reads reads'
 IsJudged g trace log reads reads' (Err (Refused cause)) = ⊥
 
--- the verdict on this log of this program is what is due
+-- the judgement on this log of this program is what is due
 abbrev pub LeadsToAudit : Option Files → (source_name log_name log : List ℕ) → ProgramTree → Type 0
 LeadsToAudit files source_name log_name log program =
     (trace : Option (List ℕ)) (options : AuditOptions) (outcome : Outcome) → AuditsProgram trace options log program outcome

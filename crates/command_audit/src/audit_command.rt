@@ -10,18 +10,28 @@ ghost use Rattle.resource_monitor.specs.declared.curves.Curve.TheVariants.{Knee}
 ghost use Rattle.command_options.specs.Options.{AreAuditOptions};
 ghost use Rattle.command_audit.specs.Audits.{Audits, AuditsProgram, IsJudged, LeadsToAudit, audit_limits, judged_as, judgement_line, judgement_status, reading_of};
 
-use crate::verdicts::{line_of, status_of};
+use crate::judgements::{line_of, status_of};
 use c_tree::Program;
 use cap_io::{Shelf, Sink, Source};
 use command_files::{load, read_source};
 use command_options::monitor_of;
 use command_outcomes::{Document, Fault, Stop, print};
 use command_words::Audit;
+use lawful_reading::Judgement;
 use resource_monitor::{Measure, past_knee};
-use schedule_audit::{AuditPolicy, Failure, Verdict, audit};
+use schedule_audit::{AuditPolicy, Verdict, audit};
 use std::alloc::{AllocError, Global};
 
-/// Does the command `audit`.
+/// Does the command `audit`: judges a log of a source on the trace, and writes the line of the judgement to `out`.
+/// Returns the judgement's status: 0 if the log is lawful, 15 if it is unlawful, 16 if it needs too many steps.
+///
+/// The options are in their ranges.
+///
+/// # Errors
+///
+/// `Refused` if a file is absent or too long, or the source is no program. `Failed` with `Read` only if a load or a
+/// read of the trace failed, and nothing was written then; with `Write` only if a write failed; with `Memory` if an
+/// allocation fails.
 pub fn do_audit<F: Shelf, S: Source, K: Sink>(
     alloc: Global,
     shelf: &mut F,
@@ -81,7 +91,7 @@ fn load_log<F: Shelf>(
     Ok(LoadedLog { program, log })
 }
 
-/// Judges a log of a program, and writes the line with the verdict.
+/// Judges a log of a program, and writes the line with the judgement.
 fn tell_judgement<S: Source, K: Sink>(
     alloc: Global,
     trace: &mut S,
@@ -96,17 +106,17 @@ fn tell_judgement<S: Source, K: Sink>(
         (S.left trace.old) (S.left trace.new) (S.faults trace.old) (S.faults trace.new)
         (K.taken out.old) (K.taken out.new) (K.faults out.old) (K.faults out.new) result }
 {
-    let verdict = audit_program(alloc, trace, program, log, options)?;
-    print_judgement(alloc, out, verdict)
+    let judgement = audit_program(alloc, trace, program, log, options)?;
+    print_judgement(alloc, out, judgement)
 }
 
-/// Writes the line with the verdict on a log.
-fn print_judgement<K: Sink>(alloc: Global, out: &mut K, verdict: Verdict) -> Result<u8, Stop>
-    ensures { IsPrinted (judgement_status verdict) (judgement_line verdict) (K.taken out.old)
+/// Writes the line with the judgement on a log.
+fn print_judgement<K: Sink>(alloc: Global, out: &mut K, judgement: Judgement) -> Result<u8, Stop>
+    ensures { IsPrinted (judgement_status judgement) (judgement_line judgement) (K.taken out.old)
         (K.taken out.new) (K.faults out.old) (K.faults out.new) result }
 {
-    match line_of(alloc, verdict) {
-        Ok(line) => print(out, line.as_slice(), status_of(verdict)),
+    match line_of(alloc, judgement) {
+        Ok(line) => print(out, line.as_slice(), status_of(judgement)),
         Err(AllocError) => Err(Stop::Failed(Fault::Memory)),
     }
 }
@@ -118,7 +128,7 @@ fn audit_program<S: Source>(
     program: &Program,
     log: &[u8],
     options: Audit,
-) -> Result<Verdict, Stop>
+) -> Result<Judgement, Stop>
     requires { AreAuditOptions options }
     ensures { IsJudged (reading_of (program_tree program.now) options) (S.left trace.old) log.now
         (S.faults trace.old) (S.faults trace.new) result }
@@ -139,7 +149,7 @@ fn audit_measured<S: Source, C: Measure + Copy + Drop>(
     log: &[u8],
     options: Audit,
     call: C,
-) -> Result<Verdict, Stop>
+) -> Result<Judgement, Stop>
     requires curve { AnswersCurve (C.can_measure call) (C.measure_gives call) (Knee options.policy.knee) }
     requires range { AreAuditOptions options }
     ensures { IsJudged (reading_of (program_tree program.now) options) (S.left trace.old) log.now
@@ -151,14 +161,16 @@ fn audit_measured<S: Source, C: Measure + Copy + Drop>(
     }
 }
 
-/// Returns the verdict, or the stop of the command if the audit failed.
-fn judgement_of(answer: Result<Verdict, Failure>) -> Result<Verdict, Stop>
-    ensures { result ≡ judged_as answer }
+/// Returns the judgement on the log, or the stop of the command if the audit failed.
+fn judgement_of(verdict: Verdict) -> Result<Judgement, Stop>
+    ensures { result ≡ judged_as verdict }
 {
-    match answer {
-        Ok(verdict) => Ok(verdict),
-        Err(Failure::Read) => Err(Stop::Failed(Fault::Read)),
-        Err(Failure::Memory) => Err(Stop::Failed(Fault::Memory)),
+    match verdict {
+        Verdict::Lawful => Ok(Judgement::Lawful),
+        Verdict::Unlawful { line } => Ok(Judgement::Unlawful { line }),
+        Verdict::Steps { line } => Ok(Judgement::Steps { line }),
+        Verdict::ReadFault => Err(Stop::Failed(Fault::Read)),
+        Verdict::Memory => Err(Stop::Failed(Fault::Memory)),
     }
 }
 

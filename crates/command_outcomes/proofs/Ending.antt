@@ -71,7 +71,7 @@ stopped hands_on due before after (Failed Read) files stores left reads taken wr
     inl (inl (record { files = files; trace = left; out = taken }, record { loads = h; stores = stores; reads = reads; writes = writes }))
 stopped hands_on due before after (Failed Write) files stores left reads taken writes h = absurd h
 stopped hands_on due before after (Failed Memory) files stores left reads taken writes h =
-    inl (inl (record { files = files; trace = left; out = taken }), record { loads = h; stores = stores; reads = reads; writes = writes })
+    (inl (record { files = files; trace = left; out = taken }), record { loads = h; stores = stores; reads = reads; writes = writes })
 
 -- a step that stops after the trace was read, before anything is printed
 pub stopped-reading : {T : Type 0} (hands_on : Outcome → T → Type 0) (due : Outcome → Type 0) (before after : Outside) (fault : Fault) → (((outcome : Outcome) → due outcome → outcome.reads_trace ≡ true → outcome.last ≢ None) → ⊥) → KeepsFiles before.files after.files → Keeps before.taken after.taken →
@@ -80,7 +80,7 @@ stopped-reading hands_on due before after Read reads files taken loads stores wr
     inl (inr (record { reads = reads; files = files; out = taken }, record { loads = loads; stores = stores; reads = h; writes = writes }))
 stopped-reading hands_on due before after Write reads files taken loads stores writes h = absurd h
 stopped-reading hands_on due before after Memory reads files taken loads stores writes h =
-    inr (record { reads = reads; files = files; out = taken }, record { loads = loads; stores = stores; writes = writes })
+    (inr (inl (record { reads = reads; files = files; out = taken })), record { loads = loads; stores = stores; reads = h; writes = writes })
 
 -- the stores of an outcome are made, and its text is printed
 pub printed-ends : (due : Outcome → Type 0) (before after : Outside) (o : Outcome) (r : Result ℕ Stop) → due o → o.line ≡ [] → o.last ≡ None → IsTraceLeft o.reads_trace before.left after.left → WhereTold (AreStored o.stores) before.files after.files → after.loads ≡ before.loads → after.stores ≡ before.stores → after.reads ≡ before.reads →
@@ -90,7 +90,7 @@ printed-ends due before after o (Ok given) is line none trace files loads stores
 printed-ends due before after o (Err (Failed Write)) is line none trace files loads stores reads h =
     (o, is, inr (record { files = files; trace = trace; out = h.0 }, record { loads = loads; stores = stores; reads = reads; writes = h.1 }))
 printed-ends due before after o (Err (Failed Memory)) is line none trace files loads stores reads h =
-    inl (inr (o, is, inr (record { files = files; trace = trace; out = h.0 })), record { loads = loads; stores = stores; reads = reads; writes = h.1 })
+    (inr (inr (o, is, inr (record { files = files; trace = trace; out = h.0 }))), record { loads = loads; stores = stores; reads = reads; writes = h.1 })
 printed-ends due before after o (Err _) is line none trace files loads stores reads h = absurd h
 
 -- a store of an outcome was cut short
@@ -99,7 +99,7 @@ pub stores-cut : (due : Outcome → Type 0) (before after : Outside) (o : Outcom
 stores-cut due before after o (Failed Write) is some left taken loads reads writes h =
     (o, is, inl (record { some = some; files = h.0; trace = left; out = taken }, record { loads = loads; stores = h.1; reads = reads; writes = writes }))
 stores-cut due before after o (Failed Memory) is some left taken loads reads writes h =
-    inl (inr (o, is, inl (record { some = some; files = h.0; trace = left; out = taken })), record { loads = loads; stores = h.1; reads = reads; writes = writes })
+    (inr (inr (o, is, inl (record { some = some; files = h.0; trace = left; out = taken }))), record { loads = loads; stores = h.1; reads = reads; writes = writes })
 stores-cut due before after o _ is some left taken loads reads writes h = absurd h
 
 pub printed-now : (due : Outcome → Type 0) (before after : Outside) (status : ℕ) (text : List ℕ) (r : Result ℕ Stop) → due (printed status text) → KeepsFiles before.files after.files → Keeps before.left after.left → after.loads ≡ before.loads → after.stores ≡ before.stores → after.reads ≡ before.reads →
@@ -135,7 +135,7 @@ done-follows P Q before after (Ok o) step h = (step o h.0, h.1, h.2)
 done-follows P Q before after (Err Read) step h = ⊎_elim (λ x. inl (⊎_elim (λ y. inl y) (λ y. inr (read-follows P Q before after step y.0, y.1)) x)) (λ x. inr (x.0, x.1, step x.0 x.2, x.3, x.4)) h
 done-follows P Q before after (Err Write) step h = (h.0, step h.0 h.1, h.2)
 done-follows P Q before after (Err Memory) step h =
-    ⊎_elim (λ x. inl (⊎_elim (λ y. inl y) (λ y. inr (y.0, step y.0 y.1, y.2)) x.0, x.1)) (λ x. inr (read-follows P Q before after step x.0, x.1)) h
+    (⊎_elim (λ x. inl x) (λ x. inr (⊎_elim (λ y. inl (read-follows P Q before after step y)) (λ y. inr (y.0, step y.0 y.1, y.2)) x)) h.0, h.1)
 
 pub ends-follow : {T : Type 0} (hands_on : Outcome → T → Type 0) (P Q : Outcome → Type 0) (before after : Outside) (r : Result T Stop) → ((o : Outcome) → P o → Q o) → EndsAs hands_on P before after r → EndsAs hands_on Q before after r
 ends-follow hands_on P Q before after (Ok given) step h = (h.0, done-follows P Q before after (Ok h.0) step h.1, h.2)

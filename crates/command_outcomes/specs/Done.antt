@@ -104,12 +104,6 @@ pub record ReadCounted (before after : Outside) : Type 0 where
   pub reads : Rose before.reads after.reads
   pub writes : after.writes ≡ before.writes
 
--- no count rose, except possibly that of the trace
-pub record NoneElseCounted (before after : Outside) : Type 0 where
-  pub loads : after.loads ≡ before.loads
-  pub stores : after.stores ≡ before.stores
-  pub writes : after.writes ≡ before.writes
-
 -- no count rose or is at its maximum
 pub record NoFault (before after : Outside) : Type 0 where
   pub loads : Stayed before.loads after.loads
@@ -166,9 +160,9 @@ IsDone due before after (Err Write) =
     (outcome : Outcome) × due outcome
     × ((IsCutInStores outcome before after × StoreCounted before after) ⊎ (IsCutInOut outcome before after × WriteCounted before after))
 IsDone due before after (Err Memory) =
-    ((IsNothing before after ⊎ ((outcome : Outcome) × due outcome × (IsCutInStores outcome before after ⊎ IsCutInOut outcome before after)))
-    × NoneCounted before after)
-    ⊎ (IsOnlyRead due before after × NoneElseCounted before after)
+    (IsNothing before after ⊎ (IsOnlyRead due before after
+    ⊎ ((outcome : Outcome) × due outcome × (IsCutInStores outcome before after ⊎ IsCutInOut outcome before after))))
+    × NoneCounted before after
 
 -- The status and standard error.
 

@@ -30,7 +30,7 @@ IsShelfStop due loads loads' (Failed Write) = ⊥
 -- a step over a trace stops with this fault, given its count of faults before and after
 abbrev pub IsReadStop : Fault → (reads reads' : ℕ) → Type 0
 IsReadStop Read reads reads' = Rose reads reads'
-IsReadStop Memory reads reads' = Unit {0}
+IsReadStop Memory reads reads' = reads' ≡ reads
 IsReadStop Write reads reads' = ⊥
 
 -- a text was printed, and the status belongs to it; or the text is cut short

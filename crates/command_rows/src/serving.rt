@@ -42,8 +42,16 @@ const WAITING: &[u8] = b"int main() { int x; x = waitfor(0, 50); put(x); return 
 const LOG_OF_SILENCE: &[u8] =
     b"run 0 0 0\nblock 0 2 0 15 1023\nrun 65 0 2\nout 0 0\nend 0 15 1024\nedge 0 2 1 3840 0\nedge 2 1 1 3840 -256\nstop done\n";
 
-const RUNS_TO_THE_END: [Row<'static>; 20] = [
+const RUNS_TO_THE_END: [Row<'static>; 21] = [
     (SERVE, PUT_SEVEN, NONE, 0, LOG_OF_SEVEN, NONE),
+    (
+        SERVE,
+        b"int main() { return 0; }",
+        NONE,
+        0,
+        b"run 0 0 0\nend 0 11 1024\nedge 0 1 1 2816 -256\nstop done\n",
+        NONE,
+    ),
     (
         SERVE,
         b"int main() { put(self() + 1); return 0; }",

@@ -1,5 +1,6 @@
 // The commands of the program.
 use crate::options::{Audit, Placement, Policy};
+use thiserror::Error;
 
 /// A command with the names of its files and its options.
 #[derive(Clone, Copy)]
@@ -54,10 +55,12 @@ pub enum Command<'a> {
 }
 
 /// Why no command is returned.
-#[derive(Clone, Copy)]
+#[derive(Clone, Copy, Debug, Error)]
 pub enum WordsError {
     /// The words aren't a word list.
+    #[error("the arguments are not those of a command")]
     NotWords,
     /// Out of memory.
+    #[error("out of memory")]
     Memory,
 }

@@ -1,5 +1,6 @@
 mod Common
 pub mod BottomUpLemmas
+pub mod BottomUpOrders
 pub mod FinishLemmas
 pub mod NumberLemmas
 pub mod OrderLemmas

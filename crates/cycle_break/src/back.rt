@@ -28,7 +28,10 @@ fn greatest_of_target(
     }
 }
 
-/// Returns the numbers of the sites one of whose callees has no lower rank than the caller.
+/// Returns the numbers of the sites one of whose callees has no lower rank than the caller. The rank of a function is
+/// its place in the order in which the walk leaves functions. At a site, the walk has left each callee that isn't on
+/// its path, or descends into it, and so leaves it before the caller. It leaves the caller before each other function on
+/// the path. So a callee has no lower rank than the caller exactly if it is on the path.
 fn later_sites(
     alloc: Global,
     sites: &[GraphSite],

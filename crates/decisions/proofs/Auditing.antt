@@ -1,14 +1,14 @@
 -- `audit`: an outcome is due.
-use Rattle.decisions.proofs.Common.{ℕ, refl, List, length, Option, Some, None, inl, inr, cases_lt, Files, ProgramTree, Audit, IsWordList, Document, most_bytes, refusal, Outside, AfterLoad, OfFile, Outcome, Audits, AuditsBytes, AuditsProgram, judged_outcome, reading_of, IsDue, Verdict}
+use Rattle.decisions.proofs.Common.{ℕ, refl, List, length, Option, Some, None, inl, inr, cases_lt, Files, ProgramTree, Audit, IsWordList, Document, most_bytes, refusal, Outside, AfterLoad, OfFile, Outcome, Audits, AuditsBytes, AuditsProgram, judged_outcome, reading_of, IsDue, Judgement}
 use Rattle.command_words.specs.declared.options.Audit.{Audit as AuditOptions}
 use Rattle.command_outcomes.specs.declared.documents.Document.TheVariants as document
 use Rattle.command_outcomes.specs.declared.stops.Cause.TheVariants as cause
-use Rattle.lawful_reading.proofs.Found.{some_verdict}
+use Rattle.lawful_reading.proofs.Found.{some_judgement}
 use Rattle.decisions.proofs.Loading.{Some_due, source_due}
 
 judged_some : (trace : Option (List ℕ)) (options : AuditOptions) (log : List ℕ) (program : ProgramTree) → Some_due (AuditsProgram trace options log program)
-judged_some None options log program = (judged_outcome Verdict.Lawful, (Verdict.Lawful, tt, refl))
-judged_some (Some bytes) options log program = let said = some_verdict (reading_of program options) bytes log in (judged_outcome said.0, (said.0, said.1, refl))
+judged_some None options log program = (judged_outcome Judgement.Lawful, (Judgement.Lawful, tt, refl))
+judged_some (Some bytes) options log program = let said = some_judgement (reading_of program options) bytes log in (judged_outcome said.0, (said.0, said.1, refl))
 
 of_some : (which : Document) (file : Option (List ℕ)) (next : List ℕ → Outcome → Type 0) → ((bytes : List ℕ) → Some_due (next bytes)) → Some_due (OfFile which file next)
 of_some which None next after = (refusal (cause.Absent which), refl)

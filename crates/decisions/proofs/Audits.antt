@@ -1,14 +1,14 @@
 -- `audit` writes what is said of a log, and ends with the status that goes with it.
-use Rattle.decisions.proofs.Common.{ℕ, List, Option, Some, ap, subst, ◌∙◌, Appends, Files, ProgramTree, Audit, IsWordList, Outside, AfterLoad, Outcome, IsLoaded, Audits, AuditsBytes, AuditsProgram, reading_of, Verdict, HasAnswered, HasSource, UnlessMemory, WritesJudgement}
+use Rattle.decisions.proofs.Common.{ℕ, List, Option, Some, ap, subst, ◌∙◌, Appends, Files, ProgramTree, Audit, IsWordList, Outside, AfterLoad, Outcome, IsLoaded, Audits, AuditsBytes, AuditsProgram, reading_of, Judgement, HasAnswered, HasSource, UnlessMemory, WritesJudgement}
 use Rattle.command_words.specs.declared.options.Audit.{Audit as AuditOptions}
 use Rattle.command_outcomes.specs.declared.documents.Document.TheVariants as document
-use Rattle.lawful_reading.specs.Verdicts.{IsVerdictOf}
+use Rattle.lawful_reading.specs.Judgements.{IsJudgementOf}
 use Rattle.decisions.proofs.Answered.{has_done, where_done}
 use Rattle.decisions.proofs.Reading.{after_load, after_source}
 
 pub audit_writes_its_judgement : (words : List (List ℕ)) (files : Files) (trace source log : List ℕ) (options : AuditOptions) (program : ProgramTree) (bytes : List ℕ) (before after : Outside) (status : ℕ) →
     HasAnswered words files trace before after status → IsWordList words (Audit source log options) → HasSource files source program → IsLoaded document.Log (Some files) log bytes →
-    UnlessMemory status ((is : Verdict) × IsVerdictOf (reading_of program options) (Some trace) bytes is × WritesJudgement is before after status)
+    UnlessMemory status ((is : Judgement) × IsJudgementOf (reading_of program options) (Some trace) bytes is × WritesJudgement is before after status)
 audit_writes_its_judgement words files trace source log options program bytes before after status answered asked there log_there =
     where_done (Audit source log options) before after status
     (λ done.

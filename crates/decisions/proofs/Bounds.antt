@@ -3,7 +3,8 @@ use Rattle.decisions.proofs.Common.{◌≡◌, ◌∙◌, ℕ, zero, suc, ◌+�
 use Rattle.call_graph.specs.Index.{sites_of}
 use Rattle.cycle_break.proofs.RankLemmas.{back_edges-break}
 use Rattle.checkpoint_place.specs.Placement.{callee_bound, is_within, is_checkpointed, IsPlacement}
-use Rattle.checkpoint_place.proofs.BoundLemmas.{bound_by, AreBound, AreBound-more, reverse-more}
+use Rattle.checkpoint_place.proofs.BoundLemmas.{bound_by, AreBound, AreBound-more}
+use Rattle.cycle_break.proofs.BottomUpOrders.{reverse-more}
 use Rattle.cycle_break.proofs.NumberLemmas.{has-cases, true_false}
 
 -- no site is called from past the last function

@@ -124,7 +124,7 @@ pub use Rattle.grammar_laws.specs.Places.{Declared, expr_places, exprs_places, i
 pub use Rattle.hoist_parts.specs.Statements.{item_hoisted, items_hoisted}
 pub use Rattle.lawful_log.specs.Setup.{Setup}
 pub use Rattle.choice_rules.proofs.Deciding.{Below, all_below, all_decided, below_decided, bool_same, both_decided, decided_by, denied, either_decided, everywhere, le_decided, list_same, number_same, option_same, text_same}
-pub use Rattle.lawful_reading.specs.declared.judgement.Verdict.{Verdict}
+pub use Rattle.lawful_reading.specs.declared.judgement.Judgement.{Judgement}
 pub use Rattle.machine_meaning.proofs.Formed.{all_from, formed}
 pub use Rattle.machine_meaning.proofs.Zeroes.{program_zeroes}
 pub use Rattle.one_plan.proofs.LoweredGraph.{lowered-graph}

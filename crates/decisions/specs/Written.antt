@@ -10,7 +10,7 @@ use Rattle.command_outcomes.specs.declared.faults.Fault.TheVariants.{Memory}
 use Rattle.command_outcomes.specs.Done.{Outside}
 use Rattle.command_outcomes.specs.FaultLines.{fault_status}
 use Rattle.command_audit.specs.Audits.{judgement_line, judgement_status}
-use Rattle.lawful_reading.specs.declared.judgement.Verdict.{Verdict}
+use Rattle.lawful_reading.specs.declared.judgement.Judgement.{Judgement}
 use Rattle.pair_commands.specs.Runs.{IsRun, stop_status}
 use Rattle.capriccio_commands.specs.Summary.{summary_of}
 
@@ -49,6 +49,6 @@ pub record WritesText (text : List ℕ) (before after : Outside) (status : ℕ) 
   pub succeeds : status ≡ 0
 
 -- the output took the line with the verdict on a log, and the status is the verdict's
-pub record WritesJudgement (is : Verdict) (before after : Outside) (status : ℕ) : Type 0 where
+pub record WritesJudgement (is : Judgement) (before after : Outside) (status : ℕ) : Type 0 where
   pub out : Appends before.taken after.taken (judgement_line is)
   pub status_is : status ≡ judgement_status is

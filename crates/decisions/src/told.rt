@@ -20,8 +20,8 @@ ghost use Rattle.command_files.specs.Loads.{IsSourceText};
 ghost use Rattle.command_files.specs.Loaded.{IsLoaded};
 ghost use Rattle.command_outcomes.specs.declared.documents.Document.TheVariants as document;
 ghost use Rattle.command_audit.specs.Audits.{reading_of};
-ghost use Rattle.lawful_reading.specs.Verdicts.{IsVerdictOf};
-ghost use Rattle.lawful_reading.specs.declared.judgement.Verdict.{Verdict};
+ghost use Rattle.lawful_reading.specs.Judgements.{IsJudgementOf};
+ghost use Rattle.lawful_reading.specs.declared.judgement.Judgement.{Judgement};
 ghost use Rattle.pair_commands.specs.BuildsFiles.{built, built_line};
 ghost use Rattle.pair_commands.specs.Budgets.{budget_text};
 ghost use Rattle.capriccio_commands.specs.Demos.{demo_sizes, demo_policy};
@@ -113,7 +113,7 @@ pub fn audit_writes_its_judgement()
         (before after : Outside) (status : ℕ) →
         HasAnswered words files trace before after status → IsWordList words (Audit source log options) →
         HasSource files source program → IsLoaded document.Log (Some files) log bytes →
-        UnlessMemory status ((is : Verdict) × IsVerdictOf (reading_of program options) (Some trace) bytes is × WritesJudgement is before after status) }
+        UnlessMemory status ((is : Judgement) × IsJudgementOf (reading_of program options) (Some trace) bytes is × WritesJudgement is before after status) }
 {}
 
 /// Law: `check` on what `build` wrote for the same source, under three different names. If `build` ended with 0 and

@@ -46,6 +46,12 @@ NextAnswers bytes lines last (Err (Line number)) = RefusesLine bytes lines numbe
 NextAnswers bytes lines last (Err (Order number time earlier)) = RefusesOrder bytes lines last number time earlier
 NextAnswers bytes lines last (Err ReadFault) = Unit {0}
 
+-- a refused line is the one after those that the reader returned
+abbrev pub NamesNext : (lines : ℕ) → TraceError → Type 0
+NamesNext lines (Line number) = number ≡ lines + 1
+NamesNext lines (Order number time earlier) = number ≡ lines + 1
+NamesNext lines ReadFault = Unit {0}
+
 -- the bytes that are left for the next result
 abbrev pub NextLeaves : {E : Type 0} → List ℕ → List ℕ → Result (Option Event) E → Type 0
 NextLeaves bytes after (Ok None) = after ≡ []

@@ -1,8 +1,8 @@
 // The reader of a trace.
-ghost use Rattle.std.specs.Prelude.{◌≡◌, [], ◌≤◌, IfOk, IfSome, Err, None};
+ghost use Rattle.std.specs.Prelude.{◌≡◌, [], ◌≤◌, IfErr, IfOk, IfSome, Err, None};
 ghost use Rattle.event_trace.specs.Gathering.{LeavesTail};
 ghost use Rattle.event_trace.specs.Lines.{FitsEvent, HasWholeLine};
-ghost use Rattle.event_trace.specs.Reader.{NextTold, KeepsCount, KeepsRefusal, CountsNext};
+ghost use Rattle.event_trace.specs.Reader.{NextTold, NamesNext, KeepsCount, KeepsRefusal, CountsNext};
 
 use super::blocks::Block;
 use super::gathering::{Ending, MOST_BYTES, read_line};
@@ -61,14 +61,16 @@ impl TraceReader {
     /// # Errors
     ///
     /// `Line` exactly if the next line isn't an event, or is line 1,000,001; `Order` exactly if its time is below the
-    /// last; `ReadFault` only if the source's count of faults rose in this call, or is at its maximum. After a refusal
-    /// the reader returns the same refusal again and doesn't read.
+    /// last; `ReadFault` only if the source's count of faults rose in this call, or is at its maximum. `Line` and `Order`
+    /// have the number of the line after those that the reader returned. After a refusal the reader returns the same
+    /// refusal again and doesn't read.
     pub fn next<S: Source>(&mut self, source: &mut S) -> Result<Option<Event>, TraceError>
         ensures again { IfSome self.old.refused (λ refusal. result ≡ Err refusal × self.new ≡ self.old × source.new ≡ source.old) }
         ensures told { self.old.refused ≡ None → NextTold self.old self.new (S.left source.old) (S.left source.new) result }
         ensures fits { IfOk result (λ answer. IfSome answer (λ event. FitsEvent event × (self.old.last ≤ event.time))) }
         ensures tail { LeavesTail (S.left source.old) (S.left source.new) }
         ensures kept { self.old.refused ≡ None → KeepsRefusal self.old self.new result }
+        ensures numbered { self.old.refused ≡ None → IfErr result (NamesNext self.old.lines) }
         ensures counted { self.new.lines ≤ 1000000 }
         ensures idle { HasWholeLine self.old.held → source.new ≡ source.old }
         ensures counts { self.old.refused ≡ None → CountsNext result (S.faults source.old) (S.faults source.new) }
@@ -90,6 +92,7 @@ impl TraceReader {
         ensures fits { IfOk result (λ answer. IfSome answer (λ event. FitsEvent event × (self.old.last ≤ event.time))) }
         ensures tail { LeavesTail (S.left source.old) (S.left source.new) }
         ensures kept { KeepsCount self.old self.new result }
+        ensures numbered { IfErr result (NamesNext self.old.lines) }
         ensures counted { self.new.lines ≤ 1000000 }
         ensures idle { HasWholeLine self.old.held → source.new ≡ source.old }
         ensures counts { CountsNext result (S.faults source.old) (S.faults source.new) }

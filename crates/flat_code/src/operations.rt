@@ -148,6 +148,13 @@ impl Ops {
         Ops { ops }
     }
 
+    /// Returns the operations, in the `Vec` that holds them. It doesn't allocate.
+    pub fn into_vec(self) -> Vec<Op>
+        ensures { result.items ≡ self }
+    {
+        self.ops
+    }
+
     /// The operations, in order.
     pub fn as_slice(&self) -> &[Op]
         ensures { result.now ≡ self.now }

@@ -17,10 +17,7 @@ pub(crate) fn both<T: Drop, U: Drop>(
     ensures had { IfOk result (λ pair. next ≡ Ok pair.1) }
     ensures refused { IfErr result (λ error. next ≡ Err error) }
 {
-    match next {
-        Ok(next) => Ok((held, next)),
-        Err(error) => Err(error),
-    }
+    Ok((held, next?))
 }
 
 /// Returns the value, if the next token has this class; the token is taken.

@@ -72,10 +72,10 @@ fn statement(text: Text, cursor: &mut Cursor, depth: u32) -> Result<RawStmt, Par
             cursor.pass();
             Ok(RawStmt::Empty)
         }
-        Sign::LeftBrace => match block(text, cursor, depth) {
-            Ok(stmts) => Ok(RawStmt::Block(stmts)),
-            Err(error) => Err(error),
-        },
+        Sign::LeftBrace => {
+            let stmts = block(text, cursor, depth)?;
+            Ok(RawStmt::Block(stmts))
+        }
         Sign::If => if_statement(text, cursor, depth),
         Sign::While => while_statement(text, cursor, depth),
         Sign::For => for_statement(text, cursor, depth),

@@ -31,10 +31,8 @@ impl Chain {
     pub fn with(mut self, operator: Infix, operand: RawExpr) -> Result<Chain, AllocError>
         ensures { IfOk result (λ c. chain_tree c ≡ raw_joined (chain_tree self) operator (raw_expr_tree operand)) }
     {
-        match self.rest.push((operator, operand)) {
-            Ok(()) => Ok(self),
-            Err(failed) => Err(AllocError::from(failed)),
-        }
+        self.rest.push((operator, operand))?;
+        Ok(self)
     }
 
     /// Returns the expression. Its list of operators has no spare capacity.

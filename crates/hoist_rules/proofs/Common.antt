@@ -19,6 +19,6 @@ pub use Rattle.hoist_parts.specs.Expressions.{argument_left, arguments_before, a
 pub use Rattle.hoist_parts.specs.NewNames.{declared, declared_as, set_to}
 pub use Rattle.hoist_parts.specs.Statements.{all_hoisted, hoisted, returned_before, simple_before, stmt_names, stmts_names, table_before, value_before, value_left, value_names}
 pub use Rattle.scope_rules.specs.Openings.{OpenBlock, OpenFor, OpenIf, OpenWhile, OpeningTree, opening_tree, whole}
-pub use Rattle.hoist_rules.specs.Receivers.{Received, opening_places}
-unfoldable pub use Rattle.hoist_rules.specs.Receivers.{so_far, then_all, then_close, then_else, then_open}
+pub use Rattle.hoist_rules.specs.Receivers.{Kept, Received, Resolved, kept_statements, opening_places}
+unfoldable pub use Rattle.hoist_rules.specs.Receivers.{then_all, then_close, then_else, then_open}
 pub use Rattle.hoist_rules.specs.Singles.{are_many, are_some}

@@ -1,6 +1,6 @@
 -- Statements so far, followed by more.
 use Rattle.std.proofs.lemmas.Grind.{common_steps}
-use Rattle.hoist_rules.proofs.Common.{◌≡◌, refl, ap, ◌∙◌, sym, List, [], ◌∷◌, ◌++◌, append_assoc, append-nil, Option, RawExprTree, RawSimpleTree, RawStmtTree, RawIf, RawIfElse, RawWhile, RawFor, raw_in_order, as_body, is_call, expr_places, stmt_places, stmts_places, OpeningTree, OpenBlock, OpenIf, OpenWhile, OpenFor, whole, in_block, Received, opening_places, then_all, then_open, then_else, then_close}
+use Rattle.hoist_rules.proofs.Common.{◌≡◌, refl, ap, ◌∙◌, sym, List, [], ◌∷◌, ◌++◌, append_assoc, append-nil, Option, RawExprTree, RawSimpleTree, RawStmtTree, RawIf, RawIfElse, RawWhile, RawFor, raw_in_order, as_body, is_call, expr_places, stmt_places, stmts_places, OpeningTree, OpenBlock, OpenIf, OpenWhile, OpenFor, whole, in_block, Received, Resolved, Kept, opening_places, then_all, then_open, then_else, then_close}
 use Rattle.scope_rules.specs.Making.{Making, with_statement, with_statements}
 use Rattle.scope_rules.proofs.WholeStatements.{closed_whole, closed_else}
 
@@ -18,14 +18,16 @@ places_then (x ∷ xs) ys =
 
 pub then_then : (r : Received) (xs ys : List RawStmtTree) → then_all (then_all r xs) ys ≡ then_all r (xs ++ ys)
 unfolding then_all
-then_then r xs ys =
-    let making = making_then r.making xs ys in
-    let places = append_assoc r.places (stmts_places is_call (raw_in_order xs)) (stmts_places is_call (raw_in_order ys)) ∙ ap (λ ps. r.places ++ ps) (places_then xs ys) in
-    λ i. record { making = making i; places = places i }
+then_then (Resolved m ps) xs ys =
+    let making = making_then m xs ys in
+    let places = append_assoc ps (stmts_places is_call (raw_in_order xs)) (stmts_places is_call (raw_in_order ys)) ∙ ap (λ qs. ps ++ qs) (places_then xs ys) in
+    λ i. Resolved (making i) (places i)
+then_then (Kept ss us) xs ys = ap (λ ts. Kept ts us) (append_assoc ss xs ys)
 
 pub then_none : (r : Received) → then_all r [] ≡ r
 unfolding then_all
-then_none r = let same = append-nil r.places in λ i. record { making = r.making; places = same i }
+then_none (Resolved m ps) = ap (Resolved m) (append-nil ps)
+then_none (Kept ss us) = ap (λ ts. Kept ts us) (append-nil ss)
 
 -- some, and then one more
 pub then_pushed : (s t u : Received) (a : List RawStmtTree) (x y : RawStmtTree) → t ≡ then_all s a → u ≡ then_all t (x ∷ []) → x ≡ y → u ≡ then_all s (a ++ y ∷ [])
@@ -48,10 +50,11 @@ whole_places (OpenFor init c step) ss =
 
 pub closed_then : (o : OpeningTree) (r : Received) (ss : List RawStmtTree) → then_close (then_all (then_open o r) ss) ≡ then_all r (whole o ss ∷ [])
 unfolding then_all then_open then_close
-closed_then o r ss =
-    let making = closed_whole o r.making ss in
-    let places = append_assoc r.places (opening_places o) (stmts_places is_call (raw_in_order ss)) ∙ ap (λ ps. r.places ++ ps) (whole_places o ss) in
-    λ i. record { making = making i; places = places i }
+closed_then o (Resolved m ps) ss =
+    let making = closed_whole o m ss in
+    let places = append_assoc ps (opening_places o) (stmts_places is_call (raw_in_order ss)) ∙ ap (λ qs. ps ++ qs) (whole_places o ss) in
+    λ i. Resolved (making i) (places i)
+closed_then o (Kept before us) ss = refl
 
 pub closed_block : (r : Received) (ss : List RawStmtTree) → then_close (then_all (then_open OpenBlock r) ss) ≡ then_all r (in_block ss ∷ [])
 closed_block r ss = closed_then OpenBlock r ss
@@ -79,9 +82,10 @@ else_places ps c ss ts =
 pub closed_both : (c : RawExprTree) (r : Received) (ss ts : List RawStmtTree)
     → then_close (then_all (then_else (then_all (then_open (OpenIf c) r) ss)) ts) ≡ then_all r (RawIfElse c (as_body ss) (as_body ts) ∷ [])
 unfolding then_all then_open then_else then_close
-closed_both c r ss ts =
-    let making = closed_else c r.making ss ts in
-    let places = else_places r.places c ss ts in
-    λ i. record { making = making i; places = places i }
+closed_both c (Resolved m ps) ss ts =
+    let making = closed_else c m ss ts in
+    let places = else_places ps c ss ts in
+    λ i. Resolved (making i) (places i)
+closed_both c (Kept before us) ss ts = refl
 
 pub ruleset following = (common_steps, then_then, then_none, closed_block, closed_if, closed_while, closed_for, closed_both)

@@ -30,10 +30,7 @@ pub(crate) fn both<T: Drop, U>(held: T, next: Result<U, AllocError>) -> Result<(
     ensures held { IfOk result (λ pair. pair.0 ≡ held) }
     ensures next { IfOk result (λ pair. next ≡ Ok pair.1) }
 {
-    match next {
-        Ok(next) => Ok((held, next)),
-        Err(error) => Err(error),
-    }
+    Ok((held, next?))
 }
 
 /// Returns two values in boxes.

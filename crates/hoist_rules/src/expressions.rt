@@ -7,10 +7,11 @@ ghost use Rattle.hoist_parts.specs.Chains.{chain_tree, operand_trees, operand_le
 ghost use Rattle.hoist_parts.specs.Arguments.{passed_left, passed_before, passed_after};
 ghost use Rattle.hoist_parts.specs.Expressions.{one_if, names_in, arguments_names, in_block, part_after, part_or, part_named, left_of, arguments_left, call_left, before, arguments_before};
 ghost use Rattle.hoist_rules.specs.EarlierParts.{part_left, part_before};
-ghost use Rattle.hoist_rules.specs.Receivers.{so_far, then_all};
+ghost use Rattle.hoist_rules.specs.Receivers.{then_all};
 
 use crate::built::{call_of, choice, copied, element, parenthesized, table_call_of};
 use crate::hoisting::Hoisting;
+use crate::receivers::Receive;
 use c_tree::{Infix, Name, RawExpr};
 use hoist_parts::{
     Chain, calls_after, calls_among, either_holds_call, holds_call, is_branching, is_left_alone,
@@ -19,11 +20,11 @@ use hoist_parts::{
 use scope_rules::Opening;
 use std::alloc::AllocError;
 
-impl Hoisting {
+impl<R: Receive> Hoisting<R> {
     // A left operand, under a new name or as it is.
     fn named_left(&mut self, left: Chain, is_named: bool) -> Result<Chain, AllocError>
         ensures left { IfOk result (λ c. chain_tree c ≡ part_or is_named self.old.next (chain_tree left)) }
-        ensures before { OnOk result (so_far self.new.receiver ≡ then_all (so_far self.old.receiver) (part_named is_named self.old.next (chain_tree left))) }
+        ensures before { OnOk result (R.so_far self.new.receiver ≡ then_all (R.so_far self.old.receiver) (part_named is_named self.old.next (chain_tree left))) }
         ensures next { OnOk result (self.new.next ≡ self.old.next + one_if is_named) }
     {
         if !is_named {
@@ -38,7 +39,7 @@ impl Hoisting {
     // What remains of a part, under a new name or as it is.
     fn named_part(&mut self, part: RawExpr, is_named: bool) -> Result<RawExpr, AllocError>
         ensures left { IfOk result (λ e. raw_expr_tree e ≡ part_or is_named self.old.next (raw_expr_tree part)) }
-        ensures before { OnOk result (so_far self.new.receiver ≡ then_all (so_far self.old.receiver) (part_named is_named self.old.next (raw_expr_tree part))) }
+        ensures before { OnOk result (R.so_far self.new.receiver ≡ then_all (R.so_far self.old.receiver) (part_named is_named self.old.next (raw_expr_tree part))) }
         ensures next { OnOk result (self.new.next ≡ self.old.next + one_if is_named) }
     {
         if !is_named {
@@ -48,12 +49,12 @@ impl Hoisting {
     }
 }
 
-impl Hoisting {
+impl<R: Receive> Hoisting<R> {
     /// Appends the statements before an expression, and returns what remains of it.
     #[cycle(hoist)]
     pub(crate) fn expression(&mut self, raw: &RawExpr) -> Result<RawExpr, AllocError>
         ensures left { IfOk result (λ e. raw_expr_tree e ≡ left_of self.old.next (raw_expr_tree raw.now)) }
-        ensures before { OnOk result (so_far self.new.receiver ≡ then_all (so_far self.old.receiver) (before self.old.next (raw_expr_tree raw.now))) }
+        ensures before { OnOk result (R.so_far self.new.receiver ≡ then_all (R.so_far self.old.receiver) (before self.old.next (raw_expr_tree raw.now))) }
         ensures next { OnOk result (self.new.next ≡ self.old.next + names_in (raw_expr_tree raw.now)) }
     {
         let alloc = self.alloc;
@@ -144,7 +145,7 @@ impl Hoisting {
         rest: &[(Infix, RawExpr)],
     ) -> Result<Chain, AllocError>
         ensures left { IfOk result (λ c. chain_tree c ≡ operands_left self.old.next is_alone (chain_tree left) (operand_trees rest.now)) }
-        ensures before { OnOk result (so_far self.new.receiver ≡ then_all (so_far self.old.receiver) (operands_before self.old.next is_alone (chain_tree left) (operand_trees rest.now))) }
+        ensures before { OnOk result (R.so_far self.new.receiver ≡ then_all (R.so_far self.old.receiver) (operands_before self.old.next is_alone (chain_tree left) (operand_trees rest.now))) }
         ensures next { OnOk result (self.new.next ≡ operands_after self.old.next is_alone (operand_trees rest.now)) }
     {
         for (operator, operand) in rest {
@@ -165,7 +166,7 @@ impl Hoisting {
         right: &RawExpr,
     ) -> Result<Chain, AllocError>
         ensures left { IfOk result (λ c. chain_tree c ≡ operand_left self.old.next operator is_alone (chain_tree left) (raw_expr_tree right.now)) }
-        ensures before { OnOk result (so_far self.new.receiver ≡ then_all (so_far self.old.receiver) (operand_before self.old.next operator is_alone (chain_tree left) (raw_expr_tree right.now))) }
+        ensures before { OnOk result (R.so_far self.new.receiver ≡ then_all (R.so_far self.old.receiver) (operand_before self.old.next operator is_alone (chain_tree left) (raw_expr_tree right.now))) }
         ensures next { OnOk result (self.new.next ≡ operand_after self.old.next operator is_alone (raw_expr_tree right.now)) }
     {
         let is_calling = holds_call(right);
@@ -188,7 +189,7 @@ impl Hoisting {
     // `{ P(e) h = e; }` for the new name with a number.
     #[cycle(hoist)]
     fn branch(&mut self, number: u32, e: &RawExpr) -> Result<(), AllocError>
-        ensures statements { OnOk result (so_far self.new.receiver ≡ then_all (so_far self.old.receiver)
+        ensures statements { OnOk result (R.so_far self.new.receiver ≡ then_all (R.so_far self.old.receiver)
             (in_block (before self.old.next (raw_expr_tree e.now) ++ set_to number (left_of self.old.next (raw_expr_tree e.now)) ∷ []) ∷ [])) }
         ensures next { OnOk result (self.new.next ≡ self.old.next + names_in (raw_expr_tree e.now)) }
     {
@@ -203,7 +204,7 @@ impl Hoisting {
     pub(crate) fn kept(&mut self, raw: &RawExpr) -> Result<RawExpr, AllocError>
         requires { holds_call (raw_expr_tree raw.now) ≡ false }
         ensures kept { IfOk result (λ e. raw_expr_tree e ≡ raw_expr_tree raw.now) }
-        ensures outer { OnOk result (so_far self.new.receiver ≡ so_far self.old.receiver) }
+        ensures outer { OnOk result (R.so_far self.new.receiver ≡ R.so_far self.old.receiver) }
         ensures next { OnOk result (self.new.next ≡ self.old.next) }
     {
         Ok(self.expression(raw)?)
@@ -213,7 +214,7 @@ impl Hoisting {
     #[cycle(hoist)]
     pub(crate) fn part(&mut self, is_later_call: bool, raw: &RawExpr) -> Result<RawExpr, AllocError>
         ensures left { IfOk result (λ e. raw_expr_tree e ≡ part_left is_later_call self.old.next (raw_expr_tree raw.now)) }
-        ensures before { OnOk result (so_far self.new.receiver ≡ then_all (so_far self.old.receiver) (part_before is_later_call self.old.next (raw_expr_tree raw.now))) }
+        ensures before { OnOk result (R.so_far self.new.receiver ≡ then_all (R.so_far self.old.receiver) (part_before is_later_call self.old.next (raw_expr_tree raw.now))) }
         ensures next { OnOk result (self.new.next ≡ part_after self.old.next is_later_call (raw_expr_tree raw.now)) }
     {
         let part = self.expression(raw)?;
@@ -228,7 +229,7 @@ impl Hoisting {
         raw: &[RawExpr],
     ) -> Result<Vec<RawExpr>, AllocError>
         ensures left { IfOk result (λ es. raw_expr_trees es.items ≡ arguments_left is_first_kept self.old.next (raw_expr_trees raw.now)) }
-        ensures before { OnOk result (so_far self.new.receiver ≡ then_all (so_far self.old.receiver) (arguments_before is_first_kept self.old.next (raw_expr_trees raw.now))) }
+        ensures before { OnOk result (R.so_far self.new.receiver ≡ then_all (R.so_far self.old.receiver) (arguments_before is_first_kept self.old.next (raw_expr_trees raw.now))) }
         ensures next { OnOk result (self.new.next ≡ self.old.next + arguments_names is_first_kept (raw_expr_trees raw.now)) }
     {
         let mut arguments = Vec::with_capacity(self.alloc, raw.len())?;
@@ -253,7 +254,7 @@ impl Hoisting {
         raw: &RawExpr,
     ) -> Result<RawExpr, AllocError>
         ensures left { IfOk result (λ e. raw_expr_tree e ≡ passed_left stays is_later_call self.old.next (raw_expr_tree raw.now)) }
-        ensures before { OnOk result (so_far self.new.receiver ≡ then_all (so_far self.old.receiver) (passed_before stays is_later_call self.old.next (raw_expr_tree raw.now))) }
+        ensures before { OnOk result (R.so_far self.new.receiver ≡ then_all (R.so_far self.old.receiver) (passed_before stays is_later_call self.old.next (raw_expr_tree raw.now))) }
         ensures next { OnOk result (self.new.next ≡ passed_after stays is_later_call self.old.next (raw_expr_tree raw.now)) }
     {
         if !stays {
@@ -267,11 +268,11 @@ impl Hoisting {
     }
 }
 
-impl Hoisting {
+impl<R: Receive> Hoisting<R> {
     /// Rewrites a call: appends the statements before its arguments, and returns the call itself.
     pub(crate) fn call(&mut self, name: &Name, arguments: &[RawExpr]) -> Result<RawExpr, AllocError>
         ensures left { IfOk result (λ e. raw_expr_tree e ≡ call_left self.old.next (name_tree name.now) (raw_expr_trees arguments.now)) }
-        ensures before { OnOk result (so_far self.new.receiver ≡ then_all (so_far self.old.receiver)
+        ensures before { OnOk result (R.so_far self.new.receiver ≡ then_all (R.so_far self.old.receiver)
             (arguments_before (is_spawn (name_tree name.now)) self.old.next (raw_expr_trees arguments.now))) }
         ensures next { OnOk result (self.new.next ≡ self.old.next + arguments_names (is_spawn (name_tree name.now)) (raw_expr_trees arguments.now)) }
     {

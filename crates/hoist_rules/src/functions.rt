@@ -2,10 +2,10 @@
 ghost use Rattle.std.specs.Prelude.{◌≡◌, IfOk};
 ghost use Rattle.c_tree.specs.RawViews.{raw_stmt_trees};
 ghost use Rattle.hoist_parts.specs.Statements.{all_hoisted};
-ghost use Rattle.hoist_rules.specs.Receivers.{received, then_received};
+ghost use Rattle.hoist_rules.specs.Receivers.{then_received};
 
 use crate::hoisting::Hoisting;
-use crate::receivers::Receiver;
+use crate::receivers::Receive;
 use c_tree::RawStmt;
 use std::alloc::{AllocError, Global};
 
@@ -17,12 +17,12 @@ use std::alloc::{AllocError, Global};
 /// # Errors
 ///
 /// Returns `AllocError` if an allocation fails, or if the body needs more than 2^32 - 1 new names.
-pub fn hoist_body(
+pub fn hoist_body<R: Receive + Drop>(
     alloc: Global,
     body: &[RawStmt],
-    receiver: Receiver,
-) -> Result<Receiver, AllocError>
-    ensures { IfOk result (λ r. received r ≡ then_received (received receiver) (all_hoisted 0 (raw_stmt_trees body.now))) }
+    receiver: R,
+) -> Result<R, AllocError>
+    ensures { IfOk result (λ r. R.so_far r ≡ then_received (R.so_far receiver) (all_hoisted 0 (raw_stmt_trees body.now))) }
 {
     let mut hoisting = Hoisting {
         alloc,

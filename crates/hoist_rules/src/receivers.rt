@@ -1,7 +1,7 @@
-// The receiver of the statements that replace those of a function.
+// The receivers of the statements that replace those of a function.
 ghost use Rattle.std.specs.Prelude.{◌≡◌, [], ◌∷◌, ◌++◌, OnOk};
 ghost use Rattle.c_tree.specs.RawViews.{raw_stmt_tree};
-ghost use Rattle.hoist_rules.specs.Receivers.{opening_places, so_far, then_all, then_open, then_else, then_close};
+ghost use Rattle.hoist_rules.specs.Receivers.{Received, resolved, opening_places, then_all, then_open, then_else, then_close};
 ghost use Rattle.scope_rules.specs.Openings.{opening_tree};
 
 use c_tree::RawStmt;
@@ -11,45 +11,72 @@ use call_places::{
 use scope_rules::{FunctionResolver, Opening};
 use std::alloc::AllocError;
 
-/// Takes the statements of a function, one after another: it resolves them, and keeps the places of their calls. A
-/// statement with a body may be taken in parts: what begins it, the statements of its body, and its end.
+/// Takes the statements of a function, one after another. A statement with a body may be taken in parts: what begins
+/// it, the statements of its body, and its end. `so_far` is what the receiver has taken.
+pub trait Receive {
+    ghost so_far: { Self → Received };
+
+    /// Takes one more statement.
+    ///
+    /// # Errors
+    ///
+    /// Memory ran out. All that is left then is to drop the receiver.
+    fn push(&mut self, statement: RawStmt) -> Result<(), AllocError>
+        ensures { OnOk result (so_far self.new ≡ then_all (so_far self.old) (raw_stmt_tree statement ∷ [])) };
+
+    /// Begins a block, or a statement with a body.
+    ///
+    /// # Errors
+    ///
+    /// Memory ran out, as in `push`.
+    fn open(&mut self, opening: Opening) -> Result<(), AllocError>
+        ensures { OnOk result (so_far self.new ≡ then_open (opening_tree opening.entry) (so_far self.old)) };
+
+    /// Begins the `else` of the `if` that was begun last.
+    ///
+    /// # Errors
+    ///
+    /// Memory ran out, as in `push`.
+    fn otherwise(&mut self) -> Result<(), AllocError>
+        ensures { OnOk result (so_far self.new ≡ then_else (so_far self.old)) };
+
+    /// Ends the block, or the statement with a body, that was begun last.
+    ///
+    /// # Errors
+    ///
+    /// Memory ran out, as in `push`.
+    fn close(&mut self) -> Result<(), AllocError>
+        ensures { OnOk result (so_far self.new ≡ then_close (so_far self.old)) };
+}
+
+/// Resolves the statements that it takes, and keeps the places of their calls.
 #[derive(Drop)]
-pub struct Receiver {
+pub struct Resolving {
     pub resolver: FunctionResolver,
     pub places: Vec<u32>,
 }
 
-impl Receiver {
-    /// Takes one more statement.
-    pub(crate) fn push(&mut self, statement: RawStmt) -> Result<(), AllocError>
-        ensures { OnOk result (so_far self.new ≡ then_all (so_far self.old) (raw_stmt_tree statement ∷ [])) }
-    {
+impl Receive for Resolving {
+    ghost so_far = { resolved };
+
+    fn push(&mut self, statement: RawStmt) -> Result<(), AllocError> {
         add_places_of_calls_in(&mut self.places, &statement)?;
         self.resolver.statement(&statement)?;
         Ok(())
     }
 
-    /// Begins a block, or a statement with a body.
-    pub(crate) fn open(&mut self, opening: Opening) -> Result<(), AllocError>
-        ensures { OnOk result (so_far self.new ≡ then_open (opening_tree opening.entry) (so_far self.old)) }
-    {
+    fn open(&mut self, opening: Opening) -> Result<(), AllocError> {
         add_places(&mut self.places, opening)?;
         self.resolver.open(opening)?;
         Ok(())
     }
 
-    /// Begins the `else` of the `if` that was begun last.
-    pub(crate) fn otherwise(&mut self) -> Result<(), AllocError>
-        ensures { OnOk result (so_far self.new ≡ then_else (so_far self.old)) }
-    {
+    fn otherwise(&mut self) -> Result<(), AllocError> {
         self.resolver.otherwise()?;
         Ok(())
     }
 
-    /// Ends the block, or the statement with a body, that was begun last.
-    pub(crate) fn close(&mut self) -> Result<(), AllocError>
-        ensures { OnOk result (so_far self.new ≡ then_close (so_far self.old)) }
-    {
+    fn close(&mut self) -> Result<(), AllocError> {
         self.resolver.close()?;
         Ok(())
     }

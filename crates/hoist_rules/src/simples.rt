@@ -6,19 +6,20 @@ ghost use Rattle.hoist_parts.specs.Calls.{holds_call, holds_nested};
 ghost use Rattle.hoist_parts.specs.Expressions.{names_in, part_after, index_left, argument_left};
 ghost use Rattle.hoist_parts.specs.Statements.{returned_names, returned_before, returned_left, value_names, value_left, value_before, table_before, simple_names, simple_left, simple_before};
 ghost use Rattle.hoist_rules.specs.EarlierParts.{part_left, element_before};
-ghost use Rattle.hoist_rules.specs.Receivers.{so_far, then_all};
+ghost use Rattle.hoist_rules.specs.Receivers.{then_all};
 
 use crate::built::{both, copied, table_call_of, table_calling};
 use crate::hoisting::Hoisting;
+use crate::receivers::Receive;
 use c_tree::{RawExpr, RawSimple, RawStmt};
 use hoist_parts::{holds_call, holds_nested, is_spawn};
 use std::alloc::AllocError;
 
-impl Hoisting {
+impl<R: Receive> Hoisting<R> {
     /// Rewrites a right side or a returned value, which may be a call itself.
     pub(crate) fn value(&mut self, raw: &RawExpr) -> Result<RawExpr, AllocError>
         ensures left { IfOk result (λ e. raw_expr_tree e ≡ value_left self.old.next (raw_expr_tree raw.now)) }
-        ensures before { OnOk result (so_far self.new.receiver ≡ then_all (so_far self.old.receiver) (value_before self.old.next (raw_expr_tree raw.now))) }
+        ensures before { OnOk result (R.so_far self.new.receiver ≡ then_all (R.so_far self.old.receiver) (value_before self.old.next (raw_expr_tree raw.now))) }
         ensures next { OnOk result (self.new.next ≡ self.old.next + value_names (raw_expr_tree raw.now)) }
     {
         let alloc = self.alloc;
@@ -51,7 +52,7 @@ impl Hoisting {
     ) -> Result<(Box<RawExpr>, RawExpr), AllocError>
         ensures index { IfOk result (λ p. raw_expr_tree p.0.value ≡ part_left (holds_nested (raw_expr_tree value.now)) self.old.next (raw_expr_tree index.now)) }
         ensures value { IfOk result (λ p. raw_expr_tree p.1 ≡ value_left (part_after self.old.next (holds_nested (raw_expr_tree value.now)) (raw_expr_tree index.now)) (raw_expr_tree value.now)) }
-        ensures before { OnOk result (so_far self.new.receiver ≡ then_all (so_far self.old.receiver) (element_before self.old.next (raw_expr_tree index.now) (raw_expr_tree value.now))) }
+        ensures before { OnOk result (R.so_far self.new.receiver ≡ then_all (R.so_far self.old.receiver) (element_before self.old.next (raw_expr_tree index.now) (raw_expr_tree value.now))) }
         ensures next { OnOk result (self.new.next ≡ part_after self.old.next (holds_nested (raw_expr_tree value.now)) (raw_expr_tree index.now) + value_names (raw_expr_tree value.now)) }
     {
         let index = self.part(holds_nested(value), index)?;
@@ -67,7 +68,7 @@ impl Hoisting {
     ) -> Result<(RawExpr, RawExpr), AllocError>
         ensures index { IfOk result (λ p. raw_expr_tree p.0 ≡ index_left self.old.next (raw_expr_tree index.now) (raw_expr_tree argument.now)) }
         ensures argument { IfOk result (λ p. raw_expr_tree p.1 ≡ argument_left self.old.next (raw_expr_tree index.now) (raw_expr_tree argument.now)) }
-        ensures before { OnOk result (so_far self.new.receiver ≡ then_all (so_far self.old.receiver) (table_before self.old.next (raw_expr_tree index.now) (raw_expr_tree argument.now))) }
+        ensures before { OnOk result (R.so_far self.new.receiver ≡ then_all (R.so_far self.old.receiver) (table_before self.old.next (raw_expr_tree index.now) (raw_expr_tree argument.now))) }
         ensures next { OnOk result (self.new.next ≡ part_after self.old.next (holds_call (raw_expr_tree argument.now)) (raw_expr_tree index.now) + names_in (raw_expr_tree argument.now)) }
     {
         let index = self.part(holds_call(argument), index)?;
@@ -77,7 +78,7 @@ impl Hoisting {
     /// Rewrites a declaration, an assignment or a call.
     pub(crate) fn simple(&mut self, raw: &RawSimple) -> Result<RawSimple, AllocError>
         ensures left { IfOk result (λ s. raw_simple_tree s ≡ simple_left self.old.next (raw_simple_tree raw.now)) }
-        ensures before { OnOk result (so_far self.new.receiver ≡ then_all (so_far self.old.receiver) (simple_before self.old.next (raw_simple_tree raw.now))) }
+        ensures before { OnOk result (R.so_far self.new.receiver ≡ then_all (R.so_far self.old.receiver) (simple_before self.old.next (raw_simple_tree raw.now))) }
         ensures next { OnOk result (self.new.next ≡ self.old.next + simple_names (raw_simple_tree raw.now)) }
     {
         let alloc = self.alloc;
@@ -126,7 +127,7 @@ impl Hoisting {
         at: u32,
         value: &Option<RawExpr>,
     ) -> Result<RawStmt, AllocError>
-        ensures statements { IfOk result (λ s. so_far self.new.receiver ≡ then_all (so_far self.old.receiver) (returned_before self.old.next (option_map raw_expr_tree value.now))) }
+        ensures statements { IfOk result (λ s. R.so_far self.new.receiver ≡ then_all (R.so_far self.old.receiver) (returned_before self.old.next (option_map raw_expr_tree value.now))) }
         ensures left { IfOk result (λ s. raw_stmt_tree s ≡ RawReturn at (returned_left self.old.next (option_map raw_expr_tree value.now))) }
         ensures next { OnOk result (self.new.next ≡ self.old.next + returned_names (option_map raw_expr_tree value.now)) }
     {

@@ -31,5 +31,5 @@ pub use Rattle.lawful_reading.specs.Happenings.{ComesAt, IsCrowdedNext, IsSilent
 pub use Rattle.lawful_reading.specs.Reading.{BeginsWith, IsAllowed, IsBeyond, IsUnlawful, Leads, Needs, StopNeeds, by_line, nowhere}
 pub use Rattle.lawful_reading.specs.Segments.{IsBlock, IsClosed, IsEnd, IsOut, rested}
 pub use Rattle.lawful_reading.specs.State.{Edges, End, IsPossible, NotYet, Segment, State, Stopped, seen_of, start_of}
-pub use Rattle.lawful_reading.specs.Verdicts.{IsVerdict}
-pub use Rattle.lawful_reading.specs.declared.judgement.Verdict.{Verdict}
+pub use Rattle.lawful_reading.specs.Judgements.{IsJudgement}
+pub use Rattle.lawful_reading.specs.declared.judgement.Judgement.{Judgement}

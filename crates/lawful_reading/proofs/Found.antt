@@ -1,9 +1,9 @@
 -- A log is read line by line, and something is said of it.
-use Rattle.lawful_reading.proofs.Common.{◌≡◌, ℕ, zero, suc, ◌≤◌, inl, inr, List, [], ◌∷◌, ◌++◌, length, refl, sym, ap, ◌∙◌, arith, append-nil, length-append, FitsEntry, entry_text, log_text, Entry, Given, State, Stopped, start_of, IsAllowed, IsBeyond, Leads, nowhere, by_line, BeginsWith, IsVerdict, Verdict, Decided, both_decided, line_decided, text_same, Found}
+use Rattle.lawful_reading.proofs.Common.{◌≡◌, ℕ, zero, suc, ◌≤◌, inl, inr, List, [], ◌∷◌, ◌++◌, length, refl, sym, ap, ◌∙◌, arith, append-nil, length-append, FitsEntry, entry_text, log_text, Entry, Given, State, Stopped, start_of, IsAllowed, IsBeyond, Leads, nowhere, by_line, BeginsWith, IsJudgement, Judgement, Decided, both_decided, line_decided, text_same, Found}
 use Rattle.lawful_reading.proofs.Searching.{entries}
 use Rattle.lawful_reading.proofs.Lines.{GoesOn, goes_decided, beyond_decided, is_stopped_decided}
 use Rattle.lawful_reading.proofs.Beyond.{beyond_all}
-use Rattle.lawful_reading.proofs.Verdicts.{first_line}
+use Rattle.lawful_reading.proofs.Judgements.{first_line}
 
 -- ---- one line more
 
@@ -29,7 +29,7 @@ some_left xs left bytes is small = let e = ap length is ∙ length-append xs (10
 
 module _ (g : Given) (trace log : List ℕ) where
   abbrev Said : Type 0
-  Said = (verdict : Verdict) × IsVerdict g trace log verdict
+  Said = (judgement : Judgement) × IsJudgement g trace log judgement
 
   -- the lines so far lead here, and these bytes are left
   record IsRead (bytes : List ℕ) (state : State) (read : List Entry) : Type 0 where
@@ -62,7 +62,7 @@ module _ (g : Given) (trace log : List ℕ) where
     -- none goes on, and none is beyond
     refused : (NextLine Goes → ⊥) → (NextLine (IsBeyond g state) → ⊥) → Decided ((bytes ≡ []) × (state.end ≡ Stopped)) → Said
     refused none nor (inl over) = (
-      Verdict.Lawful,
+      Judgement.Lawful,
       record {
         entries = read;
         last = state;
@@ -72,7 +72,7 @@ module _ (g : Given) (trace log : List ℕ) where
       },
     )
     refused none nor (inr others) = (
-      Verdict.Unlawful (suc (length read)),
+      Judgement.Unlawful (suc (length read)),
       record {
         entries = read;
         last = state;
@@ -93,7 +93,7 @@ module _ (g : Given) (trace log : List ℕ) where
 
     ends : (NextLine Goes → ⊥) → Decided (NextLine (IsBeyond g state)) → Said
     ends none (inl (entry, (fits, ((left, begins), long)))) = (
-      Verdict.Steps (suc (length read)),
+      Judgement.Steps (suc (length read)),
       record {
         entries = read;
         last = state;
@@ -130,5 +130,5 @@ module _ (g : Given) (trace log : List ℕ) where
   unfolding log_text
   all_left bytes = refl
 
-  pub some_verdict : Said
-  some_verdict = read_on (length log) log (start_of g trace) [] (omega arith) (record { leads = nowhere; within = omega arith; log_is = all_left log })
+  pub some_judgement : Said
+  some_judgement = read_on (length log) log (start_of g trace) [] (omega arith) (record { leads = nowhere; within = omega arith; log_is = all_left log })

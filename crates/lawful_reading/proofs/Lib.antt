@@ -2,7 +2,7 @@ mod Common
 pub mod Refused
 pub mod Moves
 pub mod Once
-pub mod Verdicts
+pub mod Judgements
 pub mod Searching
 pub mod Points
 pub mod DecidedHappenings
@@ -10,4 +10,4 @@ pub mod SegmentLines
 pub mod Lines
 pub mod Beyond
 pub mod Found
-pub mod OneVerdict
+pub mod OneJudgement

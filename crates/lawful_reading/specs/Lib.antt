@@ -5,4 +5,4 @@ pub mod Choice
 pub mod Segments
 pub mod Ends
 pub mod Reading
-pub mod Verdicts
+pub mod Judgements

@@ -55,7 +55,7 @@ pub record IsBeyond (g : Given) (state : State) (entry : Entry) : Type 0 where
   pub under_way : state.segment ≡ Some segment
   pub beyond : (steps : ℕ) → Needs g segment entry steps → g.most_steps < state.steps + steps
 
--- ---- the verdict
+-- ---- the judgement
 
 -- lines that are allowed one after another, within the limit on steps; each has the format
 pub data Leads (g : Given) : State → List Entry → State → Type 0 where

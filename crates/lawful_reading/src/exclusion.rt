@@ -8,7 +8,7 @@ pub fn empty_logs_are_refused()
     ensures { (g : Given) (trace : List ℕ) → IsUnlawful g trace [] 1 }
 {}
 
-/// Laws: a log has at most one verdict, and at most one line: it is lawful, or that line is the first that isn't
+/// Laws: a log has at most one judgement, and at most one line: it is lawful, or that line is the first that isn't
 /// allowed, or it is the first that needs more steps than the limit.
 pub fn verdicts_exclude_each_other()
     ensures lawful_unlawful { (g : Given) (trace log : List ℕ) (line : ℕ) → IsLawful g trace log → IsUnlawful g trace log line → ⊥ }

@@ -1,8 +1,8 @@
-// The verdict on a log.
+// The judgement on a log.
 
-/// The verdict on a log. Lines are counted from 1.
+/// The judgement on a log. Lines are counted from 1.
 #[derive(Clone, Copy)]
-pub enum Verdict {
+pub enum Judgement {
     /// Every line is allowed, and the last is a stop.
     Lawful,
     /// `line` is the first line that isn't allowed, or the number of lines plus 1 if all are allowed and none is a

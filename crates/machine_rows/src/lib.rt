@@ -7,7 +7,8 @@
 // continue; a benchmark uses them too. The rest is tests: `words` has the public suite's rows of each operator,
 // `instructions` the manual's vectors, `steps` each fault, extension, store and link, of both forms of the step,
 // `pools` links and addresses worked out by hand, `recursions`, `operations` and `stops` programs run as segments, each
-// with counts worked out by hand from the templates.
+// with counts worked out by hand from the templates, and `vectors` the same for programs whose code has the manual's
+// vectors.
 #![tactic(auto)]
 
 mod ram;
@@ -32,5 +33,7 @@ mod recursions;
 mod steps;
 #[cfg(test)]
 mod stops;
+#[cfg(test)]
+mod vectors;
 #[cfg(test)]
 mod words;

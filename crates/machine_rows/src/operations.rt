@@ -225,8 +225,8 @@ const TRAPS: [(&[u8], TrapKind, u64); 6] = [
     ),
 ];
 
-// Returns the outcome of a source that first asks this and ends.
-fn asked(ask: Ask, sum: u32, retired: u64, free: u32) -> Outcome {
+/// Returns the outcome of a source that first asks this and ends.
+pub(crate) fn asked(ask: Ask, sum: u32, retired: u64, free: u32) -> Outcome {
     Outcome {
         first: Some(Segment::Asks { ask }),
         last: Some(Segment::Ends),

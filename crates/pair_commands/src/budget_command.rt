@@ -23,7 +23,14 @@ use stack_certificate::Certificate;
 use stack_image::Image;
 use std::alloc::{AllocError, Global};
 
-/// Does the command `budget`.
+/// Does the command `budget`: writes the least budget of a source with its image and certificate to `out`. Returns
+/// status 0.
+///
+/// # Errors
+///
+/// `Refused` if a file is absent, too long or malformed, the pair breaks a rule of the certificate, or a function is on
+/// a cycle of calls. `Failed` with `Read` or `Write` only if a load or a write failed, and with `Memory` if an
+/// allocation fails.
 pub fn do_budget<F: Shelf, K: Sink>(
     alloc: Global,
     shelf: &mut F,

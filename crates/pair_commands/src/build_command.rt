@@ -32,7 +32,17 @@ pub struct Products {
     pub line: Vec<u8>,
 }
 
-/// Does the command `build`.
+/// Does the command `build`: builds a source, stores the image and then the certificate, and writes their sizes to
+/// `out`. Returns status 0.
+///
+/// The options are in their ranges.
+///
+/// # Errors
+///
+/// `Refused` if the source is absent, too long or no program, or a frame or the code is too large. `Failed` with `Read`
+/// only if a load failed, with `Write` only if a store or a write failed, and with `Memory` if an allocation fails.
+/// After a failed store the file has its old contents or a prefix of the new; the image is stored before the
+/// certificate.
 pub fn do_build<F: Shelf, K: Sink>(
     alloc: Global,
     shelf: &mut F,

@@ -61,7 +61,13 @@ impl Verdict {
     }
 }
 
-/// Does the command `check`.
+/// Does the command `check`: writes `accepted` to `out`, or the first rule that the source with its image and
+/// certificate breaks. Returns status 0 or 3.
+///
+/// # Errors
+///
+/// `Refused` if a file is absent, too long or malformed. `Failed` with `Read` or `Write` only if a load or a write
+/// failed, and with `Memory` if an allocation fails.
 pub fn do_check<F: Shelf, K: Sink>(
     alloc: Global,
     shelf: &mut F,

@@ -22,7 +22,13 @@ use command_outcomes::{Document, Fault, Stop, print};
 use stack_build::{Analysis, BuildError, analyse};
 use std::alloc::{AllocError, Global};
 
-/// Does the command `graph`.
+/// Does the command `graph`: writes the analysis of a source to `out`: a line for each function and each call site.
+/// Returns status 0.
+///
+/// # Errors
+///
+/// `Refused` if the source is absent, too long or no program, or a frame is too large. `Failed` with `Read` or `Write`
+/// only if a load or a write failed, and with `Memory` if an allocation fails.
 pub fn do_graph<F: Shelf, K: Sink>(
     alloc: Global,
     shelf: &mut F,

@@ -1,4 +1,5 @@
-// Rows over the public calls of the crates that read a source: tokens, trees, grammar, whole programs, and values.
+// Rows over the public calls of the crates that read a source: tokens, trees, grammar, whole programs, values of
+// expressions, and the rewritten trees of sources with calls inside expressions.
 //
 // It has tests alone. What comes in is a table of sources, numbers and trees made by hand; what each must give was worked
 // out by hand from ISO/IEC 9899:2018, 6.4 to 6.9, and the rules and limits of the subset that docs/LANGUAGE.md gives. A
@@ -13,6 +14,8 @@ mod built;
 #[cfg(test)]
 mod depth;
 #[cfg(test)]
+mod expressions;
+#[cfg(test)]
 mod grammar;
 #[cfg(test)]
 mod limits;
@@ -22,6 +25,10 @@ mod lines;
 mod nested;
 #[cfg(test)]
 mod programs;
+#[cfg(test)]
+mod rewriting;
+#[cfg(test)]
+mod texts;
 #[cfg(test)]
 mod tokens;
 #[cfg(test)]

@@ -52,10 +52,8 @@ pub(crate) fn show_analysis<F: Shelf, K: Sink, E: Sink>(
     if let Some(world) = last {
         let_go(world);
     }
-    match shown {
-        Ok(()) => Ok(status),
-        Err(failure) => Err(failure),
-    }
+    shown?;
+    Ok(status)
 }
 
 /// Shows the output of the command of these words; that of a command other than `graph` and `budget` is unchanged.
@@ -87,17 +85,11 @@ fn show_beside<F: Shelf, K: Sink>(
     shelf: &mut F,
     out: &mut K,
 ) -> Result<(), Failure> {
-    match load(alloc, shelf, name, MOST_BYTES, Failure::NoSource) {
-        Ok(source) => match Places::read(alloc, name, source) {
-            Ok(places) => {
-                let shown = show_placed(alloc, &places, printed, max_path, out);
-                drop(places);
-                shown
-            }
-            Err(error) => Err(Failure::from(error)),
-        },
-        Err(failure) => Err(failure),
-    }
+    let source = load(alloc, shelf, name, MOST_BYTES, Failure::NoSource)?;
+    let places = Places::read(alloc, name, source)?;
+    let shown = show_placed(alloc, &places, printed, max_path, out);
+    drop(places);
+    shown
 }
 
 /// Shows the same, given the places of the source.

@@ -54,10 +54,8 @@ pub fn show<F: Shelf, S: Source, K: Sink, E: Sink>(
 
 /// Shows the usage.
 fn show_help<K: Sink>(out: &mut K) -> Result<u8, Failure> {
-    match put(out, HELP.as_bytes()) {
-        Ok(()) => Ok(0),
-        Err(failure) => Err(failure),
-    }
+    put(out, HELP.as_bytes())?;
+    Ok(0)
 }
 
 /// Shows what the words ask for, with the trace that is read; `graph` and `budget` read none. Words of no command are
@@ -74,10 +72,8 @@ fn show_wanted<F: Shelf, S: Source, K: Sink, E: Sink>(
     if wanted.log.is_none() && is_analysis(alloc, &wanted.words) {
         return show_analysis(alloc, &wanted.words, shelf, out, err);
     }
-    match Trace::read(alloc, input) {
-        Ok(trace) => show_trace(alloc, wanted, trace, shelf, out, err),
-        Err(failure) => Err(failure),
-    }
+    let trace = Trace::read(alloc, input)?;
+    show_trace(alloc, wanted, trace, shelf, out, err)
 }
 
 /// Shows what the words ask for, with that trace.
@@ -110,14 +106,10 @@ fn show_stored<F: Shelf, K: Sink>(
     shelf: &mut F,
     out: &mut K,
 ) -> Result<u8, Failure> {
-    match load(alloc, shelf, name, u32::MAX, Failure::NoLog) {
-        Ok(log) => {
-            let shown = show_kept(alloc, wanted, times, log.as_slice(), shelf, out);
-            drop(log);
-            shown
-        }
-        Err(failure) => Err(failure),
-    }
+    let log = load(alloc, shelf, name, u32::MAX, Failure::NoLog)?;
+    let shown = show_kept(alloc, wanted, times, log.as_slice(), shelf, out);
+    drop(log);
+    shown
 }
 
 /// Shows a run from its log alone.
@@ -172,10 +164,8 @@ fn show_run<F: Shelf, K: Sink, E: Sink>(
     if let Some(world) = last {
         let_go(world);
     }
-    match shown {
-        Ok(()) => Ok(status),
-        Err(failure) => Err(failure),
-    }
+    shown?;
+    Ok(status)
 }
 
 /// Shows a run from its log and the world at its stop.
@@ -249,17 +239,11 @@ fn show_log<F: Shelf, K: Sink>(
     out: &mut K,
 ) -> Result<(), Failure> {
     let name = run.subject.source;
-    match load(alloc, shelf, name, MOST_BYTES, Failure::NoSource) {
-        Ok(source) => match Places::read(alloc, name, source) {
-            Ok(places) => {
-                let shown = show_placed(alloc, wanted, &places, run, shelf, out);
-                drop(places);
-                shown
-            }
-            Err(error) => Err(Failure::from(error)),
-        },
-        Err(failure) => Err(failure),
-    }
+    let source = load(alloc, shelf, name, MOST_BYTES, Failure::NoSource)?;
+    let places = Places::read(alloc, name, source)?;
+    let shown = show_placed(alloc, wanted, &places, run, shelf, out);
+    drop(places);
+    shown
 }
 
 /// Shows a run, given the places of its source: the report, and the pictures that the words ask for. The blocking graph

@@ -1,19 +1,39 @@
 use run_history::{Happening, History, HistoryError};
-use schedule_log::read_entry;
+use schedule_log::{LogError, read_entry};
 use std::alloc::AllocError;
+use thiserror::Error;
 
 /// Why a log can't be read further.
-#[derive(Clone, Copy)]
+#[derive(Clone, Copy, Debug, Error)]
 pub enum LinesError {
     /// A line isn't that of an entry, or a clock or a count would be 2^64 or more.
+    #[error("a line of the log is malformed, or a clock or a count is out of range")]
     Log,
     /// Out of memory.
+    #[error("out of memory")]
     Memory,
 }
 
 impl From<AllocError> for LinesError {
     fn from(_error: AllocError) -> LinesError {
         LinesError::Memory
+    }
+}
+
+impl From<LogError> for LinesError {
+    fn from(error: LogError) -> LinesError {
+        match error {
+            LogError::Line => LinesError::Log,
+        }
+    }
+}
+
+impl From<HistoryError> for LinesError {
+    fn from(error: HistoryError) -> LinesError {
+        match error {
+            HistoryError::Count => LinesError::Log,
+            HistoryError::Memory => LinesError::Memory,
+        }
     }
 }
 
@@ -24,12 +44,6 @@ pub fn told_by(
     line: &[u8],
     accepts: &[bool],
 ) -> Result<Happening, LinesError> {
-    match read_entry(line) {
-        Ok(entry) => match history.tell(&entry, accepts) {
-            Ok(told) => Ok(told),
-            Err(HistoryError::Memory) => Err(LinesError::Memory),
-            Err(HistoryError::Count) => Err(LinesError::Log),
-        },
-        Err(_) => Err(LinesError::Log),
-    }
+    let entry = read_entry(line)?;
+    Ok(history.tell(&entry, accepts)?)
 }

@@ -179,9 +179,9 @@ module _ (g : Setup) (state : State) (k : Kept) (held : Held) (unread : k.next �
         next_is = refl;
       }
 
-  pub refused_seen : (error : TraceError) (number : ℕ) → StandsBetween g state k held (back after told bad_line) → IsRefusal error → NextTold k.reader reader told told' (Err error) → reader.lines ≡ k.reader.lines → number ≡ reader.lines + 1 →
+  pub refused_seen : (error : TraceError) (number : ℕ) → StandsBetween g state k held (back after told bad_line) → IsRefusal error → NextTold k.reader reader told told' (Err error) → number ≡ k.reader.lines + 1 →
       Refuses g state (back after told bad_line) held number
-  refused_seen error number stands is next same number_is = record {
-    refused = refused_known state.trace k.reader reader number (number_is ∙ ap (λ (n : ℕ). n + 1) same) error after told told' (trace_unread g state k held (back after told bad_line) stands unread) is next;
+  refused_seen error number stands is next number_is = record {
+    refused = refused_known state.trace k.reader reader number number_is error after told told' (trace_unread g state k held (back after told bad_line) stands unread) is next;
     machine_is = machine_same g state k held (back after told bad_line) stands unread;
   }

@@ -1,5 +1,5 @@
 -- The data of a run in addition to its world.
-use Rattle.std.specs.Prelude.{ℕ, Option, None, Some, Result, Ok, Err}
+use Rattle.std.specs.Prelude.{Option, None, Some}
 use Rattle.blocking_graph.specs.Graph.{GraphState}
 use Rattle.event_trace.specs.Reader.{ReaderState}
 use Rattle.event_trace.specs.declared.events.Event.{Event}
@@ -21,9 +21,3 @@ abbrev pub known : Next → Option (Option Event)
 known Next.Unread = None
 known (Next.Event event) = Some (Some event)
 known Next.Over = Some None
-
--- the number of lines that an answer of a reader used up
-abbrev pub given_by : {E : Type 0} → Result (Option Event) E → ℕ
-given_by (Ok None) = 0
-given_by (Ok (Some event)) = 1
-given_by (Err refusal) = 0

@@ -3,7 +3,6 @@ ghost use Rattle.thread_core.specs.Making.{IsEventInRange};
 ghost use Rattle.lawful_log.specs.Setup.{Setup};
 ghost use Rattle.lawful_log.specs.State.{State, start_of};
 
-use crate::counted::CountedReader;
 use crate::deliveries::coming_entry;
 use crate::ends::Failure;
 use crate::lines::write_line;
@@ -11,7 +10,7 @@ use crate::looking::Next;
 use crate::uses::uses_of;
 use blocking_graph::Graph;
 use cap_io::Sink;
-use event_trace::Event;
+use event_trace::{Event, TraceReader};
 use resource_monitor::{Measure, Monitor};
 use rule_state::RuleState;
 use schedule_log::{Entry, LogWriter};
@@ -37,7 +36,7 @@ pub struct Course<C: Measure> {
     pub(crate) rule: RuleState,
     pub(crate) graph: Graph,
     pub(crate) monitor: Monitor<C>,
-    pub(crate) reader: CountedReader,
+    pub(crate) reader: TraceReader,
     pub(crate) next: Next,
     pub(crate) under: Option<Under>,
 }
@@ -81,7 +80,7 @@ impl<C: Measure + Drop> Course<C> {
             drop(monitor);
             return Err(AllocError);
         };
-        let Ok(reader) = CountedReader::new(alloc) else {
+        let Ok(reader) = TraceReader::new(alloc) else {
             drop(rule);
             drop(monitor);
             return Err(AllocError);

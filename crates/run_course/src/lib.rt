@@ -7,7 +7,6 @@
 // each part may write, but not how.
 #![tactic(auto)]
 
-mod counted;
 mod course;
 mod deliveries;
 mod edges;

@@ -77,11 +77,11 @@ impl<C: Measure + Drop> Course<C> {
                 self.next = Next::Event(event);
                 Ok(Looked::Comes { event: Some(event) })
             }
-            Err(TraceError::Line { .. }) => Ok(Looked::Refused {
-                line: self.reader.number(),
+            Err(TraceError::Line { number }) => Ok(Looked::Refused {
+                line: u64::from(number),
             }),
-            Err(TraceError::Order { .. }) => Ok(Looked::Refused {
-                line: self.reader.number(),
+            Err(TraceError::Order { number, .. }) => Ok(Looked::Refused {
+                line: u64::from(number),
             }),
             Err(TraceError::ReadFault) => Err(Failure::Read),
         }

@@ -12,6 +12,7 @@ pub mod PairedRuns
 pub mod Pairs
 pub mod Parts
 pub mod Queues
+pub mod Reading
 pub mod Sights
 pub mod Spells
 pub mod Takes

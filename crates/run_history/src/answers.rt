@@ -73,19 +73,13 @@ impl AnswerList {
     pub(crate) fn add(&mut self, request: usize, at: u64) -> Result<(), HistoryError>
         ensures { (other : ℕ) → OnOk result (answers_at self.new other ≡ answers_from (answers_at self.old other) (clocks_for other at request)) }
     {
-        let Ok(()) = self.reach(request) else {
-            return Err(HistoryError::Memory);
-        };
+        self.reach(request)?;
         let count = self.counts[request];
         let Some(more) = count.checked_add(1) else {
             return Err(HistoryError::Count);
         };
-        let Ok(()) = note_first(&mut self.firsts, request, at, count) else {
-            return Err(HistoryError::Memory);
-        };
-        let Ok(()) = self.lasts.set(request, at) else {
-            return Err(HistoryError::Memory);
-        };
+        note_first(&mut self.firsts, request, at, count)?;
+        self.lasts.set(request, at)?;
         self.counts[request] = more;
         Ok(())
     }

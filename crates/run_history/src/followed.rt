@@ -62,10 +62,8 @@ impl<'a> Followed<'a> {
         ensures answers { (request : ℕ) → OnOk result (answers_at self.new.answers request ≡ followed_with request told (λ one. get nat_cmp self.old.started one) (answers_at self.old.answers request)) }
         ensures followed { (spawned : List Spawned) → (before : List Happening) → IsFollowed spawned before self.old → OnOk result (IsFollowed spawned (before ++ told ∷ []) self.new) }
     {
-        match self.take(told) {
-            Ok(()) => Ok(()),
-            Err(error) => Err(error),
-        }
+        self.take(told)?;
+        Ok(())
     }
 
     /// Adds the happening, as `add` does.

@@ -5,18 +5,43 @@ use crate::happenings::{Happening, Segment};
 use crate::threads::{Standing, Thread};
 use cap_word::SiteKey;
 use schedule_log::{Entry, StopLine};
-use std::alloc::Global;
+use std::alloc::{AllocError, AllocFailed, Global};
 use std::collections::BTreeMap;
 use std::marker::Model;
+use thiserror::Error;
 
 /// Why a history can't continue.
-#[derive(Clone, Copy)]
+#[derive(Clone, Copy, Debug, Error)]
 pub enum HistoryError {
     /// A clock, a count or what a thread holds would exceed 64 bits, a request would be answered 2^32 times, or a wait
     /// would end before it began. This happens in no run.
+    #[error("a clock, a count or a length of time is out of range")]
     Count,
     /// Out of memory.
+    #[error("out of memory")]
     Memory,
+}
+
+impl From<AllocError> for HistoryError {
+    ghost use Rattle.std.specs.Prelude.{◌≡◌};
+    ghost use Rattle.run_history.specs.declared.history.HistoryError.{HistoryError};
+
+    ghost from_gives = { λ _ error. error ≡ HistoryError.Memory };
+
+    fn from(_error: AllocError) -> HistoryError {
+        HistoryError::Memory
+    }
+}
+
+impl<T: Drop> From<AllocFailed<T>> for HistoryError {
+    ghost use Rattle.std.specs.Prelude.{◌≡◌};
+    ghost use Rattle.run_history.specs.declared.history.HistoryError.{HistoryError};
+
+    ghost from_gives = { λ _ error. error ≡ HistoryError.Memory };
+
+    fn from(_error: AllocFailed<T>) -> HistoryError {
+        HistoryError::Memory
+    }
 }
 
 /// What is known of a run from the entries of its log so far. After an error the contents are unspecified.

@@ -86,12 +86,10 @@ impl Numbers {
         };
         self.events = events;
         match item {
-            Item::Arrive { .. } => match self.arrivals.push(line) {
-                Ok(()) => Ok(()),
-                Err(_) => Err(HistoryError::Memory),
-            },
-            Item::Data { .. } => Ok(()),
+            Item::Arrive { .. } => self.arrivals.push(line)?,
+            Item::Data { .. } => (),
         }
+        Ok(())
     }
 
     /// Counts an event that was dropped.
@@ -142,26 +140,18 @@ impl Numbers {
         ensures taken { OnOk result (ticks_in self.new.taken ≡ ticks_in self.old.taken ++ wait.until ∷ []) }
         ensures others { OnOk result (KeepsAllButTakes self.old self.new) }
     {
-        let Ok(()) = self.takers.push(wait.thread) else {
-            return Err(HistoryError::Memory);
-        };
-        match self.taken.push(wait.until) {
-            Ok(()) => Ok(()),
-            Err(_) => Err(HistoryError::Memory),
-        }
+        self.takers.push(wait.thread)?;
+        self.taken.push(wait.until)?;
+        Ok(())
     }
 
     /// Adds a finished segment, after which `free` chunks are free.
     fn rest(&mut self, segment: Segment, chunks: u32, free: u32) -> Result<(), HistoryError>
         ensures { (window : Option Window) → OnOk result (IsOneMore window chunks (Ran segment free) self.old self.new) }
     {
-        match self.answer(segment) {
-            Ok(()) => {
-                self.most_held = self.most_held.max(chunks.saturating_sub(free));
-                Ok(())
-            }
-            Err(error) => Err(error),
-        }
+        self.answer(segment)?;
+        self.most_held = self.most_held.max(chunks.saturating_sub(free));
+        Ok(())
     }
 
     /// Adds the answers of a segment.

@@ -84,10 +84,8 @@ impl Pairs {
         ensures by_order { (before : List Happening) → self.old.pairing ≡ First → ArePairsByOrder before self.old → OnOk result (ArePairsByOrder (before ++ told ∷ []) self.new) }
         ensures by_value { (before : List Happening) → self.old.pairing ≡ Value → ArePairsByValue before self.old → OnOk result (ArePairsByValue (before ++ told ∷ []) self.new) }
     {
-        match self.take(told) {
-            Ok(()) => Ok(()),
-            Err(error) => Err(error),
-        }
+        self.take(told)?;
+        Ok(())
     }
 
     /// Adds the happening, as `add` does.

@@ -18,17 +18,34 @@ use cap_text::Lines;
 use report_figures::Window;
 use schedule_log::{Entry, LogError, read_entry};
 use std::alloc::Global;
+use thiserror::Error;
 
 /// Why a log has no numbers.
-#[derive(Clone, Copy)]
+#[derive(Clone, Copy, Debug, Error)]
 pub enum ReadError {
     /// A line isn't that of an entry.
+    #[error("a line is not that of a log")]
     Line,
     /// A clock or a count would be 2^64 or more, a request would be answered 2^32 times, or a wait would end before it
     /// began. This happens in no run.
+    #[error("a clock, a count or a length of time is out of range")]
     Count,
     /// Out of memory.
+    #[error("out of memory")]
     Memory,
+}
+
+impl From<HistoryError> for ReadError {
+    ghost use Rattle.run_history.specs.Reading.{by_history};
+
+    ghost from_gives = { λ refusal error. error ≡ by_history refusal };
+
+    fn from(refusal: HistoryError) -> ReadError {
+        match refusal {
+            HistoryError::Count => ReadError::Count,
+            HistoryError::Memory => ReadError::Memory,
+        }
+    }
 }
 
 /// An observer of a log while it is read.
@@ -137,10 +154,8 @@ impl<'a> Course<'a> {
         ensures line { result ≡ Err ReadError.Line → ⊥ }
         ensures watched { (before : List Sight) → W.has_seen before watch.old → OnOk result (W.has_seen (before ++ record { entry = entry.now; told = happening accepts.now entry.now self.old.history; named = named_for self.old.answerer (happening accepts.now entry.now self.old.history) } ∷ []) watch.new) }
     {
-        match self.history.tell(entry, accepts) {
-            Ok(told) => self.take_told(entry, told, window, chunks, watch),
-            Err(error) => Err(of_history(error)),
-        }
+        let told = self.history.tell(entry, accepts)?;
+        self.take_told(entry, told, window, chunks, watch)
     }
 
     /// Adds the happening of that entry.
@@ -160,27 +175,9 @@ impl<'a> Course<'a> {
         ensures watched { (before : List Sight) → W.has_seen before watch.old → OnOk result (W.has_seen (before ++ record { entry = entry.now; told = told; named = named_for self.old.answerer told } ∷ []) watch.new) }
     {
         let named = self.answerer.named(told);
-        match self.numbers.add(told, window, chunks) {
-            Ok(()) => match self.answerer.add(told) {
-                Ok(()) => match watch.see(entry, told, named) {
-                    Ok(()) => Ok(()),
-                    Err(error) => Err(of_history(error)),
-                },
-                Err(error) => Err(of_history(error)),
-            },
-            Err(error) => Err(of_history(error)),
-        }
-    }
-}
-
-/// Returns why there are no numbers, if the history can't continue.
-fn of_history(error: HistoryError) -> ReadError
-    ensures line { result ≡ ReadError.Line → ⊥ }
-    ensures count { error ≡ HistoryError.Count → result ≡ ReadError.Count }
-    ensures memory { error ≡ HistoryError.Memory → result ≡ ReadError.Memory }
-{
-    match error {
-        HistoryError::Count => ReadError::Count,
-        HistoryError::Memory => ReadError::Memory,
+        self.numbers.add(told, window, chunks)?;
+        self.answerer.add(told)?;
+        watch.see(entry, told, named)?;
+        Ok(())
     }
 }

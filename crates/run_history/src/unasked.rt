@@ -52,13 +52,11 @@ impl Unasked {
             return Ok(());
         }
         let before = self.puts.get(&segment.thread).copied().unwrap_or(0);
-        match before.checked_add(puts) {
-            Some(now) => match self.puts.insert(segment.thread, now) {
-                Ok(_) => Ok(()),
-                Err(_) => Err(HistoryError::Memory),
-            },
-            None => Err(HistoryError::Count),
-        }
+        let Some(now) = before.checked_add(puts) else {
+            return Err(HistoryError::Count);
+        };
+        self.puts.insert(segment.thread, now)?;
+        Ok(())
     }
 }
 

@@ -49,9 +49,7 @@ impl SiteWaits {
         ensures longest { IfOk result (λ waits. waits.longest ≡ wait) }
     {
         let mut ticks = TickList::new(alloc);
-        let Ok(()) = ticks.push(wait.ticks) else {
-            return Err(HistoryError::Memory);
-        };
+        ticks.push(wait.ticks)?;
         Ok(SiteWaits {
             ticks,
             longest: wait,
@@ -64,10 +62,8 @@ impl SiteWaits {
         ensures longest { OnOk result (self.new.longest ≡ longer_of (Some self.old.longest) wait) }
     {
         self.longest = longer_of(self.longest, wait);
-        match self.ticks.push(wait.ticks) {
-            Ok(()) => Ok(()),
-            Err(_) => Err(HistoryError::Memory),
-        }
+        self.ticks.push(wait.ticks)?;
+        Ok(())
     }
 }
 
@@ -96,13 +92,9 @@ impl WaitLists {
         if let Some(waits) = self.sites.get_mut(&wait.site) {
             return waits.add(wait);
         }
-        match SiteWaits::first(self.alloc, wait) {
-            Ok(waits) => match self.sites.insert(wait.site, waits) {
-                Ok(_) => Ok(()),
-                Err(_) => Err(HistoryError::Memory),
-            },
-            Err(error) => Err(error),
-        }
+        let waits = SiteWaits::first(self.alloc, wait)?;
+        self.sites.insert(wait.site, waits)?;
+        Ok(())
     }
 }
 

@@ -6,7 +6,9 @@
 // `RowEffect` the effect of each form, `Step` the whole step with its faults in order, `Bytes` the meaning of memory,
 // `Access` the bytes that a step loads or stores, `Words` the ranges that it preserves. The crates above provide a
 // memory and cite the clauses of `step`, or of `step_decoded` or `step_of`, which say the same, and the laws, which
-// have no effect at run time. Source: RISC-V unprivileged manual, chapters "RV32I" and "M".
+// have no effect at run time. The program runs ready operations (`decoded_code`), which are proved equal to the step,
+// and `step_of` for the others; only rows call `step` and `step_decoded`. Source: RISC-V unprivileged manual, chapters
+// "RV32I" and "M".
 #![tactic(auto)]
 
 mod accesses;

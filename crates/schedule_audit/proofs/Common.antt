@@ -8,8 +8,8 @@ pub use Rattle.std.specs.Prelude.{IfSome, IsTrue, is_some, nat_lt, position, ℤ
 pub use Rattle.event_trace.specs.Reader.{ReaderState}
 pub use Rattle.lawful_reading.specs.Given.{Given}
 pub use Rattle.lawful_reading.specs.State.{Segment, State, seen_of, start_of}
-pub use Rattle.lawful_reading.specs.Verdicts.{IsVerdictOf}
-pub use Rattle.lawful_reading.specs.declared.judgement.Verdict.{Verdict}
+pub use Rattle.lawful_reading.specs.Judgements.{IsJudgementOf}
+pub use Rattle.lawful_reading.specs.declared.judgement.Judgement.{Judgement}
 pub use Rattle.schedule_log.specs.EntryRanges.{FitsEntry}
 pub use Rattle.schedule_log.specs.EntryText.{entry_text, log_text}
 pub use Rattle.schedule_log.specs.declared.entries.Entry.{Entry}

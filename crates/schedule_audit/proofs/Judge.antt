@@ -1,5 +1,5 @@
 -- The lines of a log, one after another.
-use Rattle.schedule_audit.proofs.Common.{◌≡◌, ℕ, suc, ◌+◌, ◌<◌, ◌≤◌, Bool, true, false, ◌==◌, not, List, [], ◌∷◌, ◌++◌, length, take, drop, Option, Some, None, Ok, refl, sym, ap, ◌∙◌, subst, arith, cond, append-nil, IfSome, nat_lt, position, eqb-true, ReaderState, Given, State, start_of, entry_text, log_text, FitsEntry, Entry, End, Next, Verdict, IsReadTo, IsLine, RulesLine, Kept, Allows, IsEnd, IsTold, IsTraceOf, Stands, IsVerdictOf}
+use Rattle.schedule_audit.proofs.Common.{◌≡◌, ℕ, suc, ◌+◌, ◌<◌, ◌≤◌, Bool, true, false, ◌==◌, not, List, [], ◌∷◌, ◌++◌, length, take, drop, Option, Some, None, Ok, refl, sym, ap, ◌∙◌, subst, arith, cond, append-nil, IfSome, nat_lt, position, eqb-true, ReaderState, Given, State, start_of, entry_text, log_text, FitsEntry, Entry, End, Next, Judgement, IsReadTo, IsLine, RulesLine, Kept, Allows, IsEnd, IsTold, IsTraceOf, Stands, IsJudgementOf}
 use Rattle.std.specs.List.{position_or_len}
 use Rattle.std.proofs.lemmas.Bool.Decides.{nat_tests}
 use Rattle.cap_text.specs.Pieces.{Lacks}
@@ -9,7 +9,7 @@ use Rattle.schedule_log.proofs.LogLines.{no_line_feed}
 use Rattle.schedule_reading.specs.declared.reading.End.TheVariants as end
 use Rattle.schedule_reading.specs.declared.reading.Next.TheVariants as next
 use Rattle.schedule_reading.specs.declared.rulings.Ruling.TheVariants as ruling
-use Rattle.lawful_reading.proofs.Verdicts.{cut_lines, no_lines}
+use Rattle.lawful_reading.proofs.Judgements.{cut_lines, no_lines}
 use Rattle.lawful_reading.proofs.Found.{last_line}
 
 -- ---- the first line feed
@@ -157,7 +157,7 @@ module _ (g : Given) (left : Option (List ℕ)) (log rest : List ℕ) (line : �
     not_over : rest ≡ [] → ⊥
     not_over e = let below = cut_at.below in let none = ap (λ (l : List ℕ). length l) e in omega (arith, below, none)
 
-    pub read_refused : RulesLine g is.state k bytes now new now' (Ok ruling.Refused) → IsVerdictOf g left log (Verdict.Unlawful line)
+    pub read_refused : RulesLine g is.state k bytes now new now' (Ok ruling.Refused) → IsJudgementOf g left log (Judgement.Unlawful line)
     read_refused r = by left is.leads is.told where
       by : (o : Option (List ℕ)) → IfSome o (λ trace. Leads g (start_of g trace) is.entries is.state) → IfSome o (λ trace. IsTold is.state k now) → IfSome o (λ trace. IsUnlawful g trace log line)
       by None leads told = tt
@@ -175,7 +175,7 @@ module _ (g : Given) (left : Option (List ℕ)) (log rest : List ℕ) (line : �
         line_is = is.line_is;
       }
 
-    pub read_late : RulesLine g is.state k bytes now new now' (Ok ruling.OutOfSteps) → IsVerdictOf g left log (Verdict.Steps line)
+    pub read_late : RulesLine g is.state k bytes now new now' (Ok ruling.OutOfSteps) → IsJudgementOf g left log (Judgement.Steps line)
     read_late r = by left is.leads where
       by : (o : Option (List ℕ)) → IfSome o (λ trace. Leads g (start_of g trace) is.entries is.state) → IfSome o (λ trace. IsTooLong g trace log line)
       by None leads = tt
@@ -197,7 +197,7 @@ module _ (g : Given) (left : Option (List ℕ)) (log rest : List ℕ) (line : �
   stopped_is : (e : End) → IsEnd g is.state e → e ≡ end.Stopped → is.state.end ≡ reading.Stopped
   stopped_is e i same = subst (IsEnd g is.state) same i
 
-  pub read_lawful : rest ≡ [] → k.end ≡ end.Stopped → IsVerdictOf g left log Verdict.Lawful
+  pub read_lawful : rest ≡ [] → k.end ≡ end.Stopped → IsJudgementOf g left log Judgement.Lawful
   read_lawful none stopped = by left is.leads where
     by : (o : Option (List ℕ)) → IfSome o (λ trace. Leads g (start_of g trace) is.entries is.state) → IfSome o (λ trace. IsLawful g trace log)
     by None leads = tt
@@ -214,7 +214,7 @@ module _ (g : Given) (left : Option (List ℕ)) (log rest : List ℕ) (line : �
   stop_of (end.Edges edges read) i same = absurd (let no : reading.Edges _ ≡ reading.Stopped = sym i.0 ∙ same in cc)
   stop_of end.Stopped i same = refl
 
-  pub read_unlawful : Lacks 10 rest → (rest ≡ [] → k.end ≡ end.Stopped → ⊥) → IsVerdictOf g left log (Verdict.Unlawful line)
+  pub read_unlawful : Lacks 10 rest → (rest ≡ [] → k.end ≡ end.Stopped → ⊥) → IsJudgementOf g left log (Judgement.Unlawful line)
   read_unlawful lacks never = by left is.leads where
     none_begins : (entry : Entry) (u : List ℕ) → BeginsWith entry rest u → ⊥
     none_begins entry u begins = lacks_not (entry_text entry) [] u (subst (Lacks 10) begins.bytes_are lacks)

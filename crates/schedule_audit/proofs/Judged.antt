@@ -1,5 +1,5 @@
 -- One line of a log is read, and the verdict.
-use Rattle.schedule_audit.proofs.Common.{◌≡◌, ℕ, ◌+◌, ◌<◌, ◌≤◌, Bool, true, false, List, [], ◌∷◌, ◌==◌, Option, Some, None, Result, Ok, length, take, drop, refl, sym, ap, ◌∙◌, subst, arith, length-drop, position, eq-eqb, ne_eqb, Given, State, start_of, End, Failure, Ruling, Verdict, IsReadTo, RulesLine, Kept, Stands, StandsSomehow, IsVerdictOf}
+use Rattle.schedule_audit.proofs.Common.{◌≡◌, ℕ, ◌+◌, ◌<◌, ◌≤◌, Bool, true, false, List, [], ◌∷◌, ◌==◌, Option, Some, None, Result, Ok, length, take, drop, refl, sym, ap, ◌∙◌, subst, arith, length-drop, position, eq-eqb, ne_eqb, Given, State, start_of, End, Failure, Ruling, Judgement, IsReadTo, RulesLine, Kept, Stands, StandsSomehow, IsJudgementOf}
 use Rattle.schedule_reading.specs.declared.reading.End.TheVariants as end
 use Rattle.schedule_reading.specs.declared.reading.Next.TheVariants as next
 use Rattle.schedule_reading.specs.declared.rulings.Ruling.TheVariants as ruling
@@ -25,16 +25,16 @@ module _ (g : Given) (left : Option (List ℕ)) (log rest : List ℕ) (line : �
     line_on e more same = subst (λ (l : List ℕ). IsReadTo g left log l (line + 1) new now') (sym same)
         (read_on g left log rest line k now is at (cut rest at found) new now' (ruled_line ruling.Allowed e))
 
-    pub line_refused : r ≡ Ok ruling.Refused → IsVerdictOf g left log (Verdict.Unlawful line)
+    pub line_refused : r ≡ Ok ruling.Refused → IsJudgementOf g left log (Judgement.Unlawful line)
     line_refused e = read_refused g left log rest line k now is at (cut rest at found) new now' (ruled_line ruling.Refused e)
 
-    pub line_late : r ≡ Ok ruling.OutOfSteps → IsVerdictOf g left log (Verdict.Steps line)
+    pub line_late : r ≡ Ok ruling.OutOfSteps → IsJudgementOf g left log (Judgement.Steps line)
     line_late e = read_late g left log rest line k now is at (cut rest at found) new now' (ruled_line ruling.OutOfSteps e)
 
-  pub lawful_end : rest ≡ [] → k.end ≡ end.Stopped → IsVerdictOf g left log Verdict.Lawful
+  pub lawful_end : rest ≡ [] → k.end ≡ end.Stopped → IsJudgementOf g left log Judgement.Lawful
   lawful_end none stopped = read_lawful g left log rest line k now is none stopped
 
-  pub unlawful_end : position (λ byte. byte == 10) rest ≡ None → (rest ≡ [] → k.end ≡ end.Stopped → ⊥) → IsVerdictOf g left log (Verdict.Unlawful line)
+  pub unlawful_end : position (λ byte. byte == 10) rest ≡ None → (rest ≡ [] → k.end ≡ end.Stopped → ⊥) → IsJudgementOf g left log (Judgement.Unlawful line)
   unlawful_end none never = read_unlawful g left log rest line k now is (none_left rest none) never
 
 -- how many lines there may still be

@@ -3,8 +3,8 @@ use Rattle.std.specs.Prelude.{◌≡◌, ℕ, suc, List, ◌++◌, length, Optio
 use Rattle.lawful_reading.specs.Given.{Given}
 use Rattle.lawful_reading.specs.Reading.{IsBeyond, Leads}
 use Rattle.lawful_reading.specs.State.{State, start_of}
-use Rattle.lawful_reading.specs.Verdicts.{IsVerdictOf}
-use Rattle.lawful_reading.specs.declared.judgement.Verdict.{Verdict}
+use Rattle.lawful_reading.specs.Judgements.{IsJudgementOf}
+use Rattle.lawful_reading.specs.declared.judgement.Judgement.{Judgement}
 use Rattle.schedule_log.specs.EntryRanges.{FitsEntry}
 use Rattle.schedule_log.specs.EntryText.{entry_text, log_text}
 use Rattle.schedule_log.specs.declared.entries.Entry.{Entry}
@@ -32,8 +32,8 @@ RulesLine g state old line told new told' (Err failure) = Unit {0}
 -- ---- a log
 
 -- this is the verdict on the log, if the trace is exposed
-abbrev pub IsJudged : Given → Option (List ℕ) → List ℕ → Result Verdict Failure → Type 0
-IsJudged g left log (Ok verdict) = IsVerdictOf g left log verdict
+abbrev pub IsJudged : Given → Option (List ℕ) → List ℕ → Result Judgement Failure → Type 0
+IsJudged g left log (Ok verdict) = IsJudgementOf g left log verdict
 IsJudged g left log (Err failure) = Unit {0}
 
 -- a log has been read up to this rest, and its next line has this number: if the trace is exposed, the lines so far are

@@ -4,6 +4,7 @@ ghost use Rattle.c_tree.specs.ProgramView.{program_tree};
 ghost use Rattle.lawful_reading.specs.Given.{Given};
 ghost use Rattle.lawful_reading.specs.State.{State};
 ghost use Rattle.schedule_audit.specs.Judging.{IsJudged, IsNoEnd, IsReadTo, RulesLine};
+ghost use Rattle.schedule_audit.specs.Verdicts.{CountsVerdict, IsVerdict};
 ghost use Rattle.schedule_reading.specs.Rulings.{CountsReads, Rules, StandsBetweenSomehow};
 ghost use Rattle.schedule_reading.specs.Limits.{MayAudit, given_of};
 ghost use Rattle.schedule_reading.specs.Closing.{RulesWithin, WithinSomehow};
@@ -12,13 +13,14 @@ ghost use Rattle.schedule_reading.specs.declared.reading.End.TheVariants.{Stoppe
 
 use crate::ends::stop;
 use crate::segments::{block, end_line, out};
+use crate::verdicts::{Verdict, verdict_of};
 use c_tree::Program;
 use cap_io::Source;
-use lawful_reading::Verdict;
+use lawful_reading::Judgement;
 use resource_monitor::{Measure, Monitor};
 use schedule_log::{Entry, LogError, read_entry};
 use schedule_reading::{AuditPolicy, End, Failure, Reading, Ruling, Shown, Under};
-use std::alloc::Global;
+use std::alloc::{AllocError, Global};
 
 /// Judges a log: whether each of its lines is allowed after those before it, and the last is a stop. The lines of
 /// choice points are those of the priority rule over the printed costs; outputs and blocking points are those of the
@@ -26,15 +28,12 @@ use std::alloc::Global;
 ///
 /// - `Lawful` exactly if every line is allowed and the last is a stop;
 /// - `Unlawful` with the first line that isn't allowed, or the number of lines plus 1 if none is a stop;
-/// - `Steps` with the first line that needs, together with those before it, more steps of the source than the limit.
+/// - `Steps` with the first line that needs, together with those before it, more steps of the source than the limit;
+/// - `ReadFault` only if a read of the trace failed: its count of faults rose, or is at its maximum;
+/// - `Memory` if an allocation fails.
 ///
 /// The limits are in their ranges, and the monitor is new, with the policy's caps and the number of chunks as the cap
 /// of resource 0.
-///
-/// # Errors
-///
-/// - `Failure::Read` if a read of the trace failed: its count of faults rose, or is at its maximum.
-/// - `Failure::Memory` if an allocation fails.
 pub fn audit<S: Source, C: Measure + Drop>(
     alloc: Global,
     program: &Program,
@@ -42,18 +41,18 @@ pub fn audit<S: Source, C: Measure + Drop>(
     monitor: Monitor<C>,
     trace: &mut S,
     log: &[u8],
-) -> Result<Verdict, Failure>
+) -> Verdict
     requires { MayAudit policy monitor }
-    ensures verdict { IsJudged (given_of (program_tree program.now) policy monitor) (S.left trace.old) log.now result }
-    ensures counts { CountsReads result (S.faults trace.old) (S.faults trace.new) }
+    ensures verdict { IsVerdict (given_of (program_tree program.now) policy monitor) (S.left trace.old) log.now result }
+    ensures counts { CountsVerdict result (S.faults trace.old) (S.faults trace.new) }
 {
     match Reading::new(alloc, program, policy, monitor) {
         Ok(mut reading) => {
             let judged = lines(&mut reading, trace, log);
             drop(reading);
-            judged
+            verdict_of(judged)
         }
-        Err(_) => Err(Failure::Memory),
+        Err(AllocError) => Verdict::Memory,
     }
 }
 
@@ -69,7 +68,7 @@ fn lines<S: Source, C: Measure + Drop>(
     reading: &mut Reading<'_, C>,
     trace: &mut S,
     log: &[u8],
-) -> Result<Verdict, Failure>
+) -> Result<Judgement, Failure>
     requires { StandsSomehow reading.old }
     ensures judged { (g : Given) → IsReadTo g (S.left trace.old) log.now log.now 1 reading.old (S.left trace.old) → IsJudged g (S.left trace.old) log.now result }
     ensures counts { CountsReads result (S.faults trace.old) (S.faults trace.new) }
@@ -79,16 +78,16 @@ fn lines<S: Source, C: Measure + Drop>(
     while let Some(end) = line_end(rest) {
         match take_line(reading, trace, &rest[..end])? {
             Ruling::Allowed => (),
-            Ruling::Refused => return Ok(Verdict::Unlawful { line }),
-            Ruling::OutOfSteps => return Ok(Verdict::Steps { line }),
+            Ruling::Refused => return Ok(Judgement::Unlawful { line }),
+            Ruling::OutOfSteps => return Ok(Judgement::Steps { line }),
         }
         rest = &rest[end + 1..];
         line += 1;
     }
     if rest.is_empty() && matches!(reading.end, End::Stopped) {
-        Ok(Verdict::Lawful)
+        Ok(Judgement::Lawful)
     } else {
-        Ok(Verdict::Unlawful { line })
+        Ok(Judgement::Unlawful { line })
     }
 }
 

@@ -9,11 +9,13 @@ use crate::Entry;
 use crate::lists::{read_averages, read_key};
 use crate::parts::{clock_and_item, is_same, last_word, read_segment, read_stop, word_and_signed};
 use cap_text::Fields;
+use thiserror::Error;
 
 /// Why bytes aren't a line of the log.
-#[derive(Clone, Copy, PartialEq, Eq)]
+#[derive(Clone, Copy, Debug, PartialEq, Eq, Error)]
 pub enum LogError {
     /// They aren't the text of an entry.
+    #[error("the line is not that of a log")]
     Line,
 }
 

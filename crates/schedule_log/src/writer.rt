@@ -58,13 +58,9 @@ impl LogWriter {
         ensures never_falls { K.faults out.old ≤ K.faults out.new }
         ensures most { length self.new.held ≤ 4096 }
     {
-        match self.bytes.answer() {
-            Err(refusal) => Err(refusal),
-            Ok(()) => {
-                write_line(&mut self.bytes, out, entry);
-                self.bytes.answer()
-            }
-        }
+        self.bytes.answer()?;
+        write_line(&mut self.bytes, out, entry);
+        self.bytes.answer()
     }
 
     /// Flushes the buffer at the end of the log.

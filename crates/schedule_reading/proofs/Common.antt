@@ -9,7 +9,7 @@ pub use Rattle.std.proofs.lemmas.Bool.Decides.{nat_tests}
 pub use Rattle.std.proofs.lemmas.Int.{to_z-of_z}
 pub use Rattle.std.proofs.lemmas.List.{length_push}
 pub use Rattle.std.proofs.lemmas.Result.{IfOk-at_ok, err_from_is_err_and}
-pub use Rattle.std.specs.List.{AllByRecursion, cons_option, list_all, list_any, range_with_len}
+pub use Rattle.std.specs.List.{AllByRecursion, cons_option, list_any, range_with_len}
 pub use Rattle.std.specs.Prelude.{All, Contains, IfSome, IsTrue, Vec, count_by, drop, filter_map, if◌then◌else◌, is_none, is_some, map, nat_le, option_to_list, pos, slice_get, slice_index, slice_index_or, slice_set, ℤ, ◌-ℤ◌, ◌↔◌}
 pub use Rattle.blocking_graph.specs.Edges.{count_of, edges_of, edges_with}
 pub use Rattle.blocking_graph.specs.Graph.{GraphState, IsSegment, empty_graph}

@@ -1,5 +1,5 @@
 -- A segment is taken in: its cost, its free chunks, the uses after it and its record.
-use Rattle.schedule_reading.proofs.Common.{◌≡◌, ℕ, ◌+◌, ◌<◌, ◌≤◌, ℤ, pos, List, length, sym, ap, ◌∙◌, subst, arith, slice_index, slice_index_or, ◌-ℤ◌, count_of, edges_with, GraphState, IsSegment, SegmentRecord, observed, changes, changes_are, same_eight, small_changes, drop_long, Given, MonitorState, NoneAbove, Under, IsWithin, MayClose, closed, uses_after, Core, IsOf, IsTimely, ThreadsState, cap_in, used_in}
+use Rattle.schedule_reading.proofs.Common.{◌≡◌, ℕ, ◌+◌, ◌<◌, ◌≤◌, ℤ, pos, List, length, sym, ap, ◌∙◌, subst, arith, slice_index, slice_index_or, ◌-ℤ◌, count_of, edges_with, GraphState, IsSegment, SegmentRecord, changes, changes_are, same_eight, small_changes, drop_long, Given, NoneAbove, Under, IsWithin, MayClose, closed, uses_after, Core, IsOf, IsTimely, ThreadsState, cap_in, used_in}
 use Rattle.schedule_reading.proofs.Caps.{cap_is, used_is}
 
 module _ (k : Core) (under : Under) (cost free : ℕ) (may : MayClose k under cost free) where
@@ -39,15 +39,12 @@ module _ (k : Core) (under : Under) (cost free : ℕ) (may : MayClose k under co
       changes_now : change ≡ changes under.before (uses_after k free)
       changes_now = changes_are under.before after change before_eight after_eight change_eight change_is ∙ ap (λ (us : List ℕ). changes under.before us) after_is
 
-      pub closed_is : clock ≡ k.threads.waits.clock → (monitor : MonitorState) → monitor ≡ observed k.monitor after → (graph : GraphState) →
+      pub closed_is : clock ≡ k.threads.waits.clock → (graph : GraphState) →
           graph ≡ record k.graph { edges = edges_with k.graph.edges segment } →
-          record k { cost = k.cost + cost; free = free; threads = threads; monitor = monitor; graph = graph } ≡ closed k under node cost free
-      closed_is clock_is monitor monitor_is graph graph_is = λ i. record (then_with (threads_same i)) { monitor = monitor_same i; graph = graph_same i } where
+          record k { cost = k.cost + cost; free = free; threads = threads; graph = graph } ≡ closed k under node cost free
+      closed_is clock_is graph graph_is = λ i. record (then_with (threads_same i)) { graph = graph_same i } where
         threads_same : threads ≡ then_threads k.threads.waits.clock
         threads_same = threads_is ∙ ap then_threads clock_is
-
-        monitor_same : monitor ≡ observed k.monitor (uses_after k free)
-        monitor_same = monitor_is ∙ ap (λ (us : List ℕ). observed k.monitor us) after_is
 
         graph_same : graph ≡ record k.graph { edges = edges_with k.graph.edges (record { from = under.choice.node; to = node; cost = cost; change = changes under.before (uses_after k free) }) }
         graph_same = graph_is ∙ ap (λ (c : List ℤ). record k.graph { edges = edges_with k.graph.edges (record { from = under.choice.node; to = node; cost = cost; change = c }) }) changes_now

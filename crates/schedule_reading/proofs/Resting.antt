@@ -1,22 +1,11 @@
 -- The thread under way rests, and its segment is taken in: what is kept stands beside the state after it.
-use Rattle.schedule_reading.proofs.Common.{◌≡◌, ℕ, ◌+◌, ◌-◌, ◌^◌, ◌≤◌, Bool, true, false, List, length, Option, Some, None, IsSome, refl, sym, ap, ◌∙◌, arith, if◌then◌else◌, IfSome, slice_set, nat_le, list_all, list_any, count_of, edges_of, edges_with, GraphState, EdgeLine, SegmentRecord, Block, Exchange, wakes_at, is_open, observed, latest, all_caps, Waiter, changes, uses_in, uses_of, Given, chunks_of, rested, gate, gate_after, pressures, SchedulerState, last_of, Choice, get, IsFull, globals_of, Exchanging, wake_of, Under, Slot, IsClosing, uses_after, KeepsBut, Core, AreBeside, AreLive, IsOf, IsScheduled, StandsAt, StandsWithin, ThreadsState, at_place}
+use Rattle.schedule_reading.proofs.Common.{◌≡◌, ℕ, ◌+◌, ◌-◌, ◌^◌, ◌≤◌, Bool, List, length, Option, Some, None, IsSome, refl, sym, ap, ◌∙◌, arith, IfSome, slice_set, count_of, edges_of, edges_with, GraphState, EdgeLine, SegmentRecord, Block, Exchange, wakes_at, is_open, latest, all_caps, Waiter, changes, uses_in, uses_of, Given, chunks_of, rested, gate, gate_after, pressures, SchedulerState, last_of, Choice, get, IsFull, globals_of, Exchanging, wake_of, Under, Slot, IsClosing, uses_after, KeepsBut, Core, AreBeside, AreLive, IsOf, IsScheduled, StandsAt, StandsWithin, ThreadsState, at_place}
 use Rattle.c_mean.specs.World as source
 use Rattle.choice_rules.proofs.Past.{edges_more, gate_more}
 use Rattle.lawful_reading.specs.State.{Segment, State, seen_of}
 use Rattle.thread_waits.proofs.TimeLaws.{few_ticks}
 use Rattle.schedule_reading.proofs.Keeping.{of_with}
 use Rattle.schedule_reading.proofs.Proceeding.{of_keeps, past_keeps}
-
--- ---- the gate
-
-again_by : (a c b : Bool) → (if a then false else if c then true else (if a then false else if c then true else b)) ≡ (if a then false else if c then true else b)
-again_by true c b = refl
-again_by false true b = refl
-again_by false false b = refl
-
--- seen twice, the same uses move the gate once
-again : (high low : ℕ) (b : Bool) (seen : List ℕ) → gate_after high low (gate_after high low b seen) seen ≡ gate_after high low b seen
-again high low b seen = again_by (list_any (λ p. nat_le high p) seen) (list_all (λ p. nat_le p low) seen) b
 
 -- ---- sleepers
 
@@ -82,7 +71,6 @@ module _ (g : Given) (state : State) (old : Core) (old_under : Under) (k : Core)
       cost = k.cost + cost;
       free = free;
       threads = threads;
-      monitor = observed k.monitor (uses_after k free);
       graph = record graph { edges = edges_with graph.edges (record { from = under.choice.node; to = node; cost = cost; change = changes under.before (uses_after k free) }) };
       scheduler = scheduler;
     }
@@ -94,16 +82,12 @@ module _ (g : Given) (state : State) (old : Core) (old_under : Under) (k : Core)
       of_new : IsOf g new
       of_new = of_with g k new refl refl (ap (λ (x : Exchanging). x.caps) exchange) (ap (λ (x : Exchanging). x.backlog) exchange) (record { curves = refl; caps = refl; high = refl; low = refl }) of_now
 
-      open_now : (observed k.monitor (uses_after k free)).is_open ≡ gate_after g.policy.high g.policy.low (is_open g.policy state.past) (pressures g.policy.curves (uses_in (chunks_of g - free) last.exchange) (all_caps g.policy))
-      open_now = λ i. gate_after (of_now.high i) (of_now.low i) (was i) (pressures (of_now.curves i) (uses_same i) (of_now.monitor_caps i)) where
-        was : k.monitor.is_open ≡ is_open g.policy state.past
-        was = ap (λ (c : Core). c.monitor.is_open) keeps.rest ∙ stands.gate
+      open_now : k.monitor.is_open ≡ is_open g.policy state.past
+      open_now = ap (λ (c : Core). c.monitor.is_open) keeps.rest ∙ stands.gate
 
       gate_now : gate_after g.policy.high g.policy.low new.monitor.is_open (pressures g.policy.curves (uses_of (seen_of after)) (all_caps g.policy)) ≡ is_open g.policy after.past
       gate_now =
-          let seen : List ℕ = pressures g.policy.curves (uses_in (chunks_of g - free) last.exchange) (all_caps g.policy) in
-          ap (λ (b : Bool). gate_after g.policy.high g.policy.low b seen) open_now
-          ∙ again g.policy.high g.policy.low (is_open g.policy state.past) seen
+          ap (λ (b : Bool). gate_after g.policy.high g.policy.low b (pressures g.policy.curves (uses_in (chunks_of g - free) last.exchange) (all_caps g.policy))) open_now
           ∙ sym (gate_more g.policy state.past (uses_in (chunks_of g - free) last.exchange))
 
       edges_now : new.graph.edges ≡ edges_of after.past.records

@@ -3,7 +3,6 @@ use Rattle.std.specs.Prelude.{◌≡◌, ℕ, ℤ, ◌+◌, ◌-◌, ◌^◌, �
 use Rattle.blocking_graph.specs.Edges.{count_of, edges_with}
 use Rattle.cap_word.specs.declared.calls.Block.{Block}
 use Rattle.cap_word.specs.Word.{signed}
-use Rattle.choice_rules.specs.Choice.{observed}
 use Rattle.choice_rules.specs.Seen.{changes, uses_in}
 use Rattle.lawful_reading.specs.Given.{Given}
 use Rattle.lawful_reading.specs.Reading.{IsAllowed, IsBeyond}
@@ -88,7 +87,6 @@ closed k under node cost free = record k {
   cost = k.cost + cost;
   free = free;
   threads = record k.threads { waits = record k.threads.waits { clock = k.threads.waits.clock + cost } };
-  monitor = observed k.monitor (uses_after k free);
   graph = record k.graph {
     edges = edges_with k.graph.edges (record { from = under.choice.node; to = node; cost = cost; change = changes under.before (uses_after k free) });
   };

@@ -54,7 +54,6 @@ impl<'a, C: Measure + Drop> Reading<'a, C> {
         let now = self.threads.clock() + cost;
         self.threads.advance(now);
         let after = self.uses();
-        self.monitor.observe(after);
         self.graph.note(SegmentRecord {
             from: under.choice.node,
             to: node,

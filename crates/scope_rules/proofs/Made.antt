@@ -1,9 +1,10 @@
 -- From the parts of a program to the program, and to the one with other numbers of its calls.
-use Rattle.scope_rules.proofs.Common.{ℕ, ◌≡◌, ◌≤◌, refl, sym, ap, subst, ◌∙◌, List, length, Result, arith, IfOk, IfErr, IfOk-weaker, IfErr-weaker, RawItemTree, ProgramTree, program_tree, program_sites, counting, IsWellScoped, AreSiteNumbers, ScopeError, program_of, numbered, IsResolvedBy, IsResolved, IsRefused}
+use Rattle.scope_rules.proofs.Common.{ℕ, ◌≡◌, ◌≤◌, ◌⊎◌, refl, sym, ap, subst, ◌∙◌, List, length, Result, Ok, Err, arith, IfOk, IfErr, MatchResult, IfOk-weaker, IfErr-weaker, RawItemTree, ProgramTree, program_tree, program_sites, counting, IsWellScoped, AreSiteNumbers, ScopeError, program_of, numbered, IsResolvedBy, IsResolved, IsRefused, IsNoMemory}
 use Rattle.c_tree.specs.declared.programs.Program.{Program}
 use Rattle.scope_rules.proofs.Growth.{numbers}
 use Rattle.scope_rules.proofs.Sites.{all_numbered}
 use Rattle.scope_rules.proofs.NumberedPrograms.{well_numbered}
+use Rattle.scope_rules.proofs.OneOutcome.{never_both, only_memory, this_or_memory}
 
 pub made_as : (P : ProgramTree → Type 0) (r : Result Program ScopeError) (t : ProgramTree) → P t → IfOk r (λ p. program_tree p ≡ t) → IfOk r (λ p. P (program_tree p))
 made_as P r t h e = IfOk-weaker r (λ p. program_tree p ≡ t) (λ p. P (program_tree p)) (λ p q. subst P (sym q) h) e
@@ -29,3 +30,25 @@ numbered_resolved ns is p r = record { rules = r.rules; main = r.main; limits = 
 -- a tree that is a program with other numbers is one with those of its order
 pub in_order : (ns : List ℕ) (is : List RawItemTree) (p : ProgramTree) → IsResolvedBy ns is p → IsResolved is (program_of is)
 in_order ns is p r = record { rules = r.rules; main = r.main; limits = r.limits; tree = refl }
+
+-- a source has no other program, and no other refusal
+pub only_resolved : (is : List RawItemTree) (r : Result Program ScopeError) → IfOk r (λ p. IsResolved is (program_tree p)) → IfErr r (λ e. IsRefused is e) → (p : ProgramTree) → IsResolved is p
+    → MatchResult r (λ q. program_tree q ≡ p) (λ e. e ≡ ScopeError.Memory)
+only_resolved is (Ok q) f g p h = f.tree ∙ sym h.tree
+only_resolved is (Err e) f g p h = only_memory is p e h g
+
+pub only_refused : (is : List RawItemTree) (r : Result Program ScopeError) → IfOk r (λ p. IsResolved is (program_tree p)) → IfErr r (λ e. IsRefused is e) → (e : ScopeError) → IsRefused is e → IsNoMemory e
+    → MatchResult r (λ q. ⊥) (λ d. (d ≡ e) ⊎ (d ≡ ScopeError.Memory))
+only_refused is (Ok q) f g e h n = never_both is (program_tree q) e f h n
+only_refused is (Err d) f g e h n = this_or_memory is e d h n g
+
+-- the same with these numbers of its calls
+pub only_numbered : (ns : List ℕ) (is : List RawItemTree) (r : Result Program ScopeError) → IfOk r (λ p. IsResolvedBy ns is (program_tree p)) → IfErr r (λ e. IsRefused is e) → (p : ProgramTree) → IsResolvedBy ns is p
+    → MatchResult r (λ q. program_tree q ≡ p) (λ e. e ≡ ScopeError.Memory)
+only_numbered ns is (Ok q) f g p h = f.tree ∙ sym h.tree
+only_numbered ns is (Err e) f g p h = only_memory is (program_of is) e (in_order ns is p h) g
+
+pub only_refused_numbered : (ns : List ℕ) (is : List RawItemTree) (r : Result Program ScopeError) → IfOk r (λ p. IsResolvedBy ns is (program_tree p)) → IfErr r (λ e. IsRefused is e) → (e : ScopeError) → IsRefused is e → IsNoMemory e
+    → MatchResult r (λ q. ⊥) (λ d. (d ≡ e) ⊎ (d ≡ ScopeError.Memory))
+only_refused_numbered ns is (Ok q) f g e h n = never_both is (program_of is) e (in_order ns is (program_tree q) f) h n
+only_refused_numbered ns is (Err d) f g e h n = this_or_memory is e d h n g

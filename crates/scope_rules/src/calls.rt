@@ -77,13 +77,9 @@ fn spawned(
         }
         Form::Call(..) | Form::TableCall(..) | Form::Neither => {
             note(least, at, Rule::Kind);
-            match expr(alloc, names, least, raw) {
-                Ok(unused) => {
-                    drop(unused);
-                    Ok(0)
-                }
-                Err(error) => Err(error),
-            }
+            let unused = expr(alloc, names, least, raw)?;
+            drop(unused);
+            Ok(0)
         }
     }
 }
@@ -124,17 +120,13 @@ fn spawn(
         }
         Some((first, rest)) => {
             let function = spawned(alloc, names, least, at, first)?;
-            match exprs(alloc, names, least, rest) {
-                Ok(values) => {
-                    let argument = Box::new(alloc, first_value(values))?;
-                    Ok(Call::Spawn {
-                        site,
-                        function,
-                        argument,
-                    })
-                }
-                Err(error) => Err(error),
-            }
+            let values = exprs(alloc, names, least, rest)?;
+            let argument = Box::new(alloc, first_value(values))?;
+            Ok(Call::Spawn {
+                site,
+                function,
+                argument,
+            })
         }
     }
 }
@@ -167,24 +159,20 @@ impl Place {
         check_call_name(&mut self.least, used, found, name.at, arguments.len());
         match callee_of(found) {
             Callee::Function(function) => {
-                match exprs(alloc, &self.names, &mut self.least, arguments) {
-                    Ok(arguments) => Ok(Call::Function {
-                        site,
-                        function,
-                        arguments,
-                    }),
-                    Err(error) => Err(error),
-                }
+                let arguments = exprs(alloc, &self.names, &mut self.least, arguments)?;
+                Ok(Call::Function {
+                    site,
+                    function,
+                    arguments,
+                })
             }
             Callee::Modelled(call) => {
-                match exprs(alloc, &self.names, &mut self.least, arguments) {
-                    Ok(arguments) => Ok(Call::Modelled {
-                        site,
-                        call,
-                        arguments,
-                    }),
-                    Err(error) => Err(error),
-                }
+                let arguments = exprs(alloc, &self.names, &mut self.least, arguments)?;
+                Ok(Call::Modelled {
+                    site,
+                    call,
+                    arguments,
+                })
             }
             Callee::Spawn => {
                 spawn(
@@ -216,15 +204,13 @@ impl Place {
         check_table_name(&mut self.least, found, name.at);
         let index = expr(alloc, &self.names, &mut self.least, index)?;
         let index = Box::new(alloc, index)?;
-        match then_boxed(index, alloc, &self.names, &mut self.least, argument) {
-            Ok((index, argument)) => Ok(Call::Table {
-                site,
-                table: table_of(found),
-                index,
-                argument,
-            }),
-            Err(error) => Err(error),
-        }
+        let (index, argument) = then_boxed(index, alloc, &self.names, &mut self.least, argument)?;
+        Ok(Call::Table {
+            site,
+            table: table_of(found),
+            index,
+            argument,
+        })
     }
 
     /// Resolves a right side or a returned value.
@@ -234,21 +220,15 @@ impl Place {
         ensures faults { OnOk result (self.new.least ≡ least_of self.old.least (right_faults self.old.names (raw_expr_tree raw.now))) }
     {
         match form_of(raw) {
-            Form::Call(name, arguments) => match self.call(true, name, arguments) {
-                Ok(call) => Ok(RightSide::Call(call)),
-                Err(error) => Err(error),
-            },
+            Form::Call(name, arguments) => {
+                Ok(RightSide::Call(self.call(true, name, arguments)?))
+            }
             Form::TableCall(name, index, argument) => {
-                match self.table_call(name, index, argument) {
-                    Ok(call) => Ok(RightSide::Call(call)),
-                    Err(error) => Err(error),
-                }
+                Ok(RightSide::Call(self.table_call(name, index, argument)?))
             }
             Form::Name(_) | Form::Neither => {
-                match expr(self.alloc, &self.names, &mut self.least, raw) {
-                    Ok(value) => Ok(RightSide::Expr(value)),
-                    Err(error) => Err(error),
-                }
+                let value = expr(self.alloc, &self.names, &mut self.least, raw)?;
+                Ok(RightSide::Expr(value))
             }
         }
     }

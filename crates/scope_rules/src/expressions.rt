@@ -78,30 +78,24 @@ pub fn expr(
         RawExpr::Name(name) => Ok(scalar_value(scalar(names, least, name))),
         RawExpr::Element { name, index } => {
             let array = array(names, least, name);
-            match boxed_expr(alloc, names, least, index) {
-                Ok(index) => Ok(element_value(array, index)),
-                Err(error) => Err(error),
-            }
+            let index = boxed_expr(alloc, names, least, index)?;
+            Ok(element_value(array, index))
         }
         RawExpr::Unary { operator, operand } => {
-            match boxed_expr(alloc, names, least, operand) {
-                Ok(operand) => Ok(Expr::Unary {
-                    operator: *operator,
-                    operand,
-                }),
-                Err(error) => Err(error),
-            }
+            let operand = boxed_expr(alloc, names, least, operand)?;
+            Ok(Expr::Unary {
+                operator: *operator,
+                operand,
+            })
         }
-        RawExpr::Parenthesized(inner) => match boxed_expr(alloc, names, least, inner) {
-            Ok(inner) => Ok(Expr::Parenthesized(inner)),
-            Err(error) => Err(error),
-        },
+        RawExpr::Parenthesized(inner) => {
+            let inner = boxed_expr(alloc, names, least, inner)?;
+            Ok(Expr::Parenthesized(inner))
+        }
         RawExpr::Chain { first, rest } => {
             let first = boxed_expr(alloc, names, least, first)?;
-            match both(first, operands(alloc, names, least, rest)) {
-                Ok((first, rest)) => Ok(Expr::Chain { first, rest }),
-                Err(error) => Err(error),
-            }
+            let (first, rest) = both(first, operands(alloc, names, least, rest))?;
+            Ok(Expr::Chain { first, rest })
         }
         RawExpr::Conditional {
             condition,
@@ -110,14 +104,15 @@ pub fn expr(
         } => {
             let condition = boxed_expr(alloc, names, least, condition)?;
             let before = both(condition, boxed_expr(alloc, names, least, then))?;
-            match both(before, boxed_expr(alloc, names, least, otherwise)) {
-                Ok(((condition, then), otherwise)) => Ok(Expr::Conditional {
-                    condition,
-                    then,
-                    otherwise,
-                }),
-                Err(error) => Err(error),
-            }
+            let ((condition, then), otherwise) = both(
+                before,
+                boxed_expr(alloc, names, least, otherwise),
+            )?;
+            Ok(Expr::Conditional {
+                condition,
+                then,
+                otherwise,
+            })
         }
         RawExpr::Call { .. } | RawExpr::TableCall { .. } => Ok(Expr::Number(0)),
     }

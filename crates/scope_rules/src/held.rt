@@ -10,10 +10,7 @@ pub fn both<T: Drop, U>(before: T, next: Result<U, AllocError>) -> Result<(T, U)
     ensures before { IfOk result (λ p. p.0 ≡ before) }
     ensures next { IfOk result (λ p. next ≡ Ok p.1) }
 {
-    match next {
-        Ok(next) => Ok((before, next)),
-        Err(error) => Err(error),
-    }
+    Ok((before, next?))
 }
 
 /// Returns the value in a box, if both could be allocated.

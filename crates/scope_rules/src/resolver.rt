@@ -140,16 +140,14 @@ fn make_program(alloc: Global, parts: Parts) -> Result<Program, ScopeError>
     ensures tree { IfOk result (λ p. program_tree p ≡ tree_of parts.functions.items parts.globals.items parts.tables.items parts.main) }
     ensures memory { IfErr result (λ e. e ≡ ScopeError.Memory) }
 {
-    match Program::new(
+    let program = Program::new(
         alloc,
         parts.functions,
         parts.globals,
         parts.tables,
         parts.main,
-    ) {
-        Ok(program) => Ok(program),
-        Err(_) => Err(ScopeError::Memory),
-    }
+    )?;
+    Ok(program)
 }
 
 // The program of a source, or its refusal.
@@ -157,13 +155,9 @@ fn decide(alloc: Global, raw: &RawProgram) -> Result<Program, ScopeError>
     ensures resolved { IfOk result (λ p. IsResolved (raw_program_tree raw.now) (program_tree p)) }
     ensures refused { IfErr result (λ e. IsRefused (raw_program_tree raw.now) e) }
 {
-    let Ok(items) = read_items(alloc, raw.items()) else {
-        return Err(ScopeError::Memory);
-    };
-    match resolved_parts(items) {
-        Ok(parts) => make_program(alloc, parts),
-        Err(refusal) => Err(refusal),
-    }
+    let items = read_items(alloc, raw.items())?;
+    let parts = resolved_parts(items)?;
+    make_program(alloc, parts)
 }
 
 /// Returns the program of a source with this tree, in which every call is whole.
@@ -181,10 +175,7 @@ pub fn resolve(alloc: Global, raw: &RawProgram) -> Result<Program, ScopeError>
     ensures only_resolved { (p : ProgramTree) → IsResolved (raw_program_tree raw.now) p → MatchResult result (λ q. program_tree q ≡ p) (λ e. e ≡ ScopeError.Memory) }
     ensures only_refused { (e : ScopeError) → IsRefused (raw_program_tree raw.now) e → IsNoMemory e → MatchResult result (λ q. ⊥) (λ d. (d ≡ e) ⊎ (d ≡ ScopeError.Memory)) }
 {
-    match decide(alloc, raw) {
-        Ok(program) => Ok(program),
-        Err(refusal) => Err(refusal),
-    }
+    decide(alloc, raw)
 }
 
 // The parts with these numbers of the calls.
@@ -254,10 +245,8 @@ impl Resolver {
         ensures resolved { (is : List RawItemTree) → HasRead self is is → IfOk result (λ p. IsResolvedBy numbers.now is (program_tree p)) }
         ensures refused { (is : List RawItemTree) → HasRead self is is → IfErr result (λ e. IsRefused is e) }
     {
-        match resolved_parts(self.items) {
-            Ok(parts) => make_program(alloc, numbered(parts, numbers)),
-            Err(refusal) => Err(refusal),
-        }
+        let parts = resolved_parts(self.items)?;
+        make_program(alloc, numbered(parts, numbers))
     }
 
     /// Returns the program of the source, like `resolve`, with these numbers of its calls, in the order of the tree:
@@ -273,10 +262,7 @@ impl Resolver {
         ensures only_resolved { (is : List RawItemTree) → HasRead self is is → (p : ProgramTree) → IsResolvedBy numbers.now is p → MatchResult result (λ q. program_tree q ≡ p) (λ e. e ≡ ScopeError.Memory) }
         ensures only_refused { (is : List RawItemTree) → HasRead self is is → (e : ScopeError) → IsRefused is e → IsNoMemory e → MatchResult result (λ q. ⊥) (λ d. (d ≡ e) ⊎ (d ≡ ScopeError.Memory)) }
     {
-        match self.decide(alloc, numbers) {
-            Ok(program) => Ok(program),
-            Err(refusal) => Err(refusal),
-        }
+        self.decide(alloc, numbers)
     }
 }
 

@@ -101,10 +101,8 @@ impl Place {
         ensures faults { OnOk result (self.new.least ≡ least_of self.old.least (simple_faults (spot_of self.old) (RawDeclareWith (name_tree name.now) (raw_expr_tree initial.now)))) }
     {
         let value = self.right(initial)?;
-        match self.then_declare(value, name) {
-            Ok((value, variable)) => Ok(Simple::DeclareWith { variable, value }),
-            Err(error) => Err(error),
-        }
+        let (value, variable) = self.then_declare(value, name)?;
+        Ok(Simple::DeclareWith { variable, value })
     }
 
     // An assignment to a word of an array.
@@ -122,10 +120,8 @@ impl Place {
         let index = expr(self.alloc, &self.names, &mut self.least, index)?;
         let index = Box::new(self.alloc, index)?;
         let (index, value) = self.then_right(index, value)?;
-        match both(index, boxed(self.alloc, Ok(value))) {
-            Ok((index, value)) => Ok(element_set(array, index, value)),
-            Err(error) => Err(error),
-        }
+        let (index, value) = both(index, boxed(self.alloc, Ok(value)))?;
+        Ok(element_set(array, index, value))
     }
 
     /// Resolves a declaration of one name, an assignment, or a call.
@@ -135,41 +131,33 @@ impl Place {
         ensures faults { OnOk result (self.new.least ≡ least_of self.old.least (simple_faults (spot_of self.old) (raw_simple_tree raw.now))) }
     {
         match raw {
-            RawSimple::DeclareScalar { name } => match self.declare(name, false, 1) {
-                Ok(variable) => Ok(Simple::DeclareScalar { variable }),
-                Err(error) => Err(error),
-            },
-            RawSimple::DeclareArray { name, words } => match self.declare(name, true, *words) {
-                Ok(variable) => {
-                    check_size(&mut self.least, name, *words);
-                    Ok(Simple::DeclareArray {
-                        variable,
-                        words: *words,
-                    })
-                }
-                Err(error) => Err(error),
-            },
+            RawSimple::DeclareScalar { name } => {
+                let variable = self.declare(name, false, 1)?;
+                Ok(Simple::DeclareScalar { variable })
+            }
+            RawSimple::DeclareArray { name, words } => {
+                let variable = self.declare(name, true, *words)?;
+                check_size(&mut self.least, name, *words);
+                Ok(Simple::DeclareArray {
+                    variable,
+                    words: *words,
+                })
+            }
             RawSimple::DeclareWith { name, value } => self.declare_with(name, value),
             RawSimple::Set { name, value } => {
                 let variable = scalar(&self.names, &mut self.least, name);
-                match self.right(value) {
-                    Ok(value) => Ok(scalar_set(variable, value)),
-                    Err(error) => Err(error),
-                }
+                let value = self.right(value)?;
+                Ok(scalar_set(variable, value))
             }
             RawSimple::SetElement { name, index, value } => self.set_element(name, index, value),
-            RawSimple::Call { name, arguments } => match self.call(false, name, arguments) {
-                Ok(call) => Ok(Simple::Call(call)),
-                Err(error) => Err(error),
-            },
+            RawSimple::Call { name, arguments } => {
+                Ok(Simple::Call(self.call(false, name, arguments)?))
+            }
             RawSimple::TableCall {
                 name,
                 index,
                 argument,
-            } => match self.table_call(name, index, argument) {
-                Ok(call) => Ok(Simple::Call(call)),
-                Err(error) => Err(error),
-            },
+            } => Ok(Simple::Call(self.table_call(name, index, argument)?)),
         }
     }
 

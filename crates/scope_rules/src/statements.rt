@@ -41,10 +41,7 @@ impl Place {
     {
         match raw {
             None => Ok(None),
-            Some(raw) => match expr(self.alloc, &self.names, &mut self.least, raw) {
-                Ok(condition) => Ok(Some(condition)),
-                Err(error) => Err(error),
-            },
+            Some(raw) => Ok(Some(expr(self.alloc, &self.names, &mut self.least, raw)?)),
         }
     }
 
@@ -58,10 +55,7 @@ impl Place {
             None => Ok(None),
             Some(raw) => {
                 check_step(&mut self.least, raw);
-                match self.simple(raw) {
-                    Ok(step) => Ok(Some(step)),
-                    Err(error) => Err(error),
-                }
+                Ok(Some(self.simple(raw)?))
             }
         }
     }
@@ -90,20 +84,16 @@ impl Place {
     {
         let init = self.simples(&raw.init)?;
         let before = both(init, self.condition(&raw.condition))?;
-        match self.then_step(before, &raw.step) {
-            Ok(((init, condition), step)) => {
-                let parts = Box::new(
-                    self.alloc,
-                    ForParts {
-                        init,
-                        condition,
-                        step,
-                    },
-                )?;
-                Ok(parts)
-            }
-            Err(error) => Err(error),
-        }
+        let ((init, condition), step) = self.then_step(before, &raw.step)?;
+        let parts = Box::new(
+            self.alloc,
+            ForParts {
+                init,
+                condition,
+                step,
+            },
+        )?;
+        Ok(parts)
     }
 
     // The returned value at `at`, in a function that gives a result or not.
@@ -124,10 +114,7 @@ impl Place {
             }
             Some(raw) => {
                 note_if(&mut self.least, !gives, at, Rule::Kind);
-                match self.right(raw) {
-                    Ok(value) => Ok(Some(value)),
-                    Err(error) => Err(error),
-                }
+                Ok(Some(self.right(raw)?))
             }
         }
     }
@@ -172,49 +159,40 @@ impl Place {
         ensures faults { OnOk result (self.new.least ≡ least_of self.old.least (stmt_faults gives loops (spot_of self.old) (raw_stmt_tree raw.now))) }
     {
         match raw {
-            RawStmt::Simple(simple) => match self.simple(simple) {
-                Ok(simple) => Ok(Stmt::Simple(simple)),
-                Err(error) => Err(error),
-            },
+            RawStmt::Simple(simple) => Ok(Stmt::Simple(self.simple(simple)?)),
             RawStmt::Empty => Ok(Stmt::Empty),
-            RawStmt::Block(stmts) => match self.block(gives, loops, stmts) {
-                Ok(stmts) => Ok(Stmt::Block(stmts)),
-                Err(error) => Err(error),
-            },
-            RawStmt::If { condition, then } => match self.guarded(gives, loops, then, condition) {
-                Ok((condition, then)) => Ok(Stmt::If { condition, then }),
-                Err(error) => Err(error),
-            },
+            RawStmt::Block(stmts) => Ok(Stmt::Block(self.block(gives, loops, stmts)?)),
+            RawStmt::If { condition, then } => {
+                let (condition, then) = self.guarded(gives, loops, then, condition)?;
+                Ok(Stmt::If { condition, then })
+            }
             RawStmt::IfElse {
                 condition,
                 then,
                 otherwise,
             } => {
                 let before = self.guarded(gives, loops, then, condition)?;
-                match both(before, self.body(gives, loops, otherwise)) {
-                    Ok(((condition, then), otherwise)) => Ok(Stmt::IfElse {
-                        condition,
-                        then,
-                        otherwise,
-                    }),
-                    Err(error) => Err(error),
-                }
+                let ((condition, then), otherwise) = both(
+                    before,
+                    self.body(gives, loops, otherwise),
+                )?;
+                Ok(Stmt::IfElse {
+                    condition,
+                    then,
+                    otherwise,
+                })
             }
             RawStmt::While { condition, body } => {
-                match self.guarded(gives, true, body, condition) {
-                    Ok((condition, body)) => Ok(Stmt::While { condition, body }),
-                    Err(error) => Err(error),
-                }
+                let (condition, body) = self.guarded(gives, true, body, condition)?;
+                Ok(Stmt::While { condition, body })
             }
             RawStmt::For { parts, body } => {
                 let scope = self.enter();
                 let parts = self.for_parts(parts)?;
                 let made = both(parts, self.body(gives, true, body));
                 self.leave(scope);
-                match made {
-                    Ok((parts, body)) => Ok(Stmt::For { parts, body }),
-                    Err(error) => Err(error),
-                }
+                let (parts, body) = made?;
+                Ok(Stmt::For { parts, body })
             }
             RawStmt::Break { at } => {
                 note_if(&mut self.least, !loops, *at, Rule::Kind);
@@ -224,10 +202,7 @@ impl Place {
                 note_if(&mut self.least, !loops, *at, Rule::Kind);
                 Ok(Stmt::Continue)
             }
-            RawStmt::Return { at, value } => match self.returned(gives, *at, value) {
-                Ok(value) => Ok(Stmt::Return(value)),
-                Err(error) => Err(error),
-            },
+            RawStmt::Return { at, value } => { Ok(Stmt::Return(self.returned(gives, *at, value)?)) }
         }
     }
 

@@ -97,7 +97,7 @@ pub use Rattle.segment_run.specs.Segments.{IsAtAsk, IsAtSpawn, IsEnd, IsSegment,
 pub use Rattle.segment_run.specs.Spots.{IsOn, with_word_on, word_on, world_spot}
 pub use Rattle.segment_run.specs.Starting.{IsStarted, first_arguments}
 pub use Rattle.segment_run.specs.Turns.{IsAtEcall, IsUnderWay, KeepsCounts, thread_of}
-pub use Rattle.segment_run.specs.Walking.{AreWalked, IsAround, IsInCall, IsReadOf, IsWalked}
+pub use Rattle.segment_run.specs.Walking.{AreWalked, IsAroundCall, IsInCall, IsReadOf, IsWalked}
 pub use Rattle.segment_run.specs.declared.contexts.Context.{Context}
 pub use Rattle.segment_run.specs.declared.running.Thread.{Thread}
 pub use Rattle.segment_run.specs.declared.segments.Segment.{Segment}

@@ -1,5 +1,5 @@
 -- The sites of a thread's frames, read one after another.
-use Rattle.segment_run.proofs.Common.{◌≡◌, ℕ, zero, suc, ◌+◌, ◌-◌, ◌*◌, ◌<◌, ◌≤◌, Bool, true, false, List, [], ◌∷◌, ◌++◌, length, take, set, replicate, Option, Some, None, refl, sym, ap, subst, ◌∙◌, arith, inl, inr, slice_get, slice_index, take_more_set, append_assoc, append-nil, take_all, lowered, ProgramTree, IsWellScoped, IsValid, Pool, read, Op, FlatCode, function_at, operation_at, result_place, site_of, formed, follows, program_zeroes, Frame, IsRunning, HeadersName, FramesAt, HasFrames, ReturnsInto, joined, words_through_call, frame_bytes, return_word, standing, with_site, sites_of, key_of, site_in, sp, Core, Checked, Place, InOperation, IsAt, Row, Whole, row_at, size_in, before_transfer, through_call, IsResting, AtStart, AtCall, PastCall, IsAtCall, IsPastCall, ecall_word, CodeFacts-valid, CodeFacts, one_place, row_first, size_some, function_of_op, ask_shape, FollowsAsks, StandsFor, Waits, begin, size, kind_of, transfer_size, result_size, Certificate, Image, chain_from, core_of, RestsAround, IsInCall, IsReadOf, IsAround, IsWalked, Context, stack_frame}
+use Rattle.segment_run.proofs.Common.{◌≡◌, ℕ, zero, suc, ◌+◌, ◌-◌, ◌*◌, ◌<◌, ◌≤◌, Bool, true, false, List, [], ◌∷◌, ◌++◌, length, take, set, replicate, Option, Some, None, refl, sym, ap, subst, ◌∙◌, arith, inl, inr, slice_get, slice_index, take_more_set, append_assoc, append-nil, take_all, lowered, ProgramTree, IsWellScoped, IsValid, Pool, read, Op, FlatCode, function_at, operation_at, result_place, site_of, formed, follows, program_zeroes, Frame, IsRunning, HeadersName, FramesAt, HasFrames, ReturnsInto, joined, words_through_call, frame_bytes, return_word, standing, with_site, sites_of, key_of, site_in, sp, Core, Checked, Place, InOperation, IsAt, Row, Whole, row_at, size_in, before_transfer, through_call, IsResting, AtStart, AtCall, PastCall, IsAtCall, IsPastCall, ecall_word, CodeFacts-valid, CodeFacts, one_place, row_first, size_some, function_of_op, ask_shape, FollowsAsks, StandsFor, Waits, begin, size, kind_of, transfer_size, result_size, Certificate, Image, chain_from, core_of, RestsAround, IsInCall, IsReadOf, IsAroundCall, IsWalked, Context, stack_frame}
 use Rattle.c_mean.specs.Frames as source
 use Rattle.machine_meaning.proofs.Past.{ecall_site}
 use Rattle.machine_meaning.proofs.SiteKeys.{key_is}
@@ -110,7 +110,7 @@ module _ (program : ProgramTree) (image : Image) (certificate : Certificate) (sc
   facts : CodeFacts checked image.code
   facts = CodeFacts-valid (lowered program) image certificate (formed program image certificate scoped valid) (program_zeroes program scoped) valid
 
-  pub around_read : (pool : Pool) (context : Context) (f i : ℕ) (frames : List Frame) → IsAround checked pool (core_of pool context) f i frames → IsFirstRead checked pool (core_of pool context) f context.chunk (core_of pool context).chain frames
+  pub around_read : (pool : Pool) (context : Context) (f i : ℕ) (frames : List Frame) → IsAroundCall checked pool (core_of pool context) f i frames → IsFirstRead checked pool (core_of pool context) f context.chunk (core_of pool context).chain frames
   around_read pool context f i frames (inl at) = whole_read checked pool context f frames (at_whole checked pool (core_of pool context) f i at.1 at.0 frames at.2)
   around_read pool context f i frames (inr past) =
       whole_read checked pool context f frames
@@ -134,7 +134,7 @@ module _ (program : ProgramTree) (image : Image) (certificate : Certificate) (sc
       )
 
   -- an ECALL at pc, or just before it
-  pub around_call : (pool : Pool) (context : Context) (address f i : ℕ) (frames : List Frame) → (around : IsAround checked pool (core_of pool context) f i frames) →
+  pub around_call : (pool : Pool) (context : Context) (address f i : ℕ) (frames : List Frame) → (around : IsAroundCall checked pool (core_of pool context) f i frames) →
       ((word : ℕ) (op : Op) → IsAtCall checked pool (core_of pool context) f i op word frames → address ≡ context.pc) →
       ((word : ℕ) (op : Op) (place : Place) → IsPastCall checked pool (core_of pool context) f i op word place frames → address + 4 ≡ context.pc) →
       (site : ℕ) × IsInCall checked address f site × (site_in (operation_at (lowered program) f i) ≡ Some site)
@@ -226,7 +226,7 @@ key_first c f i site frame below sites named first =
     ap (λ (s : Option ℕ). take 8 (with_site s (sites_of c below))) named ∙ ap (λ (front : List ℕ). front ++ take 7 (sites_of c below)) (sym first)
 
 pub first_key : (program : ProgramTree) (image : Image) (certificate : Certificate) (scoped : IsWellScoped program) (valid : IsValid (lowered program) image certificate) (pool : Pool) (context : Context) (f i : ℕ) (frames : List Frame) →
-    IsAround (record { flat = lowered program; certificate = certificate }) pool (core_of pool context) f i frames → (site function first : ℕ) → site_in (operation_at (lowered program) f i) ≡ Some site → function ≡ f → first ≡ site →
+    IsAroundCall (record { flat = lowered program; certificate = certificate }) pool (core_of pool context) f i frames → (site function first : ℕ) → site_in (operation_at (lowered program) f i) ≡ Some site → function ≡ f → first ≡ site →
     IsWalked (record { flat = lowered program; certificate = certificate }) pool (key_of (record { flat = lowered program; certificate = certificate }) f i frames) (record { function = function; low = slice_index context.x 2; chunk = context.chunk }) (set (replicate 8 0) 0 first) 1
 first_key program image certificate scoped valid pool context f i frames around site function first named same is =
     let c : Checked = record { flat = lowered program; certificate = certificate } in
@@ -248,9 +248,9 @@ key_more key sites rest count site eight small is =
     ∙ ap (λ (front : List ℕ). front ++ take (8 - (count + 1)) rest) (sym (take_more_set sites count site (omega (arith, eight, small))))
 
 -- the call around which a thread rests
-pub around_of : (c : Checked) (pool : Pool) (core : Core) → RestsAround c pool core → (f : ℕ) × (i : ℕ) × (frames : List Frame) × IsAround c pool core f i frames
+pub around_of : (c : Checked) (pool : Pool) (core : Core) → RestsAround c pool core → (f : ℕ) × (i : ℕ) × (frames : List Frame) × IsAroundCall c pool core f i frames
 around_of c pool core is = by is.rests is.around where
-  by : (rests : IsResting c pool core) → passing.IsAround c pool core rests → (f : ℕ) × (i : ℕ) × (frames : List Frame) × IsAround c pool core f i frames
+  by : (rests : IsResting c pool core) → passing.IsAround c pool core rests → (f : ℕ) × (i : ℕ) × (frames : List Frame) × IsAroundCall c pool core f i frames
   by (AtStart f frames in_place) around = absurd around
   by (AtCall f i op word frames at) around = (f, i, frames, inl (op, word, at))
   by (PastCall f i op word place frames past) around = (f, i, frames, inr (op, word, place, past))
@@ -290,7 +290,7 @@ key_full key sites rest count eight low high is =
     ∙ take_all count sites (omega (arith, eight, low)))
 
 -- an answer that is the key of each call around which the thread rests is that of each source thread
-pub source_key : (c : Checked) (program : ProgramTree) (pool : Pool) (core : Core) (result : List ℕ) → ((f i : ℕ) (frames : List Frame) → IsAround c pool core f i frames → result ≡ key_of c f i frames) →
+pub source_key : (c : Checked) (program : ProgramTree) (pool : Pool) (core : Core) (result : List ℕ) → ((f i : ℕ) (frames : List Frame) → IsAroundCall c pool core f i frames → result ≡ key_of c f i frames) →
     (rests : IsResting c pool core) (waiting : source.Waiting) → StandsFor c program pool core rests (Waits waiting) → result ≡ source.key_of waiting
 source_key c program pool core result is (AtStart f frames in_place) waiting stands = absurd stands
 source_key c program pool core result is (AtCall f i op word frames at) waiting stands =

@@ -34,8 +34,8 @@ abbrev pub IsRead : Checked → Pool → ReadFrame → Type 0
 IsRead c pool frame = (chain : List ℕ) × (at : Frame) × (below : List Frame) × IsReadOf c pool frame chain at below
 
 -- a thread rests at or just after the ECALL of operation i of function f with these frames
-abbrev pub IsAround : (c : Checked) (pool : Pool) (core : Core) (f i : ℕ) (frames : List Frame) → Type 0
-IsAround c pool core f i frames = ((op : Op) × (word : ℕ) × IsAtCall c pool core f i op word frames)
+abbrev pub IsAroundCall : (c : Checked) (pool : Pool) (core : Core) (f i : ℕ) (frames : List Frame) → Type 0
+IsAroundCall c pool core f i frames = ((op : Op) × (word : ℕ) × IsAtCall c pool core f i op word frames)
     ⊎ ((op : Op) × (word : ℕ) × (place : Place) × IsPastCall c pool core f i op word place frames)
 
 -- this number of sites of its key has been read, and the others follow from this frame
@@ -48,4 +48,4 @@ pub record IsWalked (c : Checked) (pool : Pool) (key : List ℕ) (frame : ReadFr
 
 -- this holds of the key of each call at which the thread rests
 abbrev pub AreWalked : Checked → Pool → Core → ReadFrame → List ℕ → ℕ → Type 0
-AreWalked c pool core frame sites count = (f i : ℕ) (frames : List Frame) → IsAround c pool core f i frames → IsWalked c pool (key_of c f i frames) frame sites count
+AreWalked c pool core frame sites count = (f i : ℕ) (frames : List Frame) → IsAroundCall c pool core f i frames → IsWalked c pool (key_of c f i frames) frame sites count

@@ -71,7 +71,21 @@ impl Areas {
         &self.pool
     }
 
-    // Shows the invariant of all areas.
+    /// Returns the global words, in order of declaration.
+    pub fn globals(&self) -> &[u32]
+        ensures { result.now ≡ self.now.globals }
+    {
+        self.globals.as_slice()
+    }
+
+    /// Returns the table words, in order of declaration.
+    pub fn tables(&self) -> &[u32]
+        ensures { result.now ≡ self.now.tables }
+    {
+        self.tables.as_slice()
+    }
+
+    // Shows the invariant of all areas. It is for the prover: it has no effect at run time.
     pub(crate) fn are_kept(&self)
         ensures { AreKept self.now }
     {

@@ -31,7 +31,7 @@ pub(crate) struct Thread {
     pub(crate) depth: u32,
 }
 
-// The outcome of one instruction of a thread.
+// The outcome of a thread's call: the thread goes on, or the answer with which its segment ends.
 #[derive(Clone, Copy)]
 pub(crate) enum Turn {
     Goes,

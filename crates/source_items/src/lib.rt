@@ -12,7 +12,6 @@
 #![tactic(auto)]
 
 mod items;
-mod operators;
 mod rows;
 mod values;
 

@@ -7,34 +7,10 @@ ghost use Rattle.c_mean.specs.Layout.{IsInRange};
 ghost use Rattle.c_mean.specs.Values.{value};
 ghost use Rattle.source_items.specs.Rows.{IsRows, or_index, rows_in};
 
-use crate::operators::{binary, unary};
 use crate::rows::{Rows, element_of, word_of};
+use c_mean::{decided, joined, unary};
 use c_tree::{Expr, Infix};
 use cap_word::TrapKind;
-
-/// Returns the value that the left operand alone determines: of `&&` if it is 0, and of `||` if it isn't.
-fn decided(operator: Infix, left: u32) -> Option<u32>
-    ensures { MatchOption result (IsOpen operator left) (IsDecided operator left) }
-{
-    match operator {
-        Infix::LogicalAnd if left == 0 => Some(0),
-        Infix::LogicalOr if left != 0 => Some(1),
-        Infix::Binary(_) | Infix::LogicalAnd | Infix::LogicalOr => None,
-    }
-}
-
-/// Returns the value of an operator on two operands.
-#[inline(always)]
-fn joined(operator: Infix, left: u32, right: u32) -> u32
-    ensures { joined_value operator (Ok left) (Ok right) ≡ Ok result }
-{
-    match operator {
-        Infix::Binary(binary_operator) => binary(binary_operator, left, right),
-        Infix::LogicalAnd if left == 0 => 0,
-        Infix::LogicalOr if left != 0 => 1,
-        Infix::LogicalAnd | Infix::LogicalOr => if right == 0 { 0 } else { 1 },
-    }
-}
 
 /// Returns the value of an expression over these names and globals, or its first trap. It recurses as deep as the
 /// expression nests.

@@ -9,6 +9,7 @@ use cap_word::ModelledCall;
 use report_figures::{Position, position_of};
 use report_text::Text;
 use std::alloc::{AllocError, Global};
+use thiserror::Error;
 
 /// A source, and the places of its calls and functions.
 #[derive(Drop)]
@@ -21,12 +22,38 @@ pub struct Places<'a> {
 }
 
 /// Why a source has no places.
-#[derive(Clone, Copy)]
+#[derive(Clone, Copy, Debug, Error)]
 pub enum PlacesError {
     /// The bytes aren't a source.
+    #[error("the bytes are not a source")]
     Source,
     /// Out of memory.
+    #[error("out of memory")]
     Memory,
+}
+
+impl From<AllocError> for PlacesError {
+    fn from(_error: AllocError) -> PlacesError {
+        PlacesError::Memory
+    }
+}
+
+impl From<LexError> for PlacesError {
+    fn from(error: LexError) -> PlacesError {
+        match error {
+            LexError::Memory => PlacesError::Memory,
+            _ => PlacesError::Source,
+        }
+    }
+}
+
+impl From<ParseError> for PlacesError {
+    fn from(error: ParseError) -> PlacesError {
+        match error {
+            ParseError::Memory => PlacesError::Memory,
+            _ => PlacesError::Source,
+        }
+    }
 }
 
 /// The places of a source's names.
@@ -77,19 +104,14 @@ impl<'a> Places<'a> {
         if source.len() > MOST_BYTES {
             return Err(PlacesError::Source);
         }
-        match lex(alloc, source.as_slice()) {
-            Ok(tokens) => match names_in(alloc, source.as_slice(), tokens.as_slice()) {
-                Ok(names) => Ok(Places {
-                    file,
-                    source,
-                    tokens,
-                    names,
-                }),
-                Err(error) => Err(error),
-            },
-            Err(LexError::Memory) => Err(PlacesError::Memory),
-            Err(_) => Err(PlacesError::Source),
-        }
+        let tokens = lex(alloc, source.as_slice())?;
+        let names = names_in(alloc, source.as_slice(), tokens.as_slice())?;
+        Ok(Places {
+            file,
+            source,
+            tokens,
+            names,
+        })
     }
 
     /// Returns for each site whether its call has that name.
@@ -364,37 +386,22 @@ const CALL_BYTES: usize = 60;
 fn names_in(alloc: Global, source: &[u8], tokens: &[Token]) -> Result<Names, PlacesError>
     requires { length source.now ≤ 1048576 }
 {
-    match parse_nested(alloc, source, tokens) {
-        Ok(raw) => {
-            let names = names_of(alloc, &raw);
-            drop(raw);
-            match names {
-                Ok(names) => Ok(names),
-                Err(AllocError) => Err(PlacesError::Memory),
-            }
-        }
-        Err(ParseError::Memory) => Err(PlacesError::Memory),
-        Err(_) => Err(PlacesError::Source),
-    }
+    let raw = parse_nested(alloc, source, tokens)?;
+    let names = names_of(alloc, &raw);
+    drop(raw);
+    Ok(names?)
 }
 
 /// Returns the places of the names of a parsed source.
 fn names_of(alloc: Global, raw: &RawProgram) -> Result<Names, AllocError> {
-    match places_of_calls(alloc, raw) {
-        Ok(calls) => {
-            let mut names = Names {
-                calls,
-                functions: Vec::new(alloc),
-                globals: Vec::new(alloc),
-                tables: Vec::new(alloc),
-            };
-            match add_items(alloc, &mut names, raw.items()) {
-                Ok(()) => Ok(names),
-                Err(error) => Err(error),
-            }
-        }
-        Err(error) => Err(error),
-    }
+    let mut names = Names {
+        calls: places_of_calls(alloc, raw)?,
+        functions: Vec::new(alloc),
+        globals: Vec::new(alloc),
+        tables: Vec::new(alloc),
+    };
+    add_items(alloc, &mut names, raw.items())?;
+    Ok(names)
 }
 
 /// Adds the places of the names of functions, globals and tables.

@@ -30,9 +30,9 @@ pub struct Built {
 ///
 /// # Errors
 ///
-/// `FrameTooLarge` only if a frame exceeds `options.max_path` or 2,032 bytes, with the first such function;
-/// `CodeTooLarge` only if the code of the placement has more than 200,000 words; `Memory` if an allocation
-/// fails.
+/// `FrameTooLarge` exactly if a frame exceeds `options.max_path` or 2,032 bytes, with the first such function, unless
+/// memory runs out; `CodeTooLarge` only if none does and the code of the placement has more than 200,000 words;
+/// `Memory` if an allocation fails.
 pub fn lay_out(alloc: Global, program: &Program, options: Options) -> Result<Built, BuildError>
     requires { AreInRange options }
     ensures refused { IfErr result (λ error. (error ≡ Memory)

@@ -4,16 +4,20 @@ ghost use Rattle.stack_build.specs.declared.refusals.BuildError.TheVariants.{Mem
 use checkpoint_place::PlaceError;
 use codegen_link::GenError;
 use std::alloc::AllocError;
+use thiserror::Error;
 
 /// Why a program isn't built.
-#[derive(Clone, Copy)]
+#[derive(Clone, Copy, Debug, Error)]
 pub enum BuildError {
     /// The frame of this function, the first such one, exceeds max path or 2,032 bytes.
+    #[error("the frame of function {function} has {bytes} bytes, more than the maximum path or 2032")]
     FrameTooLarge { function: u32, bytes: u32 },
     /// The code has this number of words, more than 200,000. The count saturates at the maximum of
     /// its type.
+    #[error("the code has {words} words, more than 200000")]
     CodeTooLarge { words: u64 },
     /// An allocation failed.
+    #[error("out of memory")]
     Memory,
 }
 

@@ -45,6 +45,13 @@ impl FunctionFacts {
         FunctionFacts { facts }
     }
 
+    /// Returns the facts, in the `Vec` that holds them. It doesn't allocate.
+    pub fn into_vec(self) -> Vec<FunctionFact>
+        ensures { result.items ≡ self }
+    {
+        self.facts
+    }
+
     /// The facts, in order.
     pub fn as_slice(&self) -> &[FunctionFact]
         ensures { result.now ≡ self.now }

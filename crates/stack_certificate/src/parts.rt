@@ -25,6 +25,7 @@ const A0: u32 = 10;
 pub(crate) fn whole(instr: &Instr) -> Option<Instr>
     ensures { result ≡ checked instr.now }
 {
+    // For the prover alone: its contract tells the ranges of the operands.
     let _word = encode(*instr);
     Some(*instr)
 }

@@ -44,6 +44,13 @@ impl SiteFacts {
         SiteFacts { facts }
     }
 
+    /// Returns the facts, in the `Vec` that holds them. It doesn't allocate.
+    pub fn into_vec(self) -> Vec<SiteFact>
+        ensures { result.items ≡ self }
+    {
+        self.facts
+    }
+
     /// The facts, in order.
     pub fn as_slice(&self) -> &[SiteFact]
         ensures { result.now ≡ self.now }

@@ -1,4 +1,5 @@
-// Instructions whose numbers may not fit their fields: none if they don't.
+// Instructions whose numbers may not fit their fields: none if they don't. The calls whose results aren't used
+// (`_ranges`) are for the prover alone: their contracts tell the ranges of the operands.
 
 ghost use Rattle.std.specs.Prelude.{◌≡◌, ◌<◌, ◌^◌, ◌-ℤ◌, pos, IfSome, IfNone};
 ghost use Rattle.rv_code.specs.Range.{IsImmediate, IsJumpOffset};

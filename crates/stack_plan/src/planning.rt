@@ -76,8 +76,5 @@ pub fn plan_of(alloc: Global, flat: &FlatProgram, max_path: u32) -> Result<Plann
 {
     let weights = weights(alloc, flat.functions())?;
     let graph = graph(alloc, flat, &weights)?;
-    match plan_of_graph(alloc, graph, max_path) {
-        Ok(planned) => Ok(planned),
-        Err(error) => Err(error),
-    }
+    Ok(plan_of_graph(alloc, graph, max_path)?)
 }

@@ -291,6 +291,7 @@ fn the_present_folder_keeps_files(rt: HostRuntime) -> Result<(), Fail> {
         & stores(alloc, &mut shelf, "cap_io_nine", b"123456789")
         & keeps_files(alloc, &mut shelf)
         & is_refused(alloc, &mut shelf, ".", ShelfError::Failed)
+        & is_refused(alloc, &mut shelf, "cap_io_eight/x", ShelfError::Failed)
         & store_fails(alloc, &mut shelf, ".", b"");
     assert!(rt; right);
     for name in ["cap_io_eight", "cap_io_nine", "cap_io_none"] {

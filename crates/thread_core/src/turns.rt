@@ -1,5 +1,7 @@
 use accepted_pairs::Accepted;
 use cap_word::{SiteKey, Stop, ThreadId};
+use std::fmt;
+use thiserror::Error;
 
 /// What the thread whose segment is in progress did.
 #[derive(Clone, Copy, PartialEq, Eq)]
@@ -19,8 +21,18 @@ pub enum Turn {
 }
 
 /// Why no world is made. It has the program.
-#[derive(Drop)]
+#[derive(Drop, Error)]
 pub enum WorldError {
     /// Out of memory.
+    #[error("out of memory")]
     Memory { accepted: Accepted },
+}
+
+// Names the cause alone: the accepted pair has no short form.
+impl fmt::Debug for WorldError {
+    fn fmt<W: fmt::Write>(&self, f: &mut fmt::Formatter<W>) -> fmt::Result {
+        match self {
+            WorldError::Memory { .. } => write!(f, "Memory {{ .. }}"),
+        }
+    }
 }

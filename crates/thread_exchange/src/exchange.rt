@@ -41,6 +41,10 @@ impl Exchange {
 
     /// Returns an exchange with empty queues and unused resources. A queue has at most `backlog` items. The caps are
     /// given by resource number, of which 0 isn't read; a cap of 0 means that the resource has none.
+    ///
+    /// # Errors
+    ///
+    /// `AllocError` if an allocation fails.
     pub fn new(alloc: Global, backlog: u32, caps: [u32; 8]) -> Result<Exchange, AllocError>
         ensures { IfOk result (λ x. x ≡ record { caps = caps; backlog = backlog; exchange = empty_exchange }) }
     {

@@ -29,6 +29,10 @@ impl MinTree {
     pub const NONE: u64 = u64::MAX;
 
     /// Returns a tree of `count` places without numbers.
+    ///
+    /// # Errors
+    ///
+    /// `AllocError` if an allocation fails.
     pub fn new(alloc: Global, count: usize) -> Result<MinTree, AllocError>
         requires some { 1 ≤ count }
         requires fits { count < 2 ^ 40 }

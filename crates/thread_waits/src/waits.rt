@@ -46,6 +46,10 @@ impl Model for Waits {
 
 impl Waits {
     /// Returns one place, at which no thread waits, at clock 0.
+    ///
+    /// # Errors
+    ///
+    /// `AllocError` if an allocation fails.
     pub fn new(alloc: Global) -> Result<Waits, AllocError>
         ensures { IfOk result (λ w. w ≡ record { places = None ∷ []; clock = 0 }) }
     {

@@ -1,6 +1,6 @@
-use Rattle.checkpoint_place.proofs.Common.{◌≡◌, ◌<◌, length, take, reverse, get_or, slice_index, ap, ◌∙◌, arith, take_all, function_count, has, all-at, has-reverse, AreKnownAmong}
+use Rattle.checkpoint_place.proofs.Common.{◌≡◌, ◌<◌, length, take, reverse, get_or, slice_index, ap, ◌∙◌, arith, take_all, function_count, has, all-at, has-reverse, next-calls, AreKnownAmong}
 use Rattle.checkpoint_place.proofs.KnownLemmas.{IsKnown-agree, AreKnownAmong-more}
-use Rattle.checkpoint_place.proofs.BoundLemmas.{bound_by, bounds-kept, next-calls, AreBound-more}
+use Rattle.checkpoint_place.proofs.BoundLemmas.{bound_by, bounds-kept, AreBound-more}
 use Rattle.checkpoint_place.proofs.bounds.bounds_of.Goals as goal
 
 pub loop-function-preserved : goal.loop-function-preserved
@@ -18,7 +18,7 @@ loop-function-preserved c =
     rw (c.tables-tables.ensures, c.as_slice.ensures.value, c.weights-weights.ensures.value, c.requires.sites) at c.bound_of.ensures.bound in
     let known = rw (c.tables-tables.ensures, c.as_slice.ensures.value) at c.bound_of.ensures.known in
     let done = reverse (take i order) in
-    let calls = next-calls graph back c.args.max_path order i within c.requires.bottom_up in
+    let calls = next-calls graph back order i within c.requires.bottom_up in
     let ensured = rw (c.tables-tables.ensures, c.requires.sites) at c.bound_of.ensures.among in
     let among : AreKnownAmong graph.tables done c.bound_of.new.known = ensured done c.loop-function.invariant.among calls in
     let kept = bounds-kept graph back c.args.max_path order bounds i c.bound_of.result in_bounds c.loop-function.invariant.bound value in

@@ -1,7 +1,7 @@
 use Rattle.std.proofs.Common.{subst}
 use Rattle.c_tree.specs.ProgramView.{program_tree}
 use Rattle.lawful_reading.specs.Given.{Given}
-use Rattle.schedule_audit.specs.Judging.{IsJudged}
+use Rattle.schedule_audit.specs.Verdicts.{IsVerdict}
 use Rattle.command_audit.specs.Audits.{reading_of}
 use Rattle.command_audit.proofs.Auditing.{given-is, judged, may-audit}
 use Rattle.command_audit.proofs.audit_command.audit_measured.Goals as goal
@@ -18,7 +18,7 @@ returns-in-Ok g c =
     let S = g.S.Source in let a = c.args in let after = c.audit.new.trace in
     let tree = program_tree a.program.now in
     let told = rw c.limits_of.ensures at c.audit.ensures.verdict in
-    let judged_so = subst (λ (x : Given). IsJudged x (S.left a.trace.now) a.log.now c.audit.result)
+    let judged_so = subst (λ (x : Given). IsVerdict x (S.left a.trace.now) a.log.now c.audit.result)
     (given-is tree a.options c.in-Ok.monitor c.in-Ok.ensures) told in
     rw c.judgement_of.ensures (judged (reading_of tree a.options) (S.left a.trace.now) a.log.now (S.faults a.trace.now)
     (S.faults after) c.audit.result judged_so c.audit.ensures.counts)

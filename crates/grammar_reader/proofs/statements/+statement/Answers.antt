@@ -70,11 +70,11 @@ block_item-returns-clause-read t c =
     (ap (map raw_stmt_tree) p.1 ∙ map-append raw_stmt_tree c.args.stmts.now.items (p.0 ∷ [])))
     c.push_next.ensures.pushed
 
-pub statement-returns-in-Err-clause-refused : goal.statement-returns-in-Err-clause-refused
-statement-returns-in-Err-clause-refused t c = rules.block_stmt_refused _ _ _ _ c.in-Err.ensures.refused
+pub statement-returns-in_err-stmts-in-LeftBrace-clause-refused : goal.statement-returns-in_err-stmts-in-LeftBrace-clause-refused
+statement-returns-in_err-stmts-in-LeftBrace-clause-refused t c = exit _ _ c.from_residual.ensures.1 (rules.block_stmt_refused _ _ _ _ c.in_err-stmts-in-LeftBrace.ensures.refused)
 
-pub statement-returns-in-Ok-clause-read : goal.statement-returns-in-Ok-clause-read
-statement-returns-in-Ok-clause-read t c = rw (raw_stmt_tree-Block c.in-Ok.stmts) (rules.block_stmt _ _ _ _ _ _ c.in-Ok.ensures.read)
+pub statement-returns-in_ok-stmts-in-LeftBrace-clause-read : goal.statement-returns-in_ok-stmts-in-LeftBrace-clause-read
+statement-returns-in_ok-stmts-in-LeftBrace-clause-read t c = rw (raw_stmt_tree-Block c.in_ok-stmts-in-LeftBrace.stmts) (rules.block_stmt _ _ _ _ _ _ c.in_ok-stmts-in-LeftBrace.ensures.read)
 
 pub boxed_statement-returns-clause-refused : goal.boxed_statement-returns-clause-refused
 boxed_statement-returns-clause-refused t c =

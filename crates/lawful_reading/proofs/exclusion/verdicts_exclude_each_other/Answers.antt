@@ -1,4 +1,4 @@
-use Rattle.lawful_reading.proofs.Verdicts as law
+use Rattle.lawful_reading.proofs.Judgements as law
 use Rattle.lawful_reading.proofs.exclusion.verdicts_exclude_each_other.Goals as goal
 
 pub returns : goal.returns

@@ -4,24 +4,24 @@ use Rattle.scope_rules.proofs.Chains.{chain_of, chain_faults, operand_trees_map,
 use Rattle.scope_rules.proofs.HeldValues.{pushed_pair_fact}
 use Rattle.scope_rules.proofs.expressions.+expressions.Goals as goal
 
-pub expr-returns-in-Ok-both-clause-tree : goal.expr-returns-in-Ok-both-clause-tree
-expr-returns-in-Ok-both-clause-tree t c =
-    let r = rw c.in-Ok-both.ensures.next at c.operands.ensures.tree in
-    rw (c.in-Chain.is, raw_expr_tree-Chain c.in-Chain.first c.in-Chain.rest, expr_tree-Chain c.in-Ok-both.first c.in-Ok-both.rest, chain_of c.args.names.now (raw_expr_tree c.in-Chain.first.value) c.in-Chain.rest.items, operand_trees_map c.in-Ok-both.rest.items) (cc (r, c.in-Ok-both.ensures.before, c.in_ok-first-in-Chain.ensures.tree, c.deref-in-Chain.ensures, c.deref-in-Chain-2.ensures.value))
+pub expr-returns-in_ok-first-in-Chain-2-clause-tree : goal.expr-returns-in_ok-first-in-Chain-2-clause-tree
+expr-returns-in_ok-first-in-Chain-2-clause-tree t c =
+    let r = rw c.in_ok-first-in-Chain-2.ensures.next at c.operands.ensures.tree in
+    rw (c.in-Chain.is, raw_expr_tree-Chain c.in-Chain.first c.in-Chain.rest, expr_tree-Chain c.in_ok-first-in-Chain-2.first c.in_ok-first-in-Chain-2.rest, chain_of c.args.names.now (raw_expr_tree c.in-Chain.first.value) c.in-Chain.rest.items, operand_trees_map c.in_ok-first-in-Chain-2.rest.items) (cc (r, c.in_ok-first-in-Chain-2.ensures.before, c.in_ok-first-in-Chain.ensures.tree, c.deref-in-Chain.ensures, c.deref-in-Chain-2.ensures.value))
 
-pub expr-returns-in-Ok-both-clause-faults : goal.expr-returns-in-Ok-both-clause-faults
-expr-returns-in-Ok-both-clause-faults t c =
-    let r = rw c.in-Ok-both.ensures.next at c.operands.ensures.faults in
+pub expr-returns-in_ok-first-in-Chain-2-clause-faults : goal.expr-returns-in_ok-first-in-Chain-2-clause-faults
+expr-returns-in_ok-first-in-Chain-2-clause-faults t c =
+    let r = rw c.in_ok-first-in-Chain-2.ensures.next at c.operands.ensures.faults in
     rw (c.in-Chain.is, raw_expr_tree-Chain c.in-Chain.first c.in-Chain.rest, chain_faults c.args.names.now c.args.least.now (raw_expr_tree c.in-Chain.first.value) c.in-Chain.rest.items) (cc (r, c.in_ok-first-in-Chain.ensures.faults, c.deref-in-Chain.ensures, c.deref-in-Chain-2.ensures.value))
 
-pub expr-returns-in-Ok-both-2-clause-faults : goal.expr-returns-in-Ok-both-2-clause-faults
-expr-returns-in-Ok-both-2-clause-faults t c =
+pub expr-returns-in_ok-condition-in-Conditional-2-clause-faults : goal.expr-returns-in_ok-condition-in-Conditional-2-clause-faults
+expr-returns-in_ok-condition-in-Conditional-2-clause-faults t c =
     let names = c.args.names.now in
     let fc = expr_faults names (raw_expr_tree c.deref-in-Conditional.result.now) in
     let ft = expr_faults names (raw_expr_tree c.deref-in-Conditional-2.result.now) in
     let fo = expr_faults names (raw_expr_tree c.deref-in-Conditional-3.result.now) in
     let then = rw c.in_ok-before-in-Conditional.ensures.next at c.boxed_expr-in-Conditional-2.ensures.faults in
-    let otherwise = rw c.in-Ok-both-2.ensures.next at c.boxed_expr-in-Conditional-3.ensures.faults in
+    let otherwise = rw c.in_ok-condition-in-Conditional-2.ensures.next at c.boxed_expr-in-Conditional-3.ensures.faults in
     rw (c.in-Conditional.is, raw_expr_tree-Conditional c.in-Conditional.condition c.in-Conditional.then c.in-Conditional.otherwise, ← c.deref-in-Conditional.ensures, ← c.deref-in-Conditional-2.ensures, ← c.deref-in-Conditional-3.ensures)
     (least_of_then c.args.least.now c.boxed_expr-in-Conditional-2.new.least c.boxed_expr-in-Conditional-3.new.least (fc ++ ft) fo
     (least_of_then c.args.least.now c.boxed_expr-in-Conditional.new.least c.boxed_expr-in-Conditional-2.new.least fc ft c.in_ok-condition-in-Conditional.ensures.faults then)

@@ -1,11 +1,11 @@
-use Rattle.segment_run.proofs.Common.{◌≡◌, ℕ, ◌-◌, List, Some, refl, sym, ap, subst, ◌∙◌, arith, inl, inr, length-set, accepted_tree, Frame, chain_below, key_of, sites_of, operation_at, site_in, checked_of, core_of, IsInCall, IsAround, IsWalked}
+use Rattle.segment_run.proofs.Common.{◌≡◌, ℕ, ◌-◌, List, Some, refl, sym, ap, subst, ◌∙◌, arith, inl, inr, length-set, accepted_tree, Frame, chain_below, key_of, sites_of, operation_at, site_in, checked_of, core_of, IsInCall, IsAroundCall, IsWalked}
 use Rattle.segment_run.proofs.Walks.{Next, around_of, around_call, last_returns, not_last, first_key, next_walked, key_last, key_full, source_key, low_return}
 use Rattle.segment_run.proofs.walking.walk.Goals as goal
 use Rattle.segment_run.proofs.walking.walk.Goals.{After-ecall_of-ecall, Else-returns-eq-END_STUB, After-new, After-new-2}
 
 -- the call around which the thread rests
 resting : (c : After-ecall_of-ecall) (f i : ℕ) (frames : List Frame) →
-    IsAround (checked_of c.args.accepted.now) c.args.pool.now (core_of c.args.pool.now c.args.context.now) f i frames →
+    IsAroundCall (checked_of c.args.accepted.now) c.args.pool.now (core_of c.args.pool.now c.args.context.now) f i frames →
     (site : ℕ) × IsInCall (checked_of c.args.accepted.now) c.ecall_of-ecall.result f site ×
     (site_in (operation_at (checked_of c.args.accepted.now).flat f i) ≡ Some site)
 resting c f i frames around =
@@ -91,7 +91,7 @@ loop-count-preserved c = (
 -- ---- the key: where the last frame was read
 
 last : (c : After-new) (f i : ℕ) (frames : List Frame) →
-    IsAround (checked_of c.args.accepted.now) c.args.pool.now (core_of c.args.pool.now c.args.context.now) f i frames →
+    IsAroundCall (checked_of c.args.accepted.now) c.args.pool.now (core_of c.args.pool.now c.args.context.now) f i frames →
     c.new.result ≡ key_of (checked_of c.args.accepted.now) f i frames
 last c f i frames around =
     let a = c.args.accepted.now in
@@ -115,7 +115,7 @@ returns-then-returns-eq-END_STUB-clause-source c = λ rests waiting stands.
 -- ---- and where eight sites were
 
 full : (c : After-new-2) (f i : ℕ) (frames : List Frame) →
-    IsAround (checked_of c.args.accepted.now) c.args.pool.now (core_of c.args.pool.now c.args.context.now) f i frames →
+    IsAroundCall (checked_of c.args.accepted.now) c.args.pool.now (core_of c.args.pool.now c.args.context.now) f i frames →
     c.new-2.result ≡ key_of (checked_of c.args.accepted.now) f i frames
 full c f i frames around =
     let checked = checked_of c.args.accepted.now in

@@ -2,8 +2,8 @@ use Rattle.stack_plan.proofs.Common.{◌∙◌, map, ap, FlatFunction, weight_of
 use Rattle.flat_code.specs.ProgramView.{program_code}
 use Rattle.stack_plan.proofs.planning.plan_of.Goals as goal
 
-pub returns-in-Ok-clause-enough : goal.returns-in-Ok-clause-enough
-returns-in-Ok-clause-enough c =
+pub returns-clause-enough : goal.returns-clause-enough
+returns-clause-enough c =
     let code = program_code c.args.flat.now in
     let is : IsGraphOf code c.in_ok-graph.graph = record {
       weights = c.in_ok-graph.ensures.weights ∙ (c.deref.ensures.value ∙ (c.in_ok-weights.ensures ∙ ap (map (λ (f : FlatFunction). weight_of f.sizes)) c.functions.ensures));
@@ -12,4 +12,4 @@ returns-in-Ok-clause-enough c =
       sites = c.in_ok-graph.ensures.sites;
       rising = c.in_ok-graph.ensures.rising;
     } in
-    c.in-Ok.ensures.enough code is
+    c.in_ok-plan_of_graph.ensures.enough code is

@@ -16,6 +16,6 @@ returns g c =
     rw (← c.self.view_is) (record {
       after = ap with_core (closed_is _ c.args.under.now c.args.cost c.args.free (rw (← c.self.view_is) at c.requires) c.clock.result c.advance.new.self
           c.advance.ensures c.uses-after.result uses.eight uses.uses uses.within c.args.node c.changes.result (search rules) (search rules) c.changes.ensures
-          c.clock.ensures c.observe.new.self c.observe.ensures.seen c.note.new.self c.in_ok-note.ensures.ok);
+          c.clock.ensures c.note.new.self c.in_ok-note.ensures.ok);
       counted = c.in_ok-note.ensures.counted;
     })

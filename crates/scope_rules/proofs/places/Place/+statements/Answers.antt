@@ -39,8 +39,8 @@ guarded-returns-clause-faults t c =
     on_ok_weaker {P = new ≡ least_of c.expr.new.least fb} {Q = new ≡ least_of old (fc ++ fb)} c.both.result
     (λ h. least_of_then old c.expr.new.least new fc fb c.in_ok-condition.ensures.faults h) (both_fact _ c.body.result c.both.result c.both.ensures.next c.body.ensures.faults)
 
-pub stmt-returns-in-Ok-both-clause-faults : goal.stmt-returns-in-Ok-both-clause-faults
-stmt-returns-in-Ok-both-clause-faults t c =
+pub stmt-returns-in_ok-condition-in-IfElse-clause-faults : goal.stmt-returns-in_ok-condition-in-IfElse-clause-faults
+stmt-returns-in_ok-condition-in-IfElse-clause-faults t c =
     let s = spot_of c.args.self.now in
     let g = c.args.gives in
     let l = c.args.loops in
@@ -52,29 +52,29 @@ stmt-returns-in-Ok-both-clause-faults t c =
     let fc = expr_faults s.names (raw_expr_tree c.in-IfElse.condition) in
     let fp = stmt_faults g l (inside s) p in
     let fr = stmt_faults g l (inside m) r in
-    let b = rw c.in-Ok-both.ensures.next at c.body.ensures.faults in
+    let b = rw c.in_ok-condition-in-IfElse.ensures.next at c.body.ensures.faults in
     rw (c.in-IfElse.is, raw_stmt_tree-IfElse c.in-IfElse.condition c.in-IfElse.then c.in-IfElse.otherwise, ← c.deref-in-IfElse.ensures, ← c.deref-in-IfElse-2.ensures)
     (least_of_then old o1 c.body.new.self.least (fc ++ fp) fr c.in_ok-before-in-IfElse.ensures.faults
     (b ∙ ap (λ x. least_of o1 (stmt_faults g l (inside x) r)) c.in_ok-before-in-IfElse.ensures.place)
     ∙ ap (λ x. least_of old x) (append_assoc fc fp fr))
 
-pub stmt-returns-in-Ok-made-clause-place : goal.stmt-returns-in-Ok-made-clause-place
-stmt-returns-in-Ok-made-clause-place t c =
+pub stmt-returns-in_ok-parts-in-For-2-clause-place : goal.stmt-returns-in_ok-parts-in-For-2-clause-place
+stmt-returns-in_ok-parts-in-For-2-clause-place t c =
     let parts = c.in-For.parts.value in
     let k = rw c.deref-in-For.ensures at c.in_ok-parts-in-For.ensures.place in
-    let b = rw c.in-Ok-made.ensures.next at c.body-in-For.ensures.place in
+    let b = rw c.in_ok-parts-in-For-2.ensures.next at c.body-in-For.ensures.place in
     rw (c.in-For.is, raw_stmt_tree-For c.in-For.parts c.in-For.body, ← c.deref-in-For-2.ensures)
     (for_place (spot_of c.args.self.now) (spot_of c.enter-scope.new.self) (spot_of c.for_parts.new.self) (spot_of c.body-in-For.new.self)
     (map raw_simple_tree parts.init.items) (option_map raw_simple_tree parts.step) (raw_stmt_tree c.deref-in-For-2.result.now)
     c.enter-scope.ensures.place k
     (spot_of c.leave.new.self) c.enter-scope.result.count c.enter-scope.result.outer b c.enter-scope.ensures.count c.enter-scope.ensures.outer c.leave.ensures.place)
 
-pub stmt-returns-in-Ok-made-clause-faults : goal.stmt-returns-in-Ok-made-clause-faults
-stmt-returns-in-Ok-made-clause-faults t c =
+pub stmt-returns-in_ok-parts-in-For-2-clause-faults : goal.stmt-returns-in_ok-parts-in-For-2-clause-faults
+stmt-returns-in_ok-parts-in-For-2-clause-faults t c =
     let parts = c.in-For.parts.value in
     let k = rw c.deref-in-For.ensures at c.in_ok-parts-in-For.ensures.place in
     let f = rw c.deref-in-For.ensures at c.in_ok-parts-in-For.ensures.faults in
-    let b = rw c.in-Ok-made.ensures.next at c.body-in-For.ensures.faults in
+    let b = rw c.in_ok-parts-in-For-2.ensures.next at c.body-in-For.ensures.faults in
     rw (c.in-For.is, raw_stmt_tree-For c.in-For.parts c.in-For.body, ← c.deref-in-For-2.ensures)
     (c.leave.ensures.faults ∙
     for_faults (spot_of c.args.self.now) (spot_of c.enter-scope.new.self) (spot_of c.for_parts.new.self) (spot_of c.body-in-For.new.self)

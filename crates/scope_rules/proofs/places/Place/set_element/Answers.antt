@@ -2,8 +2,8 @@ use Rattle.scope_rules.proofs.Common.{◌++◌, name_tree, raw_expr_tree, array_
 use Rattle.scope_rules.proofs.Least.{least_of_then}
 use Rattle.scope_rules.proofs.places.Place.set_element.Goals as goal
 
-pub returns-in-Ok-clause-faults : goal.returns-in-Ok-clause-faults
-returns-in-Ok-clause-faults c =
+pub returns-clause-faults : goal.returns-clause-faults
+returns-clause-faults c =
     let names = c.args.self.now.names in
     let fa = array_faults names (name_tree c.args.name.now) in
     let fi = expr_faults names (raw_expr_tree c.args.index.now) in

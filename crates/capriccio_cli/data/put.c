@@ -1,1 +1,0 @@
-int main() { put(7); return 0; }

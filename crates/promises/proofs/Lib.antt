@@ -1,0 +1,13 @@
+mod Common
+mod Ran
+mod Returned
+mod Asked
+mod Coming
+mod Frames
+mod Sized
+mod Chosen
+mod Printed
+mod Stopped
+mod Stopping
+mod Judged
+mod Failed

@@ -1,0 +1,10 @@
+pub mod Returned
+pub mod Words
+pub mod Memory
+pub mod Pool
+pub mod Choices
+pub mod Outputs
+pub mod Stops
+pub mod Budget
+pub mod Audit
+pub mod Faults
