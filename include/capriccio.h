@@ -1,6 +1,6 @@
 /* The calls of CapC that no source declares, for compilers and editors that know C.
  *
- *     gcc -fsyntax-only -Wall -include include/capriccio.h server.c
+ *     gcc -fsyntax-only -ffreestanding -Wall -include include/capriccio.h server.c
  *
  * A source never includes this file: CapC has no preprocessor, and Capriccio knows the calls. docs/WRITING.md shows how an
  * editor finds it. It declares and defines nothing else, so that a source may have any other name.

@@ -36,11 +36,11 @@ class LastBuild:
     def files_of(self, crates):
         return {str(file.relative_to(self.top)): file for it in crates.values() for file in it.files()}
 
-    def begun(self, crates, toolchain):
+    def begun(self, crates, toolchain, proved=True):
         """What a build that begins now is made of, and when it began."""
         began = self.now()
         files = {name: sum_of(it) for name, it in self.files_of(crates).items()}
-        return {"commit": commit_of(self.top), "toolchain": toolchain, "uses": uses_of(crates), "files": files}, began
+        return {"proved": proved, "commit": commit_of(self.top), "toolchain": toolchain, "uses": uses_of(crates), "files": files}, began
 
     def keep(self, begun):
         """Notes a build that has ended well."""
@@ -52,7 +52,7 @@ class LastBuild:
 
     def now(self):
         """The time by the clock that times the files, a tick before."""
-        self.note.parent.mkdir(exist_ok=True)
+        self.note.parent.mkdir(parents=True, exist_ok=True)
         with tempfile.NamedTemporaryFile(prefix="now.", dir=self.note.parent) as it:
             return os.fstat(it.fileno()).st_ctime_ns - TICK
 

@@ -25,7 +25,7 @@ def shown(given, number):
                     return [f"line {number:,} of {given.name(1)}: {quoted(line.rstrip(bytes([10])).decode(errors='backslashreplace'))}"]
     except OSError:
         return []
-    return [f"{given.name(1)} ends before line {number:,}, without a line `stop`"] if number else []
+    return [f"{given.name(1)} ends before line {number:,}, without a `stop` line"] if number else []
 
 
 def unlawful(given):
@@ -33,8 +33,8 @@ def unlawful(given):
     values = " ".join(f"{it} {given.options.get(it, OPTIONS[it].default)}" for it in options_of("audit") if it not in ("--caps", "--steps"))
     caps = f"--caps {given.options['--caps']}" if "--caps" in given.options else "no --caps"
     lines = [
-        f"the log was judged by the rule of the blocking graph, with {values} and {caps}",
-        "a log made with `--rule stride` or with other options is unlawful by these: give `audit` the options and the trace of the run",
+        f"the log was judged by the priority rule, with {values} and {caps}",
+        "`audit` knows no other rule; give it the options and the trace of the run",
     ]
     return lines + (["the trace on standard input is empty"] if is_empty(0) else [])
 
@@ -50,8 +50,8 @@ def is_empty(descriptor):
 
 def steps(given):
     return [
-        f"this line, with those before it, needs more steps of the source than `--steps` allows, here {given.number('--steps'):,}, at most {OPTIONS['--steps'].most:,}",
-        "the lines before it are lawful; a thread that never blocks again needs more steps than any number",
+        f"this line and those before it need more steps of the source than `--steps` allows, here {given.number('--steps'):,}; the maximum is {OPTIONS['--steps'].most:,}",
+        "the lines before it are lawful; if a thread never blocks again, no number of steps is enough",
     ]
 
 
@@ -61,6 +61,6 @@ def too_long(given, _):
     except OSError:
         size = ""
     return [
-        f"note: {size}the most that is audited is {MOST_LOG:,}",
-        "note: a run has one log, which can't be audited in parts: make runs of fewer requests each, and audit their logs",
+        f"note: {size}an audit reads at most {MOST_LOG:,}",
+        "note: a log can't be audited in parts: split the requests into several runs, and audit their logs",
     ]

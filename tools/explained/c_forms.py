@@ -20,9 +20,9 @@ INSTEAD = {
     "union": "write a variable for each member",
     "enum": "write the numbers",
     "typedef": ONE_TYPE,
-    "sizeof": "every value is a word; an array has the words that it is declared with",
+    "sizeof": "every value is one word, and an array has as many words as its declaration says",
     "const": "leave it out",
-    "static": "leave it out: all names of a source belong to it alone",
+    "static": "leave it out: no name is visible outside the source",
     "extern": "leave it out: a program is one source",
     "inline": "leave it out",
     "register": "leave it out",
@@ -37,7 +37,7 @@ BYTES = {
     ord('"'): "CapC has no strings; `put(x)` writes a number",
     ord("'"): "CapC has no characters; write the number, as 65 for A",
     ord("#"): "CapC has no preprocessor: no `#include`, no `#define`; a global can hold a constant",
-    ord("\\"): "a line is not continued by `\\`: a line end is a blank like others",
+    ord("\\"): "`\\` does not continue a line: a line break is white space like any other",
 }
 
 
@@ -66,7 +66,7 @@ def of_character(source, at):
         return "the file begins with a byte order mark; store it as plain ASCII or UTF-8 without one"
     found = source[at : at + 4].decode("utf-8", "ignore")[:1]
     shown = f"the character {visible(found)} (U+{ord(found):04X})" if found else f"the byte {source[at]:#04x}"
-    return f"{shown} is not ASCII, and may stand in a comment only"
+    return f"{shown} is not ASCII; it is allowed only in a comment"
 
 
 def of_number(text):
@@ -81,7 +81,7 @@ def of_number(text):
         return "a number is at most 4,294,967,295"
     if text[:2] in ("0b", "0B") and set(text[2:]) <= set("01") and text[2:]:
         return f"CapC has no binary numbers: write {int(text, 2)}"
-    return "a number is decimal, or hexadecimal as in 0xff, without letters behind it"
+    return "a number is decimal, or hexadecimal as in 0xff, and no letters may follow it"
 
 
 class Around:
@@ -157,9 +157,9 @@ def pointer(here):
     if here.text == "*" and (here.at(-1) in ("int", "void") or not here.is_value(-1)):
         return "CapC has no pointers; an index into an array does the same"
     if here.text == "&" and not here.is_value(-1):
-        return "CapC has no addresses, so no `&x`; a function gives its result by `return`, or writes a global"
+        return "CapC has no addresses, so no `&x`; a function returns its result, or writes a global"
     if here.text == ")" and here.at(-2) == "*" and here.at(-3) == "(" and here.at(-4) == "int":
-        return "a table of functions has its size behind its name, as in `int (*t[2])(int) = {f, g};`; there are no other function pointers"
+        return "a table of functions has its size after its name, as in `int (*t[2])(int) = {f, g};`; there are no other function pointers"
     return None
 
 
@@ -169,11 +169,11 @@ def array(here):
     if here.text == "[" and here.at(-1) == "]":
         return "an array has one dimension: `a[i * 4 + j]` in place of `a[i][j]`, with the product of both sizes"
     if here.text == "=" and here.at(-1) == "]" and here.is_declaration():
-        return "an array has no initialiser: its words are 0 at first; assign them one by one"
+        return "an array can't have an initialiser: its words start at 0; assign them one by one"
     opening = here.opening()
     if opening is None or here.at(opening) != "[" or not is_size(here, opening):
         return "an array cannot be a parameter; make it global" if here.text == "[" and here.at(-2) == "int" and opening is not None and not here.inside else None
-    return "the size of an array is one number: write it out, as 16 in place of 2 * 8"
+    return "the size of an array must be one number, for example 16 instead of 2 * 8"
 
 
 def is_size(here, opening):
@@ -196,7 +196,7 @@ def assignment(here):
         return f"the operator is `{here.text}=`"
     if here.text == "," and here.inside and here.is_value(-1) and not here.is_declaration():
         return "CapC has no comma operator: write two statements; in a `for` put the second before the loop or at the end of its body"
-    return "one `int` declares all names: `int x, y;`" if here.text == "int" and here.at(-1) == "," and here.is_declaration() else None
+    return "write `int` once: `int x, y;`" if here.text == "int" and here.at(-1) == "," and here.is_declaration() else None
 
 
 def missing_parts(here):
@@ -209,9 +209,9 @@ def missing_parts(here):
     if here.text in WORDS_FOR_OPERATORS and here.is_value(-1):
         return f"write `{WORDS_FOR_OPERATORS[here.text]}`"
     if here.at(-1) in ("if", "while", "for") and here.text != "(":
-        return f"behind `{here.at(-1)}` stand parentheses, as in `{here.at(-1)} (..)`"
+        return f"`{here.at(-1)}` must be followed by `(`"
     if here.text == "else":
-        return "an `else` stands right behind the one statement of its `if`; braces make several statements one"
+        return "an `else` must come right after the one statement of its `if`; put several statements in braces"
     if here.text == ":" and here.is_name(-1) and here.at(-2) in (";", "{", "}"):
         return "CapC has no labels and no `goto`"
     return None
@@ -220,9 +220,9 @@ def missing_parts(here):
 def top_level(here):
     """Functions and globals: functions inside functions, initialisers of globals."""
     if here.inside and here.text == "(" and here.is_name(-1) and here.at(-2) in ("int", "void"):
-        return "a function stands at the top level, not inside another"
+        return "a function must be defined at the top level, not inside another function"
     if not here.inside and "=" in here.statement() and here.is_declaration():
-        return "a global begins with one number, as in `int x = 5;` or `int x = -5;`: compute others in `main`"
+        return "a global is initialised with one number, as in `int x = 5;` or `int x = -5;`: compute others in `main`"
     return None
 
 
@@ -232,7 +232,7 @@ def idle_value(here):
     begins = not statement and (here.text in ("-", "+", "!", "~", "(") or here.tokens[here.index].is_number())
     goes_on = len(statement) == 1 and here.is_value(-1) and (here.text in OPERATORS or here.text == ";")
     if here.inside and (begins or goes_on):
-        return "a value alone is no statement: a statement is an assignment, a call, a declaration, or begins with a keyword"
+        return "an expression alone is not a statement: write an assignment, a call or a declaration, or begin with a keyword"
     return None
 
 

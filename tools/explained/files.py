@@ -88,7 +88,7 @@ def unwritten(given, _):
         fault = write_fault(name)
         if fault:
             return [f"note: {quoted(name)}: {fault}"]
-    return [f"note: standard output: {output_fault()}; what was written before is a beginning of the output"]
+    return [f"note: standard output: {output_fault()}; what was written is a prefix of the output"]
 
 
 def write_fault(name):
@@ -100,7 +100,7 @@ def write_fault(name):
         return f"there is no folder {quoted(folder)}"
     if os.path.exists(name) and not os.access(name, os.W_OK) or not os.path.exists(name) and not os.access(folder, os.W_OK):
         return "permission denied"
-    return "no space is left there" if is_full(name if os.path.exists(name) else folder) else None
+    return "no space left" if is_full(name if os.path.exists(name) else folder) else None
 
 
 def is_full(name):
@@ -119,11 +119,11 @@ def output_fault():
         return "it is closed"
     if stat.S_ISFIFO(mode) or stat.S_ISSOCK(mode):
         return "its reader has ended"
-    return "no space is left there" if is_full("/proc/self/fd/1") else "a write failed"
+    return "no space left" if is_full("/proc/self/fd/1") else "a write failed"
 
 
 def no_memory(given, _):
-    chunks = "; all chunks of a run (`--chunks` times `--chunk`) take their memory at once" if given.command in ("serve", "run") else ""
+    chunks = "; a run allocates all of its chunks (`--chunks` times `--chunk`) at the start" if given.command in ("serve", "run") else ""
     return [f"note: an allocation failed{chunks}"]
 
 
@@ -132,8 +132,8 @@ def no_log(given, _):
     name = given.of_report.get("--log", "")
     if is_cut(name):
         whole = shlex.quote(name)
-        return [f"note: the last line of {quoted(name)} is cut, as if its run was ended early; `sed '$d' {whole} > {whole}.whole` leaves that line out"]
-    return [f"note: {quoted(name)} is no log of a run; `serve SRC > LOG` makes one"]
+        return [f"note: the last line of {quoted(name)} is truncated, as after Ctrl-C; `sed '$d' {whole} > {whole}.whole` removes it"]
+    return [f"note: {quoted(name)} is not the log of a run; `serve SRC > LOG` makes one"]
 
 
 def is_cut(name):
@@ -149,4 +149,4 @@ def is_cut(name):
 
 def no_source(given, _):
     """The notes where the report is given a source that is refused."""
-    return [f"note: {quoted(given.name(0))} is refused; `graph {given.name(0)}` tells where and why"]
+    return [f"note: {quoted(given.name(0))} is refused; `graph {given.name(0)}` shows where and why"]

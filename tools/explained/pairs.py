@@ -3,10 +3,10 @@ from .text import quoted
 from .tokens import bodies_of, tokens_of
 
 WHY = {
-    "TooLong": "it has more bytes than such a file may have: 2,097,152 for an image, 8,388,608 for a certificate",
+    "TooLong": "it exceeds the maximum of 2,097,152 bytes for an image, 8,388,608 for a certificate",
     "Magic": "it does not begin with CAP1",
     "Short": "it ends too early",
-    "Long": "bytes stand behind its last word",
+    "Long": "extra bytes after the last word",
     "Limit": "it declares more words than a limit allows",
 }
 # what each rule of a certificate asks, in short (docs/FORMATS.md has them whole)
@@ -30,8 +30,8 @@ def refused(given, line):
     """The notes on a line `image: ..` or `certificate: ..`."""
     which, cause = line.split(": ", 1)
     name, word = given.name(1 if which == "image" else 2), cause.split()[0]
-    why = WHY.get(word, f"line {cause.split()[-1]} is not as a certificate has it" if word == "Line" else cause)
-    return [f"note: {quoted(name)} is no {which} that `build` stores: {why}", "note: the names stand in the order SRC IMG CRT"]
+    why = WHY.get(word, f"line {cause.split()[-1]} is not the line that a certificate has there" if word == "Line" else cause)
+    return [f"note: {quoted(name)} is not a valid {which}: {why}", "note: arguments are SRC IMG CRT, in this order"]
 
 
 def rejected(given, line):
@@ -45,13 +45,13 @@ def rejected(given, line):
     of = f" at function {number}, `{names[int(number)]}`, index {place}" if int(number) < len(names) else f" at function {number}, index {place}"
     return [
         f"note: rule {rule} fails{of}: {RULES.get(rule, 'a rule of the certificate')}",
-        f"note: the pair is not one of this source, or was changed; `build {given.name(0)} {given.name(1)} {given.name(2)}` makes it anew",
+        f"note: the pair belongs to another source, or was changed; `build {given.name(0)} {given.name(1)} {given.name(2)}` makes it again",
     ]
 
 
 def cycle(given, line):
     name = line.split()[-1]
     return [
-        f"note: calls lead from `{name}` back to it, so a thread's depth has no bound that the source tells, and no number of chunks is enough for all runs",
-        "note: a loop in place of the recursion has a budget",
+        f"note: `{name}` can call itself (directly or through others), so stack depth is unbounded, and no number of chunks is enough for all runs",
+        "note: a program without recursion has a budget: use a loop",
     ]

@@ -81,18 +81,18 @@ def unknown(place):
     alike = [it for it in place.declared if it.name == name]
     here = next((it for it in alike if it.at == place.token.at), None)
     if here:
-        return [f"this prototype of `{name}` has no definition: no function `{name}` with a body follows in the source"]
+        return [f"this prototype of `{name}` has no definition: the source has no function `{name}` with a body"]
     later = next((it for it in alike if it.at > place.token.at and it.inside in (None, place.inside)), None)
     if later:
-        how = f": move it up, or write above a prototype `{'int' if later.gives else 'void'} {name}({', '.join(['int'] * later.count)});`" if later.what == "function" else ""
+        how = f": move it up, or write a prototype above this line: `{'int' if later.gives else 'void'} {name}({', '.join(['int'] * later.count)});`" if later.what == "function" else ""
         return [f"`{name}` is declared in line {place.line(later.at)}; a name can be used only after its declaration{how}"]
     own = next((it for it in alike if it.at < place.token.at and not any(token.text in ",;" for token in place.tokens if it.at < token.at < place.token.at)), None)
     if own:
         return [f"`{name}` can be used only after its own initialiser"]
     if alike:
-        return [f"`{name}` is declared in line {place.line(alike[-1].at)}, in a scope that has ended before this place"]
+        return [f"`{name}` is declared in line {place.line(alike[-1].at)}, in a scope that ends before this place"]
     if name in OF_C:
-        return [f"CapC has no library, so no `{name}`{': ' * bool(OF_C[name])}{OF_C[name]}", f"the calls are {', '.join(MODELLED)}"]
+        return [f"CapC has no library, so no `{name}`{': ' * bool(OF_C[name])}{OF_C[name]}", f"the built-in calls are {', '.join(MODELLED)}"]
     if name in CONSTANTS:
         return [f"CapC has no `{name}`: write {CONSTANTS[name]}"]
     return [f"`{name}` is not declared{nearest(name, place.known())}"]
@@ -101,17 +101,17 @@ def unknown(place):
 def twice(place):
     alike = [it for it in place.declared if it.name == place.token.text and it.at < place.token.at and it.inside == place.inside]
     where = f", in line {place.line(alike[0].at)} as {A_OR_AN[alike[0].what]}" if len(alike) == 1 else ""
-    return [f"`{place.token.text}` is declared already in the same scope{where}"]
+    return [f"`{place.token.text}` is already declared in the same scope{where}"]
 
 
 def arity(place):
     name, first = place.token.text, place.before()
     here = next((it for it in place.declared if it.at == place.token.at), None)
     if here and here.what == "table":
-        return [f"the size of the table `{name}` is the number of its members, {here.count}, and at least 1"]
+        return [f"the size of the table `{name}` must be the number of its members, {here.count}, and at least 1"]
     if here:
         of = f" in line {place.line(first.at)}" if first else ""
-        return [f"`{name}` differs from what is declared{of} in its result or in how many parameters it has"]
+        return [f"`{name}` differs from its declaration{of} in its result or its number of parameters"]
     if name in MODELLED:
         return [f"`{name}` takes {some(MODELLED[name], 'argument')}, found {place.arguments()}"
                 + (": the function, and the value that it is called with" if name == "spawn" else "")]
@@ -123,43 +123,43 @@ def arity(place):
 def kind_of(place):
     name = place.token.text
     if name == "return":
-        return ["a function that is `int` returns a value, and one that is `void` returns none: " + ("a value is missing here" if place.text(1) == ";" else "leave the value out, or make the function `int`")]
+        return ["an `int` function must return a value, and a `void` function must not: " + ("a value is missing here" if place.text(1) == ";" else "leave the value out, or make the function `int`")]
     if name in ("break", "continue"):
-        return [f"`{name}` must stand in a loop; no loop is open here"]
+        return [f"`{name}` must be inside a loop"]
     here = next((it for it in place.declared if it.at == place.token.at), None)
     if here:
         return declared_so(place, here)
     if name == "spawn":
-        return ["the first argument of `spawn` is the name of a function, alone"]
+        return ["the first argument of `spawn` must be the name of a function, and nothing else"]
     return used_so(place, name, place.before())
 
 
 def declared_so(place, here):
     """Of a name where it is declared."""
     if here.name in MODELLED:
-        return [f"`{here.name}` is the name of a call of the language and can't be declared"]
+        return [f"`{here.name}` is a built-in call and can't be declared"]
     if here.name == "main":
         return ["`main` has no parameters"]
-    return [f"an array has from 1 to 65,536 words, and `{here.name}` has {here.count:,}"] if here.what == "array" else []
+    return [f"an array must have 1 to 65,536 words; `{here.name}` has {here.count:,}"] if here.what == "array" else []
 
 
 def used_so(place, name, first):
     """Of a name where it is used."""
     if place.text(-1) == "(" and place.text(-2) == "spawn":
-        return [f"`spawn` takes a function with one parameter, and `{name}` " + (f"has {first.count}" if first and first.what in ("function", "prototype") else "is none")]
+        return [f"`spawn` takes a function with one parameter; `{name}` " + (f"has {first.count}" if first and first.what in ("function", "prototype") else "is not a function")]
     if name in MODELLED and place.text(1) != "(":
-        return [f"`{name}` is a call of the language: it stands with its arguments, as `{name}(..)`"]
+        return [f"`{name}` is a built-in call: write it with its arguments, as `{name}(..)`"]
     if name in MODELLED or first and first.what in ("function", "prototype") and place.text(1) == "(":
-        return [f"`{name}` gives no result, so nothing can use one"]
+        return [f"`{name}` has no result, so its value can't be used"]
     if not first:
         return []
     said = f"`{name}` is {A_OR_AN[first.what]} (line {place.line(first.at)})"
     if place.inside is None:
         return [f"{said}; a member of a table is an `int` function with one parameter"]
     if place.text(1) == "(":
-        return [f"{said}" + ("; a table is called with an index, as `t[i](x)`" if first.what == "table" else ", and only a function can be called")]
+        return [f"{said}" + ("; a table is called with an index, as `t[i](x)`" if first.what == "table" else "; only a function can be called")]
     if place.text(1) == "[":
-        return [f"{said}, and only an array or a table has an index"]
+        return [f"{said}; only an array or a table can be indexed"]
     if first.what == "array":
-        return [f"{said}; it is used by its elements, as `{name}[i]`"]
-    return [f"{said}, and no value; " + ("call it" if first.what != "table" else "a table is called, as `t[i](x)`")]
+        return [f"{said}; use an element, as in `{name}[i]`"]
+    return [f"{said}, not a value; " + ("call it" if first.what != "table" else "a table is called, as `t[i](x)`")]

@@ -18,8 +18,14 @@ LIMITS = {
     "sites": "a source has at most 65,535 calls",
     "globals": "the globals have at most 65,536 words in all",
     "tables": "the tables have at most 65,536 members in all",
-    "locals": "the local names of a function have at most 4,096 words, and as they stand in its frame with all else, some 500",
+    "locals": "the local names of a function have at most 4,096 words, of which about 500 fit its frame",
     "params": "a function has at most 6 parameters",
+}
+
+BROKEN = {  # what a refusal means where no more is known of its place
+    "Unexpected": "this can't follow the text before it",
+    "Arity": "the number of arguments, parameters or members differs from the declaration",
+    "Kind": "this name can't be used here in this way",
 }
 
 
@@ -34,11 +40,12 @@ def why(given, line):
     if kind == "TooLong":
         return [f"{name}: note: it has {os.path.getsize(name):,} bytes; a source has at most {MOST_SOURCE:,}"]
     if kind == "NoMain":
-        return [f"{name}: note: a program has a function `int main()` or `void main()` with a body"]
+        return [f"{name}: note: a program needs a function `int main()` or `void main()` with a body"]
     if kind == "Limit":
         return [f"{name}: note: {it}" for it in exceeded(rest[0], source)]
     at = int(rest[1])
-    return [*shown(name, source, at, kind), *[f"note: {it}" for it in meant(given.run.program, kind, source, at)]]
+    first, *others = meant(given.run.program, kind, source, at) or [BROKEN.get(kind, kind)]
+    return [*shown(name, source, at, first), *[f"note: {it}" for it in others]]
 
 
 def limited(parts, given):
@@ -55,10 +62,10 @@ def frame(name, given):
     chunk = given.number("--chunk")
     path = int(given.options.get("--max-path", default_path(chunk)))
     by = "`--max-path`" if "--max-path" in given.options else f"the default of `--max-path` at `--chunk {chunk}`"
-    what = f"the frame of `{name}` holds its parameters, its local names with all words of their arrays, and what it keeps meanwhile"
+    what = f"the frame of `{name}` has its parameters, its locals with all words of their arrays, and its temporaries"
     if path < MOST_FRAME:
-        return [f"{what}; {by} allows {path:,} bytes", "give a larger `--max-path`, with a larger `--chunk`, or have fewer local names"]
-    return [f"{what}; the most is {MOST_FRAME:,} bytes, whatever the options", "make a large array global, or split the function"]
+        return [f"{what}; {by} allows {path:,} bytes", "use a larger `--max-path`, with a larger `--chunk`, or fewer locals"]
+    return [f"{what}; the maximum is {MOST_FRAME:,} bytes, whatever the options", "make a large array global, or split the function"]
 
 
 def place_of(source, at):
@@ -66,9 +73,9 @@ def place_of(source, at):
     return source.count(b"\n", 0, at) + 1, at - (source.rfind(b"\n", 0, at) + 1) + 1
 
 
-def shown(name, source, at, kind):
-    """The place, its line or the part of it around the place, and a mark below what stands
-    there."""
+def shown(name, source, at, fault):
+    """The place with what is wrong there, its line or the part of it around the place, and a mark
+    below the token."""
     line, column = place_of(source, at)
     start, end = at - column + 1, source.find(b"\n", at)
     first = max(start, at - LONGEST_LINE // 2)
@@ -78,7 +85,7 @@ def shown(name, source, at, kind):
     before = "".join("\t" if it == "\t" else visible(it) for it in text[: at - first].decode(errors="replace"))
     behind = "".join("\t" if it == "\t" else visible(it) for it in text[at - first :].decode(errors="replace"))
     blank = "".join("\t" if it == "\t" else " " for it in before)
-    return [f"{name}:{line}:{column}: {kind}", f"    {before}{behind}", f"    {blank}^{'~' * (length - 1)}"]
+    return [f"{name}:{line}:{column}: {fault}", f"    {before}{behind}", f"    {blank}^{'~' * (length - 1)}"]
 
 
 def meant(program, kind, source, at):
@@ -88,17 +95,20 @@ def meant(program, kind, source, at):
     if kind == "BadByte":
         return [c_forms.of_byte(source, at)]
     if kind == "OpenComment":
-        return ["this `/*` has no `*/` behind it"]
+        return ["this `/*` is never closed by `*/`"]
     if kind == "BadNumber":
         return [c_forms.of_number(word_at(source, at))]
     if kind == "TooDeep":
         return [
-            "here is the 65th construct that is open at once, and the most is 64: `(`, `[`, `{`, `if`, `while`, `for`, unary operators and `?` count",
-            "in a long chain of `else if` each `if` is inside the one before: call through a table of functions, `t[i](x)`, or split the chain",
+            "nested more than 64 deep: `(`, `[`, `{`, `if`, `while`, `for`, unary operators and `?` count",
+            "in a long chain of `else if`, each `if` is nested in the one before: call through a table of functions, `t[i](x)`, or split the chain",
         ]
     if kind == "NestedCall":
         name = word_at(source, at)
-        return [f"in the parentheses of a `for` a call stands alone, or is the whole right side of `=`: put it into a variable before the `for`, as in `r = {name}(..);`, or write a `while`"]
+        return [
+            "in the parentheses of a `for`, a call must be a whole part, or the whole right side of `=`",
+            f"assign it to a variable before the `for`, as in `r = {name}(..);`, or write a `while`",
+        ]
     return scope.meant(kind, source, at)
 
 
@@ -162,7 +172,7 @@ def asking(program, before, token):
 
 def exceeded(which, source):
     """What a limit says, and of which function."""
-    found = [LIMITS.get(which, f"the most of {which} is exceeded")]
+    found = [LIMITS.get(which, f"the maximum of {which} is exceeded")]
     declared = declarations_of(tokens_of(source))
     if which == "params":
         found += [f"`{it.name}` in line {place_of(source, it.at)[0]} has {it.count}" for it in declared if it.what in ("function", "prototype") and it.count > 6][:1]

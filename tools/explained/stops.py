@@ -1,4 +1,6 @@
 """What the last line of a log means, and which option or line of the source helps."""
+import os, shlex
+
 from . import traces
 from .text import listed, some
 from .tokens import closing, tokens_of
@@ -40,7 +42,7 @@ def where(given, name):
         return []
     if given.is_report:
         return more_by_why(given)
-    shows = "who waits where" if name == "idle" else "the function, the line and the numbers" if name == "trap" else "where each thread was"
+    shows = "where each thread waits" if name == "idle" else "the function, the line and the values" if name == "trap" else "where each thread was"
     return [f"{given.report_call()} shows {shows}"]
 
 
@@ -51,21 +53,21 @@ def more_by_why(given):
 
 
 def idle(stop):
-    return ["the trace is over, and the threads that are left wait for something that does not come; a server usually ends so (status 10)"]
+    return ["the trace has ended and every remaining thread is waiting; a server normally ends like this (status 10)"]
 
 
 def trap(stop):
     kind = stop.field(1)
     meant = {"index": index, "table": table, "resource": resource, "channel": channel}.get(kind)
-    return meant(stop) if meant else ["a thread made a call or used an index that has no meaning, which ends the run; the last line of the log names the thread and the kind"]
+    return meant(stop) if meant else ["a thread made an invalid call or used an index out of range, which ends the run; the last line of the log has the thread and the kind"]
 
 
 def index(stop):
-    return [f"{stop.thread()} used an index that is outside its array: an index is from 0 to the size less 1"]
+    return [f"{stop.thread()} used an index outside its array: the range is 0 to the size minus 1"]
 
 
 def table(stop):
-    return [f"{stop.thread()} called through a table with an index that is outside it: an index is from 0 to the number of members less 1"]
+    return [f"{stop.thread()} used an index outside its table: the range is 0 to the number of members minus 1"]
 
 
 def resource(stop):
@@ -73,13 +75,13 @@ def resource(stop):
     for name, numbers, line in literal_calls(stop, ("take", "give"), 2):
         number, units = numbers
         if not 1 <= number <= MOST_RESOURCE:
-            return [f"`{name}({number}, {units})` in line {line} names resource {number}; resources are numbered from 1 to {MOST_RESOURCE}"]
+            return [f"`{name}({number}, {units})` in line {line} uses resource {number}; resources are numbered from 1 to {MOST_RESOURCE}"]
         if units > most.get(number, (caps.get(number, 0), ""))[0]:
             most[number] = units, f"`{name}({number}, {units})` in line {line} {VERBS[name]} {some(units, 'unit')} of resource {number}, which has {caps.get(number, 0)}"
     if most:
         return [*(told for _, (_, told) in sorted(most.items())), more({**caps, **{it: units for it, (units, _) in most.items()}})]
     has = listed([f"resource {it} has {units:,}" for it, units in caps.items()]) or "no resource has any, as `--caps` is not given"
-    return [f"a `take` of {stop.thread()} asked for more units than the resource has in all, or a `give` returned more than are in use ({has})"]
+    return [f"a `take` of {stop.thread()} asked for more units than the resource has, or a `give` returned more than are in use ({has})"]
 
 
 def more(units):
@@ -87,13 +89,14 @@ def more(units):
     if max(units.values()) > MOST_UNITS:
         return f"a resource has at most {MOST_UNITS:,} units"
     pairs = ",".join(f"{it}={count}" for it, count in sorted(units.items()))
-    return f"`--caps` sets the units of each resource, as in `--caps {pairs}`"
+    return f"`--caps` sets the units of each resource; at least `--caps {pairs}` is needed"
 
 
 def channel(stop):
     for name, numbers, line in literal_calls(stop, ("wait", "waitfor"), 1):
         if not 0 <= numbers[0] <= MOST_CHANNEL:
-            return [f"`{name}({numbers[0]}..)` in line {line} names channel {numbers[0]}; channels are numbered from 0 to {MOST_CHANNEL}"]
+            call = f"{name}({numbers[0]}{', ..' * (name == 'waitfor')})"
+            return [f"`{call}` in line {line} uses channel {numbers[0]}; channels are numbered from 0 to {MOST_CHANNEL}"]
     return [f"{stop.thread()} waited for a message on a channel outside 0 to {MOST_CHANNEL}"]
 
 
@@ -115,24 +118,37 @@ def nochunk(stop):
     chunks = given.number("--chunks") + given.number("--extra")
     free = f"{stop.field(2)} of {chunks:,} chunks are free, and a larger one is needed" if stop.field(2) not in ("", "0") else f"all {chunks:,} chunks are in use"
     return [
-        f"{stop.thread()} found no chunk of stack for a call or a new thread: {free}",
-        f"more chunks help (`--chunks`, here {given.number('--chunks'):,}, at most {MOST_CHUNKS:,}), or fewer live threads, or fewer calls inside one another; `budget` tells how many chunks a thread may hold",
+        f"{stop.thread()} found no free chunk for a call or a new thread: {free}",
+        f"use more chunks (`--chunks`, here {given.number('--chunks'):,}; the maximum is {MOST_CHUNKS:,}), fewer live threads, or fewer nested calls",
+        budget_calls(given),
     ]
+
+
+def budget_calls(given):
+    """Which commands print how many chunks a thread may hold: those of a stored pair, or of one that
+    is built first."""
+    says = "how many chunks a thread may hold"
+    if given.command == "run":
+        return f"`budget {shlex.join(given.names)}` prints {says}"
+    source = given.name(0)
+    pair = shlex.join([source, *(f"{os.path.splitext(os.path.basename(source))[0]}{it}" for it in (".img", ".crt"))])
+    sizes = "".join(f" {it} {given.options[it]}" for it in ("--chunk", "--max-path") if it in given.options)
+    return f"`build{sizes} {pair}` and then `budget {pair}` print {says}"
 
 
 def fuel(stop):
     given = stop.given
     default = "" if "--fuel" in given.options else ", the default"
     return [
-        f"the run has made the {some(given.number('--fuel'), 'instruction')} that `--fuel` allows{default}; the most is {MOST_FUEL:,}",
-        f"if {stop.thread()} loops without a blocking call, no other thread runs: threads change only at {listed(BLOCKING)} and at a thread's end",
+        f"the run has executed the {some(given.number('--fuel'), 'instruction')} that `--fuel` allows{default}; the maximum is {MOST_FUEL:,}",
+        f"if {stop.thread()} loops without a blocking call, no other thread runs: threads switch only at {listed(BLOCKING)}, and when one ends",
     ]
 
 
 def threads(stop):
     return [
-        f"{MOST_THREADS:,} threads are alive, the maximum, and {stop.thread()} started another",
-        "a resource limits them: `take(1, 1)` before the `spawn`, `give(1, 1)` at the thread's end, and `--caps 1=N`",
+        f"{MOST_THREADS:,} threads are live, the maximum, and {stop.thread()} started another",
+        "a resource can limit them: `take(1, 1)` before the `spawn`, `give(1, 1)` at the thread's end, and `--caps 1=N`",
     ]
 
 

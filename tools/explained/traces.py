@@ -6,7 +6,7 @@ from .text import nearest, quoted
 MOST_LINES, MOST_BYTES, MOST_TIME, MOST_CHANNEL = 1_000_000, 64, 10**15, 63
 EVENTS = {"arrive": ("TIME", "VALUE"), "data": ("TIME", "CHANNEL", "VALUE")}
 RANGES = {"TIME": (0, MOST_TIME), "CHANNEL": (0, MOST_CHANNEL), "VALUE": (-(2**31), 2**31 - 1)}
-FORMS = "a line is `arrive TIME VALUE` or `data TIME CHANNEL VALUE` with single blanks, and times do not fall"
+FORMS = "a line is `arrive TIME VALUE` or `data TIME CHANNEL VALUE` with single spaces, and times never decrease"
 
 
 def refused(given, number):
@@ -48,11 +48,11 @@ def wrong_bytes(text):
     if text.endswith("\r"):
         return "it ends with a carriage return: lines end with a line feed alone; `tr -d '\\r'` removes them"
     if not text.strip():
-        return "it is blank; each line is an event"
+        return "it is empty; each line must be an event"
     if text.startswith(("#", "//")):
         return "a trace has no comments"
     if "\t" in text or text.startswith(" ") or text.endswith(" ") or "  " in text:
-        return "fields are separated by exactly one blank, and none stands before the first or behind the last"
+        return "fields must be separated by exactly one space, with none before the first or after the last"
     return None
 
 
@@ -60,7 +60,7 @@ def wrong_fields(fields):
     """What is wrong with the first field that doesn't fit."""
     word, *rest = fields
     if word not in EVENTS:
-        return f"{quoted(word)} is no event: expected `arrive` or `data`{nearest(word, EVENTS)}"
+        return f"{quoted(word)} is not an event: expected `arrive` or `data`{nearest(word, EVENTS)}"
     names = EVENTS[word]
     for name, text in zip(names, rest):
         least, most = RANGES[name]
@@ -69,7 +69,7 @@ def wrong_fields(fields):
         if len(text) > 20 or not least <= int(text) <= most:
             return f"{name} is {quoted(text)}: the range is {least:,} to {most:,}"
     if len(rest) != len(names):
-        return f"`{word}` has {len(names)} fields, {' '.join(names)}, found {len(rest)}"
+        return f"`{word}` takes {len(names)} fields, {' '.join(names)}; found {len(rest)}"
     return None
 
 
@@ -77,5 +77,5 @@ def wrong_order(text, before):
     """How the time falls, if it does."""
     time, earlier = text.split(" ")[1], before.split(b" ")[1:2]
     if earlier and earlier[0].isdigit() and int(time) < int(earlier[0]):
-        return f"its time, {time}, is below that of the line before, {int(earlier[0])}: sort the trace by time, as with `sort -s -n -k 2`"
+        return f"its time, {time}, is before that of the previous line, {int(earlier[0])}: sort the trace by time, for example with `sort -s -n -k 2`"
     return None

@@ -4,10 +4,10 @@ import re
 from .commands import COMMANDS, MOST_POOL, OPTIONS, READING, REPORT_OPTIONS, form_of
 from .text import listed, nearest, quoted, some
 
-TICKETS_FORM = "expected T=N,.. as in 1=3,2=1: at most 64 threads from 0 to 1,000,000 in rising order, each with 1 to 1,024 tickets"
+TICKETS_FORM = "expected T=N,.. as in 1=3,2=1: at most 64 threads from 0 to 1,000,000 in increasing order, each with 1 to 1,024 tickets"
 RUNS = ("serve", "run")  # the commands that are runs
 OF_RUNS = ("--trace", "--folded", "--html", "--json")  # the options of the report that need one
-CAPS_FORM = "expected R=N,.. as in 1=4,3=10: resources from 1 to 7 in rising order, each with 1 to 1,000,000 units"
+CAPS_FORM = "expected R=N,.. as in 1=4,3=10: resources from 1 to 7 in increasing order, each with 1 to 1,000,000 units"
 
 
 def number_of(text):
@@ -16,7 +16,7 @@ def number_of(text):
 
 
 def forms():
-    return ["note: the commands are", *[f"        {form_of(it)}" for it in COMMANDS], "note: --help tells what each option sets"]
+    return ["note: the commands are", *[f"        {form_of(it)}" for it in COMMANDS], "note: `--help` explains each option"]
 
 
 def without_report(words):
@@ -34,7 +34,7 @@ def without_report(words):
             if fault := wrong_report_value(word, own[word]):
                 return own, rest, fault
         else:
-            return own, rest, f"`{word}` needs {BEHIND[REPORT_OPTIONS[word][0]]} behind it"
+            return own, rest, f"`{word}` must be followed by {BEHIND[REPORT_OPTIONS[word][0]]}"
     return own, rest, None
 
 
@@ -57,17 +57,17 @@ def wrong_report_value(name, text):
         if number_of(text) is None:
             return f"{quoted(f'{name} {text}')}: expected a plain decimal number from {least}, without a sign or a leading zero"
         if number_of(text) < least:
-            return f"{quoted(f'{name} {text}')}: the least is {least}"
+            return f"{quoted(f'{name} {text}')}: the minimum is {least}"
     return None
 
 
 def wrong_report_option(word):
     """Why a word before the command is no option of the report."""
     if word in OPTIONS:
-        return f"`{word}` is an option of the run: it stands behind the command"
+        return f"`{word}` is an option of the run: it goes after the command"
     name, sign, value = word.partition("=")
     if sign and name in REPORT_OPTIONS:
-        return f"{quoted(word)}: the name is a word of its own: {name} {value}"
+        return f"{quoted(word)}: the value is a separate argument: {name} {value}"
     return f"{quoted(word)} is not an option of report{nearest(word, REPORT_OPTIONS)}"
 
 
@@ -84,17 +84,17 @@ def wrong_before_run(given):
     if fault:
         return [f"note: {fault}"]
     if not rest:
-        return ["note: a command is missing behind the options of report: serve or run; `report --help` lists all options"]
+        return ["note: a command is missing after the options of report: serve or run; `report --help` lists all options"]
     late = [it for it in rest[1:] if it in REPORT_OPTIONS]
     if late:
-        return [f"note: `{late[0]}` is an option of report and stands before the command"]
+        return [f"note: `{late[0]}` is an option of report: it goes before the command"]
     if rest[0] not in COMMANDS:
         return [f"note: `{name}` takes `{value}` as the name of its file: is one missing before `{value}`?" for name, value in own.items() if value in COMMANDS][:1]
     if "--log" in own and rest[0] not in RUNS:
-        return [f"note: behind `--log {own['--log']}` stand the words of the run that made the log: serve or run, found {quoted(rest[0])}"]
+        return [f"note: after `--log {own['--log']}`, expected the arguments of the run that made the log, serve or run; found {quoted(rest[0])}"]
     needs = [it for it in OF_RUNS if it in own]
     if needs and rest[0] not in RUNS:
-        return [f"note: behind `{needs[0]}` stand the words of a run: serve or run, found {quoted(rest[0])}"]
+        return [f"note: `{needs[0]}` needs a run: expected serve or run, found {quoted(rest[0])}"]
     return []
 
 
@@ -111,12 +111,12 @@ def why(given):
         return ["note: a command is missing", *forms()]
     command = given[0]
     if command in REPORT_OPTIONS:
-        return [f"note: `{command}` is an option of ./report, before the words of a run"]
+        return [f"note: `{command}` is an option of ./report, not of ./capriccio"]
     if command not in COMMANDS:
         return [f"note: {quoted(command)} is not a command{nearest(command, COMMANDS)}", *forms()]
     named, options, fault = split(command, given[1:])
     fault = fault or wrong_names(command, named) or wrong_values(command, options)
-    return [f"note: {fault or 'the words do not fit together'}", f"        {form_of(command)}"]
+    return [f"note: {fault or 'invalid combination of arguments'}", f"        {form_of(command)}"]
 
 
 def split(command, rest):
@@ -138,12 +138,12 @@ def split(command, rest):
 def wrong_option(command, word, options, words):
     """Why the word is no option with a value behind it, if it is none."""
     if not word:
-        return "a word is empty"
+        return "an argument is empty"
     name, sign, value = word.partition("=")
     if sign and name in OPTIONS:
-        return f"{quoted(word)}: the value is a word of its own: {name} {value}"
+        return f"{quoted(word)}: the value is a separate argument: {name} {value}"
     if word in REPORT_OPTIONS:
-        return f"`{word}` is an option of ./report and stands before the command"
+        return f"`{word}` is an option of ./report: it goes before the command"
     if word not in OPTIONS:
         return f"{quoted(word)} is not an option{nearest(word, OPTIONS)}" if word.startswith("--") else f"{quoted(word)}: options begin with `--`, and a file name does not begin with `-`"
     if command not in OPTIONS[word].commands:
@@ -159,7 +159,7 @@ def wrong_names(command, named):
     """Why these aren't the names that the command takes, if they aren't."""
     wanted = COMMANDS[command].names
     if len(named) != len(wanted):
-        return f"`{command}` takes {some(len(wanted), 'name')} ({' '.join(wanted)}), found {len(named)}"
+        return f"`{command}` takes {some(len(wanted), 'argument')} ({' '.join(wanted)}), found {len(named)}"
     if command == "demo" and not 1 <= (number_of(named[0]) or 0) <= 1000:
         return f"{quoted(named[0])}: expected a number from 1 to 1,000 in plain decimal digits, without a leading zero"
     return None
@@ -174,7 +174,7 @@ def wrong_values(command, options):
         if fault:
             return fault
     if command in READING and "--low" not in options and high <= 700:
-        return f"`--low` is 700 by default and must be below `--high`, {high}: give it too"
+        return f"`--low` is 700 by default and must be below `--high`, {high}: set it too"
     return wrong_pool(chunk, options) if command == "serve" else None
 
 
