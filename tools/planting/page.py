@@ -21,10 +21,10 @@ def table():
         rows.append(pages.row(f"`{crate}`", *map(str, (len(own), len(tried), len(proof), len(by_test), len(past) - len(by_test)))))
         left += [pages.row(f"`{crate}`", it.name, it.what, it.free or (f"`{it.test}` refuses it" if it.test else "open")) for it in past]
     total = [sum(int(row.split(" | ")[at].rstrip(" |")) for row in rows) for at in range(1, 6)]
-    lines = ["## Bugs written by hand", "", *pages.table("Crate", "bugs", "tried", "refused by proof", "by a test", "survived"), *rows, pages.row("all", *map(str, total)), ""]
+    planted = [it for it in known.values() if it.came == "planted"]
+    lines = [*totals(total, planted), "## Bugs written by hand", "", *pages.table("Crate", "bugs", "tried", "refused by proof", "by a test", "survived"), *rows, pages.row("all", *map(str, total)), ""]
     if left:
         lines += ["## What no proof refuses", "", *pages.table("Crate", "Bug", "What it changes", "Why it is free, or what refuses it"), *left, ""]
-    planted = [it for it in known.values() if it.came == "planted"]
     if planted:
         lines += [
             "## Wrong bodies by `rt plant`",
@@ -41,14 +41,33 @@ def table():
             "",
         ]
         heads = "Crate", "functions", "untested", "without a clause", "wrong bodies", "refused", "met", "others"
-        lines += [*pages.table(*heads), *map(plants_row, planted), ""]
+        all_plants = [sum(column) for column in zip(*map(plants_numbers, planted))]
+        lines += [*pages.table(*heads), *map(plants_row, planted), pages.row("all", *map(str, all_plants)), ""]
     return "\n".join(lines)
 
 
-def plants_row(result):
-    """The row of a crate, of the last line of `rt plant`: words of the form KIND=COUNT."""
+def totals(by_hand, planted):
+    """The section with the totals of both kinds, of the total row by hand and of the results of `rt plant`."""
+    bugs_by_hand, tried, proof, by_test, survived = by_hand
+    share = f"{proof:,}, {proof / tried:.1%} of those tried" if tried else "none"
+    *_, bodies, refused, met, others = [sum(column) for column in zip(*map(plants_numbers, planted))] or [0] * 7
+    return [
+        "## Totals",
+        "",
+        *pages.table("Bugs", "Number", "Refused by proof", "Refused by a test", "Not refused", "Not judged"),
+        pages.row("by hand", f"{bugs_by_hand:,}", share, f"{by_test:,}", f"{survived:,}", f"{bugs_by_hand - tried:,}"),
+        pages.row("by `rt plant`", f"{bodies:,}", f"{refused:,}, {refused / (refused + met):.1%} of those judged" if refused else "none", "not tried", f"{met:,}", f"{others:,}"),
+        "",
+    ]
+
+
+def plants_numbers(result):
+    """The numbers of a crate's row, of the last line of `rt plant`: words of the form KIND=COUNT."""
     count = {kind: int(number) for kind, number in re.findall(r"([a-z-]+)=(\d+)", result.line)}
     refused, met = count["refused"], count["proves"] + count["same"]
     others = sum(count[it] for it in ("elsewhere", "not-judged", "not-source", "not-run"))
-    numbers = count["planted-in"], count["untested"], count["no-ensures"], refused + met + others, refused, met, others
-    return pages.row(f"`{result.crate}`", *map(str, numbers))
+    return count["planted-in"], count["untested"], count["no-ensures"], refused + met + others, refused, met, others
+
+
+def plants_row(result):
+    return pages.row(f"`{result.crate}`", *map(str, plants_numbers(result)))

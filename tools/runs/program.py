@@ -11,6 +11,12 @@ def capriccio():
     return os.path.join(folder, "capriccio_cli") if folder else str(TOP / "capriccio")
 
 
+def itself():
+    """The path of the program behind the script, for many runs: `make_ready` has built it."""
+    built = os.path.join(os.environ.get("CAPRICCIO_PROGRAMS") or str(TOP / "built"), "capriccio_cli")
+    return built if os.access(built, os.X_OK) else capriccio()
+
+
 def report():
     """The path of the script, which explains what the program refuses."""
     return str(TOP / "report")

@@ -5,7 +5,7 @@ The log says which thread runs when, and which events come; the source says what
 (translation.py). What it puts and where it blocks is held to the log. A segment that was cut isn't
 made.
 """
-import collections, sys
+import collections, functools, sys
 
 from .story import END, Item, Segment
 from .translation import Untranslated, translated
@@ -18,14 +18,14 @@ class Replay:
     of each resource, `live` the number of threads, and `blocked` the call at which each thread waits. Once
     something differs `is_lost` holds, and nothing is told any more."""
 
-    def __init__(self, source):
+    def __init__(self, source, translate=translated):
         self.uses, self.live, self.blocked = collections.Counter(), 1, {}
         self.arrivals, self.channels = collections.deque(), collections.defaultdict(collections.deque)
         self.threads, self.started, self.running, self.outputs = {}, 1, 0, []
         self.is_lost = False
         names = {"put": self.put, "give": self.give, "spawn": self.spawn, "self_": lambda: self.running}
         try:
-            exec(compile(translated(source), "<source>", "exec"), names)
+            exec(code_of(source, translate), names)
             self.threads[0], self.trap = begun(names["f_main"]), names["Trap"]
         except (Untranslated, SyntaxError, RecursionError, MemoryError, KeyError):
             self.is_lost = True
@@ -77,6 +77,12 @@ class Replay:
             self.live -= 1
             del self.threads[it.thread]
             return self.outputs == it.outputs and it.end_node == END
+
+
+@functools.lru_cache(maxsize=4)
+def code_of(source, translate):
+    """The source as code of Python, translated once for many runs."""
+    return compile(translate(source), "<source>", "exec")
 
 
 def begun(function, *arguments):

@@ -396,8 +396,8 @@ def is_table(tokens, name):
     return any(tokens[at - 2 : at + 1] == ["(", "*", name] for at, token in enumerate(tokens) if token == name)
 
 
-def translated(source):
+def translated(source, translation=Translation):
     try:
-        return Translation(source).program()
+        return translation(source).program()
     except (IndexError, StopIteration, ValueError) as why:
         raise Untranslated from why

@@ -192,7 +192,7 @@ class Values(unittest.TestCase):
         value = report_json.value_of((TOP / "examples/limiter/report_why").read_text())
         self.assertEqual(value["latency"]["last"], {"least": 34, "median": 67, "90th": 1109, "99th": 1109, "greatest": 1109, "arrived": 130, "thread": 1})
         self.assertEqual(value["choices"], {"count": 22, "by_score": 0, "by_gate": 0, "by_turn": 22})
-        self.assertEqual(value["waits"][3]["place"], {"file": "server.c", "line": 12, "column": 5, "name": "take", "function": "worker"})
+        self.assertEqual(value["waits"][3]["place"], {"file": "examples/limiter/server.c", "line": 12, "column": 5, "name": "take", "function": "worker"})
         self.assertEqual(value["stop"], {"line": "stop idle", "kind": "idle"})
 
     def test_the_number_that_the_page_on_reports_has(self):

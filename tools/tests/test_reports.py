@@ -13,7 +13,8 @@ class Reports(unittest.TestCase):
             with self.subTest(report=str(kept.relative_to(TOP))), open(kept.parent / "trace") as trace:
                 options = kept.parent / "options"
                 words = options.read_text().split() if options.exists() else []
-                run = subprocess.run([PROGRAM, *OWN[kept.name], "serve", *words, "server.c"], cwd=kept.parent, stdin=trace, stdout=subprocess.PIPE, text=True)
+                source = kept.parent.relative_to(TOP) / "server.c"
+                run = subprocess.run([PROGRAM, *OWN[kept.name], "serve", *words, source], cwd=TOP, stdin=trace, stdout=subprocess.PIPE, text=True)
                 self.assertEqual(run.stdout, kept.read_text())
 
     def test_the_deadlock_has_its_circle_first(self):

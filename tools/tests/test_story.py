@@ -32,7 +32,9 @@ class OfExamples(unittest.TestCase):
             with self.subTest(example=report.parent.name):
                 sites = places.Places((report.parent / "server.c").read_bytes()).sites
                 known = {f"{it.place()} {it.callee} in {it.function}" for it in sites}
-                for place in re.findall(r"^  server\.c:(\d+:\d+ \w+ in \w+): ", report.read_text(), re.M):
+                told = re.findall(r"^  examples/\w+/server\.c:(\d+:\d+ \w+ in \w+): ", report.read_text(), re.M)
+                self.assertGreater(len(told), 0)
+                for place in told:
                     self.assertIn(place, known)
 
 

@@ -84,7 +84,7 @@ class WithTheReport(unittest.TestCase):
         told = run("export", "--json", "--why", "serve", *(folder / "options").read_text().split(), folder / "server.c", given=folder / "trace")
         value = json.loads(told.stdout)
         wanted = report_json.value_of((folder / "report_why").read_text())
-        shown = lambda it: json.dumps(it).replace(f"{folder}/server.c", "server.c")  # the stored report was made in its folder
+        shown = lambda it: json.dumps(it).replace(f"{TOP}/", "")  # the stored report was made at the top
         self.assertEqual(json.loads(shown({name: value[name] for name in wanted})), wanted)
         self.assertEqual((value["status"], told.returncode, value["words"][:3]), (10, 10, ["serve", "--caps", "1=2"]))
 

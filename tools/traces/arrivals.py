@@ -1,6 +1,7 @@
 """Times of arrivals in ticks, never falling and without an end, by the shape of the load."""
-import csv, heapq, itertools
+import heapq, itertools
 
+from . import recordings
 from .lines import Refused
 
 
@@ -35,16 +36,26 @@ def closed(clients, think, answer, start, random):
         heapq.heapreplace(due, due[0] + after(answer) + after(think))
 
 
-def from_csv(lines, column, value_column, ticks, start):
+def from_csv(file, column, value_column, ticks, start):
     """The times of a CSV with a line of headings, in units of `ticks` ticks, rising and moved so
-    that the first is at `start`; and the values of a second column, if one is named."""
-    rows = csv.DictReader(lines)
+    that the first is at `start`; and the values of a second column, if one is named. The file is
+    open in bytes."""
+    recording = recordings.read(file, "standard input", "csv")
     for name in (column, value_column):
-        if name is not None and name not in (rows.fieldnames or []):
-            raise Refused(f"there is no column {name!r} in the CSV; its columns are {', '.join(rows.fieldnames or ['none'])}")
-    try:
-        found = sorted((float(row[column]), number, int(row[value_column]) if value_column else None) for number, row in enumerate(rows))
-    except (TypeError, ValueError):
-        raise Refused("a line of the CSV has no number in that column") from None
+        if name is not None and name not in recording.columns:
+            raise Refused(f"there is no column {name!r} in the CSV; its columns are {', '.join(recording.columns)}")
+    found = []
+    for number, row in enumerate(recording.rows):
+        time = parsed(row, column, float, "a number")
+        found.append((time, number, parsed(row, value_column, int, "a whole number") if value_column else None))
+    found.sort()
     first = found[0][0] if found else 0
     return [(start + round((time - first) * ticks), value) for time, _, value in found]
+
+
+def parsed(row, column, kind, expected):
+    """The number in a column of a row, refused with its place if there is none."""
+    try:
+        return kind(row.columns[column])
+    except ValueError:
+        raise row.refused(column, expected) from None
