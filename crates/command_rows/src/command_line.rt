@@ -44,7 +44,7 @@ fn fill(buf: &mut [u8], word: &[u8]) -> Result<usize, FillError>
 
 /// Checks whether a command line has this number of words.
 fn has_count(alloc: Global, last: &'static [u8], count: usize) -> bool {
-    match words_of(&CommandLine { last }, alloc) {
+    match words_of(alloc, &CommandLine { last }) {
         Ok(words) => {
             let is_so = words.len() == count;
             drop(words);

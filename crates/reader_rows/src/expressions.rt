@@ -1,6 +1,7 @@
 // The values of expressions, by `value_of`.
 
-ghost use Rattle.std.specs.Prelude.{◌≡◌, true};
+ghost use Rattle.std.specs.Prelude.{◌≡◌, true, [], ◌∷◌};
+ghost use Rattle.c_mean.specs.Layout.{widths_of};
 ghost use Rattle.c_tree.specs.Views.{expr_tree};
 ghost use Rattle.reader_rows.specs.Small.{UsesRowNames, UseRowNames};
 
@@ -149,25 +150,39 @@ fn all_fit(operands: &[(Infix, Expr)]) -> bool
     true
 }
 
-// The value of the expression that the second statement of the first function returns, if the program declares just
-// the names and globals above.
+// Whether these are `g` and `h`.
+fn are_the_globals(globals: &[GlobalFact]) -> bool
+    ensures { result ≡ true → widths_of globals.now ≡ (1 ∷ 2 ∷ []) }
+{
+    match globals {
+        [g, h] => g.words == 1 && h.words == 2,
+        _ => false,
+    }
+}
+
+// The expression that the second statement of the first function returns.
+fn returned(program: &Program) -> Option<&Expr> {
+    match program.functions().first()?.body.get(1) {
+        Some(Stmt::Return(Some(RightSide::Expr(expr)))) => Some(expr),
+        _ => None,
+    }
+}
+
+// The value of that expression, if the program declares just the names and globals above.
 fn value_in(program: &Program) -> Option<Result<u32, TrapKind>> {
     let functions = program.functions();
     if functions.is_empty() {
         return None;
     }
     let function = &functions[0];
-    let one = GlobalFact { words: 1, start: 0 };
-    let two = GlobalFact { words: 2, start: 0 };
-    if function.sizes[..] != [1, 1, 3] || program.globals()[..] != [one, two] {
+    if function.sizes[..] != [1, 1, 3] || !are_the_globals(program.globals()) {
         return None;
     }
-    match function.body.get(1) {
-        Some(Stmt::Return(Some(RightSide::Expr(expr)))) if fits(expr) => {
-            Some(value_of(program, 0, &NAMES, &GLOBALS, expr))
-        }
-        _ => None,
+    let expr = returned(program)?;
+    if !fits(expr) {
+        return None;
     }
+    Some(value_of(program, 0, &NAMES, &GLOBALS, expr))
 }
 
 // The source of a function that returns the expression.
