@@ -30,7 +30,8 @@ ROWS = (
 
 def answer_of(clone, words, explains):
     environment = {**clone.environment, **({"CAPRICCIO_EXPLAIN": "1"} if explains else {})}
-    return subprocess.run(words, cwd=clone.at, env=environment, stdin=subprocess.DEVNULL, capture_output=True, text=True)
+    return subprocess.run(words, cwd=clone.at, env=environment, stdin=subprocess.DEVNULL, capture_output=True,
+                          text=True)
 
 
 def without_program(clone):

@@ -136,7 +136,8 @@ def from_elsewhere(clone):
         link.symlink_to(clone.at / script)
         environment = {**clone.environment, "PATH": f"{room}:{clone.environment['PATH']}"}
         for words in ([str(link)], [f"./{link.name}"], [link.name], [str(clone.at / script)]):
-            run = subprocess.run([*words, "serve", "x"], cwd=room, env=environment, stdin=subprocess.DEVNULL, capture_output=True, text=True)
+            run = subprocess.run([*words, "serve", "x"], cwd=room, env=environment, stdin=subprocess.DEVNULL,
+                                 capture_output=True, text=True)
             wrong += [f"{words}: {run.returncode} {run.stdout!r} {run.stderr[-200:]!r}"] if (run.stdout, run.returncode) != (out, 0) else []
     clone.proved()
     return wrong
@@ -145,7 +146,8 @@ def from_elsewhere(clone):
 def said_on_a_terminal(clone):
     """On a terminal each call says once that the program is unproved."""
     clone.call(TRY)
-    run = subprocess.run(["script", "-qec", "tools/try serve x", "/dev/null"], cwd=clone.at, env=clone.environment, stdin=subprocess.DEVNULL, capture_output=True, text=True)
+    run = subprocess.run(["script", "-qec", "tools/try serve x", "/dev/null"], cwd=clone.at, env=clone.environment,
+                         stdin=subprocess.DEVNULL, capture_output=True, text=True)
     clone.proved()
     return [] if run.stdout.count("unproved") == 1 and "ran serve x" in run.stdout else [f"{run.stdout!r}"]
 

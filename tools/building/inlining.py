@@ -1,7 +1,8 @@
 """What the sources say of inlining, which the module of a trial leaves out."""
 import re
 
-ATTRIBUTES = {"inline": "inlinehint", "inline(always)": "alwaysinline", "inline(never)": "noinline", "cold": "cold noinline"}
+ATTRIBUTES = {"inline": "inlinehint", "inline(always)": "alwaysinline", "inline(never)": "noinline",
+              "cold": "cold noinline"}
 LINE = re.compile(
     r"^(?P<impl>impl\b.*)|^(?P<end>\})|^ *#\[(?P<mark>inline(?:\((?:always|never)\))?|cold)\]"
     r"|^ *(?:pub(?:\([\w ]+\))? )?(?:const |unsafe |async )*fn (?P<fn>\w+)",

@@ -31,7 +31,8 @@ class LastBuild:
         """Whether the crates have just these files, and those that were touched after the time
         `mark` have these sums."""
         files = self.files_of(crates)
-        return files.keys() == sums.keys() and all(it.stat().st_ctime_ns <= mark or sum_of(it) == sums[name] for name, it in files.items())
+        return files.keys() == sums.keys() and all(it.stat().st_ctime_ns <= mark or sum_of(it) == sums[name]
+                                                   for name, it in files.items())
 
     def files_of(self, crates):
         return {str(file.relative_to(self.top)): file for it in crates.values() for file in it.files()}

@@ -11,7 +11,8 @@ def judged(given, line):
     answer, number = (line or "").split()[:2] if line and len(line.split()) == 2 else ({15: "unlawful", 16: "steps"}.get(given.status), "0")
     if answer not in ("unlawful", "steps"):
         return []
-    return [f"note: {it}" for it in [*shown(given, int(number)), *(unlawful(given) if answer == "unlawful" else steps(given))]]
+    return [f"note: {it}"
+            for it in [*shown(given, int(number)), *(unlawful(given) if answer == "unlawful" else steps(given))]]
 
 
 def shown(given, number):
@@ -30,7 +31,8 @@ def shown(given, number):
 
 def unlawful(given):
     """By which rule and options the log was judged."""
-    values = " ".join(f"{it} {given.options.get(it, OPTIONS[it].default)}" for it in options_of("audit") if it not in ("--caps", "--steps"))
+    values = " ".join(f"{it} {given.options.get(it, OPTIONS[it].default)}" for it in options_of("audit")
+                      if it not in ("--caps", "--steps"))
     caps = f"--caps {given.options['--caps']}" if "--caps" in given.options else "no --caps"
     lines = [
         f"the log was judged by the priority rule, with {values} and {caps}",

@@ -31,7 +31,8 @@ INSTEAD = {
     "float": ONE_TYPE + "; count in thousandths",
     "double": ONE_TYPE + "; count in thousandths",
 }
-TYPES = {"bool", "string", "size_t", "byte", "uint", *(f"{sign}int{size}_t" for sign in ("", "u") for size in (8, 16, 32, 64))}
+TYPES = {"bool", "string", "size_t", "byte", "uint",
+         *(f"{sign}int{size}_t" for sign in ("", "u") for size in (8, 16, 32, 64))}
 WORDS_FOR_OPERATORS = {"and": "&&", "or": "||", "not": "!"}
 BYTES = {
     ord('"'): "CapC has no strings; `put(x)` writes a number",
@@ -48,7 +49,8 @@ def of_byte(source, at):
         return of_dot(source, at)
     if byte >= 128:
         return of_character(source, at)
-    return BYTES.get(byte, f"no token begins with {visible(chr(byte))}" if byte > 32 else f"no token begins with the byte {byte:#04x}")
+    return BYTES.get(byte, f"no token begins with {visible(chr(byte))}" if byte > 32
+                     else f"no token begins with the byte {byte:#04x}")
 
 
 def of_dot(source, at):
@@ -102,7 +104,8 @@ class Around:
     def is_value(self, steps):
         """Whether an operand may end there."""
         index = self.index + steps
-        return 0 <= index < len(self.tokens) and (self.tokens[index].is_name() or self.tokens[index].is_number() or self.at(steps) in (")", "]"))
+        return 0 <= index < len(self.tokens) and (self.tokens[index].is_name() or self.tokens[index].is_number()
+                                                  or self.at(steps) in (")", "]"))
 
     def opening(self):
         """The steps to the parenthesis, bracket or brace that is open here, or None."""
@@ -243,7 +246,8 @@ def missing_end(tokens, index, source, inside):
     """Where a `;` or a `}` seems to be missing, by the lines, or nothing."""
     line = lambda place: source.count(b"\n", 0, tokens[place].at) + 1
     if index >= len(tokens):
-        opened = [place for place, it in enumerate(tokens) if it.text in ("{", "(", "[") and closing(tokens, place) >= len(tokens)]
+        opened = [place for place, it in enumerate(tokens) if it.text in ("{", "(", "[")
+                  and closing(tokens, place) >= len(tokens)]
         return f"the `{tokens[opened[-1]].text}` in line {line(opened[-1])} is not closed" if opened else None
     here = Around(tokens, index, inside)
     begins = here.is_name(0) or here.text in KEYWORDS or here.text == "}"

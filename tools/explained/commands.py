@@ -16,14 +16,20 @@ class Command:
 
 
 COMMANDS = {
-    "serve": Command(("SRC",), "compiles a source, checks it and runs it on the trace; prints the log", "serve server.c < trace > log"),
-    "run": Command(("SRC", "IMG", "CRT"), "checks a stored pair and runs it on the trace; prints the log", "run server.c server.img server.crt < trace"),
-    "build": Command(("SRC", "IMG", "CRT"), "compiles a source and stores image and certificate", "build server.c server.img server.crt"),
-    "check": Command(("SRC", "IMG", "CRT"), "checks source, image and certificate against one another", "check server.c server.img server.crt"),
+    "serve": Command(("SRC",), "compiles a source, checks it and runs it on the trace; prints the log",
+                     "serve server.c < trace > log"),
+    "run": Command(("SRC", "IMG", "CRT"), "checks a stored pair and runs it on the trace; prints the log",
+                   "run server.c server.img server.crt < trace"),
+    "build": Command(("SRC", "IMG", "CRT"), "compiles a source and stores image and certificate",
+                     "build server.c server.img server.crt"),
+    "check": Command(("SRC", "IMG", "CRT"), "checks source, image and certificate against one another",
+                     "check server.c server.img server.crt"),
     "graph": Command(("SRC",), "prints each function's frame and stack, and where chunks are linked", "graph server.c"),
     "demo": Command(("N",), "runs a workload of N threads, 1 to 1,000; prints a summary", "demo 10"),
-    "audit": Command(("SRC", "LOG"), "judges whether a log is one of the source on the trace", "audit server.c log < trace"),
-    "budget": Command(("SRC", "IMG", "CRT"), "prints how many chunks a thread of a pair may hold", "budget server.c server.img server.crt"),
+    "audit": Command(("SRC", "LOG"), "judges whether a log is one of the source on the trace",
+                     "audit server.c log < trace"),
+    "budget": Command(("SRC", "IMG", "CRT"), "prints how many chunks a thread of a pair may hold",
+                      "budget server.c server.img server.crt"),
 }
 PLACEMENT, POLICY, READING = ("serve", "build", "graph"), ("serve", "run"), ("serve", "run", "audit")
 
@@ -33,7 +39,8 @@ class Option:
     the maximum, and the number of which it is a multiple. A range or a default that isn't plain
     numbers is in words."""
 
-    def __init__(self, sets, commands, default=None, least=None, most=None, step=1, value="N", range=None, without=None):
+    def __init__(self, sets, commands, default=None, least=None, most=None, step=1, value="N", range=None,
+                 without=None):
         self.sets, self.commands, self.default, self.least, self.most, self.step = sets, commands, default, least, most, step
         self.value, self.range, self.without = value, range, without
 
@@ -56,19 +63,22 @@ class Option:
 OPTIONS = {
     "--chunk": Option("bytes of a chunk of stack", PLACEMENT, 4096, 64, 65_536, 16),
     "--max-path": Option(
-        "maximum bytes of frames in a row without a test for room", PLACEMENT, None, 16, None, range="16 to chunk - 16", without="half of chunk - 16"
+        "maximum bytes of frames in a row without a test for room", PLACEMENT, None, 16, None, range="16 to chunk - 16",
+        without="half of chunk - 16"
     ),
     "--chunks": Option("number of chunks", READING, 1024, 1, 65_536),
     "--extra": Option("number of chunks of a second size", READING, 0, 0, 65_536),
     "--extra-size": Option("bytes of a chunk of the second size", POLICY, 64, 32, 65_536, 16),
     "--fuel": Option("maximum instructions of a run", READING, 10_000_000, 0, 1_000_000_000),
     "--backlog": Option("maximum waiting requests, and waiting messages of each channel", READING, 64, 1, 4096),
-    "--caps": Option("units of each resource, as in 1=4,3=10", READING, value="R=N,..", range="resources 1 to 7, increasing; units 1 to 1,000,000", without="none"),
+    "--caps": Option("units of each resource, as in 1=4,3=10", READING, value="R=N,..",
+                     range="resources 1 to 7, increasing; units 1 to 1,000,000", without="none"),
     "--high": Option("pressure at which the gate closes: without --knee, use in thousandths", READING, 900, 1, 1000),
     "--low": Option("pressure at which the gate opens again", READING, 700, 0, None, range="0 to high - 1"),
     "--rule": Option("how the next thread is chosen", POLICY, value="R", range="graph or stride", without="graph"),
     "--tickets": Option(
-        "tickets of threads under --rule stride, as in 1=3,2=1", POLICY, value="T=N,..", range="at most 64 threads, 0 to 1,000,000, increasing; tickets 1 to 1,024", without="1 each"
+        "tickets of threads under --rule stride, as in 1=3,2=1", POLICY, value="T=N,..",
+        range="at most 64 threads, 0 to 1,000,000, increasing; tickets 1 to 1,024", without="1 each"
     ),
     "--knee": Option("thousandths of a cap above which use counts as pressure", READING, 0, 0, 999),
     "--steps": Option("maximum steps of the source that an audit takes", ("audit",), 1_000_000_000, 0, 1_000_000_000),

@@ -23,7 +23,8 @@ def absent(given, line):
     folder = os.path.dirname(name) or "."
     if not os.path.isdir(folder):
         return [f"note: {quoted(name)}: there is no folder {quoted(folder)}"]
-    others = (it for it in os.listdir(folder) if os.path.isfile(os.path.join(folder, it)) and os.path.join(os.path.dirname(name), it) not in given.names)
+    others = (it for it in os.listdir(folder) if os.path.isfile(os.path.join(folder, it))
+              and os.path.join(os.path.dirname(name), it) not in given.names)
     alike = nearest(os.path.basename(name), others)
     return [f"note: {quoted(name)}: there is no such file{alike}", *made_by(which)]
 

@@ -28,7 +28,8 @@ STATUSES_OF_REPORT = {
     "6, 7, 8": "a read failed, a write failed, out of memory",
     "9": "a file doesn't exist",
 }
-EXAMPLES_OF_REPORT = ("report serve server.c < trace", "report --why --timeline timeline.svg serve server.c < trace", "report --log log serve server.c < trace")
+EXAMPLES_OF_REPORT = ("report serve server.c < trace", "report --why --timeline timeline.svg serve server.c < trace",
+                      "report --log log serve server.c < trace")
 
 
 def row(head, *lines):
@@ -52,11 +53,13 @@ def asked_for(words):
 
 
 def of_all():
-    lines = ["usage: capriccio COMMAND NAME .. [--OPTION VALUE ..]", "The trace is read from standard input; the log goes to standard output.", "", "commands:"]
+    lines = ["usage: capriccio COMMAND NAME .. [--OPTION VALUE ..]",
+             "The trace is read from standard input; the log goes to standard output.", "", "commands:"]
     lines += [row(" ".join([name, *it.names]), it.does) for name, it in COMMANDS.items()]
     lines += ["", "options, anywhere after the command:"]
     lines += [row(f"{it} {OPTIONS[it].value}", OPTIONS[it].sets, *with_commands(OPTIONS[it])) for it in OPTIONS]
-    lines += ["", "exit status:", *rows(STATUSES), "", "examples:", *(f"  capriccio {it.example}" for it in COMMANDS.values())]
+    lines += ["", "exit status:", *rows(STATUSES), "", "examples:",
+              *(f"  capriccio {it.example}" for it in COMMANDS.values())]
     lines += ["", "`capriccio help COMMAND` has the options of one command, `report --help` those of the report.", MORE]
     return "\n".join(lines)
 
@@ -85,10 +88,13 @@ def of_command(command):
 
 
 def of_report():
-    lines = [USAGE_OF_REPORT, "       report graph SRC .. | budget SRC IMG CRT             what these print, with places in the source", ""]
+    lines = [USAGE_OF_REPORT,
+             "       report graph SRC .. | budget SRC IMG CRT             what these print, with places in the source",
+             ""]
     lines += ["options, before the command:"]
     lines += [row(" ".join([name, *[value] * bool(value)]), does) for name, (value, does) in REPORT_OPTIONS.items()]
-    lines += ["", "options of the run, after the command:", *options(it for it in OPTIONS if set(OPTIONS[it].commands) & {"serve", "run"})]
+    lines += ["", "options of the run, after the command:",
+              *options(it for it in OPTIONS if set(OPTIONS[it].commands) & {"serve", "run"})]
     lines += ["", "exit status:", *rows(STATUSES_OF_REPORT), "", "examples:", *(f"  {it}" for it in EXAMPLES_OF_REPORT)]
     lines += ["", "docs/REPORT.md says what each line of a report means."]
     return "\n".join(lines)
@@ -111,7 +117,8 @@ def version(top, name):
 def commit_of(top):
     """The commit of a clone, with a mark where files differ from it."""
     try:
-        run = subprocess.run(["git", "-C", str(top), "describe", "--always", "--dirty=, with changes", "--exclude=*"], stdout=subprocess.PIPE, stderr=subprocess.DEVNULL, text=True)
+        run = subprocess.run(["git", "-C", str(top), "describe", "--always", "--dirty=, with changes", "--exclude=*"],
+                             stdout=subprocess.PIPE, stderr=subprocess.DEVNULL, text=True)
     except OSError:
         return "of an unknown commit"
     return run.stdout.strip() or "of an unknown commit"

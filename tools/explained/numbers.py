@@ -11,7 +11,8 @@ def sites(given):
     source = given.source() or b""
     calls = [(number, *it) for number, it in enumerate(calls_of(tokens_of(source))) if it[0].text not in MODELLED]
     place = lambda token: ":".join(map(str, place_of(source, token.at)))
-    notes = [f"note: site {number} is {given.name(0)}:{place(token)}, {token.text} in {caller}" for number, token, caller in calls[:MOST]]
+    notes = [f"note: site {number} is {given.name(0)}:{place(token)}, {token.text} in {caller}"
+             for number, token, caller in calls[:MOST]]
     return notes + [f"note: and {len(calls) - MOST:,} more"] * (len(calls) > MOST)
 
 

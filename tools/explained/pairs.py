@@ -30,7 +30,8 @@ def refused(given, line):
     """The notes on a line `image: ..` or `certificate: ..`."""
     which, cause = line.split(": ", 1)
     name, word = given.name(1 if which == "image" else 2), cause.split()[0]
-    why = WHY.get(word, f"line {cause.split()[-1]} is not the line that a certificate has there" if word == "Line" else cause)
+    why = WHY.get(word, f"line {cause.split()[-1]} is not the line that a certificate has there" if word == "Line"
+                  else cause)
     return [f"note: {quoted(name)} is not a valid {which}: {why}", "note: arguments are SRC IMG CRT, in this order"]
 
 

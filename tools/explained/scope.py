@@ -30,7 +30,8 @@ OF_C = {
     "pthread_mutex_unlock": "`give(r, 1)` returns it",
 }
 CONSTANTS = {"true": "1", "false": "0", "NULL": "0", "TRUE": "1", "FALSE": "0"}
-A_OR_AN = {"array": "an array", "scalar": "a variable", "parameter": "a parameter", "function": "a function", "prototype": "a function", "table": "a table"}
+A_OR_AN = {"array": "an array", "scalar": "a variable", "parameter": "a parameter", "function": "a function",
+           "prototype": "a function", "table": "a table"}
 
 
 class Place:
@@ -43,7 +44,8 @@ class Place:
         self.declared = declarations_of(self.tokens)
         # (the parameters stand before the body, and belong to it)
         self.inside = next(((name, last) for name, first, last in bodies_of(self.tokens) if first <= at < last), None)
-        self.inside = self.inside or next((it.inside for it in self.declared if it.what == "parameter" and it.at == at), None)
+        self.inside = self.inside or next((it.inside for it in self.declared if it.what == "parameter" and it.at == at),
+                                          None)
 
     def text(self, steps):
         index = self.index + steps
@@ -54,7 +56,8 @@ class Place:
 
     def before(self):
         """The last declaration of this name that can be meant here, or None."""
-        alike = [it for it in self.declared if it.name == self.token.text and it.at < self.token.at and it.inside in (None, self.inside)]
+        alike = [it for it in self.declared if it.name == self.token.text and it.at < self.token.at
+                 and it.inside in (None, self.inside)]
         return alike[-1] if alike else None
 
     def known(self):
@@ -86,20 +89,23 @@ def unknown(place):
     if later:
         how = f": move it up, or write a prototype above this line: `{'int' if later.gives else 'void'} {name}({', '.join(['int'] * later.count)});`" if later.what == "function" else ""
         return [f"`{name}` is declared in line {place.line(later.at)}; a name can be used only after its declaration{how}"]
-    own = next((it for it in alike if it.at < place.token.at and not any(token.text in ",;" for token in place.tokens if it.at < token.at < place.token.at)), None)
+    own = next((it for it in alike if it.at < place.token.at
+                and not any(token.text in ",;" for token in place.tokens if it.at < token.at < place.token.at)), None)
     if own:
         return [f"`{name}` can be used only after its own initialiser"]
     if alike:
         return [f"`{name}` is declared in line {place.line(alike[-1].at)}, in a scope that ends before this place"]
     if name in OF_C:
-        return [f"CapC has no library, so no `{name}`{': ' * bool(OF_C[name])}{OF_C[name]}", f"the built-in calls are {', '.join(MODELLED)}"]
+        return [f"CapC has no library, so no `{name}`{': ' * bool(OF_C[name])}{OF_C[name]}",
+                f"the built-in calls are {', '.join(MODELLED)}"]
     if name in CONSTANTS:
         return [f"CapC has no `{name}`: write {CONSTANTS[name]}"]
     return [f"`{name}` is not declared{nearest(name, place.known())}"]
 
 
 def twice(place):
-    alike = [it for it in place.declared if it.name == place.token.text and it.at < place.token.at and it.inside == place.inside]
+    alike = [it for it in place.declared if it.name == place.token.text and it.at < place.token.at
+             and it.inside == place.inside]
     where = f", in line {place.line(alike[0].at)} as {A_OR_AN[alike[0].what]}" if len(alike) == 1 else ""
     return [f"`{place.token.text}` is already declared in the same scope{where}"]
 
@@ -157,7 +163,8 @@ def used_so(place, name, first):
     if place.inside is None:
         return [f"{said}; a member of a table is an `int` function with one parameter"]
     if place.text(1) == "(":
-        return [f"{said}" + ("; a table is called with an index, as `t[i](x)`" if first.what == "table" else "; only a function can be called")]
+        return [f"{said}" + ("; a table is called with an index, as `t[i](x)`" if first.what == "table"
+                             else "; only a function can be called")]
     if place.text(1) == "[":
         return [f"{said}; only an array or a table can be indexed"]
     if first.what == "array":

@@ -64,8 +64,10 @@ def frame(name, given):
     by = "`--max-path`" if "--max-path" in given.options else f"the default of `--max-path` at `--chunk {chunk}`"
     what = f"the frame of `{name}` has its parameters, its locals with all words of their arrays, and its temporaries"
     if path < MOST_FRAME:
-        return [f"{what}; {by} allows {path:,} bytes", "use a larger `--max-path`, with a larger `--chunk`, or fewer locals"]
-    return [f"{what}; the maximum is {MOST_FRAME:,} bytes, whatever the options", "make a large array global, or split the function"]
+        return [f"{what}; {by} allows {path:,} bytes",
+                "use a larger `--max-path`, with a larger `--chunk`, or fewer locals"]
+    return [f"{what}; the maximum is {MOST_FRAME:,} bytes, whatever the options",
+            "make a large array global, or split the function"]
 
 
 def place_of(source, at):
@@ -166,7 +168,8 @@ def asking(program, before, token):
     folder = tempfile.TemporaryDirectory()
     with open(f"{folder.name}/source", "wb") as it:
         it.write(before + b"\n" + token.encode() + b"\n")
-    run = subprocess.Popen([program, "graph", "source"], cwd=folder.name, stdin=subprocess.DEVNULL, stdout=subprocess.DEVNULL, stderr=subprocess.PIPE, text=True, errors="replace")
+    run = subprocess.Popen([program, "graph", "source"], cwd=folder.name, stdin=subprocess.DEVNULL,
+                           stdout=subprocess.DEVNULL, stderr=subprocess.PIPE, text=True, errors="replace")
     return folder, run
 
 

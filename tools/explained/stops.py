@@ -79,7 +79,8 @@ def resource(stop):
         if units > most.get(number, (caps.get(number, 0), ""))[0]:
             most[number] = units, f"`{name}({number}, {units})` in line {line} {VERBS[name]} {some(units, 'unit')} of resource {number}, which has {caps.get(number, 0)}"
     if most:
-        return [*(told for _, (_, told) in sorted(most.items())), more({**caps, **{it: units for it, (units, _) in most.items()}})]
+        return [*(told for _, (_, told) in sorted(most.items())),
+                more({**caps, **{it: units for it, (units, _) in most.items()}})]
     has = listed([f"resource {it} has {units:,}" for it, units in caps.items()]) or "no resource has any, as `--caps` is not given"
     return [f"a `take` of {stop.thread()} asked for more units than the resource has, or a `give` returned more than are in use ({has})"]
 

@@ -120,7 +120,8 @@ def declarations_of(tokens):
             name, end = behind[2], index
             while end < len(tokens) and tokens[end].text != "{" and tokens[end].text != ";":
                 end += 1
-            found.append(Declared(name.text, "table", name.at, None, arguments_between(tokens, end, closing(tokens, end))))
+            found.append(Declared(name.text, "table", name.at, None,
+                                  arguments_between(tokens, end, closing(tokens, end))))
             index = closing(tokens, end) + 1
             continue
         if text == "int" and behind and behind[0].is_name():
@@ -140,7 +141,8 @@ def function(found, tokens, index):
     is_void = end == start + 2 and tokens[start + 1].text == "void"
     count = 0 if is_void else arguments_between(tokens, start, end)
     is_definition = end + 1 < len(tokens) and tokens[end + 1].text == "{"
-    found.append(Declared(name.text, "function" if is_definition else "prototype", name.at, None, count, tokens[index].text == "int"))
+    found.append(Declared(name.text, "function" if is_definition else "prototype", name.at, None, count,
+                          tokens[index].text == "int"))
     if not is_definition:
         return end + 1, None
     last = closing(tokens, end + 1)

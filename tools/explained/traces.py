@@ -15,9 +15,11 @@ def refused(given, number):
     number = number or first_refused(given.whole_trace())
     found = given.trace_lines(number) if number else None
     if not found:
-        return [f"line {number:,} of the trace is refused: {FORMS}" if number else f"a line of the trace is refused; the last line of the log has its number: {FORMS}"]
+        return [f"line {number:,} of the trace is refused: {FORMS}" if number
+                else f"a line of the trace is refused; the last line of the log has its number: {FORMS}"]
     line, before = found
-    return [f"line {number:,} of the trace: {quoted(line.decode(errors='backslashreplace'))}", cause(line, before, number) or FORMS]
+    return [f"line {number:,} of the trace: {quoted(line.decode(errors='backslashreplace'))}",
+            cause(line, before, number) or FORMS]
 
 
 def first_refused(lines):

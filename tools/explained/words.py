@@ -16,7 +16,8 @@ def number_of(text):
 
 
 def forms():
-    return ["note: the commands are", *[f"        {form_of(it)}" for it in COMMANDS], "note: `--help` explains each option"]
+    return ["note: the commands are", *[f"        {form_of(it)}" for it in COMMANDS],
+            "note: `--help` explains each option"]
 
 
 def without_report(words):
@@ -180,7 +181,8 @@ def wrong_values(command, options):
 
 def wrong_pool(chunk, options):
     """Why all chunks together are too large, if they are."""
-    chunks, extra, size = (number_of(options.get(name, str(OPTIONS[name].default))) for name in ("--chunks", "--extra", "--extra-size"))
+    chunks, extra, size = (number_of(options.get(name, str(OPTIONS[name].default)))
+                           for name in ("--chunks", "--extra", "--extra-size"))
     added = f" and {extra:,} of {size:,}" if extra else ""
     pool = chunk * chunks + size * extra
     return f"{chunks:,} chunks of {chunk:,} bytes{added} are {pool:,} bytes, more than the maximum of {MOST_POOL:,}" if pool > MOST_POOL else None

@@ -32,8 +32,10 @@ def wrong_files(before, after, whole):
     """Files that aren't stored are as they were; one that is stored is as it was or a prefix of the
     whole, the certificate only beside the whole image."""
     kept = before.keys() | after.keys()
-    wrong = [f"{name} has changed" for name in sorted(kept) if name not in STORED and after.get(name) != before.get(name)]
-    wrong += [f"{name} is no prefix" for name in STORED if after.get(name) != before.get(name) and not is_part(after.get(name, b""), whole.get(name, b""))]
+    wrong = [f"{name} has changed" for name in sorted(kept) if name not in STORED
+             and after.get(name) != before.get(name)]
+    wrong += [f"{name} is no prefix" for name in STORED if after.get(name) != before.get(name)
+              and not is_part(after.get(name, b""), whole.get(name, b""))]
     if after.get("certificate") != before.get("certificate") and after.get("image") != whole.get("image"):
         wrong.append("a certificate beside a part of the image")
     return wrong

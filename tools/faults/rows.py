@@ -31,7 +31,9 @@ class Row:
 ROWS = (
     Row("serve", ("serve", "put")),
     Row("serve of a server", ("serve", "--caps", "1=1", "server"), 10, TRACE),
-    Row("serve by strides, two sizes", ("serve", "--caps", "1=1", "--rule", "stride", "--tickets", "1=3", "--chunk", "512", "--max-path", "128", "--extra", "4", "--extra-size", "256", "server"), 10, TRACE),
+    Row("serve by strides, two sizes",
+        ("serve", "--caps", "1=1", "--rule", "stride", "--tickets", "1=3", "--chunk", "512", "--max-path", "128",
+         "--extra", "4", "--extra-size", "256", "server"), 10, TRACE),
     Row("serve of a long log", ("serve", "long")),
     Row("serve of a bad trace", ("serve", "--caps", "1=1", "server"), 4, TRACE + b"arrive 1 1\n"),
     Row("build", ("build", "put", "image", "certificate")),
@@ -49,8 +51,11 @@ ROWS = (
     Row("budget of a cycle", ("budget", "cycle", "cycle.image", "cycle.certificate"), 17, err=b"budget: cycle at f\n"),
     Row("no words", (), 1, err=None),
     Row("report", ("serve", "--caps", "1=1", "server"), 10, TRACE, program="report"),
-    Row("report with pictures", ("--timeline", "timeline.svg", "--graph", "graph.svg", "serve", "--caps", "1=1", "server"), 10, TRACE, program="report"),
-    Row("report with reasons", ("--why", "--graph", "graph.dot", "serve", "--caps", "1=1", "server"), 10, TRACE, program="report", instead=("--graph", "graph.dot", "serve", "--caps", "1=1", "server")),
+    Row("report with pictures",
+        ("--timeline", "timeline.svg", "--graph", "graph.svg", "serve", "--caps", "1=1", "server"), 10, TRACE,
+        program="report"),
+    Row("report with reasons", ("--why", "--graph", "graph.dot", "serve", "--caps", "1=1", "server"), 10, TRACE,
+        program="report", instead=("--graph", "graph.dot", "serve", "--caps", "1=1", "server")),
     Row("report of a log", ("--log", "server.log", "serve", "--caps", "1=1", "server"), 0, TRACE, program="report"),
 )
 

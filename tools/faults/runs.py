@@ -36,7 +36,8 @@ def run(library, words, given=b"", kind="", at=0, folder=None, stdout=subprocess
 
     try:
         ended = subprocess.run(
-            words, input=given, stdout=stdout, stderr=subprocess.PIPE, env=environment, pass_fds=[put], timeout=SECONDS, cwd=folder, preexec_fn=None if file_size is None else limit
+            words, input=given, stdout=stdout, stderr=subprocess.PIPE, env=environment, pass_fds=[put], timeout=SECONDS,
+            cwd=folder, preexec_fn=None if file_size is None else limit
         )
         status, out, err = ended.returncode, ended.stdout or b"", ended.stderr
     except subprocess.TimeoutExpired as late:

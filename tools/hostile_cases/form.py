@@ -5,12 +5,14 @@ SECONDS, MEGABYTES = 20, 512  # of the proved program, where a case doesn't say 
 LEAST = b"int main() { return 0; }"
 
 
-def case(name, words, files=(), status=0, err="", out=None, stdin=b"", stdout=None, stderr=None, seconds=SECONDS, megabytes=MEGABYTES):
+def case(name, words, files=(), status=0, err="", out=None, stdin=b"", stdout=None, stderr=None, seconds=SECONDS,
+         megabytes=MEGABYTES):
     """`out` is the whole output, or a test of it; None takes any. `stdin` is bytes or a path;
     `stdout` and `stderr` are a path in their place. `seconds` of processor and `megabytes` of
     memory bound the run of the proved program."""
     return dict(
-        name=name, words=words, files=dict(files), status=status, err=err, out=out, stdin=stdin, stdout=stdout, stderr=stderr, seconds=seconds, megabytes=megabytes
+        name=name, words=words, files=dict(files), status=status, err=err, out=out, stdin=stdin, stdout=stdout,
+        stderr=stderr, seconds=seconds, megabytes=megabytes
     )
 
 

@@ -59,7 +59,8 @@ def transfer(at, to, need=None):
     if need is None:
         return [jal(RA, to - at)]
     sub, bltu = 0x20 << 25 | T1 << 20 | SP << 15 | T0 << 7 | 0x33, TP << 20 | T0 << 15 | 6 << 12 | 12 << 7 | 0x63
-    return [*li(T1, need), sub, bltu, jal(RA, to - at - 16), jal(0, 24), addi(A7, 0, 1), ECALL, jal(RA, to - at - 32), addi(A7, 0, 2), ECALL]
+    return [*li(T1, need), sub, bltu, jal(RA, to - at - 16), jal(0, 24), addi(A7, 0, 1), ECALL, jal(RA, to - at - 32),
+            addi(A7, 0, 2), ECALL]
 
 
 def calling_code(need=None):
@@ -112,7 +113,8 @@ class Certificate:
 
     def lines(self):
         count = lambda given, lines: len(lines) if given is None else given
-        head = ["capriccio certificate 1", f"chunk {self.chunk}", f"max-path {self.max_path}", f"functions {count(self.function_count, self.functions)}"]
+        head = ["capriccio certificate 1", f"chunk {self.chunk}", f"max-path {self.max_path}",
+                f"functions {count(self.function_count, self.functions)}"]
         sites = [f"sites {count(self.site_count, self.sites)}", *(f"site {it}" for it in self.sites)]
         return head + [it.line() for it in self.functions] + sites
 

@@ -22,15 +22,19 @@ def checked(name, source, image, certificate, wanted):
     if wanted.startswith("V"):
         rule, function, index = wanted.split()
         return case(name, words, files, 3, "", f"rejected {rule} function {function} index {index}\n".encode())
-    return case(name, words, files, 4, ("certificate: " if wanted.startswith("Line") else "image: ") + wanted + "\n", b"")
+    return case(name, words, files, 4, ("certificate: " if wanted.startswith("Line") else "image: ") + wanted + "\n",
+                b"")
 
 
 def head_cases():
     """chunk, max-path and the counts of the least program's certificate."""
     for field, rows in {
-        "chunk": {0: "V1 0 1", 48: "V1 0 1", 63: "V1 0 1", 64: "V11 0 3", 2047: "V1 0 1", 2048: "accepted", 65_536: "accepted", 65_537: "V1 0 1", 65_552: "V1 0 1", WORD: "V1 0 1", WORD + 1: "Line 2"},
-        "max_path": {0: "V11 0 2", 15: "V11 0 2", 16: "accepted", 4_080: "accepted", 4_081: "V11 0 3", WORD - 15: "V11 0 3", WORD: "V11 0 3", WORD + 1: "Line 3"},
-        "function_count": {0: "Line 5", 2: "Line 6", 4_096: "Line 6", 4_097: "Line 4", WORD: "Line 4", WORD + 1: "Line 4"},
+        "chunk": {0: "V1 0 1", 48: "V1 0 1", 63: "V1 0 1", 64: "V11 0 3", 2047: "V1 0 1", 2048: "accepted",
+                  65_536: "accepted", 65_537: "V1 0 1", 65_552: "V1 0 1", WORD: "V1 0 1", WORD + 1: "Line 2"},
+        "max_path": {0: "V11 0 2", 15: "V11 0 2", 16: "accepted", 4_080: "accepted", 4_081: "V11 0 3",
+                     WORD - 15: "V11 0 3", WORD: "V11 0 3", WORD + 1: "Line 3"},
+        "function_count": {0: "Line 5", 2: "Line 6", 4_096: "Line 6", 4_097: "Line 4", WORD: "Line 4",
+                           WORD + 1: "Line 4"},
         "site_count": {1: "Line 7", 65_535: "Line 7", 65_536: "Line 6", WORD: "Line 6", WORD + 1: "Line 6"},
     }.items():
         for value, wanted in rows.items():
@@ -43,12 +47,18 @@ def head_cases():
 def function_cases():
     """The fields of the least program's function, whose code has a frame of 16 bytes."""
     for field, rows in {
-        "entry": {0: "V2 0 1", ENTRY - 4: "V2 0 1", ENTRY - 1: "V2 0 1", ENTRY + 4: "V2 0 1", WORD - 3: "V2 0 1", WORD: "V2 0 1", WORD + 1: "Line 5"},
-        "words": {0: "V5 0 0", 1: "V5 0 1", 2: "V6 0 0", 6: "V6 0 1", 15: "V6 0 3", 17: "V2 0 1", WORD // 4 + 1: "V2 0 1", WORD: "V2 0 1", WORD + 1: "Line 5"},
-        "frame": {0: "V3 0 0", 15: "V3 0 0", 32: "V5 0 0", 2_032: "V5 0 0", 2_033: "V3 0 0", 2_048: "V3 0 0", WORD - 15: "V3 0 0", WORD: "V3 0 0", WORD + 1: "Line 5"},
-        "ra": {0: "V4 0 1", 4: "V5 0 1", 13: "V4 0 1", 16: "V4 0 1", WORD - 3: "V4 0 1", WORD: "V4 0 1", WORD + 1: "Line 5"},
-        "bound": {0: "V11 0 1", 15: "V11 0 1", 17: "accepted", 2_032: "accepted", 2_033: "V11 0 2", WORD: "V11 0 2", WORD + 1: "Line 5"},
-        "place": {3: "V4 0 0", 4: "V6 0 0", 12: "V4 0 1", 16: "V4 0 0", WORD - 3: "V4 0 0", WORD: "V4 0 0", WORD + 1: "Line 5"},
+        "entry": {0: "V2 0 1", ENTRY - 4: "V2 0 1", ENTRY - 1: "V2 0 1", ENTRY + 4: "V2 0 1", WORD - 3: "V2 0 1",
+                  WORD: "V2 0 1", WORD + 1: "Line 5"},
+        "words": {0: "V5 0 0", 1: "V5 0 1", 2: "V6 0 0", 6: "V6 0 1", 15: "V6 0 3", 17: "V2 0 1",
+                  WORD // 4 + 1: "V2 0 1", WORD: "V2 0 1", WORD + 1: "Line 5"},
+        "frame": {0: "V3 0 0", 15: "V3 0 0", 32: "V5 0 0", 2_032: "V5 0 0", 2_033: "V3 0 0", 2_048: "V3 0 0",
+                  WORD - 15: "V3 0 0", WORD: "V3 0 0", WORD + 1: "Line 5"},
+        "ra": {0: "V4 0 1", 4: "V5 0 1", 13: "V4 0 1", 16: "V4 0 1", WORD - 3: "V4 0 1", WORD: "V4 0 1",
+               WORD + 1: "Line 5"},
+        "bound": {0: "V11 0 1", 15: "V11 0 1", 17: "accepted", 2_032: "accepted", 2_033: "V11 0 2", WORD: "V11 0 2",
+                  WORD + 1: "Line 5"},
+        "place": {3: "V4 0 0", 4: "V6 0 0", 12: "V4 0 1", 16: "V4 0 0", WORD - 3: "V4 0 0", WORD: "V4 0 0",
+                  WORD + 1: "Line 5"},
     }.items():
         for value, wanted in rows.items():
             changed = {"places": (value,)} if field == "place" else {field: value}
@@ -57,7 +67,8 @@ def function_cases():
         yield checked(f"{count} places", LEAST, LEAST_IMAGE, Certificate((Function(places=(0,) * count),)), wanted)
     for frame, wanted in {16: "accepted", 2_032: "accepted", 2_048: "V3 0 0"}.items():
         fitting = Function(frame=frame, ra=frame - 4, bound=frame)
-        yield checked(f"code and frame of {frame} bytes", LEAST, image(least_code(frame)), Certificate((fitting,), max_path=2_048), wanted)
+        yield checked(f"code and frame of {frame} bytes", LEAST, image(least_code(frame)),
+                      Certificate((fitting,), max_path=2_048), wanted)
     longer = image(least_code() + [0])
     yield checked("a word behind the last function", LEAST, longer, Certificate(), "accepted")
     yield checked("a word behind the last operation", LEAST, longer, Certificate((Function(words=17),)), "V6 0 4")
@@ -69,26 +80,34 @@ def site_cases():
 
     def certificate(site, f=None, main=None):
         linked = site.startswith("0 linked")
-        functions = (Function(words=5, places=(), **(f or {})), dataclasses.replace(Function(entry, 27 if linked else 17, bound=16 if linked else 32), **(main or {})))
+        functions = (Function(words=5, places=(), **(f or {})),
+                     dataclasses.replace(Function(entry, 27 if linked else 17, bound=16 if linked else 32),
+                                         **(main or {})))
         return Certificate(functions, (site,))
 
     plain, entries = image(hand_made.calling_code(), entries=(ENTRY, entry)), (ENTRY, entry)
     for site, wanted in {
-        "0 plain": "accepted", "1 plain": "V1 0 5", "65534 plain": "V1 0 5", f"{WORD} plain": "V1 0 5", f"{WORD + 1} plain": "Line 8", "0 spawn 16": "V1 0 5", "0 linked 16": "V2 1 1",
-        "0 plain 16": "Line 8", "0 linked": "Line 8", "0 spawn": "Line 8", f"0 linked {WORD + 1}": "Line 8", "0": "Line 8", "0 back": "Line 8",
+        "0 plain": "accepted", "1 plain": "V1 0 5", "65534 plain": "V1 0 5", f"{WORD} plain": "V1 0 5",
+        f"{WORD + 1} plain": "Line 8", "0 spawn 16": "V1 0 5", "0 linked 16": "V2 1 1",
+        "0 plain 16": "Line 8", "0 linked": "Line 8", "0 spawn": "Line 8", f"0 linked {WORD + 1}": "Line 8",
+        "0": "Line 8", "0 back": "Line 8",
     }.items():
         yield checked(f"a plain call, site {site}", CALLING, plain, certificate(site), wanted)
-    yield checked("a site twice", CALLING, plain, dataclasses.replace(certificate("0 plain"), sites=("0 plain", "0 plain")), "Line 9")
+    yield checked("a site twice", CALLING, plain,
+                  dataclasses.replace(certificate("0 plain"), sites=("0 plain", "0 plain")), "Line 9")
     yield checked("no site", CALLING, plain, dataclasses.replace(certificate("0 plain"), sites=()), "V1 0 5")
     for main, wanted in {16: "V10 1 0", 31: "V10 1 0", 33: "accepted", 2_032: "accepted", 2_033: "V11 1 2"}.items():
-        yield checked(f"a plain call, the caller's bound {main}", CALLING, plain, certificate("0 plain", main={"bound": main}), wanted)
+        yield checked(f"a plain call, the caller's bound {main}", CALLING, plain,
+                      certificate("0 plain", main={"bound": main}), wanted)
     for f, wanted in {0: "V11 0 1", 15: "V11 0 1", 17: "V10 1 0", WORD - 15: "V10 1 0", WORD: "V10 1 0"}.items():
-        yield checked(f"a plain call, the callee's bound {f}", CALLING, plain, certificate("0 plain", f={"bound": f}), wanted)
+        yield checked(f"a plain call, the callee's bound {f}", CALLING, plain, certificate("0 plain", f={"bound": f}),
+                      wanted)
     for need, wanted in {0: "V9 1 0", 15: "V9 1 0", 16: "accepted", 17: "V9 1 0", WORD: "V9 1 0"}.items():
         linked = image(hand_made.calling_code(need), entries=entries)
         yield checked(f"a linked call, code and need {need}", CALLING, linked, certificate(f"0 linked {need}"), wanted)
         if need != 16:
-            yield checked(f"a linked call, code {need} and need 16", CALLING, linked, certificate("0 linked 16"), "V6 1 0")
+            yield checked(f"a linked call, code {need} and need 16", CALLING, linked, certificate("0 linked 16"),
+                          "V6 1 0")
 
 
 def table_cases():
@@ -97,7 +116,8 @@ def table_cases():
     certificate = Certificate((Function(places=(0, 4)), Function(entry)))
 
     def pair(name, wanted, globals=(5,), tables=(ENTRY, ENTRY), entries=(ENTRY, entry), certificate=certificate):
-        return checked(f"tables: {name}", TABLES, image(hand_made.table_code(), globals, tables, entries), certificate, wanted)
+        return checked(f"tables: {name}", TABLES, image(hand_made.table_code(), globals, tables, entries), certificate,
+                       wanted)
 
     yield pair("as declared", "accepted")
     for value in (0, 4, 6, WORD):
@@ -120,22 +140,33 @@ def table_cases():
 def image_cases():
     limits = {"code": 200_000, "globals": 65_536, "tables": 65_536, "entries": 4_096}
     for name, data, wanted in (
-        ("no byte", b"", "Short at 0"), ("three bytes", b"CAP", "Short at 3"), ("three other bytes", b"CAQ", "Magic"), ("small letters", b"cap1" + LEAST_IMAGE[4:], "Magic"),
-        ("another digit", b"CAP2" + LEAST_IMAGE[4:], "Magic"), ("four bytes", b"CAP1", "Short at 4"), ("19 bytes", LEAST_IMAGE[:19], "Short at 19"), ("20 bytes", LEAST_IMAGE[:20], "Short at 20"),
-        ("20 zeros behind CAP1", b"CAP1" + bytes(20), "Long at 20"), ("no word", b"CAP1" + bytes(16), "V1 0 2"), ("a byte too few", LEAST_IMAGE[:-1], "Short at 95"), ("a word too few", LEAST_IMAGE[:-4], "Short at 92"),
-        ("a byte too many", LEAST_IMAGE + b"\0", "Long at 96"), ("a megabyte too many", LEAST_IMAGE + bytes(1_000_000), "Long at 96"), ("all of the greatest size", b"CAP1" + b"\xff" * 2_097_148, "Limit code"),
+        ("no byte", b"", "Short at 0"), ("three bytes", b"CAP", "Short at 3"), ("three other bytes", b"CAQ", "Magic"),
+        ("small letters", b"cap1" + LEAST_IMAGE[4:], "Magic"),
+        ("another digit", b"CAP2" + LEAST_IMAGE[4:], "Magic"), ("four bytes", b"CAP1", "Short at 4"),
+        ("19 bytes", LEAST_IMAGE[:19], "Short at 19"), ("20 bytes", LEAST_IMAGE[:20], "Short at 20"),
+        ("20 zeros behind CAP1", b"CAP1" + bytes(20), "Long at 20"), ("no word", b"CAP1" + bytes(16), "V1 0 2"),
+        ("a byte too few", LEAST_IMAGE[:-1], "Short at 95"), ("a word too few", LEAST_IMAGE[:-4], "Short at 92"),
+        ("a byte too many", LEAST_IMAGE + b"\0", "Long at 96"),
+        ("a megabyte too many", LEAST_IMAGE + bytes(1_000_000), "Long at 96"),
+        ("all of the greatest size", b"CAP1" + b"\xff" * 2_097_148, "Limit code"),
     ):
         yield checked(f"image: {name}", LEAST, data, Certificate(), wanted)
     for at, (field, most) in enumerate(limits.items()):
         counts = lambda value: [value if it == at else 0 for it in range(4)]
         for value in (most + 1, 2**16 * 2**14, 2**31, WORD):
-            yield checked(f"image: {field} {value}", LEAST, b"CAP1" + words_of(counts(value)), Certificate(), f"Limit {field}")
-        yield checked(f"image: {field} {most} without words", LEAST, b"CAP1" + words_of(counts(most)), Certificate(), "Short at 20")
+            yield checked(f"image: {field} {value}", LEAST, b"CAP1" + words_of(counts(value)), Certificate(),
+                          f"Limit {field}")
+        yield checked(f"image: {field} {most} without words", LEAST, b"CAP1" + words_of(counts(most)), Certificate(),
+                      "Short at 20")
     least = least_code()
     for name, data, wanted in (
-        ("code 200000", image(least + [0] * (200_000 - 18)), "accepted"), ("code 0", image([]), "V1 0 2"), ("code 1", image(least[:1]), "V1 0 2"), ("code 2", image(least[:2]), "V2 0 1"),
-        ("code 17", image(least[:17]), "V2 0 1"), ("globals 1", image(least, [0]), "V12 0 0"), ("globals 65536", image(least, [0] * 65_536), "V12 0 0"), ("tables 1", image(least, (), [ENTRY]), "V8 0 0"),
-        ("tables 65536", image(least, (), [ENTRY] * 65_536), "V8 0 0"), ("entries 0", image(least, entries=()), "V1 0 3"), ("entries 4096", image(least, entries=[ENTRY] * 4_096), "V1 0 3"),
+        ("code 200000", image(least + [0] * (200_000 - 18)), "accepted"), ("code 0", image([]), "V1 0 2"),
+        ("code 1", image(least[:1]), "V1 0 2"), ("code 2", image(least[:2]), "V2 0 1"),
+        ("code 17", image(least[:17]), "V2 0 1"), ("globals 1", image(least, [0]), "V12 0 0"),
+        ("globals 65536", image(least, [0] * 65_536), "V12 0 0"), ("tables 1", image(least, (), [ENTRY]), "V8 0 0"),
+        ("tables 65536", image(least, (), [ENTRY] * 65_536), "V8 0 0"),
+        ("entries 0", image(least, entries=()), "V1 0 3"),
+        ("entries 4096", image(least, entries=[ENTRY] * 4_096), "V1 0 3"),
     ):
         yield checked(f"image: {name}", LEAST, data, Certificate(), wanted)
 
@@ -157,16 +188,28 @@ def line_cases():
     for at, line in enumerate(lines):
         number = at + 1
         # The last line's place is empty where it is missing, and elsewhere the next one stands in it.
-        yield checked(f"certificate: without line {number}", LEAST, LEAST_IMAGE, hand_made.text_of(lines[:at] + lines[number:]), f"Line {number}")
-        yield checked(f"certificate: line {number} twice", LEAST, LEAST_IMAGE, hand_made.text_of(lines[:number] + lines[at:]), f"Line {number + 1}")
-        yield checked(f"certificate: CR behind line {number}", LEAST, LEAST_IMAGE, hand_made.text_of([*lines[:at], line + "\r", *lines[number:]]), f"Line {number}")
-        yield checked(f"certificate: a space behind line {number}", LEAST, LEAST_IMAGE, hand_made.text_of([*lines[:at], line + " ", *lines[number:]]), f"Line {number}")
+        yield checked(f"certificate: without line {number}", LEAST, LEAST_IMAGE,
+                      hand_made.text_of(lines[:at] + lines[number:]), f"Line {number}")
+        yield checked(f"certificate: line {number} twice", LEAST, LEAST_IMAGE,
+                      hand_made.text_of(lines[:number] + lines[at:]), f"Line {number + 1}")
+        yield checked(f"certificate: CR behind line {number}", LEAST, LEAST_IMAGE,
+                      hand_made.text_of([*lines[:at], line + "\r", *lines[number:]]), f"Line {number}")
+        yield checked(f"certificate: a space behind line {number}", LEAST, LEAST_IMAGE,
+                      hand_made.text_of([*lines[:at], line + " ", *lines[number:]]), f"Line {number}")
     for name, data, wanted in (
-        ("no byte", b"", "Line 1"), ("an empty line", b"\n", "Line 1"), ("no LF at the end", text[:-1], "Line 6"), ("an empty line behind", text + b"\n", "Line 7"), ("a byte behind", text + b"x", "Line 7"),
-        ("a leading zero", text.replace(b"chunk 4096", b"chunk 04096"), "Line 2"), ("a sign", text.replace(b"chunk 4096", b"chunk +4096"), "Line 2"), ("minus zero", text.replace(b"sites 0", b"sites -0"), "Line 6"),
-        ("two spaces", text.replace(b"chunk ", b"chunk  "), "Line 2"), ("a tab", text.replace(b"chunk ", b"chunk\t"), "Line 2"), ("another title", text.replace(b"certificate 1", b"certificate 2"), "Line 1"),
-        ("no number", text.replace(b"max-path 2032", b"max-path "), "Line 3"), ("a number of a megabyte", text.replace(b"2032", b"9" * 1_000_000), "Line 3"), ("8 MB of LF", b"\n" * 8_388_608, "Line 1"),
-        ("8 MB without LF", b"capriccio certificate 1" + b" " * 8_388_585, "Line 1"), ("NUL behind a line", text.replace(b"4096\n", b"4096\0\n"), "Line 2"),
+        ("no byte", b"", "Line 1"), ("an empty line", b"\n", "Line 1"), ("no LF at the end", text[:-1], "Line 6"),
+        ("an empty line behind", text + b"\n", "Line 7"), ("a byte behind", text + b"x", "Line 7"),
+        ("a leading zero", text.replace(b"chunk 4096", b"chunk 04096"), "Line 2"),
+        ("a sign", text.replace(b"chunk 4096", b"chunk +4096"), "Line 2"),
+        ("minus zero", text.replace(b"sites 0", b"sites -0"), "Line 6"),
+        ("two spaces", text.replace(b"chunk ", b"chunk  "), "Line 2"),
+        ("a tab", text.replace(b"chunk ", b"chunk\t"), "Line 2"),
+        ("another title", text.replace(b"certificate 1", b"certificate 2"), "Line 1"),
+        ("no number", text.replace(b"max-path 2032", b"max-path "), "Line 3"),
+        ("a number of a megabyte", text.replace(b"2032", b"9" * 1_000_000), "Line 3"),
+        ("8 MB of LF", b"\n" * 8_388_608, "Line 1"),
+        ("8 MB without LF", b"capriccio certificate 1" + b" " * 8_388_585, "Line 1"),
+        ("NUL behind a line", text.replace(b"4096\n", b"4096\0\n"), "Line 2"),
     ):
         yield checked(f"certificate: {name}", LEAST, LEAST_IMAGE, data, wanted)
 

@@ -9,7 +9,8 @@ KEYWORDS = (
 MARKS = "[ ] ( ) { } ++ -- & * + - -> ~ ! / % << >> < > <= >= == != ^ | && || ? : ; = *= /= %= += -= <<= >>= &= ^= |= ,".split()
 BODY = b"int main() {"
 # What may come first in a block, and how many of them may come in a row: None for any number.
-IN_BLOCK = {"break": 1, "continue": 1, "return": 1, "for": 1, "if": 1, "while": 1, "int": 1, "name": 1, ";": None, "}": 1}
+IN_BLOCK = {"break": 1, "continue": 1, "return": 1, "for": 1, "if": 1, "while": 1, "int": 1, "name": 1, ";": None,
+            "}": 1}
 
 
 def megabyte_of(token, before=b""):
@@ -19,15 +20,20 @@ def megabyte_of(token, before=b""):
 
 def comment_cases():
     for name, text in {
-        "one comment": b"/*" + b"x" * (SOURCE - 4) + b"*/", "one comment of stars": b"/*" + b"*" * (SOURCE - 4) + b"*/", "262,144 comments": b"/**/" * (SOURCE // 4),
-        "one comment to the end of the line": b"//" + b"/" * (SOURCE - 2), "349,525 empty lines of comment": b"//\n" * (SOURCE // 3), "comments that hold a program": (b"/*" + LEAST + b"*/") * 37_000,
-        "NUL bytes in a comment": b"/*" + bytes(SOURCE - 4) + b"*/", "tabs": b"\t" * SOURCE, "vertical tabs": b"\v" * SOURCE, "form feeds": b"\f" * SOURCE, "CRs": b"\r" * SOURCE, "LFs": b"\n" * SOURCE,
+        "one comment": b"/*" + b"x" * (SOURCE - 4) + b"*/", "one comment of stars": b"/*" + b"*" * (SOURCE - 4) + b"*/",
+        "262,144 comments": b"/**/" * (SOURCE // 4),
+        "one comment to the end of the line": b"//" + b"/" * (SOURCE - 2),
+        "349,525 empty lines of comment": b"//\n" * (SOURCE // 3),
+        "comments that hold a program": (b"/*" + LEAST + b"*/") * 37_000,
+        "NUL bytes in a comment": b"/*" + bytes(SOURCE - 4) + b"*/", "tabs": b"\t" * SOURCE,
+        "vertical tabs": b"\v" * SOURCE, "form feeds": b"\f" * SOURCE, "CRs": b"\r" * SOURCE, "LFs": b"\n" * SOURCE,
         "no byte": b"",
     }.items():
         yield refused(f"all comment or blank: {name}", text, "source: NoMain")
     # Two of them are one comment: the slash behind the second star closes it.
     yield refused("/*/ an odd number of times", b"/*/" * 349_525, f"source: OpenComment at {3 * 349_524}")
-    yield puts("a megabyte of comment inside a number's statement", b"int main() { put(" + b"/**/" * 262_000 + b"5); return 0; }", [5])
+    yield puts("a megabyte of comment inside a number's statement",
+               b"int main() { put(" + b"/**/" * 262_000 + b"5); return 0; }", [5])
     yield puts("a comment without LF at the end", LEAST + b"//", [])
 
 
@@ -54,8 +60,10 @@ def number_cases():
     yield puts("the greatest number, hexadecimal", value(b"0XfFfFfFfF"), [-1])
     yield puts("the least number", value(b"- 2147483648"), [-2147483648])
     for name, text in {
-        "the greatest number and one": b"4294967296", "the same, hexadecimal": b"0x100000000", "a million hexadecimal digits": b"0x" + b"f" * 1_000_000, "a million zeros": b"0" * 1_000_000,
-        "2^64": b"18446744073709551616", "2^64 and 1, hexadecimal": b"0x10000000000000001", "an octal number": b"08", "a suffix": b"12u", "0x alone": b"0x",
+        "the greatest number and one": b"4294967296", "the same, hexadecimal": b"0x100000000",
+        "a million hexadecimal digits": b"0x" + b"f" * 1_000_000, "a million zeros": b"0" * 1_000_000,
+        "2^64": b"18446744073709551616", "2^64 and 1, hexadecimal": b"0x10000000000000001", "an octal number": b"08",
+        "a suffix": b"12u", "0x alone": b"0x",
     }.items():
         yield refused(f"no number: {name}", value(text), "source: BadNumber at 8")
 

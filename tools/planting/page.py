@@ -18,13 +18,17 @@ def table():
         proof = [it for it in tried if came[it.name].came in REFUSED]
         past = [it for it in tried if it not in proof]
         by_test = [it for it in past if it.test]
-        rows.append(pages.row(f"`{crate}`", *map(str, (len(own), len(tried), len(proof), len(by_test), len(past) - len(by_test)))))
+        rows.append(pages.row(f"`{crate}`",
+                              *map(str, (len(own), len(tried), len(proof), len(by_test), len(past) - len(by_test)))))
         left += [pages.row(f"`{crate}`", it.name, it.what, it.free or (f"`{it.test}` refuses it" if it.test else "open")) for it in past]
     total = [sum(int(row.split(" | ")[at].rstrip(" |")) for row in rows) for at in range(1, 6)]
     planted = [it for it in known.values() if it.came == "planted"]
-    lines = [*totals(total, planted), "## Bugs written by hand", "", *pages.table("Crate", "bugs", "tried", "refused by proof", "by a test", "survived"), *rows, pages.row("all", *map(str, total)), ""]
+    lines = [*totals(total, planted), "## Bugs written by hand", "",
+             *pages.table("Crate", "bugs", "tried", "refused by proof", "by a test", "survived"), *rows,
+             pages.row("all", *map(str, total)), ""]
     if left:
-        lines += ["## What no proof refuses", "", *pages.table("Crate", "Bug", "What it changes", "Why it is free, or what refuses it"), *left, ""]
+        lines += ["## What no proof refuses", "",
+                  *pages.table("Crate", "Bug", "What it changes", "Why it is free, or what refuses it"), *left, ""]
     if planted:
         lines += [
             "## Wrong bodies by `rt plant`",
@@ -56,7 +60,8 @@ def totals(by_hand, planted):
         "",
         *pages.table("Bugs", "Number", "Refused by proof", "Refused by a test", "Not refused", "Not judged"),
         pages.row("by hand", f"{bugs_by_hand:,}", share, f"{by_test:,}", f"{survived:,}", f"{bugs_by_hand - tried:,}"),
-        pages.row("by `rt plant`", f"{bodies:,}", f"{refused:,}, {refused / (refused + met):.1%} of those judged" if refused else "none", "not tried", f"{met:,}", f"{others:,}"),
+        pages.row("by `rt plant`", f"{bodies:,}", f"{refused:,}, {refused / (refused + met):.1%} of those judged"
+                  if refused else "none", "not tried", f"{met:,}", f"{others:,}"),
         "",
     ]
 

@@ -60,7 +60,8 @@ class Body:
         if source:
             return source[1] == self.file and self.top <= int(source[2]) <= self.last
         if self.cycle:
-            return bool(re.match(rf"(?:\./)?proofs/(?:[^/]+/)*\+{self.cycle}/[^/]+\.antt:\d+:\d+: error: `{self.name}-", line))
+            return bool(re.match(rf"(?:\./)?proofs/(?:[^/]+/)*\+{self.cycle}/[^/]+\.antt:\d+:\d+: error: `{self.name}-",
+                                 line))
         folder = "/".join(("proofs", *self.module))
         return bool(re.match(rf"(?:\./)?{folder}/(?:[^/]+/)?{self.name}/[^/]+\.antt:\d+:\d+: ", line))
 
@@ -77,7 +78,8 @@ def bodies(crate):
                 last = next((it for it in range(first, len(lines) + 1) if lines[it - 1] == head[1] + "}"), first)
                 above = attributes(lines, first)
                 cycle = re.search(r"#\[cycle\((\w+)\)", "".join(above))
-                body = Body(crate, str(file.relative_to(TOP / "crates" / crate)), head[2], first - len(above), first, last, bool(head[1]), cycle[1] if cycle else "")
+                body = Body(crate, str(file.relative_to(TOP / "crates" / crate)), head[2], first - len(above), first,
+                            last, bool(head[1]), cycle[1] if cycle else "")
                 found[body] = "\n".join(lines[first:last])
             elif line.startswith("impl"):
                 types |= set(re.findall(r"\b[A-Z]\w*", line))

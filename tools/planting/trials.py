@@ -55,7 +55,8 @@ def try_group(group, edits):
 
 def check_cut(*words):
     """The status of tools/check_cut, and what it said."""
-    run = subprocess.run([TOP / "tools/check_cut", *words], cwd=TOP, stdout=subprocess.PIPE, stderr=subprocess.STDOUT, text=True)
+    run = subprocess.run([TOP / "tools/check_cut", *words], cwd=TOP, stdout=subprocess.PIPE, stderr=subprocess.STDOUT,
+                         text=True)
     return run.returncode, run.stdout
 
 
@@ -75,7 +76,8 @@ def read(said):
 
 def plant(crate):
     """Has `rt plant` try its wrong bodies, and keeps its last line and those that met the contract."""
-    run = subprocess.run(["rt", "plant", "--jobs", os.environ.get("JOBS", "1"), "--minutes", "30"], cwd=TOP / "crates" / crate, stdout=subprocess.PIPE, stderr=subprocess.STDOUT, text=True)
+    run = subprocess.run(["rt", "plant", "--jobs", os.environ.get("JOBS", "1"), "--minutes", "30"],
+                         cwd=TOP / "crates" / crate, stdout=subprocess.PIPE, stderr=subprocess.STDOUT, text=True)
     lines = run.stdout.splitlines()
     if run.returncode:
         sys.exit(f"{run.stdout[-2000:]}\nmutants: rt plant {crate} ended with {run.returncode}")

@@ -25,7 +25,8 @@ def served_lines(folder, text):
     """The outputs and the stop of the run under Capriccio, without its cost and chunks."""
     source = folder / "server.c"
     source.write_text(text)
-    run = subprocess.run([program.capriccio(), "serve", "--fuel", "100000000", source], stdin=subprocess.DEVNULL, capture_output=True, text=True)
+    run = subprocess.run([program.capriccio(), "serve", "--fuel", "100000000", source], stdin=subprocess.DEVNULL,
+                         capture_output=True, text=True)
     if not run.stdout:
         raise Differs(f"serve gives status {run.returncode}: {run.stderr.strip()}")
     lines = [it for it in run.stdout.splitlines() if it.startswith(("out ", "stop "))]

@@ -159,7 +159,8 @@ class Body:
         return ("put", self.expression(3))
 
     def make_if(self, depth):
-        return ("if", self.expression(3), self.block(depth - 1), self.block(depth - 1) if self.chance.random() < 0.5 else None)
+        return ("if", self.expression(3), self.block(depth - 1), self.block(depth - 1) if self.chance.random() < 0.5
+                else None)
 
     def make_block(self, depth):
         return ("block", self.block(depth - 1))

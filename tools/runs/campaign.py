@@ -71,7 +71,8 @@ class Campaign:
 
     def summary(self):
         source = os.fspath(self.exploration.server.source)
-        return {"source": source, "traces": self.asked.traces, "seed": self.asked.seed, "runs": self.groups.runs, "seconds": round(self.taken, 2)}
+        return {"source": source, "traces": self.asked.traces, "seed": self.asked.seed, "runs": self.groups.runs,
+                "seconds": round(self.taken, 2)}
 
     def verdict(self, found):
         runs, seconds = self.groups.runs, max(self.taken, 0.001)

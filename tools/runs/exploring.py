@@ -14,7 +14,8 @@ from . import finds, many, story
 BAD_TRACE = 4  # the status for a trace that is none
 CHOICES = ("rule", "tickets", "gate", "pool", "backlog")  # what is varied of the options
 USUAL = ("times", "order", "bursts", "late", "rule", "tickets", "gate")
-OPTIONS_OF = {"rule": ["rule"], "tickets": ["tickets"], "gate": ["high", "low", "knee"], "pool": ["chunks"], "backlog": ["backlog"]}
+OPTIONS_OF = {"rule": ["rule"], "tickets": ["tickets"], "gate": ["high", "low", "knee"], "pool": ["chunks"],
+              "backlog": ["backlog"]}
 DEFAULTS = {name[2:]: it.default for name, it in OPTIONS.items()}
 MOST_TICKETS, MOST_NAMED = 1024, 64  # of one thread; threads that --tickets may name
 
@@ -94,7 +95,8 @@ class Exploration:
             refused = None
         except story.Unfit as why:
             seen, refused = [], run.said.strip() or str(why)
-        return Result(number, len(found), seen, ran - began, time.perf_counter() - ran, self.looker.lost > lost, refused)
+        return Result(number, len(found), seen, ran - began, time.perf_counter() - ran, self.looker.lost > lost,
+                      refused)
 
     def first_of(self, given, found):
         """The trace that was given with the lines alone that a variant has."""

@@ -92,7 +92,8 @@ class Looker:
             longest = following.longest_ready(self.text, told, caps).values()
             it = max(longest, key=lambda it: it.until - it.since)
             if it.until - it.since >= self.patience:
-                yield Find("starved", self.place(told, it.node), f"thread {it.thread} was ready from {it.since} to {it.until}")
+                yield Find("starved", self.place(told, it.node),
+                           f"thread {it.thread} was ready from {it.since} to {it.until}")
 
     def drop(self, told):
         if told.dropped:
@@ -117,7 +118,8 @@ class Looker:
             request, thread = missing[0]
             where = self.place(told, told.waiting[thread][0]) if thread in told.waiting else ""
             count = f"{len(missing)} of {len(told.takers)} requests" if len(missing) > 1 else "1 request"
-            yield Find("unanswered", where, f"{count}, the first taken by thread {told.takers[request]} at {told.taken_at[request]}")
+            yield Find("unanswered", where,
+                       f"{count}, the first taken by thread {told.takers[request]} at {told.taken_at[request]}")
 
     def is_over(self, told, request):
         """Whether no more outputs can be expected for a request."""
@@ -135,7 +137,8 @@ class Looker:
         for request, outputs in enumerate(told.by_request(self.answers)):
             wanted = self.wanted(told, request, first)
             if wanted and outputs and wanted != outputs:
-                yield Find("outputs", "", f"request {request + 1} has {shown(outputs)}, and in the first run {shown(wanted)}")
+                yield Find("outputs", "",
+                           f"request {request + 1} has {shown(outputs)}, and in the first run {shown(wanted)}")
                 return
 
     def learn(self, log):

@@ -47,7 +47,8 @@ def happenings(log):
         elif word == "block" or word == "end":
             is_end = word == "end"
             cost = int(fields[1] if is_end else fields[3])
-            yield Segment(thread, start, cost, node, END if is_end else int(fields[1]), None, outputs, None, None, False)
+            yield Segment(thread, start, cost, node, END if is_end else int(fields[1]), None, outputs, None, None,
+                          False)
         elif word == "event":
             channel = int(fields[2]) if fields[1] == "data" else None
             yield Item(None, int(fields[0]), channel, int(fields[-1]), False, None)

@@ -71,11 +71,13 @@ class Groups:
         words = many.words_of(options)
         put(f"{stem}.options", " ".join(words) + "\n" if words else "")
         value = {"kind": group.kind, "where": group.where, "detail": group.detail, "runs": group.count, "run": number}
-        value |= {"given_trace": self.trace_names[number % len(self.trace_names)], "trace": f"{stem}.trace", "lines": lines, "options": words}
+        value |= {"given_trace": self.trace_names[number % len(self.trace_names)], "trace": f"{stem}.trace",
+                  "lines": lines, "options": words}
         needs_first = group.kind == "outputs" or group.kind == "unanswered" and not group.where
         if needs_first:
             put(f"{stem}.first", events.text_of(self.exploration.first_of(given, found)))
-        return value | {"repeat": repeated(self.exploration, words, stem), "shrink": self.shrunk(group, words, stem, needs_first)}
+        return value | {"repeat": repeated(self.exploration, words, stem),
+                        "shrink": self.shrunk(group, words, stem, needs_first)}
 
     def shrunk(self, group, words, stem, needs_first):
         """The line that makes the trace of a group smaller."""

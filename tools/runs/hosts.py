@@ -43,7 +43,8 @@ def write(name, work, value, source, traces):
 
 def commands(name, count, together):
     """The commands for the runs from 0 to below `count`, so many `together`. The file has the same path on each machine."""
-    return [f"python3 {shlex.quote(name)} {start} {min(start + together, count)}" for start in range(0, count, together)]
+    return [f"python3 {shlex.quote(name)} {start} {min(start + together, count)}"
+            for start in range(0, count, together)]
 
 
 def has_others(logins):
@@ -68,7 +69,8 @@ class Hosts:
         words = ["parallel", "--will-cite", "--line-buffer", "--sshloginfile", self.logins]
         if has_others(self.logins):
             words += ["--basefile", self.name, "--cleanup"]
-        self.process = subprocess.Popen(words, cwd=self.folder.name, stdin=subprocess.PIPE, stdout=subprocess.PIPE, text=True)
+        self.process = subprocess.Popen(words, cwd=self.folder.name, stdin=subprocess.PIPE, stdout=subprocess.PIPE,
+                                        text=True)
         with self.process.stdin as lines:
             lines.write("\n".join(commands(self.name, count, together)) + "\n")
         for line in self.process.stdout:

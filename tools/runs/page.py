@@ -20,7 +20,8 @@ class Page:
     def __init__(self, file, story, title, source, chunks):
         self.file, self.title, self.chunks, self.source = file, title, chunks, source
         self.keys, self.names = story.keys, Names(story.places, story.keys)
-        self.segments = {name: [] for name in ("thread", "start", "cost", "end")}  # `end` is the node at which it ended, -1 if it was cut
+        self.segments = {name: [] for name in ("thread", "start", "cost",
+                                               "end")}  # `end` is the node at which it ended, -1 if it was cut
         self.requests, self.drops, self.log, self.threads = [], [], [], {}
         self.lines = self.clock = 0
         self.stop, self.report, self.graph = "the log has no last line", "", ""
@@ -59,14 +60,16 @@ class Page:
     def data(self):
         nodes = {"0": "start", "1": "end"} | {node: self.names.node(node) for node in self.keys}
         return {
-            "clock": self.clock, "nodes": nodes, "threads": self.threads, "segments": self.segments, "drops": self.drops, "log": "\n".join(self.log),
+            "clock": self.clock, "nodes": nodes, "threads": self.threads, "segments": self.segments,
+            "drops": self.drops, "log": "\n".join(self.log),
             "requests": [list(it) for it in self.requests], "leftOut": max(self.lines - MOST_LINES, 0),
         }
 
     def finish(self):
         picture = base64.b64encode(self.graph.encode()).decode()
         image = f'<img alt="The blocking graph: a box for each node, an arrow for each edge" src="data:image/svg+xml;base64,{picture}">'
-        texts = {"TITLE": self.title, "STOP": self.stop, "REPORT": self.report, "SOURCE": self.source.decode(errors="replace")}
+        texts = {"TITLE": self.title, "STOP": self.stop, "REPORT": self.report,
+                 "SOURCE": self.source.decode(errors="replace")}
         parts = {name: escape.text(it) for name, it in texts.items()} | {
             "GRAPH": image if picture else "<p>The report stored no graph.</p>",
             "DATA": escape.script(self.data()),

@@ -22,4 +22,5 @@ def explored(value, folder, source, traces):
 
 def swept(value, folder, source, traces):
     """A row: the number of its trace, and its options."""
-    return lambda number: sweeping.one_run(source, traces[value["rows"][number][0]], value["answers"], value["rows"][number][1])
+    return lambda number: sweeping.one_run(source, traces[value["rows"][number][0]], value["answers"],
+                                           value["rows"][number][1])

@@ -40,7 +40,8 @@ class Places:
         its declarations and as the function of a `spawn` alone."""
         before = lambda index, steps: self.tokens[index - steps].text if index >= steps else ""
         named = [index for index, token in enumerate(self.tokens) if token.text == function]
-        return all(before(index, 1) in ("int", "void") or before(index, 1) == "(" and before(index, 2) == "spawn" for index in named)
+        return all(before(index, 1) in ("int", "void") or before(index, 1) == "(" and before(index, 2) == "spawn"
+                   for index in named)
 
     def callee(self, key):
         """The name of the call at which a thread with this key is blocked."""

@@ -25,4 +25,5 @@ def report():
 def make_ready(source, options=()):
     """Builds the program if need be, and has it read the source: gives its status, and leaves what
     it refuses on standard error."""
-    return subprocess.run([capriccio(), "graph", source, *options], stdin=subprocess.DEVNULL, stdout=subprocess.DEVNULL).returncode
+    return subprocess.run([capriccio(), "graph", source,
+                           *options], stdin=subprocess.DEVNULL, stdout=subprocess.DEVNULL).returncode

@@ -14,7 +14,8 @@ PAIRINGS = {
     "answers: the N-th output is that to the N-th request": "first",
     "answers: an output is that to the first request of its value that has none": "value",
 }
-CUT = {"trap": ("trap", "cost", "free"), "nochunk": ("cost", "free"), "fuel": ("cost", "free"), "threads": ("cost", "free")}
+CUT = {"trap": ("trap", "cost", "free"), "nochunk": ("cost", "free"), "fuel": ("cost", "free"),
+       "threads": ("cost", "free")}
 
 
 def form(text, **parts):
@@ -49,12 +50,15 @@ def place_of(text):
 
 
 REQUESTS = form("requests: {came} came, {dropped} dropped, {taken} taken, {answered} answered")
-LATENCY = form("latency to the {which} answer: {spread} (arrived {arrived}, thread {thread})", which="first|last", spread=".*")
-OUTPUTS = form("outputs by threads that served no request: {count}{threads}[, the others by {more} more thread[s]]", threads=r"(?:, \d+ by thread \d+)*")
+LATENCY = form("latency to the {which} answer: {spread} (arrived {arrived}, thread {thread})", which="first|last",
+               spread=".*")
+OUTPUTS = form("outputs by threads that served no request: {count}{threads}[, the others by {more} more thread[s]]",
+               threads=r"(?:, \d+ by thread \d+)*")
 BY_THREAD = re.compile(r"(-?\d+) by thread (\d+)")
 REQUEST = form(
     "request {number}{slowest}: {rest}",
-    slowest="(?:, the slowest)?", rest=r"no accept took it|\d+ requests? came in all|arrived \d+, taken by thread \d+, and its parts until when",
+    slowest="(?:, the slowest)?",
+    rest=r"no accept took it|\d+ requests? came in all|arrived \d+, taken by thread \d+, and its parts until when",
 )
 SHORTER = form("  {count} shorter part[s]: {ticks}")
 PART = form("  {what}: {ticks}, {until}", what=".*")
@@ -62,22 +66,26 @@ WINDOW = form("window: the requests that arrived from {from} {until}, and the wa
 OTHERS = re.compile(r"until thread (\d+) answers")
 PLACES = "waits by place: count, total, median, 99th, greatest"
 QUEUE = "queue, from arrival to accept"
-WAIT = form("  {what}: {spread} ([request {request}, ]thread {thread}, until {until})", what=".*", spread=r"\d+(?:, \d+){4}")
+WAIT = form("  {what}: {spread} ([request {request}, ]thread {thread}, until {until})", what=".*",
+            spread=r"\d+(?:, \d+){4}")
 CHUNKS = form("chunks: at most {most_held} of {of} held between segments")
 CHOICES = form("choices: {count}[, by score {by_score}, by the gate {by_gate}, by turn {by_turn}]")
 GATE = form("gate: closed {times} time[s], for {ticks} tick[s] in all[, held a request back at {held_back} choice[s]]{end}", end="(?:, closed at the end)?")
 NEVER_RAN = form("left: {count} thread[s] that never ran")
 MORE_LEFT = form("left: {count} more thread[s]")
 LEFT = form(
-    "left: thread {thread}{how}[, went past {passed} at {passed_at}]", how=r", whose segment was cut| waits at .* since \d+(?:: \w+\([-0-9, ]*\))?", passed=".*"
+    "left: thread {thread}{how}[, went past {passed} at {passed_at}]",
+    how=r", whose segment was cut| waits at .* since \d+(?:: \w+\([-0-9, ]*\))?", passed=".*"
 )
 BLOCKED = form(" waits at {place} since {since}[: {values}]", place=".*", values=r"\w+\([-0-9, ]*\)")
 RESOURCE = form(
-    "resource {resource}: {used} of {cap} in use{holders}[, the others by {more} more thread[s]]", holders=r"(?:: -?\d+ by thread \d+(?:, -?\d+ by thread \d+)*)?"
+    "resource {resource}: {used} of {cap} in use{holders}[, the others by {more} more thread[s]]",
+    holders=r"(?:: -?\d+ by thread \d+(?:, -?\d+ by thread \d+)*)?"
 )
 STOPPED = form(
     "stopped: thread {thread}{where}[: {why}][, at {places}][: {values}]",
-    where=r"(?: in (?:\w+|function \d+)| behind its last return)?", why=".*?", places=r".+?:\d+:\d+ .+?|site \d+", values=r"\w+\([-0-9, ]*\)",
+    where=r"(?: in (?:\w+|function \d+)| behind its last return)?", why=".*?", places=r".+?:\d+:\d+ .+?|site \d+",
+    values=r"\w+\([-0-9, ]*\)",
 )
 INDEX = re.compile(r"index (-?\d+) of (\d+) (words|members)")
 MORE_PLACES = re.compile(r"(?P<places>.*?)(?: or at (?P<more>\d+) more places?)?")
@@ -90,14 +98,19 @@ class Report:
 
     def __init__(self):
         self.value = {
-            "log_fits": True, "circles": [], "answers": "own", "requests": None, "latency": {"first": None, "last": None}, "other_outputs": None, "window": None, "request": None,
-            "waits": [], "chunks": None, "choices": None, "gate": None, "left": [], "more_left": 0, "never_ran": 0, "resources": [], "stopped": None, "stop": None,
+            "log_fits": True, "circles": [], "answers": "own", "requests": None,
+            "latency": {"first": None, "last": None}, "other_outputs": None, "window": None, "request": None,
+            "waits": [], "chunks": None, "choices": None, "gate": None, "left": [], "more_left": 0, "never_ran": 0,
+            "resources": [], "stopped": None, "stop": None,
             "other": [],
         }
         self.lines = [
-            (REQUESTS, self.requests), (WINDOW, self.window), (LATENCY, self.latency), (OUTPUTS, self.outputs), (REQUEST, self.request), (CHUNKS, self.numbers("chunks")),
-            (CHOICES, self.numbers("choices")), (GATE, self.gate), (NEVER_RAN, self.count("never_ran")), (MORE_LEFT, self.count("more_left")), (LEFT, self.left),
-            (RESOURCE, self.resource), (STOPPED, self.stopped), (re.compile("circle: (.*)"), self.circle), (re.compile("stop (.*)"), self.stop),
+            (REQUESTS, self.requests), (WINDOW, self.window), (LATENCY, self.latency), (OUTPUTS, self.outputs),
+            (REQUEST, self.request), (CHUNKS, self.numbers("chunks")),
+            (CHOICES, self.numbers("choices")), (GATE, self.gate), (NEVER_RAN, self.count("never_ran")),
+            (MORE_LEFT, self.count("more_left")), (LEFT, self.left),
+            (RESOURCE, self.resource), (STOPPED, self.stopped), (re.compile("circle: (.*)"), self.circle),
+            (re.compile("stop (.*)"), self.stop),
         ]
         self.below = []  # the forms of the lines that may follow the last head, two blanks in
 
@@ -133,8 +146,10 @@ class Report:
         self.value["latency"][found["which"]] = numbers_of(SPREAD, re.sub(r"90th|99th", "", found["spread"])) | more
 
     def outputs(self, found):
-        threads = [{"thread": int(thread), "outputs": int(puts)} for puts, thread in BY_THREAD.findall(found["threads"])]
-        self.value["other_outputs"] = {"count": int(found["count"]), "threads": threads, "more_threads": int(found["more"] or 0)}
+        threads = [{"thread": int(thread), "outputs": int(puts)}
+                   for puts, thread in BY_THREAD.findall(found["threads"])]
+        self.value["other_outputs"] = {"count": int(found["count"]), "threads": threads,
+                                       "more_threads": int(found["more"] or 0)}
 
     def request(self, found):
         self.value["request"] = {"number": int(found["number"]), "is_slowest": bool(found["slowest"])}
@@ -158,7 +173,8 @@ class Report:
 
     def wait(self, found):
         row = {"place": None if found["what"] == QUEUE else place_of(found["what"])} | numbers_of(WAITS, found["spread"])
-        self.value["waits"].append(row | {name: int(found[name]) for name in ("request", "thread", "until") if found[name]})
+        self.value["waits"].append(row | {name: int(found[name]) for name in ("request", "thread", "until")
+                                          if found[name]})
 
     def gate(self, found):
         numbers = {name: int(found[name]) for name in ("times", "ticks", "held_back") if found[name]}
@@ -173,7 +189,8 @@ class Report:
         self.value["left"].append(left)
 
     def resource(self, found):
-        holders = [{"thread": int(thread), "units": int(units)} for units, thread in BY_THREAD.findall(found["holders"])]
+        holders = [{"thread": int(thread), "units": int(units)}
+                   for units, thread in BY_THREAD.findall(found["holders"])]
         row = {name: int(found[name]) for name in ("resource", "used", "cap")}
         self.value["resources"].append(row | {"holders": holders, "more_holders": int(found["more"] or 0)})
 
@@ -182,13 +199,15 @@ class Report:
         self.value["circles"].append([{"thread": int(thread), "resource": int(resource)} for thread, resource in steps])
 
     def stopped(self, found):
-        stopped = {"thread": int(found["thread"]), "function": found["where"].removeprefix(" in ") if found["where"].startswith(" in ") else None}
+        stopped = {"thread": int(found["thread"]), "function": found["where"].removeprefix(" in ")
+                   if found["where"].startswith(" in ") else None}
         stopped |= {name: found[name] for name in ("why", "values") if found[name]}
         if index := INDEX.fullmatch(found["why"] or ""):
             stopped |= {"index": int(index[1]), "bound": int(index[2])}
         places = MORE_PLACES.fullmatch(found["places"] or "")
         stopped["places"] = [place_of(it) for it in places["places"].split(" or ") if it]
-        self.value["stopped"] = stopped | {"more_places": int(places["more"] or 0), "calls": [], "has_more_calls": False}
+        self.value["stopped"] = stopped | {"more_places": int(places["more"] or 0), "calls": [],
+                                           "has_more_calls": False}
         self.below = [(CALLED_AT, self.called_at), (re.compile(MORE_CALLS), self.more_calls)]
 
     def called_at(self, found):

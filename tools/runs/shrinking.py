@@ -104,7 +104,8 @@ class Shrinking:
         good = [it for it, is_good in zip(edits, self.tried([edited(self.case, it) for it in edits])) if is_good]
         if not good:
             return NOTHING
-        joined = Edit(frozenset().union(*[it.gone for it in good]), merged(it.gaps for it in good), merged(it.values for it in good))
+        joined = Edit(frozenset().union(*[it.gone for it in good]), merged(it.gaps for it in good),
+                      merged(it.values for it in good))
         is_good = len(good) == 1 or self.is_fair(joined) and self.tried([edited(self.case, joined)])[0]
         made = joined if is_good else good[0]
         self.case = edited(self.case, made)
@@ -165,7 +166,8 @@ class Shrinking:
         """Low numbers of channels, also where an arrival's value is one."""
         for channel in sorted({it.channel for it in self.case.events if it.channel is not None}):
             others = {it.channel for it in self.case.events}
-            self.simplest([with_channel(self.case, channel, it) for it in range(min(channel, CHANNELS)) if it not in others])
+            self.simplest([with_channel(self.case, channel, it) for it in range(min(channel, CHANNELS))
+                           if it not in others])
 
     def rounder_values(self):
         """Values with fewer digits behind which they have zeros, or of one digit."""
@@ -245,7 +247,8 @@ def with_values(case, values):
     """A case with other values at some places, and in the events that they stand for in the first run."""
     lines = {case.events[place].line: value for place, value in values.items()}
     found = [it._replace(value=values.get(place, it.value)) for place, it in enumerate(case.events)]
-    return case._replace(events=found, first=[it._replace(value=lines.get(place, it.value)) for place, it in enumerate(case.first)])
+    return case._replace(events=found,
+                         first=[it._replace(value=lines.get(place, it.value)) for place, it in enumerate(case.first)])
 
 
 def paired(found, first):

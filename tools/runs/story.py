@@ -52,7 +52,8 @@ class Story:
 
     def happenings(self, lines):
         """Each happening that the lines tell. `lines` are texts, with or without their ends."""
-        tellers = {"run": self.run, "out": self.out, "block": self.block, "end": self.end, "edge": self.edge, "stop": self.stop}
+        tellers = {"run": self.run, "out": self.out, "block": self.block, "end": self.end, "edge": self.edge,
+                   "stop": self.stop}
         tellers |= {"event": self.event, "drop": self.event}
         for number, line in enumerate(lines, 1):
             fields = line.split()
@@ -113,7 +114,8 @@ class Story:
             self.delivered += 1
             number = self.delivered
             self.waiting.append((number, int(said[1])))
-        yield Item(int(said[1]), self.clock, None if is_arrival else int(fields[3]), int(fields[-1]), is_dropped, number)
+        yield Item(int(said[1]), self.clock, None if is_arrival else int(fields[3]), int(fields[-1]), is_dropped,
+                   number)
 
     def edge(self, fields):
         start, end, count, cost, *changes = map(int, fields[1:])

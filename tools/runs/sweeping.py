@@ -11,7 +11,8 @@ def one_run(source, trace, answers, options):
     words = [it for name, value in options for it in (f"--{name}", value)]
     row = {"trace": os.path.basename(trace), **dict(options)}
     with open(source, "rb") as text, open(trace) as times, open(trace, "rb") as given:
-        served = subprocess.Popen([program.capriccio(), "serve", *words, source], stdin=given, stdout=subprocess.PIPE, stderr=subprocess.PIPE, text=True)
+        served = subprocess.Popen([program.capriccio(), "serve", *words, source], stdin=given, stdout=subprocess.PIPE,
+                                  stderr=subprocess.PIPE, text=True)
         try:
             happenings = story.Story(places.Places(text.read()), times).happenings(served.stdout)
             told = figures.Figures(happenings, figures.Pairing(answers) if answers else None)

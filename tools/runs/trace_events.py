@@ -34,7 +34,8 @@ class TraceEvents:
         file.write('{"displayTimeUnit":"ns","otherData":{"unit":"1 us is a tick of the run\'s clock"},"traceEvents":')
         self.name_process(SERVER, f"{title} (1 us is a tick)")
         self.name_process(OUTSIDE, "from outside")
-        self.tellers = {Segment: self.segment, Item: self.item, Request: self.request, Stop: self.stop, Edge: lambda it: None}
+        self.tellers = {Segment: self.segment, Item: self.item, Request: self.request, Stop: self.stop,
+                        Edge: lambda it: None}
         if not replay.is_lost:
             self.count("live threads", "threads", 0, replay.live)
 
@@ -102,7 +103,8 @@ class TraceEvents:
         self.count("live threads", "threads", end, self.replay.live)
         if self.called and self.called[0] == "take":
             _, resource, amount = self.called
-            self.count(f"resource {resource} in use", "units", start, self.counts.get(f"resource {resource} in use", 0) + amount)
+            self.count(f"resource {resource} in use", "units", start,
+                       self.counts.get(f"resource {resource} in use", 0) + amount)
         for resource, units in self.replay.uses.items():
             self.count(f"resource {resource} in use", "units", end, units)
 
@@ -140,7 +142,8 @@ class TraceEvents:
         if it.dropped:
             self.put("i", OUTSIDE, row, it.clock, f'"s":"p","name":"drop","cat":"drop","args":{{{told}}}')
         elif it.channel is None:
-            self.put("X", OUTSIDE, row, it.time, f'"dur":1,"name":"arrive","cat":"arrival","args":{{{told},"request":{it.request}}}')
+            self.put("X", OUTSIDE, row, it.time,
+                     f'"dur":1,"name":"arrive","cat":"arrival","args":{{{told},"request":{it.request}}}')
             self.put("s", OUTSIDE, row, it.time, f'"id":{it.request},"name":"request","cat":"request"')
         else:
             self.put("X", OUTSIDE, row, it.time, f'"dur":1,"name":"data","cat":"message","args":{{{told}}}')

@@ -8,7 +8,8 @@ call's result.
 from explained.tokens import MODELLED, tokens_of
 
 BLOCKING = ("accept", "wait", "waitfor", "sleep", "yield", "take")
-LEVELS = [("||",), ("&&",), ("|",), ("^",), ("&",), ("==", "!="), ("<", "<=", ">", ">="), ("<<", ">>"), ("+", "-"), ("*", "/", "%")]
+LEVELS = [("||",), ("&&",), ("|",), ("^",), ("&",), ("==", "!="), ("<", "<=", ">", ">="), ("<<", ">>"), ("+", "-"),
+          ("*", "/", "%")]
 WRAPPED = "(({}) + 2147483648 & 4294967295) - 2147483648"
 RUNTIME = '''
 class Trap(Exception):
@@ -146,7 +147,8 @@ class Translation:
 
     def statement(self):
         word = self.tokens[self.at]
-        does = {"{": self.block, "int": self.locals_, "if": self.if_, "while": self.while_, "for": self.for_, "return": self.return_}
+        does = {"{": self.block, "int": self.locals_, "if": self.if_, "while": self.while_, "for": self.for_,
+                "return": self.return_}
         does |= {"break": self.break_, "continue": self.continue_, ";": lambda: None}
         if word in does:
             does[word]()

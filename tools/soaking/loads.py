@@ -83,14 +83,22 @@ def loads(seed, scale, threads=MOST_THREADS):
     fuel, lines = FUEL // scale, TRACE_LINES // scale
     with_fuel = ("--fuel", str(fuel))
     one = (*with_fuel, "--chunk", "64", "--max-path", "48", "--chunks", "65536", "--caps", "1=3")
-    two = (*with_fuel, "--chunk", "64", "--max-path", "48", "--chunks", "32768", "--extra", "32768", "--extra-size", "80", "--caps", "1=3")
+    two = (*with_fuel, "--chunk", "64", "--max-path", "48", "--chunks", "32768", "--extra", "32768", "--extra-size",
+           "80", "--caps", "1=3")
     stride = ("--rule", "stride", "--tickets", "0=1024,7=64,1000=3")
     yield Load(f"{threads:,} threads, by the graph, one size", churn(seed, threads, 40), one, (), "stop fuel", 13)
     yield Load(f"{threads:,} threads, by the graph, two sizes", churn(seed + 1, threads, 40), two, (), "stop fuel", 13)
     # A choice by strides asks each thread that waits, so there are fewer choices, with more work between them.
-    yield Load(f"{threads:,} threads, by strides, one size", churn(seed + 2, threads, 4_000), (*one, *stride), (), "stop fuel", 13, False)
-    yield Load(f"{threads:,} threads, by strides, two sizes", churn(seed + 3, threads, 4_000), (*two, *stride), (), "stop fuel", 13, False)
-    yield Load("messages on 64 channels, by the graph", LISTENERS, with_fuel, tuple(messages(seed, lines)), "stop idle", 10)
-    yield Load("messages on 64 channels, by strides", LISTENERS, (*with_fuel, "--rule", "stride", "--extra", "64"), tuple(messages(seed + 1, lines)), "stop idle", 10, False)
-    yield Load("arrivals in a pool of one chunk", ALONE, (*with_fuel, "--chunks", "1", "--chunk", "256", "--max-path", "128"), tuple(arrivals(seed, lines)), "stop idle", 10)
-    yield Load("a loop in a pool of one chunk", ALONE_LOOP, (*with_fuel, "--chunks", "1", "--chunk", "64", "--max-path", "48"), (), "stop fuel", 13)
+    yield Load(f"{threads:,} threads, by strides, one size", churn(seed + 2, threads, 4_000), (*one, *stride), (),
+               "stop fuel", 13, False)
+    yield Load(f"{threads:,} threads, by strides, two sizes", churn(seed + 3, threads, 4_000), (*two, *stride), (),
+               "stop fuel", 13, False)
+    yield Load("messages on 64 channels, by the graph", LISTENERS, with_fuel, tuple(messages(seed, lines)), "stop idle",
+               10)
+    yield Load("messages on 64 channels, by strides", LISTENERS, (*with_fuel, "--rule", "stride", "--extra", "64"),
+               tuple(messages(seed + 1, lines)), "stop idle", 10, False)
+    yield Load("arrivals in a pool of one chunk", ALONE,
+               (*with_fuel, "--chunks", "1", "--chunk", "256", "--max-path", "128"), tuple(arrivals(seed, lines)),
+               "stop idle", 10)
+    yield Load("a loop in a pool of one chunk", ALONE_LOOP,
+               (*with_fuel, "--chunks", "1", "--chunk", "64", "--max-path", "48"), (), "stop fuel", 13)

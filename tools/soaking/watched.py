@@ -75,4 +75,5 @@ def watch(words, trace, folder, kept=None, most=1 << 32, seconds=None):
         output.join()
         err.seek(0)
         text = err.read().decode(errors="replace")
-    return Seen(run.returncode, output.size, output.lines, output.last(), text, time.monotonic() - started, used.ru_utime + used.ru_stime, memory)
+    return Seen(run.returncode, output.size, output.lines, output.last(), text, time.monotonic() - started,
+                used.ru_utime + used.ru_stime, memory)

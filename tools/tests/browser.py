@@ -16,7 +16,8 @@ class Browser:
         words += [f"--user-data-dir={self.folder}", f"--window-size={width},{height}"]
         pipes = (to_browser, from_browser)  # the browser reads from its file 3 and writes to 4
         self.process = subprocess.Popen(
-            ["bash", "-c", 'exec 3<&"$0" 4>&"$1" "${@:2}"', *map(str, pipes), *words], pass_fds=pipes, stderr=subprocess.DEVNULL
+            ["bash", "-c", 'exec 3<&"$0" 4>&"$1" "${@:2}"', *map(str, pipes), *words], pass_fds=pipes,
+            stderr=subprocess.DEVNULL
         )
         for it in pipes:
             os.close(it)
@@ -39,7 +40,8 @@ class Browser:
     def note(self, said):
         method, of = said.get("method"), said.get("params", {})
         if method == "Runtime.exceptionThrown":
-            self.errors.append(of["exceptionDetails"].get("exception", {}).get("description") or of["exceptionDetails"]["text"])
+            self.errors.append(of["exceptionDetails"].get("exception", {}).get("description")
+                               or of["exceptionDetails"]["text"])
         elif method == "Log.entryAdded" and of["entry"]["level"] == "error":
             self.errors.append(of["entry"]["text"])
         elif method == "Page.loadEventFired":
@@ -48,7 +50,8 @@ class Browser:
     def ask(self, method, **params):
         self.number += 1
         asked = {"id": self.number, "method": method, "params": params}
-        os.write(self.output, json.dumps(asked | ({"sessionId": self.session} if self.session else {})).encode() + b"\0")
+        os.write(self.output,
+                 json.dumps(asked | ({"sessionId": self.session} if self.session else {})).encode() + b"\0")
         while (said := self.message()).get("id") != self.number:
             self.note(said)
         if "error" in said:
@@ -74,7 +77,8 @@ class Browser:
         self.ask("Input.dispatchKeyEvent", type="keyUp", key=key)
 
     def dark(self, is_dark):
-        self.ask("Emulation.setEmulatedMedia", features=[{"name": "prefers-color-scheme", "value": "dark" if is_dark else "light"}])
+        self.ask("Emulation.setEmulatedMedia",
+                 features=[{"name": "prefers-color-scheme", "value": "dark" if is_dark else "light"}])
 
     def screenshot(self, name):
         with open(name, "wb") as file:

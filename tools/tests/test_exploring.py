@@ -54,14 +54,17 @@ class WithTheProgram(unittest.TestCase):
     def test_each_find_in_a_server_that_has_it(self):
         trace = self.put("trace", EVERY)
         burst = ["--change", "bursts,times", "--runs", "12"]
-        cases = {"drop": ["--backlog", "1", *burst], "nochunk": ["--chunks", "3", *burst], "starved": ["--fuel", "60000", "--runs", "1"]}
+        cases = {"drop": ["--backlog", "1", *burst], "nochunk": ["--chunks", "3", *burst],
+                 "starved": ["--fuel", "60000", "--runs", "1"]}
         cases |= {"trap": burst, "unanswered": burst}
         for kind, words in cases.items():
             with self.subTest(kind=kind):
                 found, told = self.explored(*words, "--find", kind, self.put(f"{kind}.c", SOURCES[kind]), trace)
                 self.assertEqual((list(dict.fromkeys(it["kind"] for it in found)), told.returncode), ([kind], FOUND))
-                words = [it for it in words if it not in ("--backlog", "1") or kind != "drop"]  # (of one place, each burst drops some)
-                self.assertEqual(self.explored(*words, "--find", kind, self.put("echo.c", SOURCES["echo"]), trace)[0], [])
+                words = [it for it in words if it not in ("--backlog", "1")
+                         or kind != "drop"]  # (of one place, each burst drops some)
+                self.assertEqual(self.explored(*words, "--find", kind, self.put("echo.c", SOURCES["echo"]), trace)[0],
+                                 [])
 
     def test_nothing_found_has_status_0_and_stores_nothing(self):
         told = self.tool("explore", "--runs", "8", self.put("echo.c", SOURCES["echo"]), self.put("trace", EVERY))
@@ -70,7 +73,8 @@ class WithTheProgram(unittest.TestCase):
 
     def test_a_deadlock_is_found_repeated_and_shrunk(self):
         """The store of docs/EXPLORING.md."""
-        found, _ = self.explored("--first", "--find", "deadlock", "--change", "rule,times", "--caps", "1=1,2=1", STORIES / "kv.c", STORIES / "kv.trace")
+        found, _ = self.explored("--first", "--find", "deadlock", "--change", "rule,times", "--caps", "1=1,2=1",
+                                 STORIES / "kv.c", STORIES / "kv.trace")
         self.assertEqual(len(found), 1)
         log = subprocess.run(["bash", "-c", found[0]["repeat"]], cwd=self.room, capture_output=True, text=True)
         looker = finds.Looker((STORIES / "kv.c").read_bytes(), ["deadlock"], "kv.c")
@@ -80,14 +84,16 @@ class WithTheProgram(unittest.TestCase):
         small = (self.room / "small").read_text()
         self.assertLessEqual(len(events.read(small)), 40)  # (38 on docs/EXPLORING.md)
         self.assertRegex(made.stderr, r"^200 -> \d+ lines in [\d,]+ runs, [\d.]+ s\ndeadlock: kv.c:")
-        again = subprocess.run(["bash", "-c", made.stderr.splitlines()[-1]], cwd=self.room, capture_output=True, text=True)
+        again = subprocess.run(["bash", "-c", made.stderr.splitlines()[-1]], cwd=self.room, capture_output=True,
+                               text=True)
         self.assertEqual([it.where for it in looker.finds(again.stdout, {"caps": "1=1,2=1"})], [found[0]["where"]])
 
     def test_the_page_shows_what_is_printed(self):
         """But for the times, and the folder of what is found."""
         blocks = re.findall(r"^```\n(.*?)^```", (TOP / "docs/EXPLORING.md").read_text(), re.S | re.M)
         untimed = lambda text: re.sub(r"[\d.]+ s, [\d,]+ runs a second", "", text)
-        shown = [(command.split(), untimed(output)) for command, output in zip(blocks, blocks[1:]) if command.startswith("tools/explore")]
+        shown = [(command.split(), untimed(output)) for command, output in zip(blocks, blocks[1:])
+                 if command.startswith("tools/explore")]
         self.assertEqual(len(shown), 2)
         for (tool, *words), output in shown:
             folder = str(self.room / "explored")
@@ -98,7 +104,8 @@ class WithTheProgram(unittest.TestCase):
         text = (STORIES / "kv.c").read_text()
         right = text.replace("  lock(2);\n  lock(1);\n  kept", "  lock(1);\n  lock(2);\n  kept")
         self.assertNotEqual(right, text)
-        words = ["--runs", "40", "--find", "deadlock", "--change", "rule,times", "--caps", "1=1,2=1", self.put("right.c", right), STORIES / "kv.trace"]
+        words = ["--runs", "40", "--find", "deadlock", "--change", "rule,times", "--caps", "1=1,2=1",
+                 self.put("right.c", right), STORIES / "kv.trace"]
         self.assertEqual(self.explored(*words)[0], [])
 
     def test_a_lost_update_is_found_and_shrunk(self):
@@ -111,9 +118,11 @@ class WithTheProgram(unittest.TestCase):
 
     def test_without_the_lost_update_nothing_is_found(self):
         text = (STORIES / "till.c").read_text()
-        right = text.replace("  before = total;\n  price = cents + tax(cents);", "  price = cents + tax(cents);\n  before = total;")
+        right = text.replace("  before = total;\n  price = cents + tax(cents);",
+                             "  price = cents + tax(cents);\n  before = total;")
         self.assertNotEqual(right, text)
-        found, _ = self.explored("--runs", "40", "--find", "outputs", self.put("right.c", right), STORIES / "till.trace")
+        found, _ = self.explored("--runs", "40", "--find", "outputs", self.put("right.c", right),
+                                 STORIES / "till.trace")
         self.assertEqual(found, [])
 
     def test_one_seed_gives_the_same_finds_whatever_the_jobs(self):
@@ -135,7 +144,8 @@ class WithTheProgram(unittest.TestCase):
         self.assertEqual([(it["kind"], it["where"]) for it in found], [("command", "dropped")])
 
     def test_ctrl_c_tells_what_was_found(self):
-        words = [sys.executable, TOOLS / "explore", "--find", "outputs", "--runs", "1000000", STORIES / "till.c", STORIES / "till.trace"]
+        words = [sys.executable, TOOLS / "explore", "--find", "outputs", "--runs", "1000000", STORIES / "till.c",
+                 STORIES / "till.trace"]
         with subprocess.Popen(words, cwd=self.room, stdout=subprocess.PIPE, stderr=subprocess.PIPE, text=True, start_new_session=True) as process:
             time.sleep(4)
             os.killpg(process.pid, signal.SIGINT)
@@ -159,7 +169,8 @@ class WithTheProgram(unittest.TestCase):
         """`:` is this machine without ssh."""
         words = ["--find", "outputs", "--runs", "20", STORIES / "till.c", STORIES / "till.trace"]
         self.assertEqual(self.explored("--hosts", self.put("hosts", "2/:\n"), *words)[0], self.explored(*words)[0])
-        words = [STORIES / "till.c", STORIES / "till.trace", "--vary", "rule", "graph", "stride", "--vary", "chunks", "8", "16"]
+        words = [STORIES / "till.c", STORIES / "till.trace", "--vary", "rule", "graph", "stride", "--vary", "chunks",
+                 "8", "16"]
         self.assertEqual(self.tool("sweep", "--hosts", "hosts", *words).stdout, self.tool("sweep", *words).stdout)
 
 

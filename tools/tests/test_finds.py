@@ -32,7 +32,8 @@ class OfExamples(unittest.TestCase):
                     source = (report.parent / "server.c").read_bytes()
                     told = outcome.Outcome(log.read_text(), places.Places(source))
                     steps = following.circle(told, following.followed(source, told.log), finds.caps_of(options_of(log)))
-                    self.assertEqual([(str(it.thread), str(it.resource)) for it in steps], STEP.findall(line[1]) if line else [])
+                    self.assertEqual([(str(it.thread), str(it.resource)) for it in steps], STEP.findall(line[1])
+                                     if line else [])
                     circles += bool(line)
         self.assertGreater(circles, 0)
 
@@ -52,7 +53,8 @@ class OfExamples(unittest.TestCase):
             with self.subTest(log=log):
                 stop = log.read_text().splitlines()[-1].split()[1]
                 found, lost = found_in(log)
-                self.assertEqual([it for it in found if it in ("trap", "nochunk", "fuel", "threads")], [stop] if stop in finds.KINDS else [])
+                self.assertEqual([it for it in found if it in ("trap", "nochunk", "fuel", "threads")], [stop]
+                                 if stop in finds.KINDS else [])
                 self.assertEqual(lost, 0)
 
     def test_nothing_else_is_found(self):
@@ -68,7 +70,8 @@ class OfExamples(unittest.TestCase):
             if log.exists():
                 told = outcome.Outcome(log.read_text(), places.Places((report.parent / "server.c").read_bytes()))
                 numbers = [len(told.delivered), len(told.dropped), len(told.takers), sum(map(bool, told.answers))]
-                wanted = re.search(r"^requests: (\d+) came, (\d+) dropped, (\d+) taken, (\d+) answered", report.read_text(), re.M)
+                wanted = re.search(r"^requests: (\d+) came, (\d+) dropped, (\d+) taken, (\d+) answered",
+                                   report.read_text(), re.M)
                 self.assertEqual(numbers, list(map(int, wanted.groups())))
 
     def test_a_sleeping_thread_was_ready_for_as_long_as_it_was_late(self):
@@ -120,7 +123,8 @@ class Compared(unittest.TestCase):
         self.assertEqual(self.found(5, "out 0 7\n", ["unanswered"]), [])
 
     def test_a_command_reads_the_log(self):
-        looker = finds.Looker(self.SOURCE, ["command"], "echo.c", command="if grep -q '^out 0 9'; then echo nine; exit 1; fi")
+        looker = finds.Looker(self.SOURCE, ["command"], "echo.c",
+                              command="if grep -q '^out 0 9'; then echo nine; exit 1; fi")
         self.assertEqual(looker.finds(self.LOG.format(5, ""), {}), [])
         self.assertEqual([it.where for it in looker.finds(self.LOG.format(9, ""), {})], ["nine"])
 

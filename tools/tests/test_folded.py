@@ -30,8 +30,10 @@ class OfExamples(unittest.TestCase):
                 for line in lines:
                     self.assertRegex(line, LINE)
                 fields = [it.split() for it in log.read_text().splitlines()]
-                cut = [int(it[-2]) for it in fields if it[0] == "stop" and it[1] in ("trap", "nochunk", "fuel", "threads")]
-                self.assertEqual(sum_of(lines), sum(int(it[-2]) for it in fields if it[0] in ("block", "end")) + sum(cut))
+                cut = [int(it[-2]) for it in fields if it[0] == "stop"
+                       and it[1] in ("trap", "nochunk", "fuel", "threads")]
+                self.assertEqual(sum_of(lines),
+                                 sum(int(it[-2]) for it in fields if it[0] in ("block", "end")) + sum(cut))
 
     def test_waits_are_those_of_the_report(self):
         """The ended waits of the report by call and function, and beside them those that are under

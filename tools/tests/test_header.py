@@ -20,7 +20,8 @@ TAKEN = {
 
 def said_of(compiler, source, *names):
     """What the compiler says of a source on standard input, or of the files of these names."""
-    words = [compiler, "-fsyntax-only", "-ffreestanding", "-Wall", "-Werror", "-include", str(HEADER), "-x", "c", *(names or ["-"])]
+    words = [compiler, "-fsyntax-only", "-ffreestanding", "-Wall", "-Werror", "-include", str(HEADER), "-x", "c",
+             *(names or ["-"])]
     return subprocess.run(words, input=source, capture_output=True, text=True).stderr
 
 

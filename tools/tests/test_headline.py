@@ -15,7 +15,9 @@ class Promises(unittest.TestCase):
         self.assertEqual(headline.names(), EIGHT)
 
     def test_what_a_promise_is_about_stands_under_it(self):
-        for promise, name in (("pool", "IsPartition"), ("memory", "IsGoodAccess"), ("choices", "IsGraphChoice"), ("outputs", "deep_step"), ("budget", "IsBudget"), ("audit", "IsTextLog"), ("faults", "IsPairInPart"), ("stops", "IsIdle")):
+        for promise, name in (("pool", "IsPartition"), ("memory", "IsGoodAccess"), ("choices", "IsGraphChoice"),
+                              ("outputs", "deep_step"), ("budget", "IsBudget"), ("audit", "IsTextLog"),
+                              ("faults", "IsPairInPart"), ("stops", "IsIdle")):
             with self.subTest(promise=promise):
                 self.assertIn(name, names_under(promise))
 

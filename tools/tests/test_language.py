@@ -48,7 +48,8 @@ class Examples(unittest.TestCase):
         rows = rows_below("| Source | Line |")
         listed = (TOP / "docs/WRITING.md").read_text().partition("## Every refusal of a source")[2]
         names = set(re.findall(r"^\| `([A-Z]\w+)[ `]", listed, re.M))
-        self.assertEqual({line.split()[1] for _, line in rows} | {"TooLong", "TooDeep"}, names)  # (these two take long sources)
+        self.assertEqual({line.split()[1] for _, line in rows} | {"TooLong", "TooDeep"},
+                         names)  # (these two take long sources)
         for (source, line), (_, given) in zip(rows, answers("graph", [it for it, _ in rows])):
             with self.subTest(source=source):
                 self.assertEqual(given, line)

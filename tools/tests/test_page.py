@@ -27,7 +27,8 @@ def page_of(source, trace, log, title="server.c", report="a report", graph="<svg
 
 def page_of_example(name, **more):
     folder = TOP / "examples" / name
-    return page_of((folder / "server.c").read_bytes(), (folder / "trace").read_text().splitlines(), (folder / "log").read_text().splitlines(), **more)
+    return page_of((folder / "server.c").read_bytes(), (folder / "trace").read_text().splitlines(),
+                   (folder / "log").read_text().splitlines(), **more)
 
 
 class Elements(html.parser.HTMLParser):
@@ -73,7 +74,8 @@ class Page(unittest.TestCase):
         ends = [it.split() for it in log.splitlines() if it.startswith(("block", "end"))]
         self.assertEqual(data["segments"]["cost"], [int(it[-2]) for it in ends])
         self.assertEqual(data["segments"]["thread"], [int(it[1]) for it in ends])
-        self.assertEqual(data["segments"]["start"], [int(it.split()[1]) for it in log.splitlines() if it.startswith("run")])
+        self.assertEqual(data["segments"]["start"],
+                         [int(it.split()[1]) for it in log.splitlines() if it.startswith("run")])
         self.assertEqual(data["threads"], {"0": "0 main", "1": "1 worker", "2": "2 worker"})
 
     def test_a_log_beyond_the_limit_is_cut_and_the_page_says_so(self):
@@ -98,7 +100,8 @@ class Page(unittest.TestCase):
         self.assertNotIn("<", escape.script(NASTY))
 
 
-@unittest.skipUnless(browser.CHROMIUM and os.environ.get("CAPRICCIO_BROWSER"), "CAPRICCIO_BROWSER isn't set, or there is no Chromium")
+@unittest.skipUnless(browser.CHROMIUM and os.environ.get("CAPRICCIO_BROWSER"),
+                     "CAPRICCIO_BROWSER isn't set, or there is no Chromium")
 class InABrowser(unittest.TestCase):
     def setUp(self):
         self.browser = browser.Browser()

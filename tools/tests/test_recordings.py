@@ -24,7 +24,8 @@ def made(*words, given):
 class Times(unittest.TestCase):
     def test_forms_of_one_moment(self):
         # (date -u -d 2000-10-10T20:55:36Z +%s)
-        for text in ("971211336", "2000-10-10T20:55:36Z", "2000-10-10 20:55:36", "2000-10-10T13:55:36-0700", "[10/Oct/2000:13:55:36 -0700]"):
+        for text in ("971211336", "2000-10-10T20:55:36Z", "2000-10-10 20:55:36", "2000-10-10T13:55:36-0700",
+                     "[10/Oct/2000:13:55:36 -0700]"):
             with self.subTest(text=text):
                 self.assertEqual(instants.seconds_of(text), Decimal(971211336))
 
@@ -62,7 +63,8 @@ class Rows(unittest.TestCase):
         self.assertEqual(lines, ["arrive 0 -3", "arrive 500000 7", "arrive 1250000 7"])
 
     def test_connections(self):
-        words = ("--ticks", "1000", "--connection", "tcp.stream", "--value", "tcp.len", "--last", "-1", "--end", "63=9", "--end-after", "5")
+        words = ("--ticks", "1000", "--connection", "tcp.stream", "--value", "tcp.len", "--last", "-1", "--end", "63=9",
+                 "--end-after", "5")
         _, lines, _ = made(*words, given=TSHARK)
         self.assertEqual(lines, [
             "arrive 0 0", "data 0 0 20", "data 0 0 -1",
@@ -73,7 +75,8 @@ class Rows(unittest.TestCase):
     def test_more_connections_than_channels(self):
         text = "time,c\n" + "".join(f"{i},{i}\n" for i in range(65)) + "".join(f"{99 + i},{i}\n" for i in range(65))
         status, _, said = made("--connection", "c", given=text)
-        self.assertEqual((status, said), (1, "make_trace: standard input:66: more than 64 connections are open at once"))
+        self.assertEqual((status, said),
+                         (1, "make_trace: standard input:66: more than 64 connections are open at once"))
 
     def test_rows_lead_back(self):
         with tempfile.TemporaryDirectory() as folder:
@@ -97,13 +100,17 @@ class Page(unittest.TestCase):
 
 class Refusals(unittest.TestCase):
     ROWS = (
-        (("--value", "size"), CSV, "standard input:2: --value 'size': expected a whole number, found 6.5; use int(..) or round(..) for a fraction"),
-        (("--value", "sise"), CSV, "--value 'sise': there is no column 'sise'; the columns are client, kind, size, time"),
-        (("--value", "open('x')"), CSV, "--value \"open('x')\": the functions are int, round, len, min, max, abs, float, str and col"),
+        (("--value", "size"), CSV,
+         "standard input:2: --value 'size': expected a whole number, found 6.5; use int(..) or round(..) for a fraction"),
+        (("--value", "sise"), CSV,
+         "--value 'sise': there is no column 'sise'; the columns are client, kind, size, time"),
+        (("--value", "open('x')"), CSV,
+         "--value \"open('x')\": the functions are int, round, len, min, max, abs, float, str and col"),
         (("--value", "9 ** 9"), CSV, "--value '9 ** 9': '9 ** 9' isn't allowed in an expression over columns"),
         (("--value", "1 << 99"), CSV, "--value '1 << 99': '1 << 99' isn't allowed in an expression over columns"),
         (("--map", "kind=GET:1"), CSV, "standard input:3: column kind: expected one of GET, found 'PUT'"),
-        (("--time", "size"), CSV.replace("8\n", "x\n"), "standard input:4: column size: expected a number of seconds or a date with its time, found 'x'"),
+        (("--time", "size"), CSV.replace("8\n", "x\n"),
+         "standard input:4: column size: expected a number of seconds or a date with its time, found 'x'"),
         (("--time", "when"), CSV, "there is no column 'when'; the columns are time, client, kind, size"),
         ((), CSV + "1;2\n", "standard input:5: expected 4 columns, found 2"),
         ((), "a,b\n1,2\n", "no column is called like a time: name one by --time; the columns are a, b"),
@@ -119,7 +126,8 @@ class Refusals(unittest.TestCase):
                 self.assertEqual(made(*words, given=given), (1, [], f"make_trace: {said}"))
 
     def test_a_csv_shape_names_the_line(self):
-        ran = subprocess.run([sys.executable, MAKE_TRACE, "csv", "--column", "t"], input="t\n1\nx\n", capture_output=True, text=True)
+        ran = subprocess.run([sys.executable, MAKE_TRACE, "csv", "--column", "t"], input="t\n1\nx\n",
+                             capture_output=True, text=True)
         self.assertEqual(ran.stderr, "make_trace: standard input:3: column t: expected a number, found 'x'\n")
 
 

@@ -12,7 +12,8 @@ class RefusedLines(unittest.TestCase):
         self.assertEqual(traces.first_refused(GOOD), 0)
 
     def test_the_first_refused_line_is_found(self):
-        for line in (b"", b"arrive 11 1\r", b"# a comment", b"arrive 9 1", b"data 11 64 1", b"arrive 11 1.5", b"arrive  11 1", b"arrive 11", b"x" * 65, b"\xff"):
+        for line in (b"", b"arrive 11 1\r", b"# a comment", b"arrive 9 1", b"data 11 64 1", b"arrive 11 1.5",
+                     b"arrive  11 1", b"arrive 11", b"x" * 65, b"\xff"):
             with self.subTest(line=line):
                 self.assertEqual(traces.first_refused([*GOOD, line, line]), 4)
 

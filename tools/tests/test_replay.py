@@ -23,7 +23,8 @@ def replayed(source, trace, log):
 
 def of_example(log):
     folder = log.parent
-    return replayed((folder / "server.c").read_bytes(), (folder / "trace").read_text().splitlines(), log.read_text().splitlines())
+    return replayed((folder / "server.c").read_bytes(), (folder / "trace").read_text().splitlines(),
+                    log.read_text().splitlines())
 
 
 def averages_of(told):
@@ -63,8 +64,11 @@ class OfExamples(unittest.TestCase):
     def test_the_uses_at_the_end_are_those_of_the_stored_reports(self):
         for report in REPORTS:
             with self.subTest(example=report.parent.name):
-                said = {int(resource): int(used) for resource, used in re.findall(r"^resource (\d+): (\d+) of", report.read_text(), re.M)}
-                self.assertEqual({resource: used for resource, used in of_example(report.parent / "log")[0].uses.items() if used}, said)
+                said = {int(resource): int(used)
+                        for resource, used in re.findall(r"^resource (\d+): (\d+) of", report.read_text(), re.M)}
+                self.assertEqual({resource: used
+                                  for resource, used in of_example(report.parent / "log")[0].uses.items() if used},
+                                  said)
 
     def test_the_calls_at_the_end_are_those_of_the_stored_reports(self):
         for report in REPORTS:
@@ -77,7 +81,8 @@ class OfExamples(unittest.TestCase):
 class ByHand(unittest.TestCase):
     def test_threads_resources_and_values(self):
         source = "void f(int n) { take(2, n + 1); yield(); give(2, n); } int main() { spawn(f, 2); spawn(f, 3); return 0; }"
-        lines = ["run 0 0 0", "end 0 9 9", "run 9 1 0", "block 1 2 0 5 9", "run 14 1 2", "block 1 3 1 5 9", "run 19 1 3", "end 1 5 9"]
+        lines = ["run 0 0 0", "end 0 9 9", "run 9 1 0", "block 1 2 0 5 9", "run 14 1 2", "block 1 3 1 5 9",
+                 "run 19 1 3", "end 1 5 9"]
         found, told = by_hand(source, *lines[:2])
         self.assertEqual((found.live, found.blocked, found.is_lost), (2, {}, False))
         found, told = by_hand(source, *lines[:4])
@@ -88,8 +93,10 @@ class ByHand(unittest.TestCase):
     def test_what_comes_from_outside(self):
         source = "int main() { int c; c = accept(); put(waitfor(c, 9)); put(wait(c)); put(waitfor(c, -1)); return 0; }"
         trace = ["arrive 1 7", "arrive 2 8", "data 3 7 -5"]
-        log = ["run 0 0 0", "block 0 2 0 1 9", "event 1 arrive 7", "drop 2 arrive 8", "run 2 0 2", "block 0 3 2 1 9", "event 3 data 7 -5", "run 3 0 3"]
-        log += ["out 0 1", "block 0 4 4 1 9", "run 4 0 4", "out 0 -5", "block 0 5 6 1 9", "run 5 0 5", "out 0 0", "end 0 1 9"]
+        log = ["run 0 0 0", "block 0 2 0 1 9", "event 1 arrive 7", "drop 2 arrive 8", "run 2 0 2", "block 0 3 2 1 9",
+               "event 3 data 7 -5", "run 3 0 3"]
+        log += ["out 0 1", "block 0 4 4 1 9", "run 4 0 4", "out 0 -5", "block 0 5 6 1 9", "run 5 0 5", "out 0 0",
+                "end 0 1 9"]
         self.assertFalse(by_hand(source, *log, trace=trace)[0].is_lost)
 
     def test_a_log_that_the_source_does_not_make_is_noticed(self):
@@ -123,7 +130,8 @@ class ByHand(unittest.TestCase):
         source = "int up(int n); int down(int n); " + source
         outs = [4, 5, 1, 0, 5]
         more = [0, 1, 2147483647, -3, -1, -1, 2, -4, -2147483648, 0, -6, 1, 0, 2, 1]
-        log = ["run 0 0 0", *[f"out 0 {it}" for it in outs], "block 0 2 0<8 1 9", "run 1 0 2", *[f"out 0 {it}" for it in more], "end 0 1 9"]
+        log = ["run 0 0 0", *[f"out 0 {it}" for it in outs], "block 0 2 0<8 1 9", "run 1 0 2",
+               *[f"out 0 {it}" for it in more], "end 0 1 9"]
         self.assertEqual(by_hand(source, *log)[0].outputs, more)
 
     def test_what_python_does_not_take_is_left(self):

@@ -67,7 +67,8 @@ def counted(number, noun):
 
 
 def listed(items, form, more, unit):
-    return "".join([", ".join(form.format(**it) for it in items), f", the others by {counted(more, unit)}" if more else ""])
+    return "".join([", ".join(form.format(**it) for it in items), f", the others by {counted(more, unit)}" if more
+                    else ""])
 
 
 def plural(text):
@@ -77,7 +78,8 @@ def plural(text):
 
 def text_of(value):
     """The report that a value is of, with plurals throughout."""
-    return "".join(f"{it}\n" for part in (first_lines, request_lines, wait_lines, count_lines, left_lines, stop_lines) for it in part(value))
+    return "".join(f"{it}\n" for part in (first_lines, request_lines, wait_lines, count_lines, left_lines, stop_lines)
+                   for it in part(value))
 
 
 def first_lines(value):
@@ -136,13 +138,15 @@ def left_lines(value):
         line = f"left: thread {it['thread']}" + ", whose segment was cut" * it["is_cut"]
         line += f" waits at {place(it['place'])} since {it['since']}" if "place" in it else ""
         line += f": {it['values']}" if "values" in it else ""
-        yield line + (f", went past {place(it['went_past']['place'])} at {it['went_past']['at']}" if "went_past" in it else "")
+        yield line + (f", went past {place(it['went_past']['place'])} at {it['went_past']['at']}" if "went_past" in it
+                      else "")
     if value["more_left"]:
         yield f"left: {counted(value['more_left'], 'more thread')}"
     if value["never_ran"]:
         yield f"left: {counted(value['never_ran'], 'thread')} that never ran"
     for it in value["resources"]:
-        holders = ": " * bool(it["holders"]) + listed(it["holders"], "{units} by thread {thread}", it["more_holders"], "more thread")
+        holders = ": " * bool(it["holders"]) + listed(it["holders"], "{units} by thread {thread}", it["more_holders"],
+                                                      "more thread")
         yield f"resource {it['resource']}: {it['used']} of {it['cap']} in use{holders}"
 
 
@@ -184,19 +188,25 @@ class Values(unittest.TestCase):
     def test_each_line_of_the_page_on_reports_is_known(self):
         heads = "circle|answers|window|requests|latency|outputs|request|waits|chunks|choices|gate|left|resource|stopped|stop"
         page = (TOP / "docs/REPORT.md").read_text()
-        fenced = [line for block in re.findall(r"^```\n(.*?)^```", page, re.M | re.S) for line in block.splitlines() if re.match(rf"({heads})\b.*[: ]", line)]
+        fenced = [line for block in re.findall(r"^```\n(.*?)^```", page, re.M | re.S) for line in block.splitlines()
+                  if re.match(rf"({heads})\b.*[: ]", line)]
         self.assertGreater(len(fenced), 20)
         self.assertEqual(report_json.value_of(REST + "\n".join(fenced))["other"], [])
 
     def test_numbers_of_the_limiter(self):
         value = report_json.value_of((TOP / "examples/limiter/report_why").read_text())
-        self.assertEqual(value["latency"]["last"], {"least": 34, "median": 67, "90th": 1109, "99th": 1109, "greatest": 1109, "arrived": 130, "thread": 1})
+        self.assertEqual(value["latency"]["last"],
+                         {"least": 34, "median": 67, "90th": 1109, "99th": 1109, "greatest": 1109, "arrived": 130,
+                          "thread": 1})
         self.assertEqual(value["choices"], {"count": 22, "by_score": 0, "by_gate": 0, "by_turn": 22})
-        self.assertEqual(value["waits"][3]["place"], {"file": "examples/limiter/server.c", "line": 12, "column": 5, "name": "take", "function": "worker"})
+        self.assertEqual(value["waits"][3]["place"],
+                         {"file": "examples/limiter/server.c", "line": 12, "column": 5, "name": "take",
+                          "function": "worker"})
         self.assertEqual(value["stop"], {"line": "stop idle", "kind": "idle"})
 
     def test_the_number_that_the_page_on_reports_has(self):
-        self.assertEqual(report_json.value_of((TOP / "examples/store/report").read_text())["latency"]["last"]["99th"], 1339)
+        self.assertEqual(report_json.value_of((TOP / "examples/store/report").read_text())["latency"]["last"]["99th"],
+                         1339)
         self.assertIn("""'.latency.last."99th"'\n```\n\nprints 1339.""", (TOP / "docs/REPORT.md").read_text())
 
     def test_a_line_of_no_known_form_is_kept(self):

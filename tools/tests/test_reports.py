@@ -3,7 +3,8 @@ import os, pathlib, subprocess, unittest
 
 TOP = pathlib.Path(__file__).resolve().parent.parent.parent
 PROGRAM = os.path.join(os.environ.get("CAPRICCIO_PROGRAMS", ""), "report")
-OWN = {"report": [], "report_why": ["--why"], "report_first": ["--answers", "first"]}  # the report's own options, by the kept file's name
+OWN = {"report": [], "report_why": ["--why"],
+       "report_first": ["--answers", "first"]}  # the report's own options, by the kept file's name
 
 
 @unittest.skipUnless(os.access(PROGRAM, os.X_OK), "the program isn't built")
@@ -14,10 +15,12 @@ class Reports(unittest.TestCase):
                 options = kept.parent / "options"
                 words = options.read_text().split() if options.exists() else []
                 source = kept.parent.relative_to(TOP) / "server.c"
-                run = subprocess.run([PROGRAM, *OWN[kept.name], "serve", *words, source], cwd=TOP, stdin=trace, stdout=subprocess.PIPE, text=True)
+                run = subprocess.run([PROGRAM, *OWN[kept.name], "serve", *words, source], cwd=TOP, stdin=trace,
+                                     stdout=subprocess.PIPE, text=True)
                 self.assertEqual(run.stdout, kept.read_text())
 
     def test_the_deadlock_has_its_circle_first(self):
         with open(TOP / "examples/bank/trace") as trace:
-            run = subprocess.run([PROGRAM, "serve", "--caps", "1=1,2=1", "server.c"], cwd=TOP / "examples/bank", stdin=trace, stdout=subprocess.PIPE, text=True)
+            run = subprocess.run([PROGRAM, "serve", "--caps", "1=1,2=1", "server.c"], cwd=TOP / "examples/bank",
+                                 stdin=trace, stdout=subprocess.PIPE, text=True)
         self.assertEqual(run.stdout.splitlines()[0], "circle: thread 1 → resource 2 → thread 2 → resource 1 → thread 1")

@@ -44,7 +44,8 @@ class Smallest(unittest.TestCase):
         self.assertEqual(values(shrunk(lambda case: set(wanted) <= set(values(case)), LONG).case), wanted)
 
     def test_times_become_small_and_round(self):
-        made = shrunk(lambda case: len(case.events) == 3 and case.events[1].time - case.events[0].time > 115, "arrive 14 1\narrive 151 2\narrive 9999 3\n")
+        made = shrunk(lambda case: len(case.events) == 3 and case.events[1].time - case.events[0].time > 115,
+                      "arrive 14 1\narrive 151 2\narrive 9999 3\n")
         self.assertEqual([it.time for it in made.case.events], [0, 140, 140])  # (14 and 151 in tens)
 
     def test_values_become_small_and_round(self):
@@ -59,7 +60,8 @@ class Smallest(unittest.TestCase):
 
     def test_options_go_back_to_their_defaults(self):
         has = lambda case: case.options.get("rule") == "stride" and "2=8" in case.options.get("tickets", "").split(",")
-        made = shrunk(has, "arrive 1 1\n", {"rule": "stride", "tickets": "1=4,2=8,3=2", "high": "300", "low": "10", "backlog": "4"})
+        made = shrunk(has, "arrive 1 1\n",
+                      {"rule": "stride", "tickets": "1=4,2=8,3=2", "high": "300", "low": "10", "backlog": "4"})
         self.assertEqual(made.case.options, {"rule": "stride", "tickets": "2=8"})
         self.assertEqual(made.case.events, [])
 

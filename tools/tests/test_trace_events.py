@@ -50,9 +50,11 @@ def many_threads(count):
     source = b"void worker(int n) { put(accept()); }\nint main() { int i; for (i = 0; i < 1000; i = i + 1) spawn(worker, i); return 0; }"
     trace = [f"arrive {100_000 + 50 * it} {it}\n" for it in range(count)]
     log = ["run 0 0 0\n", "end 0 50 2000\n"]
-    log += [line for it in range(count) for line in (f"run {50 + it * 10} {it + 1} 0\n", f"block {it + 1} 2 1 10 2000\n")]
+    log += [line for it in range(count)
+            for line in (f"run {50 + it * 10} {it + 1} 0\n", f"block {it + 1} 2 1 10 2000\n")]
     for it in range(count):
-        log += [f"event {100_000 + 50 * it} arrive {it}\n", f"run {100_000 + 50 * it} {it + 1} 2\n", f"out {it + 1} {it}\n", f"end {it + 1} 20 {2001 + it}\n"]
+        log += [f"event {100_000 + 50 * it} arrive {it}\n", f"run {100_000 + 50 * it} {it + 1} 2\n",
+                f"out {it + 1} {it}\n", f"end {it + 1} 20 {2001 + it}\n"]
     return source, trace, [*log, "stop done\n"], 2001 + count
 
 
@@ -156,18 +158,22 @@ class Told(unittest.TestCase):
                 self.assertEqual(sum(it.get("cat") == "segment" for it in events), sum(it[0] == "run" for it in lines))
                 self.assertEqual(sum(it["name"] == "drop" for it in events), sum(it[0] == "drop" for it in lines))
                 costs = sum(int(it[-2]) for it in lines if it[0] in ("block", "end"))
-                costs += sum(int(it[-2]) for it in lines if it[:2] in (["stop", "trap"], ["stop", "nochunk"], ["stop", "fuel"], ["stop", "threads"]))
+                costs += sum(int(it[-2]) for it in lines
+                             if it[:2] in (["stop", "trap"], ["stop", "nochunk"], ["stop", "fuel"],
+                                           ["stop", "threads"]))
                 self.assertEqual(sum(it["dur"] for it in events if it.get("cat") == "segment"), costs)
                 self.assertEqual([it["name"] for it in events if it.get("cat") == "stop"], [text[-1]])
 
     def test_held_chunks_go_by_the_logs_free_ones(self):
-        self.assertEqual(counted(written(*of_example(TOP / "examples/pool/log")), "held chunks"), [2])  # 1,022 of 1,024 are free from the first line to the last
+        self.assertEqual(counted(written(*of_example(TOP / "examples/pool/log")), "held chunks"),
+                         [2])  # 1,022 of 1,024 are free from the first line to the last
 
     def test_requests_have_the_numbers_of_the_report(self):
         events = written(*of_example(TOP / "examples/limiter/log"))
         self.assertEqual([it["args"]["request"] for it in events if it["name"] == "arrive"], [1, 2, 3, 4, 5])
         slowest = next(it for it in events if it.get("cat") == "segment" and it["args"].get("request") == 4)
-        self.assertEqual((slowest["ts"], slowest["tid"]), (1205, 1))  # `request 4, the slowest: arrived 130, taken by thread 1`, and queued until 1205
+        self.assertEqual((slowest["ts"], slowest["tid"]),
+                         (1205, 1))  # `request 4, the slowest: arrived 130, taken by thread 1`, and queued until 1205
 
     def test_resources_go_up_by_take_and_down_by_give(self):
         """The limiter takes a unit for each of five requests, and a thread gives it back 1,000 ticks later; the run has two units."""
@@ -184,16 +190,19 @@ class Told(unittest.TestCase):
 
     def test_threads_live_from_when_they_are_started(self):
         source = b"void f(int n) { sleep(n); } int main() { spawn(f, 1); spawn(f, 2); yield(); return 0; }"
-        log = ["run 0 0 0", "block 0 2 3 20 1021", "run 20 1 0", "block 1 3 0 5 1021", "run 25 0 2", "end 0 5 1022", "run 30 2 0", "block 2 3 0 5 1022"]
+        log = ["run 0 0 0", "block 0 2 3 20 1021", "run 20 1 0", "block 1 3 0 5 1021", "run 25 0 2", "end 0 5 1022",
+               "run 30 2 0", "block 2 3 0 5 1022"]
         log += ["run 35 1 3", "end 1 5 1023", "run 40 2 3", "end 2 5 1024", "stop done"]
         events = written(source, [], log)
         self.assertEqual(counted(events, "live threads"), [1, 3, 2, 1, 0])
-        self.assertEqual([it["args"]["call"] for it in events if it.get("cat") == "wait" and "call" in it["args"]], ["sleep(1)", "sleep(2)"])
+        self.assertEqual([it["args"]["call"] for it in events if it.get("cat") == "wait" and "call" in it["args"]],
+                         ["sleep(1)", "sleep(2)"])
 
     def test_what_a_source_does_not_explain_is_left_out(self):
         """The log of a source that puts another value: nothing of the replay is told from there on."""
         source = b"int main() { put(1); yield(); take(1, 1); yield(); return 0; }"
-        log = ["run 0 0 0", "out 0 2", "block 0 2 1 20 1021", "run 20 0 2", "block 0 3 2 5 1021", "run 25 0 3", "block 0 4 3 5 1021", "stop idle"]
+        log = ["run 0 0 0", "out 0 2", "block 0 2 1 20 1021", "run 20 0 2", "block 0 3 2 5 1021", "run 25 0 3",
+               "block 0 4 3 5 1021", "stop idle"]
         events = written(source, [], log)
         self.check_names(events, {"live threads"})
         self.assertEqual(counted(events, "live threads"), [1])

@@ -77,7 +77,8 @@ class Traces(unittest.TestCase):
         self.assertEqual(under_way, {})
 
     def test_a_csv_gives_its_times_in_order(self):
-        told = made("csv", "--column", "at", "--ticks", "1000", "--value-column", "n", "--start", "5", given="n,at\n7,2.5\n8,1.25\n9,2.5\n")
+        told = made("csv", "--column", "at", "--ticks", "1000", "--value-column", "n", "--start", "5",
+                    given="n,at\n7,2.5\n8,1.25\n9,2.5\n")
         self.assertEqual(told.stdout, "arrive 5 8\narrive 1255 7\narrive 1255 9\n")
 
     def test_what_is_no_trace_is_refused(self):

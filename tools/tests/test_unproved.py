@@ -74,7 +74,8 @@ class OfAModule(unittest.TestCase):
         page = subprocess.run(["rt", "doc"], capture_output=True, text=True).stdout.strip()
         clang = pathlib.Path(page).parent / "toolchain/bin/clang"
         for text in Module(self.with_checks().replace("ptrtoaddr", "ptrtoint")).parts(9):
-            run = subprocess.run([clang, "--target=x86_64-unknown-linux-gnu", "-Wno-override-module", "-x", "ir", "-c", "-O1", "-", "-o", os.devnull], input=text, capture_output=True, text=True)
+            run = subprocess.run([clang, "--target=x86_64-unknown-linux-gnu", "-Wno-override-module", "-x", "ir", "-c",
+                                  "-O1", "-", "-o", os.devnull], input=text, capture_output=True, text=True)
             self.assertEqual(run.stderr, "")
 
 
@@ -96,7 +97,8 @@ class OfTime(unittest.TestCase):
 
     def setUp(self):
         self.names = [f"c{it}" for it in range(10)]
-        self.estimate = Estimate({it: 1 for it in self.names}, {it: 10 - place for place, it in enumerate(self.names)}, 2)
+        self.estimate = Estimate({it: 1 for it in self.names}, {it: 10 - place for place, it in enumerate(self.names)},
+                                 2)
 
     def test_nothing_is_said_before_the_first_crates(self):
         for it in self.names[:4]:

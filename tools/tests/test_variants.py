@@ -39,7 +39,8 @@ class Changes(unittest.TestCase):
             for seed in SEEDS:
                 varied, found = made(kind, CONNECTIONS, seed)
                 for peer in varied.peers:
-                    self.assertEqual(*[[(it.channel, it.value) for it in some if varied.peer(it) == peer] for some in (varied.events, found)])
+                    self.assertEqual(*[[(it.channel, it.value) for it in some if varied.peer(it) == peer]
+                                       for some in (varied.events, found)])
 
     def test_lines_know_what_they_stand_for(self):
         for kind in variants.CHANGES:
@@ -47,7 +48,8 @@ class Changes(unittest.TestCase):
                 varied, found = made(kind, CONNECTIONS, seed)
                 for it in found:
                     if it.line is not None:
-                        self.assertEqual((it.channel, it.value), (varied.events[it.line].channel, varied.events[it.line].value))
+                        self.assertEqual((it.channel, it.value),
+                                         (varied.events[it.line].channel, varied.events[it.line].value))
 
     def test_lines_that_are_far_apart_stay_so(self):
         for kind in ("times", "order", "bursts"):
@@ -85,7 +87,8 @@ class Changes(unittest.TestCase):
 
 class Reading(unittest.TestCase):
     def test_what_is_no_trace_is_refused(self):
-        for text in ("arrive 1\n", "arrive 1 2 3\n", "data 1 2\n", "arrive 01 2\n", "walk 1 2\n", "arrive 5 1\narrive 4 1\n", "data 1 64 0\n", "arrive 1 2147483648\n", "\n"):
+        for text in ("arrive 1\n", "arrive 1 2 3\n", "data 1 2\n", "arrive 01 2\n", "walk 1 2\n",
+                     "arrive 5 1\narrive 4 1\n", "data 1 64 0\n", "arrive 1 2147483648\n", "\n"):
             with self.subTest(text=text), self.assertRaises(Refused):
                 events.read(text)
 

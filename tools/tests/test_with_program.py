@@ -15,7 +15,8 @@ def is_there(name):
 
 def run(tool, *words, given=None):
     with open(given or os.devnull) as trace:
-        return subprocess.run([sys.executable, TOOLS / tool, *map(str, words)], stdin=trace, capture_output=True, text=True)
+        return subprocess.run([sys.executable, TOOLS / tool, *map(str, words)], stdin=trace, capture_output=True,
+                              text=True)
 
 
 @unittest.skipUnless(is_there("capriccio_cli"), "the program isn't built")
@@ -37,7 +38,8 @@ class WithTheProgram(unittest.TestCase):
         varied = [it for name, value in pairs for it in ("--vary", name[2:], value)]
         told = run("sweep", folder / "server.c", folder / "trace", "--csv", *varied, *words)
         rows = list(csv.DictReader(io.StringIO(told.stdout)))
-        whole = re.search(r"first answer: least (\d+), median (\d+), 90th (\d+), 99th (\d+), greatest (\d+)", (folder / report).read_text())
+        whole = re.search(r"first answer: least (\d+), median (\d+), 90th (\d+), 99th (\d+), greatest (\d+)",
+                          (folder / report).read_text())
         ranks = [rows[0][f"first {rank}"] for rank in ("least", "median", "90th", "99th", "greatest")]
         self.assertEqual(ranks, list(whole.groups()))
         return rows
@@ -73,7 +75,8 @@ class WithTheReport(unittest.TestCase):
         folder = TOP / "examples/pool"
         words = ["--request", "2", "--answers", "first", "--why", "serve", str(folder / "server.c")]
         with open(folder / "trace") as trace:
-            alone = subprocess.run([os.path.join(os.environ["CAPRICCIO_PROGRAMS"], "report"), *words], stdin=trace, capture_output=True, text=True)
+            alone = subprocess.run([os.path.join(os.environ["CAPRICCIO_PROGRAMS"], "report"), *words], stdin=trace,
+                                   capture_output=True, text=True)
         with tempfile.TemporaryDirectory() as to:
             told = run("export", "--folded", os.path.join(to, "run.folded"), *words, given=folder / "trace")
         self.assertIn("request 2: arrived ", told.stdout)
@@ -81,7 +84,8 @@ class WithTheReport(unittest.TestCase):
 
     def test_json_has_the_numbers_of_the_stored_report(self):
         folder = TOP / "examples/limiter"
-        told = run("export", "--json", "--why", "serve", *(folder / "options").read_text().split(), folder / "server.c", given=folder / "trace")
+        told = run("export", "--json", "--why", "serve", *(folder / "options").read_text().split(), folder / "server.c",
+                   given=folder / "trace")
         value = json.loads(told.stdout)
         wanted = report_json.value_of((folder / "report_why").read_text())
         shown = lambda it: json.dumps(it).replace(f"{TOP}/", "")  # the stored report was made at the top
@@ -105,7 +109,8 @@ class WithTheReport(unittest.TestCase):
             os.mkfifo(pipe)
             os.symlink("file", link)
             with subprocess.Popen(["cat", pipe], stdout=subprocess.PIPE, text=True) as reader:
-                told = run("export", "--folded", pipe, "--trace", link, "serve", folder / "server.c", given=folder / "trace")
+                told = run("export", "--folded", pipe, "--trace", link, "serve", folder / "server.c",
+                           given=folder / "trace")
                 self.assertEqual(reader.communicate()[0], "main;[end] 31\nmain;worker;accept 86\n")
             self.assertEqual(told.returncode, 10)
             self.assertTrue(os.path.islink(link) and stat.S_ISFIFO(os.stat(pipe).st_mode))
@@ -116,11 +121,13 @@ class WithTheReport(unittest.TestCase):
         for stdout, close in ((os.open("/dev/full", os.O_WRONLY), None), (subprocess.DEVNULL, lambda: os.close(1))):
             with open(folder / "trace") as trace:
                 words = [sys.executable, TOOLS / "export", "--json", "serve", folder / "server.c"]
-                told = subprocess.run(words, stdin=trace, stdout=stdout, stderr=subprocess.PIPE, preexec_fn=close, text=True)
+                told = subprocess.run(words, stdin=trace, stdout=stdout, stderr=subprocess.PIPE, preexec_fn=close,
+                                      text=True)
             self.assertEqual(told.returncode, 7, told.stderr)
             self.assertNotIn("Traceback", told.stderr)
         with tempfile.TemporaryDirectory() as to:
-            told = run("export", "--folded", os.path.join(to, "file"), "--log", os.path.join(to, "log"), "serve", folder / "server.c", given=folder / "trace")
+            told = run("export", "--folded", os.path.join(to, "file"), "--log", os.path.join(to, "log"), "serve",
+                       folder / "server.c", given=folder / "trace")
             self.assertEqual((told.returncode, os.listdir(to)), (9, []))
 
     def test_a_refused_source_stores_nothing(self):

@@ -20,7 +20,8 @@ def read(text):
         except (ValueError, TypeError):
             raise Refused(f"line {number + 1} is no event: expected `arrive TIME VALUE` or `data TIME CHANNEL VALUE`, found {line!r}") from None
         event = Event(numbers[0], numbers[1] if kind == "data" else None, numbers[-1], number)
-        if not (0 <= event.time <= LAST_TIME and (event.channel is None or 0 <= event.channel < CHANNELS) and LEAST_VALUE <= event.value <= MOST_VALUE):
+        if not (0 <= event.time <= LAST_TIME and (event.channel is None or 0 <= event.channel < CHANNELS)
+                and LEAST_VALUE <= event.value <= MOST_VALUE):
             raise Refused(f"line {number + 1}, {line!r}, has a number out of range")
         if found and event.time < found[-1].time:
             raise Refused(f"line {number + 1}: the time {event.time:,} is before the one above")
@@ -35,4 +36,5 @@ def written(*numbers):
 
 def text_of(events):
     """The text of a trace with these events."""
-    return "".join([f"arrive {time} {value}\n" if channel is None else f"data {time} {channel} {value}\n" for time, channel, value, _ in events])
+    return "".join([f"arrive {time} {value}\n" if channel is None else f"data {time} {channel} {value}\n"
+                    for time, channel, value, _ in events])

@@ -51,7 +51,8 @@ class Varied:
         by_peer = collections.defaultdict(collections.deque)
         for it in given:
             by_peer[self.peer(it)].append(it)
-        return [it if self.peer(it) is None else by_peer[self.peer(it)].popleft()._replace(time=it.time) for it in shuffled]
+        return [it if self.peer(it) is None else by_peer[self.peer(it)].popleft()._replace(time=it.time)
+                for it in shuffled]
 
 
 def times(varied, events, chance):
@@ -100,7 +101,8 @@ def late(varied, events, chance):
     first = chance.randrange(len(events))
     peer, ticks = varied.peer(events[first]), varied.ticks(chance, 100)
     is_late = lambda place, it: place == first or place > first and peer is not None and varied.peer(it) == peer
-    moved = [it._replace(time=min(it.time + ticks, LAST_TIME)) if is_late(place, it) else it for place, it in enumerate(events)]
+    moved = [it._replace(time=min(it.time + ticks, LAST_TIME)) if is_late(place, it) else it
+             for place, it in enumerate(events)]
     return sorted(moved, key=lambda it: it.time)
 
 
@@ -136,7 +138,8 @@ def doubles(varied, events, chance):
     return sorted(found, key=lambda it: it.time)
 
 
-CHANGES = {it.__name__: it for it in (loss, silent, doubles, late, order, times, bursts)}  # in the order in which they are made
+CHANGES = {it.__name__: it
+           for it in (loss, silent, doubles, late, order, times, bursts)}  # in the order in which they are made
 FAULTS = ("loss", "silent", "doubles")  # those that change what is sent
 
 

@@ -77,7 +77,8 @@ async def nothing():
 
 def main(task, count):
     sys.setrecursionlimit(20000)
-    chosen = {"waiters": lambda: waiters(count, nothing), "handing": lambda: handing(count), "pool": lambda: pool(count), "deep": lambda: waiters(count, recurse)}
+    chosen = {"waiters": lambda: waiters(count, nothing), "handing": lambda: handing(count),
+              "pool": lambda: pool(count), "deep": lambda: waiters(count, recurse)}
     asyncio.run(chosen[task]())
 
 
