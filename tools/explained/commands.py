@@ -8,7 +8,7 @@ USES_TRACE = ("serve", "run", "audit")
 
 
 class Command:
-    """A command: its arguments, what it does, and an example, which tools/check_messages runs in a
+    """A command: its arguments, what it does, and an example, which dev/check_messages runs in a
     folder with server.c and trace."""
 
     def __init__(self, names, does, example):

@@ -1,0 +1,1 @@
+"""The parts of dev/soak: runs under load, and files with random bytes changed."""

@@ -1,2 +1,0 @@
-"""The cases of tools/hostile beside those that it has itself. Each module has a function `cases`,
-which yields them in turn."""

@@ -1,1 +1,0 @@
-"""Runs the same work in Capriccio and in what else runs many threads, for tools/peers."""

@@ -1,1 +1,0 @@
-"""The parts of tools/soak: runs under load, and files with random bytes changed."""
