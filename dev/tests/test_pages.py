@@ -15,6 +15,8 @@ QUOTED_FILE = re.compile(r"(?<![\w./])`?((?:docs|dev|tools|crates|examples|inclu
 SECTION = re.compile(r"docs/([A-Z_]+\.md), (\"[^\"]+\"(?:(?:,| and) \"[^\"]+\")*)")
 HERE = re.compile(r'\("([A-Z][^"]+)"(?: (?:above|below))?\)|"([A-Z][^"]+)" (?:above|below|at the end)\b')
 LEAD = re.compile(r"\*\*([^*]+?)\.?\*\*")  # bold words at the head of an item
+# `gate` is the scheduler's alone, and what must pass before a merge is CI
+OTHER_GATE = re.compile(r"\bmerge gate\b|\bgate from nothing\b|(?:`rt ci`|`\.ci/run`|\bCI\b)[^.|\n]*\bgate\b(?!_)")
 # what a page writes in place of a name, and what isn't in a fresh clone
 MADE = ("/out", "built/", "NAME", "CRATE", "TOOL", "/X/")
 
@@ -100,6 +102,14 @@ class Names(unittest.TestCase):
                 title = next(filter(None, titles)).rstrip(",")
                 with self.subTest(page=page.relative_to(TOP), title=title):
                     self.assertIn(title, titles_of(page))
+
+
+class Words(unittest.TestCase):
+    def test_the_gate_is_the_scheduler_s(self):
+        for page in PAGES:
+            if page != HISTORY:
+                with self.subTest(page=page.relative_to(TOP)):
+                    self.assertEqual(OTHER_GATE.findall(page.read_text()), [])
 
 
 class Numbers(unittest.TestCase):

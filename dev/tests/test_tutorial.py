@@ -83,6 +83,22 @@ class Steps(unittest.TestCase):
         status, log, _ = self.serve(server, trace, ["--caps", "1=2", "--chunks", "3"])
         self.assertEqual((status, log.splitlines()[-1][:12]), (12, "stop nochunk"))
 
+    def test_threads_that_send_to_one_another(self):
+        (server,) = blocks("Threads that send to one another")
+        trace, _ = blocks("3. A trace")
+        status, log, _ = self.serve(server, trace, ["--caps", "1=1,2=1"])
+        self.assertEqual((status, re.findall(r"^out \d+ (.*)", log, re.M)), (10, ["1", "2", "3"]))
+        status, log, _ = self.serve(server, trace)
+        self.assertEqual((status, log.splitlines()[-1].split()[:4]), (11, ["stop", "trap", "0", "resource"]))
+
+    def test_many_runs(self):
+        commands, table = blocks("Traces at a rate, and many runs")[-2:]
+        with tempfile.TemporaryDirectory() as room:
+            for name in ("tools", "docs", "examples"):
+                pathlib.Path(room, name).symlink_to(rooms.TOP / name)
+            made = subprocess.run(["bash", "-ec", commands], cwd=room, capture_output=True, text=True)
+        self.assertEqual(made.stdout, table, made.stderr)
+
 
 if __name__ == "__main__":
     unittest.main()
