@@ -104,6 +104,20 @@ class Names(unittest.TestCase):
                     self.assertIn(title, titles_of(page))
 
 
+class Commands(unittest.TestCase):
+    def test_a_page_of_an_example_shows_commands_of_its_logs(self):
+        for folder in sorted(it for it in TOP.glob("examples/*/") if it.is_dir()):
+            place = f"examples/{folder.name}"
+            words = [it.read_text().strip() for it in folder.glob("options*")]
+            words += [""] if any(not (folder / it.name.replace("log", "options")).exists() for it in folder.glob("log*")) else []
+            runs = {" ".join(filter(None, ["serve", it, f"{place}/server.c < {place}/trace"])) for it in words}
+            page = (folder / "README.md").read_text()
+            shown = set(re.findall(rf"^\./(?:capriccio|report) .*?(serve .*{place}/server\.c < {place}/trace)", page, re.M))
+            with self.subTest(folder=folder.name):
+                self.assertTrue(shown)
+                self.assertLessEqual(shown, runs)
+
+
 class Words(unittest.TestCase):
     def test_the_gate_is_the_scheduler_s(self):
         for page in PAGES:
