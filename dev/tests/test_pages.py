@@ -126,6 +126,35 @@ class Words(unittest.TestCase):
                     self.assertEqual(OTHER_GATE.findall(page.read_text()), [])
 
 
+class Identifiers(unittest.TestCase):
+    """Names of the code, in backquotes: those with a line between two words, or a capital within."""
+
+    SOURCES = ("crates/*/src/**/*.rt", "crates/*/specs/**/*.antt", "dev/**/*", "tools/**/*", "include/*", "examples/**/*", "crates.txt")
+    PROOFS = ("crates/*/proofs/**/*.antt",)
+    IDENTIFIER = re.compile(r"`([A-Za-z_]\w*)`")
+
+    def words_of(self, globs):
+        """The words of all these files, and the names of the files."""
+        words = set()
+        for path in itertools.chain.from_iterable(map(TOP.glob, globs)):
+            if path.is_file() and path.suffix not in (".md", ".png", ".svg", ".pyc"):
+                words.add(path.stem)
+                words.update(re.findall(r"[A-Za-z_]\w*", path.read_text(errors="ignore")))
+        return words
+
+    def test_each_name_of_the_code_is_there(self):
+        named = {}
+        for page in PAGES:
+            if page != HISTORY and page.name != "CLAUSES.md":
+                for name in self.IDENTIFIER.findall(without_code(page.read_text())):
+                    if "_" in name or re.search("[a-z][A-Z]", name):
+                        named.setdefault(name, page.relative_to(TOP))
+        there = self.words_of(self.SOURCES) | {it.name for it in TOP.glob("crates/*")}
+        missing = {name: page for name, page in named.items() if name not in there}
+        there = self.words_of(self.PROOFS) if missing else there
+        self.assertEqual({name: page for name, page in missing.items() if name not in there}, {})
+
+
 class Numbers(unittest.TestCase):
     def test_the_last_row_has_the_sums(self):
         found = 0
