@@ -111,7 +111,7 @@ class Commands(unittest.TestCase):
             words = [it.read_text().strip() for it in folder.glob("options*")]
             words += [""] if any(not (folder / it.name.replace("log", "options")).exists() for it in folder.glob("log*")) else []
             runs = {" ".join(filter(None, ["serve", it, f"{place}/server.c < {place}/trace"])) for it in words}
-            page = (folder / "README.md").read_text()
+            page = (folder / "README.md").read_text().partition("\n## Change it\n")[0]
             shown = set(re.findall(rf"^\./(?:capriccio|report) .*?(serve .*{place}/server\.c < {place}/trace)", page, re.M))
             with self.subTest(folder=folder.name):
                 self.assertTrue(shown)
