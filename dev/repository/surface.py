@@ -7,20 +7,21 @@ dev/surface.txt lists them below comments that begin with `#`:
     enum CRATE NAME { VARIANT, .. }         a type with its variants and their fields
     trait CRATE NAME                        a trait, whose methods have rows of their own
     type CRATE NAME = TYPE                  another name of a type
+    use CRATE NAME                          a call or type of a crate below, which this one exports too
 
-All stand there as the source has them, without line breaks. An indented line continues the row above it.
+Each crate exports its names at its root. All stand there as the source has them, without line breaks. An indented line continues the row above it.
 """
 import dataclasses, functools, pathlib, re, textwrap
 
 from repository import rooms
-from repository.calls import after_angles, owners
+from repository.calls import after_angles, owners, public_names
 
 TABLE = pathlib.Path("dev/surface.txt")
 WIDTH = 120
 FUNCTION = re.compile(r"^( *)(pub )?(?:const )?(?:unsafe )?fn (\w+)", re.M)
 TYPE = re.compile(r"^pub (struct|enum|trait|type) (\w+)", re.M)
 ERROR = re.compile(r"((?:^#\[[^\]]*\]\s*|^///[^\n]*\n)*)^pub enum (\w*Error)\b", re.M)
-ROW = re.compile(r"^(fn|struct|enum|trait|type) (\w+) ((?:\w+::)?\w+)(\(.*\)(?: -> .+)?| \{ .* \}| = .+)?$")
+ROW = re.compile(r"^(fn|struct|enum|trait|type|use) (\w+) ((?:\w+::)?\w+)(\(.*\)(?: -> .+)?| \{ .* \}| = .+)?$")
 # what a signature ends before, and what of a type's body isn't one of its fields or variants
 RESULT_ENDS = re.compile(r"\s*(?:\b(?:requires|ensures|ghost|where)\b|\{|;(?![^\[]*\])|$)")
 NO_MEMBER = re.compile(r'"(?:[^"\\]|\\.)*"|//[^\n]*|#\[[^\[\]]*(?:\[[^\[\]]*\][^\[\]]*)*\]')
@@ -168,13 +169,21 @@ def underived(text):
             yield name
 
 
+def unexported(row, names):
+    """A sentence if these names, which a crate exports, lack the row's call or type, or the type of its method."""
+    name = row.name.partition("::")[0]
+    if name not in names:
+        yield f"{row.crate} doesn't export {name}: its lib.rt needs a `pub use` of it"
+
+
 def violations(table, crates):
     """A sentence for each row that the code lacks, and for each error enum that isn't derived."""
     for row in table:
         if row.crate not in crates:
             yield f"there is no crate {row.crate}, of which the table has {row.name}"
         else:
-            yield from differences(row, rows_of(row.crate))
+            yield from unexported(row, public_names(row.crate))
+            yield from differences(row, rows_of(row.crate)) if row.kind != "use" else ()
     for crate in crates:
         for path, text in sources(crate).items():
             for name in underived(text):

@@ -1,7 +1,8 @@
 """The promises of the headline: which there are, what stands under each, and the page's table."""
-import pathlib, tempfile, unittest, unittest.mock
+import pathlib, re, tempfile, unittest, unittest.mock
 
-from repository import headline, pages
+from repository import headline, pages, trust
+from repository.definitions import CodeType, cited
 
 EIGHT = ["memory", "pool", "choices", "outputs", "stops", "budget", "audit", "faults"]
 
@@ -25,6 +26,20 @@ class Promises(unittest.TestCase):
         for promise in EIGHT:
             with self.subTest(promise=promise):
                 self.assertFalse({"IsAnswer", "IsDue", "HasEnoughChunks"} & names_under(promise))
+
+    def test_a_law_has_one_premise_and_that_is_a_clause_of_the_call(self):
+        clauses = {it.name for it in cited(*trust.contract_of(trust.COMMAND, "capriccio")) if not isinstance(it, CodeType)}
+        for promise in EIGHT:
+            with self.subTest(promise=promise):
+                _, contract = trust.contract_of(headline.LAWS, promise)
+                self.assertNotIn("requires", contract)
+                (law,) = re.findall(r"ensures \{(.*)\}", contract, re.S)
+                variables, premise, conclusion = (it.split() for it in law.split("→"))
+                bound = set(re.findall(r"\w+'?", " ".join(re.findall(r"\(([^:()]*) :", " ".join(variables)))))
+                self.assertIn(premise[0], clauses)
+                self.assertEqual(len(premise[1:]), len(set(premise[1:])))  # nothing is left out by using one variable twice
+                self.assertLessEqual(set(premise[1:]), bound)
+                self.assertEqual([conclusion[0]], [it.name for it in headline.conclusions(promise)])
 
     def test_none_is_too_large(self):
         self.assertEqual(list(headline.too_large()), [])

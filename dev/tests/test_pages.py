@@ -104,12 +104,55 @@ class Names(unittest.TestCase):
                     self.assertIn(title, titles_of(page))
 
 
+class Commands(unittest.TestCase):
+    def test_a_page_of_an_example_shows_commands_of_its_logs(self):
+        for folder in sorted(it for it in TOP.glob("examples/*/") if it.is_dir()):
+            place = f"examples/{folder.name}"
+            words = [it.read_text().strip() for it in folder.glob("options*")]
+            words += [""] if any(not (folder / it.name.replace("log", "options")).exists() for it in folder.glob("log*")) else []
+            runs = {" ".join(filter(None, ["serve", it, f"{place}/server.c < {place}/trace"])) for it in words}
+            page = (folder / "README.md").read_text().partition("\n## Change it\n")[0]
+            shown = set(re.findall(rf"^\./(?:capriccio|report) .*?(serve .*{place}/server\.c < {place}/trace)", page, re.M))
+            with self.subTest(folder=folder.name):
+                self.assertTrue(shown)
+                self.assertLessEqual(shown, runs)
+
+
 class Words(unittest.TestCase):
     def test_the_gate_is_the_scheduler_s(self):
         for page in PAGES:
             if page != HISTORY:
                 with self.subTest(page=page.relative_to(TOP)):
                     self.assertEqual(OTHER_GATE.findall(page.read_text()), [])
+
+
+class Identifiers(unittest.TestCase):
+    """Names of the code, in backquotes: those with a line between two words, or a capital within."""
+
+    SOURCES = ("crates/*/src/**/*.rt", "crates/*/specs/**/*.antt", "dev/**/*", "tools/**/*", "include/*", "examples/**/*", "crates.txt")
+    PROOFS = ("crates/*/proofs/**/*.antt",)
+    IDENTIFIER = re.compile(r"`([A-Za-z_]\w*)`")
+
+    def words_of(self, globs):
+        """The words of all these files, and the names of the files."""
+        words = set()
+        for path in itertools.chain.from_iterable(map(TOP.glob, globs)):
+            if path.is_file() and path.suffix not in (".md", ".png", ".svg", ".pyc"):
+                words.add(path.stem)
+                words.update(re.findall(r"[A-Za-z_]\w*", path.read_text(errors="ignore")))
+        return words
+
+    def test_each_name_of_the_code_is_there(self):
+        named = {}
+        for page in PAGES:
+            if page != HISTORY and page.name != "CLAUSES.md":
+                for name in self.IDENTIFIER.findall(without_code(page.read_text())):
+                    if "_" in name or re.search("[a-z][A-Z]", name):
+                        named.setdefault(name, page.relative_to(TOP))
+        there = self.words_of(self.SOURCES) | {it.name for it in TOP.glob("crates/*")}
+        missing = {name: page for name, page in named.items() if name not in there}
+        there = self.words_of(self.PROOFS) if missing else there
+        self.assertEqual({name: page for name, page in missing.items() if name not in there}, {})
 
 
 class Numbers(unittest.TestCase):

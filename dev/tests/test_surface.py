@@ -114,6 +114,7 @@ class Reading(unittest.TestCase):
             "enum c_lex LexError { BadByte { at: u32 }, Memory }",
             "struct cap_io Failed",
             "type runner StrideEnd = RunEnd",
+            "use c_parse ParseError",
         )
         for line in lines:
             with self.subTest(line=line):
@@ -158,6 +159,12 @@ class Comparing(unittest.TestCase):
     def test_a_struct_in_place_of_an_enum_is_named(self):
         found = list(surface.differences(Row("enum", "c_lex", "LexError"), [Row("struct", "c_lex", "LexError")]))
         self.assertEqual(found, ["LexError of c_lex is of kind struct, and the table has enum"])
+
+    def test_a_name_that_isn_t_exported_is_named(self):
+        self.assertEqual(list(surface.unexported(LEX, {"lex", "Token"})), [])
+        self.assertEqual(list(surface.unexported(Row("fn", "cap_io", "Shelf::load", "()"), {"Shelf"})), [])
+        (found,) = surface.unexported(Row("use", "c_parse", "ParseError"), {"parse"})
+        self.assertEqual(found, "c_parse doesn't export ParseError: its lib.rt needs a `pub use` of it")
 
     def test_a_crate_that_is_gone_is_named(self):
         found = list(surface.violations([Row("fn", "no_such_crate", "lex", "()")], []))
