@@ -5,8 +5,10 @@
 // every word list are. The crates above run a program, or judge a log, with them.
 #![tactic(auto)]
 
+mod knee_measures;
 mod monitors;
 mod strides;
 
+pub use knee_measures::KneeMeasure;
 pub use monitors::monitor_of;
 pub use strides::stride_rule_of;

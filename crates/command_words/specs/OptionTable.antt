@@ -1,4 +1,5 @@
--- The options of the command line, as one table: each with its name, its default and its range, and which commands take it.
+-- The options of the command line, as one table: each with its name, its default and its range, and which commands take
+-- it.
 use Rattle.std.specs.Prelude.{ℕ, List, [], ◌∷◌, ◌++◌, drop, map, codes}
 use Rattle.command_words.specs.declared.option_table.CommandOption.{CommandOption}
 use Rattle.command_words.specs.declared.option_table.CommandOption.TheVariants as option
@@ -60,7 +61,9 @@ run_table = option.ExtraSize ∷ option.Rule ∷ option.Tickets ∷ []
 
 -- the options that runs and audits take: `serve`, `run` and `audit`
 abbrev pub shared_table : List CommandOption
-shared_table = option.Chunks ∷ option.Extra ∷ option.Fuel ∷ option.Backlog ∷ option.Caps ∷ option.High ∷ option.Low ∷ option.Knee ∷ []
+shared_table =
+    option.Chunks ∷ option.Extra ∷ option.Fuel ∷ option.Backlog ∷ option.Caps ∷ option.High ∷ option.Low ∷ option.Knee
+    ∷ []
 
 -- the options that only audits take
 abbrev pub audit_table : List CommandOption

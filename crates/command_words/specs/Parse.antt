@@ -4,12 +4,16 @@ use Rattle.std.specs.Prelude.{ℕ, ◌≡◌, ◌⊎◌, ◌≤◌, true, List, 
 use Rattle.std.specs.List.{flat_map, AllByRecursion}
 use Rattle.clap.specs.Simple.{App, on_top, new_app, new_rule, with_rule}
 use Rattle.clap.specs.Walk.{Rule}
-use Rattle.command_words.specs.Said.{Said, words_of, IsPlain, IsPlainSaid, positionals_of, options_of, value_of, IsOneOf, AreOnce}
-use Rattle.command_words.specs.OptionTable.{all_table, placement_table, run_table, shared_table, audit_table, name_of, long_name_of, names_of}
+use Rattle.command_words.specs.Said.{Said, words_of, IsPlain, IsPlainSaid, positionals_of, options_of, value_of}
+use Rattle.command_words.specs.Said.{IsOneOf, AreOnce}
+use Rattle.command_words.specs.OptionTable.{all_table, placement_table, run_table, shared_table, audit_table, name_of}
+use Rattle.command_words.specs.OptionTable.{long_name_of, names_of}
 use Rattle.command_words.specs.declared.option_table.CommandOption.{CommandOption}
 
 abbrev pub command_names : List (List ℕ)
-command_names = codes "serve" ∷ codes "run" ∷ codes "build" ∷ codes "check" ∷ codes "graph" ∷ codes "demo" ∷ codes "audit" ∷ codes "budget" ∷ []
+command_names =
+    codes "serve" ∷ codes "run" ∷ codes "build" ∷ codes "check" ∷ codes "graph" ∷ codes "demo" ∷ codes "audit" ∷ codes
+    "budget" ∷ []
 
 abbrev pub all_options : List (List ℕ)
 all_options = names_of all_table

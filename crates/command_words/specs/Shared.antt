@@ -16,5 +16,6 @@ pub record IsRoom (given : List ℕ → Option (List ℕ)) (room : Room) : Type 
 pub record AreMarks (given : List ℕ → Option (List ℕ)) (marks : Marks) : Type 0 where
   pub caps : AreCaps (given (name_of option.Caps)) marks.caps
   pub high : IsNumberOf given option.High marks.high
-  pub low : IsNumber (given (name_of option.Low)) (default_of option.Low) (least_of option.Low) (marks.high - 1) marks.low
+  pub low : IsNumber (given (name_of option.Low)) (default_of option.Low) (least_of option.Low)
+      (marks.high - 1) marks.low
   pub knee : IsNumberOf given option.Knee marks.knee

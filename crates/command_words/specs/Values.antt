@@ -1,5 +1,6 @@
 -- The values of the options: their ranges and defaults. `given` returns the text that is given for an option.
-use Rattle.std.specs.Prelude.{ℕ, suc, ◌≡◌, ⊤, length, take, ◌-◌, ◌*◌, ◌/◌, ◌%◌, ◌==◌, ◌<◌, ◌≤◌, List, [], ◌∷◌, ◌++◌, map, replicate, codes, Option, Some, None, if◌then◌else◌}
+use Rattle.std.specs.Prelude.{ℕ, suc, ◌≡◌, ⊤, length, take, ◌-◌, ◌*◌, ◌/◌, ◌%◌, ◌==◌, ◌<◌, ◌≤◌, List, [], ◌∷◌, ◌++◌}
+use Rattle.std.specs.Prelude.{map, replicate, codes, Option, Some, None, if◌then◌else◌}
 use Rattle.cap_text.specs.Decimals.{canonical_decimal}
 use Rattle.cap_text.specs.Pieces.{pieces}
 use Rattle.command_words.specs.OptionTable.{name_of, default_of, least_of, most_of}
@@ -46,7 +47,8 @@ cap_text (resource, most) = canonical_decimal resource ++ 61 ∷ canonical_decim
 abbrev pub AreCapsAbove : ℕ → List (ℕ × ℕ) → Type 0
 AreCapsAbove below [] = ⊤
 AreCapsAbove below ((resource, most) ∷ rest) =
-    (below < resource) × (resource ≤ 7) × (least_of option.Caps ≤ most) × (most ≤ most_of option.Caps) × AreCapsAbove resource rest
+    (below < resource) × (resource ≤ 7) × (least_of option.Caps ≤ most) × (most ≤ most_of option.Caps)
+    × AreCapsAbove resource rest
 
 -- the cap of a resource, or 0 if it has none
 abbrev pub cap_of : List (ℕ × ℕ) → ℕ → ℕ
@@ -77,7 +79,8 @@ ticket_text (thread, tickets) = canonical_decimal thread ++ 61 ∷ canonical_dec
 abbrev pub AreTicketsFrom : ℕ → List (ℕ × ℕ) → Type 0
 AreTicketsFrom least [] = ⊤
 AreTicketsFrom least ((thread, tickets) ∷ rest) =
-    (least ≤ thread) × (thread ≤ 1000000) × (least_of option.Tickets ≤ tickets) × (tickets ≤ most_of option.Tickets) × AreTicketsFrom (suc thread) rest
+    (least ≤ thread) × (thread ≤ 1000000) × (least_of option.Tickets ≤ tickets) × (tickets ≤ most_of option.Tickets)
+    × AreTicketsFrom (suc thread) rest
 
 -- the text consists of the tickets of at most 64 threads, joined by `,` (44)
 pub record IsTicketsText (text : List ℕ) (tickets : List (ℕ × ℕ)) : Type 0 where
@@ -117,7 +120,8 @@ pub record IsPolicy (given : List ℕ → Option (List ℕ)) (policy : Policy) :
   pub backlog : IsNumberOf given option.Backlog policy.backlog
   pub caps : AreCaps (given (name_of option.Caps)) policy.caps
   pub high : IsNumberOf given option.High policy.high
-  pub low : IsNumber (given (name_of option.Low)) (default_of option.Low) (least_of option.Low) (policy.high - 1) policy.low
+  pub low : IsNumber (given (name_of option.Low)) (default_of option.Low) (least_of option.Low)
+      (policy.high - 1) policy.low
   pub rule : IsRule (given (name_of option.Rule)) (given (name_of option.Tickets)) policy.rule
   pub knee : IsNumberOf given option.Knee policy.knee
 

@@ -2,7 +2,8 @@
 use Rattle.std.specs.Prelude.{ℕ, ◌≡◌, ◌+◌, ◌*◌, ◌≤◌, List, [], ◌∷◌, ◌++◌, codes}
 use Rattle.std.specs.List.{flat_map, AllByRecursion}
 use Rattle.cap_text.specs.Decimals.{canonical_decimal}
-use Rattle.command_words.specs.Said.{Said, words_of, IsPlainSaid, positionals_of, options_of, value_of, IsOneOf, AreOnce}
+use Rattle.command_words.specs.Said.{Said, words_of, IsPlainSaid, positionals_of, options_of, value_of, IsOneOf}
+use Rattle.command_words.specs.Said.{AreOnce}
 use Rattle.command_words.specs.OptionTable.{placement_table, run_table, shared_table, audit_table, names_of}
 use Rattle.command_words.specs.Values.{IsAudit, IsPlacement, IsPolicy}
 use Rattle.command_words.specs.declared.commands.Command.{Command}
@@ -55,7 +56,8 @@ audit_policy = names_of (shared_table ++ audit_table)
 
 -- the words are the command's name and, in any order, exactly these positional words and some of these options, each at
 -- most once and followed by its value
-pub record Says (words : List (List ℕ)) (name : List ℕ) (positionals options : List (List ℕ)) (said : List Said) : Type 0 where
+pub record Says (words : List (List ℕ)) (name : List ℕ) (positionals options : List (List ℕ))
+    (said : List Said) : Type 0 where
   pub in_words : words ≡ name ∷ flat_map words_of said
   pub plain : AllByRecursion IsPlainSaid said
   pub positional : positionals_of said ≡ positionals
@@ -64,18 +66,25 @@ pub record Says (words : List (List ℕ)) (name : List ℕ) (positionals options
 
 -- the words ask for the command
 abbrev pub IsWordList : List (List ℕ) → Request → Type 0
-IsWordList words (Serve source placement policy) = (said : List Said) × Says words (codes "serve") (source ∷ []) (placement_options ++ policy_options) said
-    × IsPlacement (value_of said) placement × IsPolicy (value_of said) policy × (placement.chunk * policy.chunks + policy.extra_bytes * policy.extra ≤ 67108864)
-IsWordList words (Run source image certificate policy) = (said : List Said) × Says words (codes "run") (source ∷ image ∷ certificate ∷ []) policy_options said
+IsWordList words (Serve source placement policy) =
+    (said : List Said) × Says words (codes "serve") (source ∷ []) (placement_options ++ policy_options) said
+    × IsPlacement (value_of said) placement × IsPolicy (value_of said) policy
+    × (placement.chunk * policy.chunks + policy.extra_bytes * policy.extra ≤ 67108864)
+IsWordList words (Run source image certificate policy) =
+    (said : List Said) × Says words (codes "run") (source ∷ image ∷ certificate ∷ []) policy_options said
     × IsPolicy (value_of said) policy
 IsWordList words (Build source image certificate placement) = (said : List Said)
     × Says words (codes "build") (source ∷ image ∷ certificate ∷ []) placement_options said
     × IsPlacement (value_of said) placement
-IsWordList words (Check source image certificate) = (said : List Said) × Says words (codes "check") (source ∷ image ∷ certificate ∷ []) [] said
-IsWordList words (Graph source placement) = (said : List Said) × Says words (codes "graph") (source ∷ []) placement_options said
+IsWordList words (Check source image certificate) =
+    (said : List Said) × Says words (codes "check") (source ∷ image ∷ certificate ∷ []) [] said
+IsWordList words (Graph source placement) =
+    (said : List Said) × Says words (codes "graph") (source ∷ []) placement_options said
     × IsPlacement (value_of said) placement
 IsWordList words (Demo number) = (said : List Said) × Says words (codes "demo") (canonical_decimal number ∷ []) [] said
     × (1 ≤ number) × (number ≤ 1000)
-IsWordList words (Audit source log options) = (said : List Said) × Says words (codes "audit") (source ∷ log ∷ []) audit_policy said
+IsWordList words (Audit source log options) =
+    (said : List Said) × Says words (codes "audit") (source ∷ log ∷ []) audit_policy said
     × IsAudit (value_of said) options
-IsWordList words (Budget source image certificate) = (said : List Said) × Says words (codes "budget") (source ∷ image ∷ certificate ∷ []) [] said
+IsWordList words (Budget source image certificate) =
+    (said : List Said) × Says words (codes "budget") (source ∷ image ∷ certificate ∷ []) [] said

@@ -11,7 +11,8 @@ use cap_text::{Fields, read_dec};
 /// canonical decimal or is out of range.
 pub(crate) fn number(given: Option<&str>, default: u64, least: u64, most: u64) -> Option<u64>
     ensures found { IfSome result (λ n. IsNumber (option_map (λ text. text.now) given.entry) default least most n) }
-    ensures none { IfNone result ((n : ℕ) → IsNumber (option_map (λ text. text.now) given.entry) default least most n → ⊥) }
+    ensures none { IfNone result ((n : ℕ) → IsNumber (option_map (λ text. text.now) given.entry) default least most n
+        → ⊥) }
 {
     let number = match given {
         Some(text) => read_dec(text.as_bytes(), most).ok()?,
@@ -34,7 +35,8 @@ pub(crate) fn caps(given: Option<&str>) -> Option<[u32; 8]>
 
 /// Returns the caps in a text.
 fn caps_in(text: &[u8]) -> Option<[u32; 8]>
-    ensures found { IfSome result (λ caps. (pairs : List (ℕ × ℕ)) × IsCapsText text.now pairs × (caps ≡ caps_of pairs)) }
+    ensures found { IfSome result (λ caps. (pairs : List (ℕ × ℕ)) × IsCapsText text.now pairs
+        × (caps ≡ caps_of pairs)) }
     ensures none { IfNone result ((pairs : List (ℕ × ℕ)) → IsCapsText text.now pairs → ⊥) }
 {
     let mut fields = Fields::new(text, b',');
@@ -57,7 +59,8 @@ fn caps_in(text: &[u8]) -> Option<[u32; 8]>
 fn cap(field: &[u8]) -> Option<(u32, u32)>
     ensures found { IfSome result (λ cap. (field.now ≡ cap_text cap) × (1 ≤ cap.0) × (cap.0 ≤ 7)
         × (least_of option.Caps ≤ cap.1) × (cap.1 ≤ most_of option.Caps)) }
-    ensures none { IfNone result ((resource most : ℕ) → 1 ≤ resource → resource ≤ 7 → least_of option.Caps ≤ most → most ≤ most_of option.Caps
+    ensures none { IfNone result ((resource most : ℕ) → 1 ≤ resource → resource ≤ 7 → least_of option.Caps ≤ most
+        → most ≤ most_of option.Caps
         → field.now ≡ cap_text (resource, most) → ⊥) }
 {
     let (digit, rest) = field.split_first()?;

@@ -78,6 +78,19 @@ pub(crate) struct Row<'a> {
     pub(crate) most: u64,
 }
 
+/// A row, from the option's name without its dashes and its three numbers.
+macro_rules! row {
+    ($name:literal, default: $default:literal, least: $least:literal, most: $most:literal) => {
+        Row {
+            name: concat!("--", $name),
+            long: $name,
+            default: $default,
+            least: $least,
+            most: $most,
+        }
+    };
+}
+
 impl CommandOption {
     /// Returns the row of the option.
     pub(crate) fn row<'a>(self) -> Row<'a>
@@ -88,39 +101,21 @@ impl CommandOption {
         ensures most { result.most ≡ (row_of self).most }
     {
         match self {
-            CommandOption::Chunk => Row::new("--chunk", "chunk", 4096, 64, 65_536),
-            CommandOption::MaxPath => Row::new("--max-path", "max-path", 2032, 16, 65_520),
-            CommandOption::ExtraSize => Row::new("--extra-size", "extra-size", 64, 32, 65_536),
-            CommandOption::Rule => Row::new("--rule", "rule", 0, 0, 0),
-            CommandOption::Tickets => Row::new("--tickets", "tickets", 1, 1, 1024),
-            CommandOption::Chunks => Row::new("--chunks", "chunks", 1024, 1, 65_536),
-            CommandOption::Extra => Row::new("--extra", "extra", 0, 0, 65_536),
-            CommandOption::Fuel => Row::new("--fuel", "fuel", 10_000_000, 0, 1_000_000_000),
-            CommandOption::Backlog => Row::new("--backlog", "backlog", 64, 1, 4096),
-            CommandOption::Caps => Row::new("--caps", "caps", 0, 1, 1_000_000),
-            CommandOption::High => Row::new("--high", "high", 900, 1, 1000),
-            CommandOption::Low => Row::new("--low", "low", 700, 0, 999),
-            CommandOption::Knee => Row::new("--knee", "knee", 0, 0, 999),
-            CommandOption::Steps => Row::new("--steps", "steps", 1_000_000_000, 0, 1_000_000_000),
-        }
-    }
-}
-
-impl<'a> Row<'a> {
-    /// Returns a row of these values.
-    fn new(name: &'a str, long: &'a str, default: u64, least: u64, most: u64) -> Row<'a>
-        ensures name { result.name.now ≡ name.now }
-        ensures long { result.long.now ≡ long.now }
-        ensures default { result.default ≡ default }
-        ensures least { result.least ≡ least }
-        ensures most { result.most ≡ most }
-    {
-        Row {
-            name,
-            long,
-            default,
-            least,
-            most,
+            CommandOption::Chunk => row!("chunk", default: 4096, least: 64, most: 65_536),
+            CommandOption::MaxPath => row!("max-path", default: 2032, least: 16, most: 65_520),
+            CommandOption::ExtraSize => row!("extra-size", default: 64, least: 32, most: 65_536),
+            CommandOption::Rule => row!("rule", default: 0, least: 0, most: 0),
+            CommandOption::Tickets => row!("tickets", default: 1, least: 1, most: 1024),
+            CommandOption::Chunks => row!("chunks", default: 1024, least: 1, most: 65_536),
+            CommandOption::Extra => row!("extra", default: 0, least: 0, most: 65_536),
+            CommandOption::Fuel => row!("fuel", default: 10_000_000, least: 0, most: 1_000_000_000),
+            CommandOption::Backlog => row!("backlog", default: 64, least: 1, most: 4096),
+            CommandOption::Caps => row!("caps", default: 0, least: 1, most: 1_000_000),
+            CommandOption::High => row!("high", default: 900, least: 1, most: 1000),
+            CommandOption::Low => row!("low", default: 700, least: 0, most: 999),
+            CommandOption::Knee => row!("knee", default: 0, least: 0, most: 999),
+            CommandOption::Steps =>
+                row!("steps", default: 1_000_000_000, least: 0, most: 1_000_000_000),
         }
     }
 }

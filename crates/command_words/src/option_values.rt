@@ -1,6 +1,5 @@
 // The values of the options, from the parsed texts.
 ghost use Rattle.std.specs.Prelude.{ℕ, ◌≡◌, ◌%◌, option_map, IfSome, IfNone};
-ghost use Rattle.clap.specs.Words.{first_value, found_of};
 ghost use Rattle.command_words.specs.declared.option_values.Marks.{Marks};
 ghost use Rattle.command_words.specs.declared.option_values.Room.{Room};
 ghost use Rattle.command_words.specs.declared.options.Audit.{Audit};
@@ -8,6 +7,7 @@ ghost use Rattle.command_words.specs.declared.options.Placement.{Placement};
 ghost use Rattle.command_words.specs.declared.options.Policy.{Policy};
 ghost use Rattle.command_words.specs.Shared.{AreMarks, IsRoom};
 ghost use Rattle.command_words.specs.Values.{IsAudit, IsNumber, IsNumberOf, IsPlacement, IsPolicy};
+ghost use Rattle.command_words.specs.Asked.{texts_of};
 ghost use Rattle.command_words.specs.OptionTable.{name_of, least_of};
 ghost use Rattle.command_words.specs.declared.option_table.CommandOption.TheVariants as option;
 
@@ -37,8 +37,8 @@ struct Marks {
 
 /// Returns the options of placement.
 pub(crate) fn placement(matches: &ArgMatches<'_>) -> Option<Placement>
-    ensures found { IfSome result (λ placement. IsPlacement (λ name. first_value (found_of matches.now) name) placement) }
-    ensures none { IfNone result ((placement : Placement) → IsPlacement (λ name. first_value (found_of matches.now) name) placement → ⊥) }
+    ensures found { IfSome result (λ placement. IsPlacement (texts_of matches.now) placement) }
+    ensures none { IfNone result ((placement : Placement) → IsPlacement (texts_of matches.now) placement → ⊥) }
 {
     let chunk = number_of(matches, CommandOption::Chunk)?;
     if chunk % 16 != 0 {
@@ -54,8 +54,8 @@ pub(crate) fn placement(matches: &ArgMatches<'_>) -> Option<Placement>
 
 /// Returns the options of a run.
 pub(crate) fn policy(matches: &ArgMatches<'_>) -> Option<Policy>
-    ensures found { IfSome result (λ policy. IsPolicy (λ name. first_value (found_of matches.now) name) policy) }
-    ensures none { IfNone result ((policy : Policy) → IsPolicy (λ name. first_value (found_of matches.now) name) policy → ⊥) }
+    ensures found { IfSome result (λ policy. IsPolicy (texts_of matches.now) policy) }
+    ensures none { IfNone result ((policy : Policy) → IsPolicy (texts_of matches.now) policy → ⊥) }
 {
     let Room {
         chunks,
@@ -90,8 +90,8 @@ pub(crate) fn policy(matches: &ArgMatches<'_>) -> Option<Policy>
 
 /// Returns the options of an audit: a policy, and the limit on steps.
 pub(crate) fn audit_given(matches: &ArgMatches<'_>) -> Option<Audit>
-    ensures found { IfSome result (λ options. IsAudit (λ name. first_value (found_of matches.now) name) options) }
-    ensures none { IfNone result ((options : Audit) → IsAudit (λ name. first_value (found_of matches.now) name) options → ⊥) }
+    ensures found { IfSome result (λ options. IsAudit (texts_of matches.now) options) }
+    ensures none { IfNone result ((options : Audit) → IsAudit (texts_of matches.now) options → ⊥) }
 {
     let policy = policy(matches)?;
     let steps = number_of(matches, CommandOption::Steps)?;
@@ -100,8 +100,8 @@ pub(crate) fn audit_given(matches: &ArgMatches<'_>) -> Option<Audit>
 
 /// Returns the sizes of a run's pool, its fuel and its backlog.
 fn room_of(matches: &ArgMatches<'_>) -> Option<Room>
-    ensures found { IfSome result (λ room. IsRoom (λ name. first_value (found_of matches.now) name) room) }
-    ensures none { IfNone result ((room : Room) → IsRoom (λ name. first_value (found_of matches.now) name) room → ⊥) }
+    ensures found { IfSome result (λ room. IsRoom (texts_of matches.now) room) }
+    ensures none { IfNone result ((room : Room) → IsRoom (texts_of matches.now) room → ⊥) }
 {
     let chunks = number_of(matches, CommandOption::Chunks)? as u32;
     let extra = number_of(matches, CommandOption::Extra)? as u32;
@@ -117,8 +117,8 @@ fn room_of(matches: &ArgMatches<'_>) -> Option<Room>
 
 /// Returns the caps and the thresholds of pressure.
 fn marks_of(matches: &ArgMatches<'_>) -> Option<Marks>
-    ensures found { IfSome result (λ marks. AreMarks (λ name. first_value (found_of matches.now) name) marks) }
-    ensures none { IfNone result ((marks : Marks) → AreMarks (λ name. first_value (found_of matches.now) name) marks → ⊥) }
+    ensures found { IfSome result (λ marks. AreMarks (texts_of matches.now) marks) }
+    ensures none { IfNone result ((marks : Marks) → AreMarks (texts_of matches.now) marks → ⊥) }
 {
     let caps = caps(text_of(matches, CommandOption::Caps))?;
     let high = number_of(matches, CommandOption::High)?;
@@ -135,9 +135,9 @@ fn marks_of(matches: &ArgMatches<'_>) -> Option<Marks>
 
 /// Returns the size in bytes of each chunk of the second size.
 fn extra_bytes(matches: &ArgMatches<'_>) -> Option<u32>
-    ensures found { IfSome result (λ bytes. IsNumberOf (λ name. first_value (found_of matches.now) name) option.ExtraSize bytes
+    ensures found { IfSome result (λ bytes. IsNumberOf (texts_of matches.now) option.ExtraSize bytes
         × (bytes % 16 ≡ 0)) }
-    ensures none { IfNone result ((bytes : ℕ) → IsNumberOf (λ name. first_value (found_of matches.now) name) option.ExtraSize bytes
+    ensures none { IfNone result ((bytes : ℕ) → IsNumberOf (texts_of matches.now) option.ExtraSize bytes
         → bytes % 16 ≡ 0 → ⊥) }
 {
     let bytes = number_of(matches, CommandOption::ExtraSize)? as u32;
@@ -150,8 +150,8 @@ fn extra_bytes(matches: &ArgMatches<'_>) -> Option<u32>
 /// Returns the number of an option: the given one, or its default. Returns `None` if the text isn't a canonical decimal
 /// or is out of range.
 fn number_of(matches: &ArgMatches<'_>, option: CommandOption) -> Option<u64>
-    ensures found { IfSome result (λ n. IsNumberOf (λ name. first_value (found_of matches.now) name) option n) }
-    ensures none { IfNone result ((n : ℕ) → IsNumberOf (λ name. first_value (found_of matches.now) name) option n → ⊥) }
+    ensures found { IfSome result (λ n. IsNumberOf (texts_of matches.now) option n) }
+    ensures none { IfNone result ((n : ℕ) → IsNumberOf (texts_of matches.now) option n → ⊥) }
 {
     let row = option.row();
     number_within(matches, option, row.default, row.most)
@@ -165,8 +165,10 @@ fn number_within(
     default: u64,
     most: u64,
 ) -> Option<u64>
-    ensures found { IfSome result (λ n. IsNumber (first_value (found_of matches.now) (name_of option)) default (least_of option) most n) }
-    ensures none { IfNone result ((n : ℕ) → IsNumber (first_value (found_of matches.now) (name_of option)) default (least_of option) most n → ⊥) }
+    ensures found { IfSome result (λ n. IsNumber (texts_of matches.now (name_of option)) default
+        (least_of option) most n) }
+    ensures none { IfNone result ((n : ℕ)
+        → IsNumber (texts_of matches.now (name_of option)) default (least_of option) most n → ⊥) }
 {
     let row = option.row();
     number(matches.get_str(row.name), default, row.least, most)
@@ -174,7 +176,7 @@ fn number_within(
 
 /// Returns the text that is given for an option.
 fn text_of<'a>(matches: &ArgMatches<'a>, option: CommandOption) -> Option<&'a str>
-    ensures { option_map (λ text. text.now) result ≡ first_value (found_of matches.now) (name_of option) }
+    ensures { option_map (λ text. text.now) result ≡ texts_of matches.now (name_of option) }
 {
     matches.get_str(option.row().name)
 }

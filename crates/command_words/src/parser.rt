@@ -1,9 +1,10 @@
 // The words as `clap` parses them: one command without subcommands, whose options and positional words are texts.
 ghost use Rattle.std.specs.Prelude.{List, ◌≡◌, map, option_map, Err, IfOk, ◌↔◌, fold, false};
 ghost use Rattle.std.specs.String.{string_bytes};
-ghost use Rattle.clap.specs.Words.{app_of, first_value, found_of, rule_of};
+ghost use Rattle.clap.specs.Words.{app_of, rule_of};
 ghost use Rattle.command_words.specs.Said.{Said};
 ghost use Rattle.clap.specs.Simple.{new_rule};
+ghost use Rattle.command_words.specs.Asked.{texts_of};
 ghost use Rattle.command_words.specs.Parse.{IsReadable, IsSaid, IsReadAs, bare_app, with_option, with_place, words_app};
 
 use crate::commands::WordsError;
@@ -16,8 +17,10 @@ use std::alloc::{AllocError, Global};
 /// are positional.
 pub(crate) fn parse<'a>(alloc: Global, words: &'a Vec<String>) -> Result<ArgMatches<'a>, WordsError>
     requires { IsReadable (map (λ word. string_bytes word) words.now.items) }
-    ensures read { IfOk result (λ matches. IsReadAs (map (λ word. string_bytes word) words.now.items) (λ name. first_value (found_of matches) name)) }
-    ensures refused { result ≡ Err WordsError.NotWords → (said : List Said) → IsSaid (map (λ word. string_bytes word) words.now.items) said → ⊥ }
+    ensures read { IfOk result (λ matches. IsReadAs (map (λ word. string_bytes word) words.now.items)
+        (texts_of matches)) }
+    ensures refused { result ≡ Err WordsError.NotWords → (said : List Said)
+        → IsSaid (map (λ word. string_bytes word) words.now.items) said → ⊥ }
 {
     let Ok(parser) = parser(alloc) else {
         return Err(WordsError::Memory);
@@ -57,7 +60,8 @@ fn with_places<'a>(
     command: Command<'a>,
     names: &[&'a str],
 ) -> Result<Command<'a>, AllocError>
-    ensures { IfOk result (λ parser. app_of parser ≡ fold (λ app name. with_place app name.now) (app_of command.entry) names.now) }
+    ensures { IfOk result (λ parser. app_of parser ≡ fold (λ app name. with_place app name.now)
+        (app_of command.entry) names.now) }
 {
     let mut command = command;
     for name in names {

@@ -1,9 +1,9 @@
 // A command from the parsed texts.
 ghost use Rattle.std.specs.Prelude.{ℕ, List, ◌≡◌, ◌*◌, ◌↔◌, IsTrue, IfSome, IfNone, Some, None, is_none, codes};
-ghost use Rattle.clap.specs.Words.{first_value, found_of};
 ghost use Rattle.command_words.specs.OptionTable.{names_of};
-ghost use Rattle.command_words.specs.WordList.{Request, Serve, Run, Build, Check, Graph, Demo, Budget, request_of, audit_options, placement_options, policy_options, run_options};
-ghost use Rattle.command_words.specs.Asked.{IsAsked, LacksAll, HasOne, HasThree, HasTwo};
+ghost use Rattle.command_words.specs.WordList.{Request, Serve, Run, Build, Check, Graph, Demo, Budget, request_of};
+ghost use Rattle.command_words.specs.WordList.{audit_options, placement_options, policy_options, run_options};
+ghost use Rattle.command_words.specs.Asked.{IsAsked, LacksAll, HasOne, HasThree, HasTwo, texts_of};
 
 use crate::commands::Command;
 use crate::numbers::number;
@@ -16,8 +16,8 @@ const MOST_BYTES: u64 = 67_108_864;
 
 /// Returns the command that the parsed words ask for.
 pub(crate) fn command_of<'a>(matches: &ArgMatches<'a>) -> Option<Command<'a>>
-    ensures found { IfSome result (λ command. IsAsked (λ name. first_value (found_of matches.now) name) (request_of command)) }
-    ensures none { IfNone result ((request : Request) → IsAsked (λ name. first_value (found_of matches.now) name) request → ⊥) }
+    ensures found { IfSome result (λ command. IsAsked (texts_of matches.now) (request_of command)) }
+    ensures none { IfNone result ((request : Request) → IsAsked (texts_of matches.now) request → ⊥) }
 {
     match matches.get_str("command")? {
         "serve" => serve(matches),
@@ -34,9 +34,9 @@ pub(crate) fn command_of<'a>(matches: &ArgMatches<'a>) -> Option<Command<'a>>
 
 /// Returns the command `serve`, if the words ask for it.
 fn serve<'a>(matches: &ArgMatches<'a>) -> Option<Command<'a>>
-    requires { first_value (found_of matches.now) (codes "command") ≡ Some (codes "serve") }
-    ensures found { IfSome result (λ command. IsAsked (λ name. first_value (found_of matches.now) name) (request_of command)) }
-    ensures none { IfNone result ((request : Request) → IsAsked (λ name. first_value (found_of matches.now) name) request → ⊥) }
+    requires { texts_of matches.now (codes "command") ≡ Some (codes "serve") }
+    ensures found { IfSome result (λ command. IsAsked (texts_of matches.now) (request_of command)) }
+    ensures none { IfNone result ((request : Request) → IsAsked (texts_of matches.now) request → ⊥) }
 {
     let source = one_name(matches)?;
     let placement = placement(matches)?;
@@ -54,9 +54,9 @@ fn serve<'a>(matches: &ArgMatches<'a>) -> Option<Command<'a>>
 
 /// Returns the command `run`, if the words ask for it.
 fn run<'a>(matches: &ArgMatches<'a>) -> Option<Command<'a>>
-    requires { first_value (found_of matches.now) (codes "command") ≡ Some (codes "run") }
-    ensures found { IfSome result (λ command. IsAsked (λ name. first_value (found_of matches.now) name) (request_of command)) }
-    ensures none { IfNone result ((request : Request) → IsAsked (λ name. first_value (found_of matches.now) name) request → ⊥) }
+    requires { texts_of matches.now (codes "command") ≡ Some (codes "run") }
+    ensures found { IfSome result (λ command. IsAsked (texts_of matches.now) (request_of command)) }
+    ensures none { IfNone result ((request : Request) → IsAsked (texts_of matches.now) request → ⊥) }
 {
     let (source, image, certificate) = three_names(matches)?;
     let policy = policy(matches)?;
@@ -70,9 +70,9 @@ fn run<'a>(matches: &ArgMatches<'a>) -> Option<Command<'a>>
 
 /// Returns the command `build`, if the words ask for it.
 fn build<'a>(matches: &ArgMatches<'a>) -> Option<Command<'a>>
-    requires { first_value (found_of matches.now) (codes "command") ≡ Some (codes "build") }
-    ensures found { IfSome result (λ command. IsAsked (λ name. first_value (found_of matches.now) name) (request_of command)) }
-    ensures none { IfNone result ((request : Request) → IsAsked (λ name. first_value (found_of matches.now) name) request → ⊥) }
+    requires { texts_of matches.now (codes "command") ≡ Some (codes "build") }
+    ensures found { IfSome result (λ command. IsAsked (texts_of matches.now) (request_of command)) }
+    ensures none { IfNone result ((request : Request) → IsAsked (texts_of matches.now) request → ⊥) }
 {
     let (source, image, certificate) = three_names(matches)?;
     let placement = placement(matches)?;
@@ -86,9 +86,9 @@ fn build<'a>(matches: &ArgMatches<'a>) -> Option<Command<'a>>
 
 /// Returns the command `check`, if the words ask for it.
 fn check<'a>(matches: &ArgMatches<'a>) -> Option<Command<'a>>
-    requires { first_value (found_of matches.now) (codes "command") ≡ Some (codes "check") }
-    ensures found { IfSome result (λ command. IsAsked (λ name. first_value (found_of matches.now) name) (request_of command)) }
-    ensures none { IfNone result ((request : Request) → IsAsked (λ name. first_value (found_of matches.now) name) request → ⊥) }
+    requires { texts_of matches.now (codes "command") ≡ Some (codes "check") }
+    ensures found { IfSome result (λ command. IsAsked (texts_of matches.now) (request_of command)) }
+    ensures none { IfNone result ((request : Request) → IsAsked (texts_of matches.now) request → ⊥) }
 {
     let (source, image, certificate) = three_names(matches)?;
     let bare = without_placement(matches) && without_policy(matches) && without_audit(matches);
@@ -101,9 +101,9 @@ fn check<'a>(matches: &ArgMatches<'a>) -> Option<Command<'a>>
 
 /// Returns the command `graph`, if the words ask for it.
 fn graph<'a>(matches: &ArgMatches<'a>) -> Option<Command<'a>>
-    requires { first_value (found_of matches.now) (codes "command") ≡ Some (codes "graph") }
-    ensures found { IfSome result (λ command. IsAsked (λ name. first_value (found_of matches.now) name) (request_of command)) }
-    ensures none { IfNone result ((request : Request) → IsAsked (λ name. first_value (found_of matches.now) name) request → ⊥) }
+    requires { texts_of matches.now (codes "command") ≡ Some (codes "graph") }
+    ensures found { IfSome result (λ command. IsAsked (texts_of matches.now) (request_of command)) }
+    ensures none { IfNone result ((request : Request) → IsAsked (texts_of matches.now) request → ⊥) }
 {
     let source = one_name(matches)?;
     let placement = placement(matches)?;
@@ -115,9 +115,9 @@ fn graph<'a>(matches: &ArgMatches<'a>) -> Option<Command<'a>>
 
 /// Returns the command `demo`, if the words ask for it.
 fn demo<'a>(matches: &ArgMatches<'a>) -> Option<Command<'a>>
-    requires { first_value (found_of matches.now) (codes "command") ≡ Some (codes "demo") }
-    ensures found { IfSome result (λ command. IsAsked (λ name. first_value (found_of matches.now) name) (request_of command)) }
-    ensures none { IfNone result ((request : Request) → IsAsked (λ name. first_value (found_of matches.now) name) request → ⊥) }
+    requires { texts_of matches.now (codes "command") ≡ Some (codes "demo") }
+    ensures found { IfSome result (λ command. IsAsked (texts_of matches.now) (request_of command)) }
+    ensures none { IfNone result ((request : Request) → IsAsked (texts_of matches.now) request → ⊥) }
 {
     let text = one_name(matches)?;
     let number = number(Some(text), 1, 1, 1000)? as u32;
@@ -127,9 +127,9 @@ fn demo<'a>(matches: &ArgMatches<'a>) -> Option<Command<'a>>
 
 /// Returns the command `budget`, if the words ask for it.
 fn budget<'a>(matches: &ArgMatches<'a>) -> Option<Command<'a>>
-    requires { first_value (found_of matches.now) (codes "command") ≡ Some (codes "budget") }
-    ensures found { IfSome result (λ command. IsAsked (λ name. first_value (found_of matches.now) name) (request_of command)) }
-    ensures none { IfNone result ((request : Request) → IsAsked (λ name. first_value (found_of matches.now) name) request → ⊥) }
+    requires { texts_of matches.now (codes "command") ≡ Some (codes "budget") }
+    ensures found { IfSome result (λ command. IsAsked (texts_of matches.now) (request_of command)) }
+    ensures none { IfNone result ((request : Request) → IsAsked (texts_of matches.now) request → ⊥) }
 {
     let (source, image, certificate) = three_names(matches)?;
     let bare = without_placement(matches) && without_policy(matches) && without_audit(matches);
@@ -142,9 +142,9 @@ fn budget<'a>(matches: &ArgMatches<'a>) -> Option<Command<'a>>
 
 /// Returns the command `audit`, if the words ask for it.
 fn audit<'a>(matches: &ArgMatches<'a>) -> Option<Command<'a>>
-    requires { first_value (found_of matches.now) (codes "command") ≡ Some (codes "audit") }
-    ensures found { IfSome result (λ command. IsAsked (λ name. first_value (found_of matches.now) name) (request_of command)) }
-    ensures none { IfNone result ((request : Request) → IsAsked (λ name. first_value (found_of matches.now) name) request → ⊥) }
+    requires { texts_of matches.now (codes "command") ≡ Some (codes "audit") }
+    ensures found { IfSome result (λ command. IsAsked (texts_of matches.now) (request_of command)) }
+    ensures none { IfNone result ((request : Request) → IsAsked (texts_of matches.now) request → ⊥) }
 {
     let (source, log) = two_names(matches)?;
     let options = audit_given(matches)?;
@@ -157,9 +157,9 @@ fn audit<'a>(matches: &ArgMatches<'a>) -> Option<Command<'a>>
 
 /// Returns the positional word after the command, if there is exactly one.
 fn one_name<'a>(matches: &ArgMatches<'a>) -> Option<&'a str>
-    ensures found { IfSome result (λ word. (first_value (found_of matches.now) (codes "first") ≡ Some word.now)
-        × (first_value (found_of matches.now) (codes "second") ≡ None)) }
-    ensures none { IfNone result ((name word : List ℕ) → HasOne (λ name. first_value (found_of matches.now) name) name word → ⊥) }
+    ensures found { IfSome result (λ word. (texts_of matches.now (codes "first") ≡ Some word.now)
+        × (texts_of matches.now (codes "second") ≡ None)) }
+    ensures none { IfNone result ((name word : List ℕ) → HasOne (texts_of matches.now) name word → ⊥) }
 {
     match (matches.get_str("first"), matches.get_str("second")) {
         (Some(source), None) => Some(source),
@@ -169,9 +169,9 @@ fn one_name<'a>(matches: &ArgMatches<'a>) -> Option<&'a str>
 
 /// Returns the positional words after the command, if there are exactly two.
 fn two_names<'a>(matches: &ArgMatches<'a>) -> Option<(&'a str, &'a str)>
-    ensures found { IfSome result (λ words. (first_value (found_of matches.now) (codes "first") ≡ Some words.0.now)
-        × (first_value (found_of matches.now) (codes "second") ≡ Some words.1.now) × (first_value (found_of matches.now) (codes "third") ≡ None)) }
-    ensures none { IfNone result ((name first second : List ℕ) → HasTwo (λ name. first_value (found_of matches.now) name) name first second → ⊥) }
+    ensures found { IfSome result (λ words. (texts_of matches.now (codes "first") ≡ Some words.0.now)
+        × (texts_of matches.now (codes "second") ≡ Some words.1.now) × (texts_of matches.now (codes "third") ≡ None)) }
+    ensures none { IfNone result ((name first second : List ℕ) → HasTwo (texts_of matches.now) name first second → ⊥) }
 {
     let first = matches.get_str("first")?;
     let second = matches.get_str("second")?;
@@ -180,9 +180,11 @@ fn two_names<'a>(matches: &ArgMatches<'a>) -> Option<(&'a str, &'a str)>
 
 /// Returns the positional words after the command, if there are exactly three.
 fn three_names<'a>(matches: &ArgMatches<'a>) -> Option<(&'a str, &'a str, &'a str)>
-    ensures found { IfSome result (λ words. (first_value (found_of matches.now) (codes "first") ≡ Some words.0.now)
-        × (first_value (found_of matches.now) (codes "second") ≡ Some words.1.now) × (first_value (found_of matches.now) (codes "third") ≡ Some words.2.now)) }
-    ensures none { IfNone result ((name first second third : List ℕ) → HasThree (λ name. first_value (found_of matches.now) name) name first second third → ⊥) }
+    ensures found { IfSome result (λ words. (texts_of matches.now (codes "first") ≡ Some words.0.now)
+        × (texts_of matches.now (codes "second") ≡ Some words.1.now)
+        × (texts_of matches.now (codes "third") ≡ Some words.2.now)) }
+    ensures none { IfNone result ((name first second third : List ℕ)
+        → HasThree (texts_of matches.now) name first second third → ⊥) }
 {
     let source = matches.get_str("first")?;
     let image = matches.get_str("second")?;
@@ -192,35 +194,35 @@ fn three_names<'a>(matches: &ArgMatches<'a>) -> Option<(&'a str, &'a str, &'a st
 
 /// Checks that no option of placement is given.
 fn without_placement(matches: &ArgMatches<'_>) -> bool
-    ensures { IsTrue result ↔ LacksAll (λ name. first_value (found_of matches.now) name) placement_options }
+    ensures { IsTrue result ↔ LacksAll (texts_of matches.now) placement_options }
 {
     lacks_all(matches, &PLACEMENT)
 }
 
 /// Checks that no option of a run is given.
 fn without_policy(matches: &ArgMatches<'_>) -> bool
-    ensures { IsTrue result ↔ LacksAll (λ name. first_value (found_of matches.now) name) policy_options }
+    ensures { IsTrue result ↔ LacksAll (texts_of matches.now) policy_options }
 {
     lacks_all(matches, &RUN) && lacks_all(matches, &SHARED)
 }
 
 /// Checks that no option is given that only audits take.
 fn without_audit(matches: &ArgMatches<'_>) -> bool
-    ensures { IsTrue result ↔ LacksAll (λ name. first_value (found_of matches.now) name) audit_options }
+    ensures { IsTrue result ↔ LacksAll (texts_of matches.now) audit_options }
 {
     lacks_all(matches, &AUDIT)
 }
 
 /// Checks that no option is given that only runs take.
 fn without_run(matches: &ArgMatches<'_>) -> bool
-    ensures { IsTrue result ↔ LacksAll (λ name. first_value (found_of matches.now) name) run_options }
+    ensures { IsTrue result ↔ LacksAll (texts_of matches.now) run_options }
 {
     lacks_all(matches, &RUN)
 }
 
 /// Checks that none of these options is given.
 fn lacks_all(matches: &ArgMatches<'_>, options: &[CommandOption]) -> bool
-    ensures { IsTrue result ↔ LacksAll (λ name. first_value (found_of matches.now) name) (names_of options.now) }
+    ensures { IsTrue result ↔ LacksAll (texts_of matches.now) (names_of options.now) }
 {
     for option in options {
         if !is_absent(matches, option.row().name) {
@@ -232,7 +234,7 @@ fn lacks_all(matches: &ArgMatches<'_>, options: &[CommandOption]) -> bool
 
 /// Checks that an option isn't given.
 fn is_absent(matches: &ArgMatches<'_>, option: &str) -> bool
-    ensures { IsTrue result ↔ (first_value (found_of matches.now) option.now ≡ None) }
+    ensures { IsTrue result ↔ (texts_of matches.now option.now ≡ None) }
 {
     matches.get_str(option).is_none()
 }

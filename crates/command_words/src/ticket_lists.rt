@@ -16,7 +16,8 @@ const MOST_THREAD: u64 = 1_000_000;
 /// Returns the rule that the texts of `--rule` and `--tickets` give; the default is the priority rule. Returns `None`
 /// if the text names no rule, if tickets are given with the priority rule, or if their text isn't a list of tickets.
 pub(crate) fn rule(given: Option<&str>, tickets_given: Option<&str>) -> Option<Rule>
-    ensures found { IfSome result (λ rule. IsRule (option_map (λ text. text.now) given.entry) (option_map (λ text. text.now) tickets_given.entry) rule) }
+    ensures found { IfSome result (λ rule. IsRule (option_map (λ text. text.now) given.entry)
+        (option_map (λ text. text.now) tickets_given.entry) rule) }
     ensures none { IfNone result ((rule : Rule) → IsRule (option_map (λ text. text.now) given.entry)
         (option_map (λ text. text.now) tickets_given.entry) rule → ⊥) }
 {
@@ -43,7 +44,8 @@ fn name_of(given: Option<&str>) -> &str
 /// Returns the tickets of threads, or no tickets if none are given. Returns `None` if the text isn't a list of tickets.
 fn tickets(given: Option<&str>) -> Option<Tickets>
     ensures found { IfSome result (λ tickets. AreTickets (option_map (λ text. text.now) given.entry) tickets) }
-    ensures none { IfNone result ((tickets : Tickets) → AreTickets (option_map (λ text. text.now) given.entry) tickets → ⊥) }
+    ensures none { IfNone result ((tickets : Tickets) → AreTickets (option_map (λ text. text.now) given.entry) tickets
+        → ⊥) }
 {
     match given {
         Some(text) => tickets_in(text.as_bytes()),
@@ -56,7 +58,8 @@ fn tickets(given: Option<&str>) -> Option<Tickets>
 
 /// Returns the tickets in a text.
 fn tickets_in(text: &[u8]) -> Option<Tickets>
-    ensures found { IfSome result (λ tickets. (pairs : List (ℕ × ℕ)) × IsTicketsText text.now pairs × (tickets ≡ tickets_of pairs)) }
+    ensures found { IfSome result (λ tickets. (pairs : List (ℕ × ℕ)) × IsTicketsText text.now pairs
+        × (tickets ≡ tickets_of pairs)) }
     ensures none { IfNone result ((pairs : List (ℕ × ℕ)) → IsTicketsText text.now pairs → ⊥) }
 {
     let mut fields = Fields::new(text, b',');
@@ -86,7 +89,8 @@ fn tickets_in(text: &[u8]) -> Option<Tickets>
 fn ticket(field: &[u8]) -> Option<(u32, u32)>
     ensures found { IfSome result (λ ticket. (field.now ≡ ticket_text ticket) × (ticket.0 ≤ 1000000)
         × (least_of option.Tickets ≤ ticket.1) × (ticket.1 ≤ most_of option.Tickets)) }
-    ensures none { IfNone result ((thread count : ℕ) → thread ≤ 1000000 → least_of option.Tickets ≤ count → count ≤ most_of option.Tickets
+    ensures none { IfNone result ((thread count : ℕ) → thread ≤ 1000000 → least_of option.Tickets ≤ count
+        → count ≤ most_of option.Tickets
         → field.now ≡ ticket_text (thread, count) → ⊥) }
 {
     let mut parts = Fields::new(field, b'=');

@@ -15,8 +15,10 @@ use std::alloc::Global;
 ///
 /// `NotWords` exactly if they aren't a word list; `Memory` if an allocation fails.
 pub fn read_words<'a>(alloc: Global, words: &'a Vec<String>) -> Result<Command<'a>, WordsError>
-    ensures read { IfOk result (λ command. IsWordList (map (λ word. string_bytes word) words.now.items) (request_of command)) }
-    ensures refused { result ≡ Err WordsError.NotWords → (request : Request) → IsWordList (map (λ word. string_bytes word) words.now.items) request → ⊥ }
+    ensures read { IfOk result (λ command. IsWordList (map (λ word. string_bytes word) words.now.items)
+        (request_of command)) }
+    ensures refused { result ≡ Err WordsError.NotWords → (request : Request)
+        → IsWordList (map (λ word. string_bytes word) words.now.items) request → ⊥ }
 {
     if !is_readable(words.as_slice()) {
         return Err(WordsError::NotWords);
