@@ -1,7 +1,8 @@
 """Folded stacks have the run's whole cost, and its waits as the proved report gives them."""
 import collections, io, pathlib, re, unittest
 
-from runs import folded, places, story
+from reporting import folded
+from runs import places, story
 
 TOP = pathlib.Path(__file__).resolve().parent.parent.parent
 REPORTS = sorted(it for it in TOP.glob("examples/*/report") if (it.parent / "log").exists())

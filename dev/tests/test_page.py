@@ -6,7 +6,8 @@ tried.
 """
 import html.parser, io, json, os, pathlib, tempfile, unittest
 
-from runs import escape, page, places, story
+from reporting import escape, page
+from runs import places, story
 
 from . import browser
 
@@ -15,12 +16,12 @@ OUTSIDE = {"src", "href", "action", "data"}  # attributes that may name somethin
 NASTY = "</script><script>alert(1)</script> <!-- & \" ' \u2028"
 
 
-def page_of(source, trace, log, title="server.c", report="a report", graph="<svg/>"):
+def page_of(source, trace, log, title="server.c", report="a report"):
     told, file = story.Story(places.Places(source), trace), io.StringIO()
     writer = page.Page(file, told, title, source, 1024)
-    for it in told.happenings(page.kept_lines([(None, writer)], log)):
+    for it in told.happenings(writer.kept(log)):
         writer.tell(it)
-    writer.add(report, graph)
+    writer.report = report
     writer.finish()
     return file.getvalue()
 

@@ -6,7 +6,8 @@ counter, flow and metadata events). The JSON is read by Python's own parser.
 """
 import collections, io, json, pathlib, re, unittest
 
-from runs import places, replay, story, trace_events
+from reporting import trace_events
+from runs import places, replay, story
 from runs.story import Segment
 
 TOP = pathlib.Path(__file__).resolve().parent.parent.parent

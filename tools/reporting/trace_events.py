@@ -8,8 +8,8 @@ resources, the number of threads that live and the values of calls, comes from a
 """
 import json
 
-from .names import Names
-from .story import END, Edge, Item, Request, Segment, Stop
+from runs.names import Names
+from runs.story import END, Edge, Item, Request, Segment, Stop
 
 SERVER, OUTSIDE = 1, 2  # processes
 ARRIVALS = 0  # the row of arrivals; channel c has row c + 1

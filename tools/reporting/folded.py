@@ -9,9 +9,9 @@ is under way at the stop ends there.
 """
 import collections
 
-from .names import Names
-from .places import MOST_SITES_IN_A_KEY
-from .story import END, Segment, Stop
+from runs.names import Names
+from runs.places import MOST_SITES_IN_A_KEY
+from runs.story import END, Segment, Stop
 
 UNKNOWN = "[thread]"  # the function that a thread started in, where the log and the source don't tell it
 CUT_ABOVE = "[..]"  # calls above the eight that a key has

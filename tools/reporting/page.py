@@ -6,16 +6,16 @@ whole run, so Python's memory and the page grow with the log.
 """
 import base64, pathlib
 
-from . import escape
-from .names import Names
-from .story import Item, Request, Segment, Stop
+from . import escape, graph, text
+from runs.names import Names
+from runs.story import Item, Request, Segment, Stop
 
 HERE = pathlib.Path(__file__).parent
 MOST_LINES = 1_000_000  # of the log that the page has; the rest is left out, and the page says so
 
 
 class Page:
-    """Collects what a page shows. The report and the graph are added behind the run."""
+    """Collects what a page shows. The report is added behind the run."""
 
     def __init__(self, file, story, title, source, chunks):
         self.file, self.title, self.chunks, self.source = file, title, chunks, source
@@ -24,7 +24,7 @@ class Page:
                                                "end")}  # `end` is the node at which it ended, -1 if it was cut
         self.requests, self.drops, self.log, self.threads = [], [], [], {}
         self.lines = self.clock = 0
-        self.stop, self.report, self.graph = "the log has no last line", "", ""
+        self.stop, self.report, self.graph = "the log has no last line", "", graph.Graph(story)
         self.tellers = {Segment: self.segment, Item: self.item, Request: self.requests.append, Stop: self.stopped}
 
     def keep(self, line):
@@ -34,6 +34,7 @@ class Page:
             self.log.append(line.rstrip("\n"))
 
     def tell(self, it):
+        self.graph.tell(it)
         if isinstance(it, Stop):
             self.stop = it.text
         if self.lines <= MOST_LINES and (teller := self.tellers.get(type(it))):
@@ -53,9 +54,15 @@ class Page:
     def stopped(self, it):
         self.clock = it.clock
 
-    def add(self, report, graph):
-        """Adds the text of the report, and the picture of the graph as SVG, if there is one."""
-        self.report, self.graph = report, graph
+    def kept(self, lines):
+        """The lines of the log, which the page keeps."""
+        for line in lines:
+            self.keep(line)
+            yield line
+
+    def add(self, document):
+        """Adds the report."""
+        self.report = "\n".join(text.text_of(document))
 
     def data(self):
         nodes = {"0": "start", "1": "end"} | {node: self.names.node(node) for node in self.keys}
@@ -66,12 +73,12 @@ class Page:
         }
 
     def finish(self):
-        picture = base64.b64encode(self.graph.encode()).decode()
+        picture = base64.b64encode(self.graph.svg(self.title).encode()).decode()
         image = f'<img alt="The blocking graph: a box for each node, an arrow for each edge" src="data:image/svg+xml;base64,{picture}">'
         texts = {"TITLE": self.title, "STOP": self.stop, "REPORT": self.report,
                  "SOURCE": self.source.decode(errors="replace")}
         parts = {name: escape.text(it) for name, it in texts.items()} | {
-            "GRAPH": image if picture else "<p>The report stored no graph.</p>",
+            "GRAPH": image,
             "DATA": escape.script(self.data()),
             "STYLE": (HERE / "page.css").read_text(),
             "SCRIPT": (HERE / "page.js").read_text(),
@@ -79,11 +86,3 @@ class Page:
         for number, piece in enumerate((HERE / "page.html").read_text().split("@@")):
             self.file.write(parts[piece] if number % 2 else piece)
 
-
-def kept_lines(writers, lines):
-    """The lines of the log, which the pages among the writers keep."""
-    pages = [writer for _, writer in writers if isinstance(writer, Page)]
-    for line in lines:
-        for it in pages:
-            it.keep(line)
-        yield line
