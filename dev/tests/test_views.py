@@ -63,9 +63,10 @@ class Timelines(unittest.TestCase):
 
 class Styles(unittest.TestCase):
     def test_twenty_places_look_different_and_accept_is_pale(self):
-        styles = palette.Styles()
-        self.assertEqual(len({styles.of(it) for it in range(24)}), 24)
-        self.assertEqual(styles.of("a place", True), "accept")
+        source = "int main() { accept(); " + "wait(1); " * 20 + "}"
+        styles = palette.Styles(places.Places(source.encode()))
+        self.assertEqual(styles.of(0), "accept")
+        self.assertEqual(len({styles.of(it) for it in range(1, 21)}), 20)
         self.assertEqual(len({it.split(">", 1)[1] for it in palette.patterns()}), 25)
 
 

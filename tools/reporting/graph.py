@@ -22,7 +22,7 @@ class Graph:
     """Collects the edges of a log. Boxes are `start`, `end` and (line, column) of a call."""
 
     def __init__(self, story):
-        self.story, self.styles = story, palette.Styles()
+        self.story, self.styles = story, palette.Styles(story.places)
         self.boxes, self.arrows = {}, {}  # the texts and the style of each box; by two boxes their segments
 
     def tell(self, it):
@@ -41,8 +41,8 @@ class Graph:
         site = self.story.places.sites[self.story.keys[node][0]]
         box = (site.line, site.column)
         if box not in self.boxes:
-            style = self.styles.of(box, site.callee == "accept")
-            self.boxes[box] = ([f"{site.callee} {site.place()}", f"in {site.function}"], style)
+            texts = [f"{site.callee} {site.place()}", f"in {site.function}"]
+            self.boxes[box] = (texts, self.styles.of(self.story.keys[node][0]))
         return box
 
     def label(self, arrow):

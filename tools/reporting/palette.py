@@ -1,23 +1,23 @@
 """The colours of all views. Work is dark and waiting is pale, so that work is seen first; the hues are told apart by
 people who don't see red and green (Paul Tol's light scheme), and a stripe or dots tell further places apart.
 """
+from runs.translation import BLOCKING
+
 ACCEPT = "#dddddd"  # always of `accept`, the wait of a thread that has nothing to do
 HUES = ("#77aadd", "#ee8866", "#eedd88", "#ffaabb", "#99ddff", "#44bb99", "#bbcc33", "#aaaa00")
 PATTERNS = ("plain", "stripes", "dots")  # so there are 24 styles
 
 
 class Styles:
-    """The style of each place, in the order in which places are asked for: the number of its hue and of its pattern."""
+    """The style of each call at which threads may block, in the order of the source: the same in all views."""
 
-    def __init__(self):
-        self.found = {}
+    def __init__(self, places):
+        waits = [at for at, site in enumerate(places.sites) if site.callee in BLOCKING and site.callee != "accept"]
+        self.numbers = {site: number % (len(HUES) * len(PATTERNS)) for number, site in enumerate(waits)}
 
-    def of(self, place, is_accept=False):
-        """The name of the style of a place: `accept`, or `w0` and so on."""
-        if is_accept:
-            return "accept"
-        number = self.found.setdefault(place, len(self.found)) % (len(HUES) * len(PATTERNS))
-        return f"w{number}"
+    def of(self, site):
+        """The name of the style of a site: `w0` and so on, or `accept`."""
+        return f"w{self.numbers[site]}" if site in self.numbers else "accept"
 
 
 def patterns():

@@ -72,7 +72,7 @@ class Drawing:
         self.told, self.first, self.last = told, min(told.first, last), max(last, told.first + 1)
         self.columns = WIDTH - LEFT - RIGHT
         self.scale = self.columns / (self.last - self.first)
-        self.styles, self.labels, self.parts = palette.Styles(), {}, []
+        self.styles, self.labels, self.parts = palette.Styles(told.story.places), {}, []
         self.rows = {}  # thread: for each column the share of work and of readiness, and the waits by place
         self.ended = {}  # thread: when it ended in the window
         self.y = TOP
@@ -106,8 +106,8 @@ class Drawing:
 
     def style(self, node):
         """The style of the place at a node, which the legend has then."""
-        site = self.told.story.places.sites[self.told.story.keys[node][0]]
-        style = self.styles.of((site.line, site.column), site.callee == "accept")
+        number = self.told.story.keys[node][0]
+        site, style = self.told.story.places.sites[number], self.styles.of(number)
         self.labels.setdefault(style, f"{site.callee} {site.place()} in {site.function}")
         return style
 

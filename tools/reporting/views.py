@@ -4,7 +4,8 @@ import os, pathlib
 from runs import places, replay, story
 
 from . import coverage, execution, folded, graph, outcomes, page, readiness, timeline, trace_events
-from .columns import labelled
+from .asked import unit_of
+from .columns import TICKS, labelled
 from .stored import Stored
 
 
@@ -43,10 +44,11 @@ class Views:
         """The views by their names, each with a method `tell`."""
         asked, title = self.asked, os.path.basename(self.run.files[0])
         file = lambda name: self.stored[name].file
+        unit = unit_of(asked.unit) if asked.unit else TICKS
         makers = {
             "timeline": lambda: timeline.Timeline(told, self.span(), self.run.chunks(), readiness.Ready(self.source, self.run.options)),
             "graph": lambda: graph.Graph(told),
-            "html": lambda: page.Page(file("html"), told, title, self.source, self.run.chunks()),
+            "html": lambda: page.Page(file("html"), told, title, self.source, self.run.chunks(), self.run.options, unit),
             "trace": lambda: trace_events.TraceEvents(file("trace"), told, title, self.run.chunks(), replay.Replay(self.source)),
             "folded": lambda: folded.Folded(file("folded"), told, asked.why),
             "requests": lambda: outcomes.Rows(file("requests"), told, asked.answers),
