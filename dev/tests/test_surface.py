@@ -1,4 +1,4 @@
-"""The customer's surface: a call or type that is gone, other parameters, and an error that isn't derived."""
+"""The customer's surface: a call or type that is gone, or has another form, and an error that isn't derived."""
 import unittest
 
 from repository import surface
@@ -31,9 +31,25 @@ impl Shelf for MemShelf {
     }
 }
 
+impl<'a> Iterator for Names<'a> {
+    fn next(&mut self) -> Option<&'a [u8]> {
+        None
+    }
+}
+
 impl MemShelf {
     pub fn new() -> MemShelf {
         MemShelf { files: 0 }
+    }
+
+    pub fn clear(&mut self)
+        ensures { self.new.files ≡ 0 }
+    {
+        self.files = 0;
+    }
+
+    pub fn counts(&self) -> [u64; 8] {
+        [0; 8]
     }
 
     fn files(&self) -> u32 {
@@ -42,24 +58,77 @@ impl MemShelf {
 }
 """
 CALLS = [
-    ("lex", "(alloc: Global, source: &'a [u8])"),
-    ("Shelf::load", "(&mut self, name: &[u8])"),
-    ("MemShelf::new", "()"),
+    ("lex", "(alloc: Global, source: &'a [u8]) -> Result<Vec<Token>, LexError>"),
+    ("Shelf::load", "(&mut self, name: &[u8]) -> Option<u32>"),
+    ("Names::next", "(&mut self) -> Option<&'a [u8]>"),
+    ("MemShelf::new", "() -> MemShelf"),
+    ("MemShelf::clear", "(&mut self)"),
+    ("MemShelf::counts", "(&self) -> [u64; 8]"),
 ]
-LEX = Row("fn", "c_lex", "lex", "(source: &[u8])")
+TYPES = """
+pub struct Token {
+    /// Its kind.
+    pub kind: TokenKind,
+    pub at: u32,
+    used: bool,
+    pub ghost short: { at ≤ 8 } by { short-prop at },
+}
+
+#[derive(Error)]
+pub enum LexError {
+    /// Why, for instance in `//`.
+    #[error("expected {} // at byte {at}", [1, 2].len())]
+    BadByte {
+        /// The place.
+        at: u32,
+    },
+    Named(Vec<(u32, u8)>),
+    Memory,
+}
+
+pub struct Failed;
+
+pub type StrideEnd = RunEnd;
+"""
+FORMS = [
+    ("struct", "Token", " { kind: TokenKind, at: u32 }"),
+    ("enum", "LexError", " { BadByte { at: u32 }, Named(Vec<(u32, u8)>), Memory }"),
+    ("struct", "Failed", ""),
+    ("type", "StrideEnd", " = RunEnd"),
+]
+LEX = Row("fn", "c_lex", "lex", "(source: &[u8]) -> u32")
+KIND = Row("enum", "c_lex", "Kind", " { Name, Number { value: u32 } }")
 
 
 class Reading(unittest.TestCase):
-    def test_public_calls_are_found_with_their_parameters(self):
+    def test_public_calls_are_found_with_their_parameters_and_results(self):
         self.assertEqual(list(surface.calls_in(SOURCE)), CALLS)
 
+    def test_public_types_are_found_with_their_fields_and_variants(self):
+        self.assertEqual(list(surface.types_in(TYPES)), FORMS)
+
     def test_a_row_is_read_as_it_is_written(self):
-        for line in ("fn c_lex lex(source: &[u8])", "fn cap_io Shelf::load(&mut self)", "enum c_lex LexError"):
+        lines = (
+            "fn c_lex lex(source: &[u8]) -> Result<u32, LexError>",
+            "fn cap_io Shelf::load(&mut self)",
+            "enum c_lex LexError { BadByte { at: u32 }, Memory }",
+            "struct cap_io Failed",
+            "type runner StrideEnd = RunEnd",
+        )
+        for line in lines:
             with self.subTest(line=line):
                 self.assertEqual([str(it) for it in surface.parse(f"# a comment\n\n{line}\n")], [line])
 
+    def test_an_indented_line_continues_a_row(self):
+        row = Row("struct", "c_lex", "Token", " { " + ", ".join(f"field_{it}: u32" for it in range(20)) + " }")
+        wrapped = row.wrapped()
+        self.assertGreater(len(wrapped), 2)
+        self.assertLessEqual(max(map(len, wrapped)), surface.WIDTH)
+        self.assertEqual(list(surface.parse("\n".join(wrapped))), [row])
+
     def test_a_line_of_another_form_is_refused(self):
-        for line in ("fn c_lex lex", "enum c_lex LexError()", "c_lex lex(source: &[u8])", "fn lex(source: &[u8])"):
+        lines = ("fn c_lex lex", "enum c_lex LexError()", "c_lex lex(source: &[u8])", "fn lex(source: &[u8])", "fn c_lex lex { }")
+        for line in lines:
             with self.subTest(line=line), self.assertRaisesRegex(ValueError, "surface.txt:1"):
                 list(surface.parse(line))
 
@@ -69,11 +138,19 @@ class Comparing(unittest.TestCase):
         self.assertEqual(list(surface.differences(LEX, [LEX, Row("enum", "c_lex", "LexError")])), [])
 
     def test_a_missing_call_is_named(self):
-        self.assertEqual(list(surface.differences(LEX, [])), ["c_lex has no public call lex(source: &[u8]) any more"])
+        self.assertEqual(list(surface.differences(LEX, [])), ["c_lex has no public call lex(source: &[u8]) -> u32 any more"])
 
-    def test_other_parameters_are_named(self):
-        found = list(surface.differences(LEX, [Row("fn", "c_lex", "lex", "(source: &str)")]))
-        self.assertEqual(found, ["lex of c_lex takes (source: &str), and the table has (source: &[u8])"])
+    def test_other_parameters_and_another_result_are_named(self):
+        for form in ("(source: &str) -> u32", "(source: &[u8]) -> Option<u32>", "(source: &[u8])"):
+            with self.subTest(form=form):
+                found = list(surface.differences(LEX, [Row("fn", "c_lex", "lex", form)]))
+                self.assertEqual(found, [f"lex of c_lex is {form}, and the table has (source: &[u8]) -> u32"])
+
+    def test_a_variant_or_a_field_that_is_gone_is_named(self):
+        for form in ("{ Name }", "{ Name, Number }"):
+            with self.subTest(form=form):
+                found = list(surface.differences(KIND, [Row("enum", "c_lex", "Kind", f" {form}")]))
+                self.assertEqual(found, [f"Kind of c_lex has {form}, and the table has {{ Name, Number {{ value: u32 }} }}"])
 
     def test_a_type_doesn_t_stand_for_a_call_of_its_name(self):
         self.assertEqual(len(list(surface.differences(LEX, [Row("struct", "c_lex", "lex")]))), 1)
