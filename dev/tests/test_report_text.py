@@ -54,7 +54,7 @@ class Verdict(unittest.TestCase):
             "trap at server.c:9:5: thread 2 in get, index 4 of 4 words": {"stop": trap, "stopped": where},
             "the trace is refused at line 7": {"stop": {"line": "stop trace 7", "kind": "trace", "trace_line": 7}},
             "starved: thread 3 at server.c:4:5 was ready for 8,331 ticks and not chosen": {
-                "ready": {"threads": [{"thread": 3, "since": 9, "ticks": 8331, "choices": 1200, "place": place(4)}]}},
+                "ready": {"threads": [{"thread": 3, "since": 9, "ticks": 8331, "starves": True, "place": place(4)}]}},
         }
         for wanted, parts in cases.items():
             with self.subTest(wanted=wanted):

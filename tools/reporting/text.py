@@ -141,19 +141,20 @@ class Report:
         if not waits:
             return
         has_ready = any(it.get("split") for it in waits)
+        self.ranks = [it for it in RANKS[1:] if it[1] in waits[0]]
         order = sorted(range(len(waits)), key=lambda at: -waits[at]["total"])
         kept = set(order if self.most is None else order[:self.most])
         rows = [self.wait(it, has_ready) for at, it in enumerate(waits) if at in kept]
         if rest := [it for at, it in enumerate(waits) if at not in kept]:
             count, total = (sum(it[key] for it in rest) for key in ("count", "total"))
             rows.append([number(count), self.unit.shown(total), *[""] * (len(rows[0]) - 3), f"{counted(len(rest), 'more place')} (--all)"])
-        yield from table(["waits", self.unit.name, *["ready"] * has_ready, "p50", "p99", "max", "thread", "until", "at"],
-                         rows)
+        yield from table(["waits", self.unit.name, *["ready"] * has_ready, *[name for name, _ in self.ranks], "thread", "until",
+                          "at"], rows)
 
     def wait(self, it, has_ready):
         """The cells of the waits at a place: thread and end are those of the longest."""
         ready = [self.unit.shown(it["split"]["ready"] if it.get("split") else None)] * has_ready
-        ranks = [self.unit.shown(it[key]) for key in ("median", "99th", "greatest")]
+        ranks = [self.unit.shown(it[key]) for _, key in self.ranks]
         place = documents.shown(it["place"]) if it["place"] else f"{QUEUE} (request {number(it['request'])})"
         return [number(it["count"]), self.unit.shown(it["total"]), *ready, *ranks, str(it["thread"]),
                 self.unit.shown(it["until"]), place]
@@ -213,7 +214,8 @@ class Report:
                 yield " " * LABEL + f"called at {documents.shown(each)}"
             if it["has_more_calls"]:
                 yield " " * LABEL + "and by more calls above"
-        yield self.document["stop"]["line"]
+        if it := self.document["stop"]:
+            yield it["line"]
 
 
 def longest(parts, most):

@@ -1,9 +1,8 @@
 """What came of a run, in a sentence: the first line of a report. And whether a run is as it was expected to be."""
 from .columns import counted, number
-from .document import at, shown
+from .document import at
 
 MOST_NUMBERS = 12  # of requests in a sentence
-MANY_CHOICES = 1000  # of other threads, while one is ready: then it starves
 CUT = {"trap": "trap", "nochunk": "no free chunk", "threads": "too many threads"}  # the stops that are failures
 FOREIGN = "the log isn't of this source and trace: the numbers below mix two runs"
 EXPECTED = {
@@ -18,16 +17,21 @@ def of(document):
     found = [FOREIGN] if not document["log_fits"] else []
     found += [*deadlocks(document), *stops(document), *starved(document), *unanswered(document), *untaken(document),
               *dropped(document)]
-    spent = ["the fuel was spent"] * (document["stop"]["kind"] == "fuel")
+    spent = ["the fuel was spent"] * (stop_of(document) == "fuel")
     return [*found, *spent] if found else ["; ".join([good(document), *spent])]
+
+
+def stop_of(document):
+    """The kind of the stop, or nothing for a log without one."""
+    return (document["stop"] or {}).get("kind", "")
 
 
 def stops(document):
     """The stop that ended the run as no server should end."""
     stop, stopped = document["stop"], document.get("stopped") or {}
-    if stop["kind"] == "trace":
+    if stop_of(document) == "trace":
         yield f"the trace is refused at line {number(stop['trace_line'])}"
-    if stop["kind"] in CUT:
+    if stop_of(document) in CUT:
         places = " or ".join(at(it) for it in stopped.get("places", ()))
         where = f" at {places}" if places else ""
         function = f" in {stopped['function']}" if stopped.get("function") else ""
@@ -52,7 +56,7 @@ def unanswered(document):
     if missing <= 0:
         return
     others = (document.get("other_outputs") or {}).get("count")
-    which = named(document, missing)
+    which = named(document, missing, ("unanswered", "undecided"))
     if others and document["answers"] == "own":
         yield f"{counted(missing, 'request')} without an answer by the own thread{which}; {counted(others, 'output')} by other threads (--answers)"
     else:
@@ -62,14 +66,13 @@ def unanswered(document):
 def untaken(document):
     requests = document["requests"]
     if (count := requests["came"] - requests["taken"]) > 0:
-        which = named(document, count) if requests["taken"] == requests["answered"] else ""
-        yield f"{counted(count, 'request')} never taken{which}"
+        yield f"{counted(count, 'request')} never taken{named(document, count, ('untaken',))}"
 
 
-def named(document, count):
-    """The numbers of the requests without an answer, or else of those that weren't taken, if the document has them."""
-    numbers = (document.get("verdict") or {}).get("requests") or []
-    shown = numbers[:MOST_NUMBERS]
+def named(document, count, kinds):
+    """The numbers of so many requests, if the document's verdict is of these kinds and has them."""
+    told = document.get("verdict") or {}
+    shown = told["requests"][:MOST_NUMBERS] if told.get("kind") in kinds else []
     return f": {', '.join(map(number, shown))}{', ..' * (count > len(shown))}" if shown else ""
 
 
@@ -79,9 +82,9 @@ def dropped(document):
 
 
 def starved(document):
-    """Threads that were ready while others were chosen many times; whether they are, the program says."""
+    """Threads that were ready at the end, while others were chosen 1,000 times."""
     ready = document.get("ready") or {"threads": []}
-    threads = [it for it in ready["threads"] if it["choices"] >= MANY_CHOICES]
+    threads = [it for it in ready["threads"] if it["starves"]]
     for it in threads[:1]:
         others = f", and {counted(len(threads) - 1, 'other')} too" if len(threads) > 1 else ""
         place = f" at {at(it['place'])}" if it.get("place") else ""
@@ -108,9 +111,5 @@ def failures(document, expected):
 
 def is_bad_end(document):
     """Whether the run ended as no server should end."""
-    return document["stop"]["kind"] in (*CUT, "trace")
+    return stop_of(document) in (*CUT, "trace")
 
-
-def where_it_stopped(document):
-    """The place of a stop that cut a segment, in full, or nothing."""
-    return " or ".join(shown(it) for it in (document.get("stopped") or {}).get("places", ()))
