@@ -98,7 +98,7 @@ class Report:
         full = [it["resource"] for it in self.document["resources"] if it["used"] == it["cap"]]
         if run and full and gate["ticks"] >= MOSTLY * run["ended"] > 0:
             named = " and ".join(f"resource {it}" for it in full)
-            yield from labelled("", f"{named} in full use, as a lock or a queue, keeps it closed: let a lock or an item be 2 units of 3 (docs/WRITING.md, \"Locks and queues\")")
+            yield from labelled("", f"{named} in full use, as a lock or a queue, keeps it closed: let a lock or an item be 2 units of 3 (docs/WRITING.md, \"Locks and queues, and the gate\")")
 
     def latencies(self):
         first, last = (self.document["latency"][which] for which in ("first", "last"))
