@@ -15,6 +15,10 @@ class Ready(Readiness):
     def tell(self, it):
         if isinstance(it, Segment):
             self.since = it.start
+            if it.cut:
+                self.look(it.start)
+                self.note(it.thread, it.start)
+                return
         super().tell(it)
 
     def note(self, thread, clock):

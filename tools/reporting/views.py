@@ -1,7 +1,7 @@
 """What is made of the log of a run beside its report: files, and tables by outcome."""
 import os, pathlib
 
-from runs import places, replay, story
+from runs import places, story
 
 from . import coverage, execution, folded, graph, outcomes, page, readiness, timeline, trace_events
 from .asked import unit_of
@@ -44,13 +44,14 @@ class Views:
         """The views by their names, each with a method `tell`."""
         asked, title = self.asked, os.path.basename(self.run.files[0])
         file = lambda name: self.stored[name].file
+        ready = lambda: readiness.Ready(self.source, self.run.options)
         unit = unit_of(asked.unit) if asked.unit else TICKS
         makers = {
-            "timeline": lambda: timeline.Timeline(told, self.span(), self.run.chunks(), readiness.Ready(self.source, self.run.options)),
+            "timeline": lambda: timeline.Timeline(told, self.span(), self.run.chunks(), ready()),
             "graph": lambda: graph.Graph(told),
             "html": lambda: page.Page(file("html"), told, title, self.source, self.run.chunks(), self.run.options, unit),
-            "trace": lambda: trace_events.TraceEvents(file("trace"), told, title, self.run.chunks(), replay.Replay(self.source)),
-            "folded": lambda: folded.Folded(file("folded"), told, asked.why),
+            "trace": lambda: trace_events.TraceEvents(file("trace"), told, title, self.run.chunks(), ready()),
+            "folded": lambda: folded.Folded(file("folded"), told, asked.why, ready()),
             "requests": lambda: outcomes.Rows(file("requests"), told, asked.answers),
             "coverage": lambda: coverage.Coverage(self.source, self.run.files[0]),
             "by": lambda: outcomes.Groups(asked.by, told, asked.answers),
