@@ -1,10 +1,11 @@
 """Expressions, places and names that a user gives, over the source of a run."""
 import bisect, re
 
-from explained.tokens import tokens_of
+from explained.tokens import MODELLED, tokens_of
 from sources.tree import NotASource, Use
 
 from .expressions import Trap, function_of
+from .instructions import CallStep
 from .rewriting import holds_call
 from .text_tree import Reader
 
@@ -80,12 +81,23 @@ def variables_in_whole(node):
             yield from variables_in_whole(it)
 
 
+def calls_of(code, name):
+    """The calls of a modelled call."""
+    found = [it for function in code.functions.values() for it in function.instructions
+             if isinstance(it, CallStep) and it.call.name == name]
+    if not found:
+        raise Unknown(f"the source has no call of {name}")
+    return found
+
+
 def instructions_at(code, text, current_line=None):
-    """The instructions at which a thread stops for a place: a function's name, a line, or FILE:LINE. Those of the first
-    line with a statement, from the given one on."""
+    """The instructions at which a thread stops for a place: a function's name, that of a modelled call, a line, or
+    FILE:LINE. Those of the first line with a statement, from the given one on."""
     name = text.strip()
     if name in code.functions:
         return [code.functions[name].first]
+    if name in MODELLED:
+        return calls_of(code, name)
     number = name.rpartition(":")[2] or str(current_line or "")
     if not number.isdigit():
         raise Unknown(f"{name!r} is neither a line nor a function; the functions are {listed(code.functions)}")

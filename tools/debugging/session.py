@@ -1,6 +1,8 @@
 """A run that a user steps through, forwards and backwards, on a terminal (terminal.py) or in an editor (adapter.py)."""
+import re
+
 from .asked import Expression, Unknown
-from .stops import Breakpoint, Hit, Search, Watch
+from .stops import Breakpoint, Catch, Hit, Search, Watch
 from .timeline import Timeline
 
 
@@ -41,11 +43,19 @@ class Session:
         self.points[self.next_number()] = found
         return found
 
+    def add_catch(self, text):
+        """A stop before an output: `output`, or `output VALUE`."""
+        found = re.fullmatch(r"\s*output(?:\s+(-?\d+))?\s*", text)
+        if not found:
+            raise Unknown(f"expected output or output VALUE, found {text.strip() or 'nothing'!r}")
+        point = Catch(self.made + 1, self.code, None if found[1] is None else int(found[1]))
+        self.points[self.next_number()] = point
+        return point
+
     def add_watch(self, text):
         """A watch of a variable in scope in the selected frame, of a global, or of `function.name`."""
-        frame = self.frame()
-        is_local = frame and not text.partition(".")[1] and any(it.name in text for it in frame.does.scope)
-        found = Watch(self.made + 1, self.code, text, *((frame.function, self.thread) if is_local else ()))
+        is_qualified = "." in text
+        found = Watch(self.made + 1, self.code, text, *((None, None) if is_qualified else (self.frame(), self.thread)))
         self.points[self.next_number()] = found
         return found
 
@@ -89,6 +99,10 @@ class Session:
 
     def search(self, is_there=None, counts=True):
         return Search(self.breakpoints(), self.watches(), is_there, counts)
+
+    def search_for(self, point):
+        """A search for one breakpoint alone, which counts nothing."""
+        return Search([point], [], counts=False)
 
     def forward(self, is_there=None):
         return self.arrive(self.timeline.forward(self.search(is_there)))
@@ -156,6 +170,14 @@ class Session:
     def go_to_clock(self, clock):
         """To the moment at a clock: within a segment to its start."""
         return self.go_to_line(self.run.log.line_at(clock))
+
+    def go_to_words(self, text):
+        """To the moment of the words CLOCK, or `line N [+K]`."""
+        found = re.fullmatch(r"\s*(?:line\s+(?P<line>[\d,]+)\s*(?:\+\s*(?P<steps>[\d,]+))?|(?P<clock>[\d,]+))\s*", text)
+        if not found:
+            raise Unknown(f"expected a clock, or `line N` or `line N +K` for a line of the log, found {text.strip() or 'nothing'!r}")
+        number = {name: int(it.replace(",", "")) for name, it in found.groupdict(default="0").items()}
+        return self.go_to_clock(number["clock"]) if found["clock"] else self.go_to_line(number["line"], number["steps"])
 
     def go_to_line(self, line, steps=0):
         """To the moment after some lines of the log and steps."""

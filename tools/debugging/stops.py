@@ -1,5 +1,5 @@
 """What stops a thread: breakpoints and watches, and the search for them along a run."""
-import itertools
+import itertools, re
 
 from sources.tree import Number, Use
 
@@ -7,21 +7,53 @@ from .asked import Expression, Unknown, instructions_at, listed
 from .expressions import Trap, function_of, uses_in
 
 
-class Breakpoint:
-    """Stops at instructions. `hits` counts since it was set; the first `ignored` ones don't stop."""
+COUNTED = {"==": int.__eq__, ">=": int.__ge__, ">": int.__gt__, "%": lambda hits, times: hits % times == 0}
+
+
+class Point:
+    """A breakpoint or a watch. `hits` counts since it was set; the first `ignored` ones don't stop, and of the others
+    those that `counted` takes. `kind` is for who set it."""
+
+    def __init__(self, number, thread):
+        self.number, self.thread, self.kind = number, thread, None
+        self.is_enabled, self.hits, self.ignored, self.condition, self.counted = True, 0, 0, None, None
+
+    def set_hit_condition(self, text):
+        """Stops only at some hits: `N` and `>= N` from the N-th on, `== N` at that one, `% N` at each N-th."""
+        if not text:
+            return
+        found = re.fullmatch(r"\s*(==|>=|>|%)?\s*(\d+)\s*", text)
+        if not found or int(found[2]) == 0:
+            raise Unknown(f"expected a count of hits, as 3, >= 3, == 3 or % 3, found {text!r}")
+        compare, times = COUNTED[found[1] or ">="], int(found[2])
+        self.counted = lambda hits: compare(hits, times)
+
+    def passes(self):
+        """Counts a hit, and answers whether it stops."""
+        self.hits += 1
+        if self.ignored:
+            self.ignored -= 1
+            return False
+        return self.counted is None or self.counted(self.hits)
+
+
+class Breakpoint(Point):
+    """Stops at instructions."""
 
     def __init__(self, number, code, place, thread=None, condition=None, is_temporary=False, line=None):
-        self.number, self.code, self.place, self.thread = number, code, place, thread
+        super().__init__(number, thread)
+        self.code, self.place, self.is_temporary = code, place, is_temporary
         self.instructions = frozenset(instructions_at(code, place, line))
-        self.is_temporary, self.is_enabled, self.hits, self.ignored, self.times = is_temporary, True, 0, 0, None
         self.line = min(it.line for it in self.instructions)
         self.function = next(iter(self.instructions)).function.name
-        self.condition, self.tests = None, {}
+        self.tests = {}
         self.set_condition(condition)
 
     def set_condition(self, text):
         """The expression without which it doesn't stop, in the scope of each of its instructions."""
         self.tests = {it: Expression(text, self.code, it.scope, it.function) for it in self.instructions} if text else {}
+        if any(it.array for it in self.tests.values()):
+            raise Unknown(f"{text.strip()} is an array: give an index, as in {text.strip()}[0]")
         self.condition = text or None
 
     def is_hit(self, run, frame):
@@ -34,25 +66,39 @@ class Breakpoint:
             return False
 
 
-class Watch:
-    """Stops when a variable changes: a global, an element of one, or `function.name` for a local of all its frames."""
+class Catch(Breakpoint):
+    """Stops before the output of a value, or of any."""
 
-    def __init__(self, number, code, text, function=None, thread=None):
-        self.number, self.text, self.thread = number, text.strip(), thread
+    def __init__(self, number, code, value=None):
+        super().__init__(number, code, "put")
+        self.value, self.text = value, "output" if value is None else f"output {value}"
+
+    def is_hit(self, run, frame):
+        if not super().is_hit(run, frame):
+            return False
+        return self.value is None or frame.does.arguments[0](frame.words, run.globals) == self.value
+
+
+class Watch(Point):
+    """Stops when a variable changes: a global, an element of one, a local in scope in a frame, or `function.name` for a local
+    in all threads."""
+
+    def __init__(self, number, code, text, frame=None, thread=None):
+        super().__init__(number, thread)
+        self.text = text.strip()
         owner, dot, name = self.text.partition(".")
         if dot and owner not in code.functions:
             raise Unknown(f"there is no function {owner}: the functions are {listed(code.functions)}")
-        self.function = code.functions[owner] if dot else function
-        scope = self.function.slots if self.function else ()
-        self.expression = Expression(name if dot else self.text, code, [it for it in scope if it.name], self.function)
+        self.function = code.functions[owner] if dot else frame and frame.function
+        scope = [it for it in self.function.slots if it.name] if dot else frame.does.scope if frame else ()
+        self.expression = Expression(name if dot else self.text, code, scope, self.function)
         node = self.expression.node
         self.variables = {it.variable for it in uses_in(node)}
         self.index = node.index.value if isinstance(node, Use) and isinstance(node.index, Number) else None
         if not self.variables:
             raise Unknown(f"{self.text} has no variable")
         if all(it.is_global for it in self.variables):
-            self.function = None
-        self.is_enabled, self.hits, self.ignored, self.times, self.condition = True, 0, 0, None, None
+            self.function = self.thread = None
         self.last, self.seen = None, {}
 
     def begin(self, run):
@@ -142,13 +188,5 @@ class Search:
         return self.is_there(run) if self.is_there else None
 
     def passes(self, point):
-        """Counts a hit, and answers whether it stops."""
-        if not self.counts:
-            return True
-        point.hits += 1
-        if point.times and point.hits % point.times:
-            return False
-        if point.ignored:
-            point.ignored -= 1
-            return False
-        return True
+        """Whether a hit stops; on the way forward it is counted."""
+        return point.passes() if self.counts else True

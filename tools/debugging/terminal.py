@@ -5,6 +5,7 @@ from . import moment_text
 from .asked import Unknown, listed
 from .moments import NoMoment
 from .replayed import Differs
+from .stops import Catch
 
 ALIASES = {"b": "break", "tb": "tbreak", "c": "continue", "rc": "reverse-continue", "n": "next", "rn": "reverse-next",
            "s": "step", "rs": "reverse-step", "fin": "finish", "u": "until", "i": "info", "p": "print", "l": "list",
@@ -116,12 +117,7 @@ class Terminal:
 
     def do_goto(self, rest):
         """goto CLOCK, goto line N [+K]: to the moment at a clock, or after N lines of the log and K steps."""
-        words = rest.replace("+", " + ").split()
-        if words[:1] == ["line"]:
-            steps = number_of(words[3], "how many steps") if words[2:3] == ["+"] and len(words) > 3 else 0
-            self.session.go_to_line(number_of(" ".join(words[1:2]), "a line of the log"), steps)
-        else:
-            self.session.go_to_clock(number_of(rest, "a clock, or `line` and a line of the log"))
+        self.session.go_to_words(rest)
         self.stopped(None)
 
     # ---- breakpoints
@@ -153,6 +149,11 @@ class Terminal:
             raise Bad("expected a variable, as in `watch total`, `watch a[3]` or `watch worker.sum`")
         point = self.session.add_watch(rest)
         self.put(f"Watch {point.number}: {point.text}")
+
+    def do_catch(self, rest):
+        """catch output [VALUE]: stop before an output of this value, or of any."""
+        point = self.session.add_catch(rest)
+        self.put(f"Catch {point.number}: {point.text}")
 
     def point(self, text):
         number = number_of(text, "the number of a breakpoint")
@@ -308,7 +309,7 @@ class Terminal:
 
     def info_breakpoints(self):
         for it in self.session.points.values():
-            what = f"watch {it.text}" if hasattr(it, "text") else f"{self.session.name}:{it.line} in {it.function}"
+            what = f"{type(it).__name__.lower()} {it.text}" if hasattr(it, "text") else f"{self.session.name}:{it.line} in {it.function}"
             more = [f"thread {it.thread}"] if it.thread is not None else []
             more += [f"if {it.condition}"] if it.condition else []
             more += ["once"] if getattr(it, "is_temporary", False) else []
@@ -360,7 +361,8 @@ class Terminal:
         elif reason == "ended":
             self.put("The thread has ended.")
         elif reason == "breakpoint":
-            self.put(f"Breakpoint {hit.point.number}")
+            is_catch = isinstance(hit.point, Catch)
+            self.put(f"Catch {hit.point.number}: {hit.point.text}" if is_catch else f"Breakpoint {hit.point.number}")
         elif reason == "watch":
             self.put_watch(hit)
         self.put_state()
