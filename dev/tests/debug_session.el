@@ -8,6 +8,7 @@
       lsp-session-file (expand-file-name "session" user-emacs-directory)
       lsp-auto-guess-root t dap-auto-show-output nil)
 (require 'dap-mode)
+(require 'dap-ui)
 (setq dap-auto-configure-features nil)
 (defvar session-stops 0)
 (add-hook 'dap-stack-frame-changed-hook (lambda (_) (setq session-stops (1+ session-stops))))

@@ -15,6 +15,12 @@ REPLAYED = ("values: those of a replay in Python, of which nothing is proved; th
             "(docs/DEBUGGING.md)")
 
 
+def report_itself():
+    """The path of the program `report` behind its script, or of the script if the program isn't built."""
+    built = os.path.join(os.environ.get("CAPRICCIO_PROGRAMS") or str(program.TOP / "built"), "report")
+    return built if os.access(built, os.X_OK) else program.report()
+
+
 class Refused(Exception):
     """There is nothing to debug: a sentence, and a status for scripts."""
 
@@ -74,7 +80,7 @@ class Launch:
         """The session over the run."""
         source = self.words.files[0]
         for name in [source, *([self.log] if self.is_stored else [])]:
-            if not os.path.isfile(name):
+            if not os.path.exists(name):
                 raise Refused(f"there is no file {name}", 9)
         if not self.is_stored:
             self.make_run()
@@ -85,7 +91,7 @@ class Launch:
                 raise Refused(f"{source}: the source can't be read: {why}; `./capriccio graph {source}` says where", 2) from None
             except Differs as why:
                 raise Refused(f"{why}", 4) from None
-        told = moments.Told(program.report(), self.words.words, self.trace, self.log)
+        told = moments.Told(report_itself(), self.words.words, self.trace, self.log)
         session = Session(code, self.words.caps(), log, self.words.chunks(), told, source)
         if not asks_program or not told.can_tell(session.run, code):
             session.told, self.note = moments.Replayed(self.words.chunks()), REPLAYED

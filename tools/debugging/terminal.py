@@ -269,7 +269,7 @@ class Terminal:
             self.put(f"{number}\t{lines[number - 1]}".rstrip())
 
     def do_info(self, rest):
-        """info threads, locals, globals, queues, resources, breakpoints, moment, log, line."""
+        """info threads, locals, globals, queues, resources, breakpoints, moment, log."""
         names = [it[5:] for it in dir(self) if it.startswith("info_")]
         found = [it for it in names if rest and it.startswith(rest)] if rest not in names else [rest]
         if len(found) != 1:
@@ -325,9 +325,6 @@ class Terminal:
         log, line = self.session.run.log, self.session.run.line
         for number in range(max(1, line - 4), min(line + 5, len(log.lines) + 1)):
             self.put(f"{'*' if number == line else ' '} {number:>6}  {log.lines[number - 1]}")
-
-    def info_line(self):
-        self.put_state()
 
     # ---- words of the debugger
 
