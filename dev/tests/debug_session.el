@@ -15,7 +15,7 @@
 
 (defun session-wait (condition)
   "Lets the adapter answer until CONDITION holds."
-  (let ((end (+ (float-time) 60)))
+  (let ((end (+ (float-time) 120)))
     (while (and (< (float-time) end) (not (funcall condition)))
       (accept-process-output nil 0.05))
     (unless (funcall condition) (error "No answer"))))
@@ -40,6 +40,7 @@
   "Makes a move, and shows where it ends."
   (let ((before session-stops) (session (dap--cur-session)))
     (dap--send-message (dap--make-request command (list :threadId (dap--debug-session-thread-id session))) #'ignore session)
+    (dap--resume-application session)
     (session-wait (lambda () (> session-stops before)))
     (session-show)))
 
