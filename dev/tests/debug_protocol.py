@@ -1,12 +1,20 @@
-"""The types of the Debug Adapter Protocol, as Debian's package python3-pydevd carries them, and a client that checks each
-message against them."""
+"""The types of the Debug Adapter Protocol, as Debian's package python3-pydevd carries them, and a client that checks
+each message against them."""
 import ast, os, pathlib, subprocess, sys
 
 from debugging import wire
 
 TOP = pathlib.Path(__file__).resolve().parent.parent.parent
 INSTALLED = "/usr/lib/python3/dist-packages/_pydevd_bundle/_debug_adapter/pydevd_schema.py"
-KINDS = {"integer": int, "string": str, "boolean": bool, "number": (int, float), "array": list, "object": dict, "null": type(None)}
+KINDS = {
+    "integer": int,
+    "string": str,
+    "boolean": bool,
+    "number": (int, float),
+    "array": list,
+    "object": dict,
+    "null": type(None),
+}
 
 
 def schema_file():
@@ -47,7 +55,9 @@ class Types:
     def wrong_part(self, value, schema, place):
         name = schema.get("$ref", "").rpartition("/")[2] or schema.get("type")
         if isinstance(name, list):
-            return [] if any(isinstance(value, KINDS[it]) for it in name) else [f"{place}: {value!r} is none of {name}"]
+            return (
+                [] if any(isinstance(value, KINDS[it]) for it in name) else [f"{place}: {value!r} is none of {name}"]
+            )
         if name in self.properties:
             if "enum" in self.properties[name] or not isinstance(value, dict):
                 return [] if isinstance(value, (str, dict)) else [f"{place}: {value!r} is no {name}"]
@@ -57,10 +67,18 @@ class Types:
         if "enum" in schema and value not in schema["enum"]:
             return [f"{place}: {value!r} is none of {schema['enum']}"]
         if name == "array":
-            return [it for number, one in enumerate(value) for it in self.wrong_part(one, schema["items"], f"{place}[{number}]")]
+            return [
+                it
+                for number, one in enumerate(value)
+                for it in self.wrong_part(one, schema["items"], f"{place}[{number}]")
+            ]
         if name == "object" and "properties" in schema:
-            return [it for key, one in value.items() if key in schema["properties"]
-                    for it in self.wrong_part(one, schema["properties"][key], f"{place}.{key}")]
+            return [
+                it
+                for key, one in value.items()
+                if key in schema["properties"]
+                for it in self.wrong_part(one, schema["properties"][key], f"{place}.{key}")
+            ]
         return []
 
     def wrong_message(self, message):
@@ -86,8 +104,12 @@ class Client:
 
     def __init__(self, types=None):
         self.types, self.sent, self.messages, self.wrong = types, 0, [], []
-        self.process = subprocess.Popen([sys.executable, TOP / "tools/debug_adapter"], stdin=subprocess.PIPE,
-                                        stdout=subprocess.PIPE, stderr=subprocess.DEVNULL)
+        self.process = subprocess.Popen(
+            [sys.executable, TOP / "tools/debug_adapter"],
+            stdin=subprocess.PIPE,
+            stdout=subprocess.PIPE,
+            stderr=subprocess.DEVNULL,
+        )
 
     def __enter__(self):
         return self
@@ -108,7 +130,9 @@ class Client:
 
     def send(self, command, **arguments):
         self.sent += 1
-        request = {"seq": self.sent, "type": "request", "command": command} | ({"arguments": arguments} if arguments else {})
+        request = {"seq": self.sent, "type": "request", "command": command} | (
+            {"arguments": arguments} if arguments else {}
+        )
         wire.write_message(self.process.stdin, request)
         return self.sent
 

@@ -1,6 +1,6 @@
-;; A session of Emacs' dap-mode with tools/debug_adapter, in batch: sets a breakpoint, makes the moves that it is given, and
-;; prints a line for each stop: the function, the line, and the values that are asked for. test_debug_emacs.py calls it with
-;; the variables below in its environment.
+;; A session of Emacs' dap-mode with tools/debug_adapter, in batch: sets breakpoints, makes the moves that it is given,
+;; and prints a line for each stop: the function, the line, and the values that are asked for. test_debug_emacs.py calls
+;; it with the variables below in its environment.
 (dolist (folder (directory-files "/usr/share/emacs/site-lisp/elpa-src" t "^[^.]"))
   (add-to-list 'load-path folder))
 (setq user-emacs-directory (file-name-as-directory (getenv "SESSION_HOME"))
@@ -39,7 +39,8 @@
 (defun session-move (command)
   "Makes a move, and shows where it ends."
   (let ((before session-stops) (session (dap--cur-session)))
-    (dap--send-message (dap--make-request command (list :threadId (dap--debug-session-thread-id session))) #'ignore session)
+    (dap--send-message
+     (dap--make-request command (list :threadId (dap--debug-session-thread-id session))) #'ignore session)
     (dap--resume-application session)
     (session-wait (lambda () (> session-stops before)))
     (session-show)))

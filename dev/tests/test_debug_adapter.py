@@ -1,5 +1,5 @@
-"""Whole sessions of an editor with tools/debug_adapter, forwards and backwards. Each message is checked against the types of
-the Debug Adapter Protocol that Debian's package python3-pydevd has, where it is installed."""
+"""Whole sessions of an editor with tools/debug_adapter, forwards and backwards. Each message is checked against the
+types of the Debug Adapter Protocol that Debian's package python3-pydevd has, where it is installed."""
 import os, pathlib, tempfile, unittest
 
 from . import debug_protocol
@@ -15,8 +15,12 @@ TYPES = debug_protocol.Types(SCHEMA) if os.path.exists(SCHEMA) else None
 class Session(unittest.TestCase):
     def begin(self, breakpoints=(), functions=(), filters=("traps", "stops"), launch=None, data=()):
         """A client whose run is launched: the log of examples/bank, unless another run is named."""
-        bank = {"source": str(BANK), "trace": str(BANK.parent / "trace"), "log": str(BANK.parent / "log"),
-                "options": ["--caps", "1=1,2=1"]}
+        bank = {
+            "source": str(BANK),
+            "trace": str(BANK.parent / "trace"),
+            "log": str(BANK.parent / "log"),
+            "options": ["--caps", "1=1,2=1"],
+        }
         client = debug_protocol.Client(TYPES)
         self.addCleanup(client.__exit__)
         self.client, self.source = client, {"path": (launch or bank)["source"]}
@@ -38,13 +42,19 @@ class Bank(Session):
     def test_steps_forwards_and_backwards(self):
         client = self.begin([{"line": 8}])
         stop, place = client.stop()
-        self.assertEqual((stop["reason"], place, stop["hitBreakpointIds"]), ("breakpoint", ("transfer", 8), [self.points[0]["id"]]))
+        self.assertEqual(
+            (stop["reason"], place, stop["hitBreakpointIds"]), ("breakpoint", ("transfer", 8), [self.points[0]["id"]])
+        )
         thread = stop["threadId"]
         self.assertEqual(client.values("Locals", thread), {"from": "1", "to": "2", "amount": "5"})
-        self.assertEqual([client.move("next", threadId=thread)[1] for _ in range(3)],
-                         [("transfer", 9), ("transfer", 10), ("transfer", 11)])
+        self.assertEqual(
+            [client.move("next", threadId=thread)[1] for _ in range(3)],
+            [("transfer", 9), ("transfer", 10), ("transfer", 11)],
+        )
         self.assertEqual(client.values("Globals", thread), {"balances": "{0, -5, 5}"})
-        self.assertEqual([client.move("stepBack", threadId=thread)[1] for _ in range(2)], [("transfer", 10), ("transfer", 9)])
+        self.assertEqual(
+            [client.move("stepBack", threadId=thread)[1] for _ in range(2)], [("transfer", 10), ("transfer", 9)]
+        )
         self.assertEqual(client.values("Globals", thread), {"balances": "{0, 0, 0}"})
         stop, place = client.move("stepOut", threadId=thread)
         self.assertEqual((stop["reason"], place), ("step", ("teller", 18)))
@@ -57,14 +67,22 @@ class Bank(Session):
         names = {it["id"]: it["name"] for it in client.ask("threads")["threads"]}
         self.assertEqual(names, {2: "1 teller: running", 3: "2 teller: waits at accept() since 57"})
         frames = client.ask("stackTrace", threadId=thread)
-        self.assertEqual([(it["name"], it["line"], it["column"]) for it in frames["stackFrames"]],
-                         [("transfer", 6, 3), ("teller", 20, 5)])
+        self.assertEqual(
+            [(it["name"], it["line"], it["column"]) for it in frames["stackFrames"]],
+            [("transfer", 6, 3), ("teller", 20, 5)],
+        )
         self.assertEqual(client.values("Queues", thread), {"arrivals": "{}"})
-        self.assertEqual(client.values("Resources", thread), {"resource 1": "0 of 1 in use", "resource 2": "0 of 1 in use"})
+        self.assertEqual(
+            client.values("Resources", thread), {"resource 1": "0 of 1 in use", "resource 2": "0 of 1 in use"}
+        )
         scopes = client.ask("scopes", frameId=frames["stackFrames"][1]["id"])["scopes"]
-        self.assertEqual(client.ask("variables", variablesReference=scopes[0]["variablesReference"])["variables"][1]["value"], "12")
+        self.assertEqual(
+            client.ask("variables", variablesReference=scopes[0]["variablesReference"])["variables"][1]["value"], "12"
+        )
         array = client.ask("variables", variablesReference=scopes[1]["variablesReference"])["variables"][0]
-        elements = client.ask("variables", variablesReference=array["variablesReference"], start=1, count=2)["variables"]
+        elements = client.ask("variables", variablesReference=array["variablesReference"], start=1, count=2)[
+            "variables"
+        ]
         self.assertEqual([(it["name"], it["value"]) for it in elements], [("[1]", "0"), ("[2]", "0")])
         info = client.ask("dataBreakpointInfo", variablesReference=array["variablesReference"], name="[2]")
         self.assertEqual(info["dataId"], "balances[2]")
@@ -72,8 +90,12 @@ class Bank(Session):
         self.assertEqual(info["dataId"], "teller.request")
 
     def test_conditions_with_a_thread_and_counts(self):
-        client = self.begin([{"line": 6, "condition": "thread 2"}, {"line": 7, "condition": "from == 1", "hitCondition": "== 2"}])
-        self.assertEqual(client.ask("evaluate", expression="from", frameId=self.frame(client.stop()[0]))["result"], "2")
+        client = self.begin(
+            [{"line": 6, "condition": "thread 2"}, {"line": 7, "condition": "from == 1", "hitCondition": "== 2"}]
+        )
+        self.assertEqual(
+            client.ask("evaluate", expression="from", frameId=self.frame(client.stop()[0]))["result"], "2"
+        )
         stop, place = client.move("continue", threadId=1)
         self.assertEqual(place, ("transfer", 7))
         self.assertEqual(client.ask("evaluate", expression="from * 10 + to", frameId=self.frame(stop))["result"], "12")
@@ -84,7 +106,9 @@ class Bank(Session):
     def test_data_breakpoints_and_the_deadlock(self):
         client = self.begin(data=["balances[2]"])
         stop, place = client.stop()
-        self.assertEqual((stop["reason"], stop["description"], place), ("data breakpoint", "balances[2]: 0 -> 5", ("transfer", 11)))
+        self.assertEqual(
+            (stop["reason"], stop["description"], place), ("data breakpoint", "balances[2]: 0 -> 5", ("transfer", 11))
+        )
         client.ask("setDataBreakpoints", breakpoints=[])
         stop, place = client.move("continue", threadId=1)
         self.assertEqual((stop["reason"], stop["text"], place), ("exception", "stop idle", ("transfer", 8)))
@@ -109,8 +133,10 @@ class Bank(Session):
         client.stop()
         self.assertEqual(client.ask("loadedSources")["sources"], [{"name": "server.c", "path": str(BANK)}])
         self.assertEqual(client.ask("source", sourceReference=0)["content"], BANK.read_text())
-        self.assertEqual(client.ask("breakpointLocations", source=self.source, line=1, endLine=7)["breakpoints"],
-                         [{"line": 6}, {"line": 7}])
+        self.assertEqual(
+            client.ask("breakpointLocations", source=self.source, line=1, endLine=7)["breakpoints"],
+            [{"line": 6}, {"line": 7}],
+        )
 
     def test_what_is_asked_wrongly_is_refused_with_what_there_is(self):
         client = self.begin([{"line": 8}, {"line": 99}, {"line": 8, "condition": "balance > 1"}])
@@ -118,9 +144,12 @@ class Bank(Session):
         self.assertEqual([it["verified"] for it in self.points], [True, False, False])
         self.assertIn("the last one is at line 28", self.points[1]["message"])
         self.assertIn("no name balance is in scope here: from, to, amount, balances", self.points[2]["message"])
-        for command, arguments, why in (("evaluate", {"expression": "put(1)"}, "without calls"),
-                                        ("scopes", {"frameId": 999}, "999"), ("setVariable", {"name": "x"}, "knows"),
-                                        ("goto", {"threadId": 1, "targetId": 7}, "earlier moment")):
+        for command, arguments, why in (
+            ("evaluate", {"expression": "put(1)"}, "without calls"),
+            ("scopes", {"frameId": 999}, "999"),
+            ("setVariable", {"name": "x"}, "knows"),
+            ("goto", {"threadId": 1, "targetId": 7}, "earlier moment"),
+        ):
             with self.assertRaisesRegex(ValueError, why):
                 client.ask(command, **arguments)
         other = client.ask("setBreakpoints", source={"path": "/other.c"}, breakpoints=[{"line": 1}])["breakpoints"]
@@ -144,8 +173,12 @@ class Refused(Session):
         with tempfile.TemporaryDirectory() as folder:
             log = pathlib.Path(folder, "log")
             log.write_text("run 0 0 0\n")
-            for arguments, why in (({}, "source"), ({"source": "/none.c", "log": str(log)}, "no file /none.c"),
-                                   ({"source": str(BANK), "log": str(log)}, "stop"), ({"source": str(BANK), "log": "/none"}, "no file")):
+            for arguments, why in (
+                ({}, "source"),
+                ({"source": "/none.c", "log": str(log)}, "no file /none.c"),
+                ({"source": str(BANK), "log": str(log)}, "stop"),
+                ({"source": str(BANK), "log": "/none"}, "no file"),
+            ):
                 with self.assertRaisesRegex(ValueError, why):
                     self.client.ask("launch", **arguments)
         with self.assertRaisesRegex(ValueError, "before launch"):
@@ -156,7 +189,10 @@ class Refused(Session):
 class Stories(Session):
     def test_a_wrong_answer(self):
         """The value of a page that isn't there is the status 404, to which the query is added."""
-        client = self.begin(functions=["output 456"], launch={"source": str(STORIES / "pages.c"), "trace": str(STORIES / "pages.trace")})
+        client = self.begin(
+            functions=["output 456"],
+            launch={"source": str(STORIES / "pages.c"), "trace": str(STORIES / "pages.trace")},
+        )
         stop, place = client.stop()
         self.assertEqual((stop["reason"], place), ("breakpoint", ("worker", 19)))
         thread = stop["threadId"]
@@ -185,7 +221,12 @@ class Types(unittest.TestCase):
     def test_a_wrong_message_is_seen(self):
         good = {"seq": 1, "type": "event", "event": "stopped", "body": {"reason": "step", "threadId": 1}}
         self.assertEqual(TYPES.wrong_message(good), [])
-        for body in ({"threadId": 1}, {"reason": "step", "threadId": "1"}, {"reason": "step", "thread": 1}, {"reason": 5}):
+        for body in (
+            {"threadId": 1},
+            {"reason": "step", "threadId": "1"},
+            {"reason": "step", "thread": 1},
+            {"reason": 5},
+        ):
             self.assertNotEqual(TYPES.wrong_message(good | {"body": body}), [])
         answer = {"seq": 1, "type": "response", "request_seq": 1, "success": True, "command": "stackTrace"}
         frame = {"id": 1, "name": "f", "line": 1, "column": 1}

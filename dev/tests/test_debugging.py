@@ -1,4 +1,4 @@
-"""Steps through runs, forwards and backwards: they are those of the logs, of gcc, and of docs/LANGUAGE.md, "Meaning"."""
+"""Steps through runs, forwards and backwards: they are those of the logs, of gcc and of docs/LANGUAGE.md."""
 import pathlib, random, shutil, tempfile, unittest
 
 from debugging import asked, code, expressions, launch, replayed, session, stops, timeline, world
@@ -26,7 +26,9 @@ def timeline_of(source, lines, caps=None, chunks=1024):
 
 def of_example(log):
     words = words_of(log)
-    return timeline_of((log.parent / "server.c").read_bytes(), log.read_text().splitlines(), words.caps(), words.chunks())
+    return timeline_of(
+        (log.parent / "server.c").read_bytes(), log.read_text().splitlines(), words.caps(), words.chunks()
+    )
 
 
 class Documents:
@@ -59,8 +61,13 @@ class OfExamples(unittest.TestCase):
 
     def test_a_log_of_another_source_is_refused_with_its_line(self):
         source, lines = (BANK / "server.c").read_bytes(), (BANK / "log").read_text().splitlines()
-        wrong = {"out 1 5": "out 1 6", "block 1 3 0<7 40 1022": "block 1 3 1<7 40 1022", "run 31 1 0": "run 31 5 0",
-                 "end 0 31 1022": "block 0 2 0 31 1022", "run 246 1 4": "run 245 1 4"}
+        wrong = {
+            "out 1 5": "out 1 6",
+            "block 1 3 0<7 40 1022": "block 1 3 1<7 40 1022",
+            "run 31 1 0": "run 31 5 0",
+            "end 0 31 1022": "block 0 2 0 31 1022",
+            "run 246 1 4": "run 245 1 4",
+        }
         for line, other in wrong.items():
             with self.subTest(line=line):
                 at = lines.index(line)
@@ -102,8 +109,12 @@ class Steps(unittest.TestCase):
         more = "int g; int f(int n) { return n; }"
         call = 2  # the call, and the return
         self.assertEqual(self.steps("int x; x = f(1) + f(2); return 0;", more=more), 1 + 2 * call + 1 + 1)
-        self.assertEqual(self.steps("int x; x = g + f(2); return 0;", more=more), 1 + 1 + call + 1 + 1)  # g has a name of its own
-        self.assertEqual(self.steps("int x; x = 5 + f(2); return 0;", more=more), 1 + call + 1 + 1)  # a number keeps its place
+        self.assertEqual(
+            self.steps("int x; x = g + f(2); return 0;", more=more), 1 + 1 + call + 1 + 1
+        )  # g has a name of its own
+        self.assertEqual(
+            self.steps("int x; x = 5 + f(2); return 0;", more=more), 1 + call + 1 + 1
+        )  # a number keeps its place
         self.assertEqual(self.steps("int x; x = (5) + f(2); return 0;", more=more), 1 + 1 + call + 1 + 1)
         self.assertEqual(self.steps("int x; x = f(f(3)); return 0;", more=more), 1 + 2 * call + 1)
         self.assertEqual(self.steps("return f(4);", more=more), call + 1)
@@ -230,21 +241,27 @@ class Moving(unittest.TestCase):
         self.assertEqual(made.run.moment, (32, 0))
         made.go_to_line(14, 2)
         self.assertEqual((made.run.moment, made.current_line()), ((14, 2), 11))
-        for words, why in (("line 14 +99", "fewer than 99 steps"), ("line 999", "lines 1 to 48"), ("soon", "expected a clock")):
+        for words, why in (
+            ("line 14 +99", "fewer than 99 steps"),
+            ("line 999", "lines 1 to 48"),
+            ("soon", "expected a clock"),
+        ):
             with self.assertRaisesRegex(asked.Unknown, why):
                 made.go_to_words(words)
 
     def test_what_is_not_there_is_refused_with_what_is(self):
         made = bank()
         made.go_to_line(14)
-        for ask, why in ((lambda: made.add_breakpoint("teler"), "functions are transfer, teller, main"),
-                         (lambda: made.add_breakpoint("99"), "the last one is at line 28"),
-                         (lambda: made.add_watch("balance"), "no name balance is in scope here: from, to, amount, balances"),
-                         (lambda: made.add_watch("tell.x"), "no function tell"),
-                         (lambda: made.add_breakpoint("6", condition="put(1)"), "without calls"),
-                         (lambda: made.add_breakpoint("6", condition="from +"), "isn't an expression"),
-                         (lambda: made.add_breakpoint("6", condition="balances"), "is an array"),
-                         (lambda: made.add_breakpoint("waitfor"), "no call of waitfor")):
+        for ask, why in (
+            (lambda: made.add_breakpoint("teler"), "functions are transfer, teller, main"),
+            (lambda: made.add_breakpoint("99"), "the last one is at line 28"),
+            (lambda: made.add_watch("balance"), "no name balance is in scope here: from, to, amount, balances"),
+            (lambda: made.add_watch("tell.x"), "no function tell"),
+            (lambda: made.add_breakpoint("6", condition="put(1)"), "without calls"),
+            (lambda: made.add_breakpoint("6", condition="from +"), "isn't an expression"),
+            (lambda: made.add_breakpoint("6", condition="balances"), "is an array"),
+            (lambda: made.add_breakpoint("waitfor"), "no call of waitfor"),
+        ):
             with self.assertRaisesRegex(asked.Unknown, why):
                 ask()
         self.assertEqual(made.points, {})
@@ -256,14 +273,27 @@ class LostUpdate(unittest.TestCase):
     SOURCE = b"""int total;
 void add(int n) { int before; before = total; sleep(10); total = before + n; }
 int main() { spawn(add, 1); spawn(add, 2); return 0; }"""
-    LOG = ["run 0 0 0", "end 0 10 9", "run 10 1 0", "block 1 2 0 5 9", "run 15 2 0", "block 2 2 0 5 9", "run 25 1 2",
-           "end 1 5 9", "run 30 2 2", "end 2 5 9", "stop done"]
+    LOG = [
+        "run 0 0 0",
+        "end 0 10 9",
+        "run 10 1 0",
+        "block 1 2 0 5 9",
+        "run 15 2 0",
+        "block 2 2 0 5 9",
+        "run 25 1 2",
+        "end 1 5 9",
+        "run 30 2 2",
+        "end 2 5 9",
+        "stop done",
+    ]
 
     def test_the_read_and_the_writes_between_are_told(self):
         made = session_of(self.SOURCE, self.LOG)
         watch = made.add_watch("total")
         hit = made.forward()
-        self.assertEqual((hit.old, hit.new, made.thread, made.last_read(watch)), (0, 1, 1, ((10, "server.c:2:31"), [])))
+        self.assertEqual(
+            (hit.old, hit.new, made.thread, made.last_read(watch)), (0, 1, 1, ((10, "server.c:2:31"), []))
+        )
         hit = made.forward()
         self.assertEqual((hit.old, hit.new, made.thread), (1, 2, 2))
         self.assertEqual(made.last_read(watch), ((15, "server.c:2:31"), [(25, 1, 1)]))

@@ -10,8 +10,14 @@ PROGRAM = os.path.join(os.environ.get("CAPRICCIO_PROGRAMS", "no folder"), "capri
 
 def debug(*words, trace="", **more):
     with open(TOP / trace if trace else os.devnull) as given:
-        return subprocess.run([sys.executable, TOP / "tools/debug", "--batch", *words], stdin=given, cwd=TOP,
-                              capture_output=True, text=True, **more)
+        return subprocess.run(
+            [sys.executable, TOP / "tools/debug", "--batch", *words],
+            stdin=given,
+            cwd=TOP,
+            capture_output=True,
+            text=True,
+            **more,
+        )
 
 
 def sessions():
@@ -36,11 +42,28 @@ class Sessions(unittest.TestCase):
                 self.assertEqual((told.stdout, told.returncode), (shown, 0), told.stderr)
 
     def test_a_command_that_cannot_be_done_ends_a_script(self):
-        for command, why in (("break teler", "functions are transfer, teller, main"), ("fly", "`help` lists them"),
-                             ("re", "short for"), ("print nothing", "no name nothing is in scope here: balances"),
-                             ("thread 9", "there are 0"), ("info", "expected one of"), ("delete 4", "no breakpoint 4"),
-                             ("goto soon", "expected a clock"), ("next often", "expected how many times")):
-            told = debug("-e", command, "-e", "run", "serve", "--caps", "1=1,2=1", "examples/bank/server.c", trace="examples/bank/trace")
+        for command, why in (
+            ("break teler", "functions are transfer, teller, main"),
+            ("fly", "`help` lists them"),
+            ("re", "short for"),
+            ("print nothing", "no name nothing is in scope here: balances"),
+            ("thread 9", "there are 0"),
+            ("info", "expected one of"),
+            ("delete 4", "no breakpoint 4"),
+            ("goto soon", "expected a clock"),
+            ("next often", "expected how many times"),
+        ):
+            told = debug(
+                "-e",
+                command,
+                "-e",
+                "run",
+                "serve",
+                "--caps",
+                "1=1,2=1",
+                "examples/bank/server.c",
+                trace="examples/bank/trace",
+            )
             with self.subTest(command=command):
                 self.assertEqual(told.returncode, 1, told.stdout)
                 self.assertIn("debug: ", told.stderr)
@@ -53,7 +76,9 @@ class Sessions(unittest.TestCase):
         self.assertEqual(debug("serve").returncode, 2)
         self.assertEqual(debug("serve", "/none.c").returncode, 9)
         self.assertEqual(debug("serve", os.devnull).returncode, 2)  # the program refuses an empty source
-        self.assertEqual(debug("--log", "examples/pool/log", "serve", "examples/bank/server.c", "-e", "run").returncode, 2)
+        self.assertEqual(
+            debug("--log", "examples/pool/log", "serve", "examples/bank/server.c", "-e", "run").returncode, 2
+        )
         told = debug("-e", "run", "--log", "examples/pool/log", "serve", "examples/bank/server.c")
         self.assertEqual((told.returncode, "line 4 of the log" in told.stderr), (1, True), told.stderr)
 

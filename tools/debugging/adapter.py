@@ -1,6 +1,7 @@
 """The Debug Adapter Protocol over a session: requests of an editor, and the events that answer them.
 
-`Adapter(wire).serve()` answers requests until the editor ends. Whatever a request asks wrongly is refused with a sentence.
+`Adapter(wire).serve()` answers requests until the editor ends. A request that can't be answered is refused with a
+sentence.
 """
 import io, os, re
 
@@ -13,18 +14,38 @@ from .views import Views
 from .wire import Ended
 
 CAPABILITIES = {
-    "supportsConfigurationDoneRequest": True, "supportsFunctionBreakpoints": True, "supportsConditionalBreakpoints": True,
-    "supportsHitConditionalBreakpoints": True, "supportsEvaluateForHovers": True, "supportsStepBack": True,
-    "supportsGotoTargetsRequest": True, "supportsLoadedSourcesRequest": True, "supportsDataBreakpoints": True,
-    "supportsExceptionInfoRequest": True, "supportsTerminateRequest": True, "supportsBreakpointLocationsRequest": True,
+    "supportsConfigurationDoneRequest": True,
+    "supportsFunctionBreakpoints": True,
+    "supportsConditionalBreakpoints": True,
+    "supportsHitConditionalBreakpoints": True,
+    "supportsEvaluateForHovers": True,
+    "supportsStepBack": True,
+    "supportsGotoTargetsRequest": True,
+    "supportsLoadedSourcesRequest": True,
+    "supportsDataBreakpoints": True,
+    "supportsExceptionInfoRequest": True,
+    "supportsTerminateRequest": True,
+    "supportsBreakpointLocationsRequest": True,
     "supportsDelayedStackTraceLoading": True,
     "exceptionBreakpointFilters": [
         {"filter": "traps", "label": "Traps", "default": True},
         {"filter": "stops", "label": "Other stops: deadlock, end of the trace, no chunk, fuel", "default": True},
     ],
 }
-REASONS = {"breakpoint": "breakpoint", "watch": "data breakpoint", "interrupted": "pause", "goto": "goto", "start": "entry"}
-LOOKS = ("info", "list", "backtrace", "help", "print")  # commands of the terminal that the console takes besides `goto`
+REASONS = {
+    "breakpoint": "breakpoint",
+    "watch": "data breakpoint",
+    "interrupted": "pause",
+    "goto": "goto",
+    "start": "entry",
+}
+LOOKS = (
+    "info",
+    "list",
+    "backtrace",
+    "help",
+    "print",
+)  # commands of the terminal that the console takes besides `goto`
 
 
 class Bad(Exception):
@@ -40,7 +61,13 @@ def thread_and_condition(text):
 class Adapter:
     def __init__(self, wire):
         self.wire, self.session, self.views, self.made, self.words = wire, None, None, None, {}
-        self.filters, self.is_over, self.last, self.targets, self.stops_on_entry = set(), False, Hit("start"), [], False
+        self.filters, self.is_over, self.last, self.targets, self.stops_on_entry = (
+            set(),
+            False,
+            Hit("start"),
+            [],
+            False,
+        )
         self.first = 1  # the number of the first line and column, as the editor counts
         self.known = {name.removeprefix("on_"): getattr(self, name) for name in dir(self) if name.startswith("on_")}
 
@@ -76,7 +103,9 @@ class Adapter:
             raise Bad("launch: `source` is missing: the server's source")
         words = [*given.get("options", given.get("args", []))]
         os.chdir(given.get("cwd") or os.curdir)
-        self.made = launch.Launch([given.get("command", "serve"), *words, source, *given.get("files", [])], given.get("log"))
+        self.made = launch.Launch(
+            [given.get("command", "serve"), *words, source, *given.get("files", [])], given.get("log")
+        )
         if given.get("trace"):
             with open(given["trace"], "rb") as trace:
                 self.made.copy_trace(trace)
@@ -144,8 +173,10 @@ class Adapter:
 
     def on_setFunctionBreakpoints(self, request, given):
         """Functions, modelled calls, and `output` or `output VALUE`."""
-        made = [(it, self.catch(it["name"]) if it["name"].startswith("output") else self.breakpoint(it["name"], it))
-                for it in given["breakpoints"]]
+        made = [
+            (it, self.catch(it["name"]) if it["name"].startswith("output") else self.breakpoint(it["name"], it))
+            for it in given["breakpoints"]
+        ]
         self.wire.answer(request, self.replace("function", made))
 
     def catch(self, text):
@@ -155,7 +186,9 @@ class Adapter:
         reference = given.get("variablesReference")
         text = self.views.watchable(reference, given["name"]) if reference else given["name"]
         if text is None:
-            return self.wire.answer(request, {"dataId": None, "description": f"{given['name']} isn't a variable of the source"})
+            return self.wire.answer(
+                request, {"dataId": None, "description": f"{given['name']} isn't a variable of the source"}
+            )
         self.wire.answer(request, {"dataId": text, "description": text, "accessTypes": ["write"], "canPersist": True})
 
     def on_setDataBreakpoints(self, request, given):
@@ -169,8 +202,12 @@ class Adapter:
     def on_breakpointLocations(self, request, given):
         first = given["line"] + 1 - self.first
         last = given.get("endLine", given["line"]) + 1 - self.first
-        lines = {it.line for function in self.session.code.functions.values() for it in function.instructions if it.begins}
-        self.wire.answer(request, {"breakpoints": [{"line": it - 1 + self.first} for it in sorted(lines) if first <= it <= last]})
+        lines = {
+            it.line for function in self.session.code.functions.values() for it in function.instructions if it.begins
+        }
+        self.wire.answer(
+            request, {"breakpoints": [{"line": it - 1 + self.first} for it in sorted(lines) if first <= it <= last]}
+        )
 
     # ---- moving
 
@@ -238,9 +275,15 @@ class Adapter:
             if moment := self.moment_at(line, search):
                 self.targets.append((word, *moment))
             session.timeline.go_to_time(here)
-        self.wire.answer(request, {"targets": [
-            {"id": number, "label": f"{word}: clock {clock:,}, thread {thread}", "line": given["line"]}
-            for number, (word, _, clock, thread) in enumerate(self.targets, 1)]})
+        self.wire.answer(
+            request,
+            {
+                "targets": [
+                    {"id": number, "label": f"{word}: clock {clock:,}, thread {thread}", "line": given["line"]}
+                    for number, (word, _, clock, thread) in enumerate(self.targets, 1)
+                ]
+            },
+        )
 
     def moment_at(self, line, search):
         point = self.session.add_breakpoint(str(line))
@@ -292,17 +335,32 @@ class Adapter:
         value = self.session.value_of(text)
         if isinstance(value, list):
             shown = self.views.variable({"name": text, "values": value, "words": len(value)}, None, "")
-            return self.wire.answer(request, {"result": shown["value"], "type": shown["type"], "indexedVariables": len(value),
-                                              "variablesReference": shown["variablesReference"]})
+            return self.wire.answer(
+                request,
+                {
+                    "result": shown["value"],
+                    "type": shown["type"],
+                    "indexedVariables": len(value),
+                    "variablesReference": shown["variablesReference"],
+                },
+            )
         self.wire.answer(request, {"result": str(value), "type": "int", "variablesReference": 0})
 
     def on_exceptionInfo(self, request, given):
         run = self.session.run
-        self.wire.answer(request, {"exceptionId": run.stop or "none", "breakMode": "always",
-                                   "description": f"The run is over: {run.stop}" if run.stop else "The run goes on."})
+        self.wire.answer(
+            request,
+            {
+                "exceptionId": run.stop or "none",
+                "breakMode": "always",
+                "description": f"The run is over: {run.stop}" if run.stop else "The run goes on.",
+            },
+        )
 
     def on_loadedSources(self, request, given):
         self.wire.answer(request, {"sources": [self.views.source()]})
 
     def on_source(self, request, given):
-        self.wire.answer(request, {"content": self.session.code.source.decode(errors="replace"), "mimeType": "text/x-c"})
+        self.wire.answer(
+            request, {"content": self.session.code.source.decode(errors="replace"), "mimeType": "text/x-c"}
+        )

@@ -83,8 +83,12 @@ def variables_in_whole(node):
 
 def calls_of(code, name):
     """The calls of a modelled call."""
-    found = [it for function in code.functions.values() for it in function.instructions
-             if isinstance(it, CallStep) and it.call.name == name]
+    found = [
+        it
+        for function in code.functions.values()
+        for it in function.instructions
+        if isinstance(it, CallStep) and it.call.name == name
+    ]
     if not found:
         raise Unknown(f"the source has no call of {name}")
     return found

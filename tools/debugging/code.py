@@ -110,7 +110,9 @@ class Body:
         arguments = rewriting.arguments_of(call)
         reads = [*reads, *(it for node in [call.index, *arguments] for it in uses_in(node))]
         index = None if call.index is None else self.value(call.index)
-        self.put(CallStep(at, tuple(self.scope), reads, call, destination, list(map(self.value, arguments)), index), begins)
+        self.put(
+            CallStep(at, tuple(self.scope), reads, call, destination, list(map(self.value, arguments)), index), begins
+        )
 
     def test(self, node, begins, at):
         return self.put(Test(at, tuple(self.scope), uses_in(node), self.value(node)), begins)

@@ -7,8 +7,8 @@ from .expressions import Trap
 
 
 class Instruction:
-    """A step at the byte `at`, with the variables in scope there. `reads` are the variables and elements (`Use`) that it
-    may read."""
+    """A step at the byte `at`, with the variables in scope there. `reads` are the variables and elements (`Use`) that
+    it may read."""
 
     next = other = function = None
     begins, held = False, ()  # `held` are the temporaries that its statement has set before it

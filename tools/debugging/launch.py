@@ -11,8 +11,10 @@ from .session import Session
 
 TAKES = {"serve": 1, "run": 3}  # the commands that are runs, with the number of their files
 DEFAULT_CHUNKS = 1024
-REPLAYED = ("values: those of a replay in Python, of which nothing is proved; this program `report` prints no moments "
-            "(docs/DEBUGGING.md)")
+REPLAYED = (
+    "values: those of a replay in Python, of which nothing is proved; this program `report` prints no moments "
+    "(docs/DEBUGGING.md)"
+)
 
 
 def report_itself():
@@ -34,7 +36,9 @@ class Words:
 
     def __init__(self, words):
         if not words or words[0] not in TAKES:
-            raise Refused(f"expected a run, serve SRC .. or run SRC IMG CRT .., found {' '.join(words) or 'nothing'}", 2)
+            raise Refused(
+                f"expected a run, serve SRC .. or run SRC IMG CRT .., found {' '.join(words) or 'nothing'}", 2
+            )
         self.words, self.options, self.files, left = words, {}, [], list(words[1:])
         while left:
             word = left.pop(0)
@@ -88,7 +92,9 @@ class Launch:
             try:
                 code, log = Code(file.read()), Log(lines)
             except NotASource as why:
-                raise Refused(f"{source}: the source can't be read: {why}; `./capriccio graph {source}` says where", 2) from None
+                raise Refused(
+                    f"{source}: the source can't be read: {why}; `./capriccio graph {source}` says where", 2
+                ) from None
             except Differs as why:
                 raise Refused(f"{why}", 4) from None
         told = moments.Told(report_itself(), self.words.words, self.trace, self.log)

@@ -63,8 +63,14 @@ def place_text(frame, name):
 
 def wrapped(head, words):
     """Words behind a head, with their lines below one another."""
-    return textwrap.wrap(", ".join(words) or "none", WIDTH, initial_indent=head, subsequent_indent=" " * len(head),
-                         break_long_words=False, break_on_hyphens=False)
+    return textwrap.wrap(
+        ", ".join(words) or "none",
+        WIDTH,
+        initial_indent=head,
+        subsequent_indent=" " * len(head),
+        break_long_words=False,
+        break_on_hyphens=False,
+    )
 
 
 def stack_lines(thread, name, is_full=True):
@@ -88,7 +94,10 @@ def shared_lines(document, is_full=True):
         lines += wrapped(f"channel {it['channel']:<3}", list(map(str, it["messages"])))
     for it in document["resources"]:
         holders = [f"{one['units']} by thread {one['thread']}" for one in it.get("holders", [])]
-        lines.append(f"resource {it['resource']} {it['used']} of {it['cap']} in use" + (f": {', '.join(holders)}" if holders else ""))
+        lines.append(
+            f"resource {it['resource']} {it['used']} of {it['cap']} in use"
+            + (f": {', '.join(holders)}" if holders else "")
+        )
     return lines
 
 
@@ -97,9 +106,11 @@ def head_lines(document):
     place = f"line {count(document['line'])} of the log"
     place += f" and {count(steps)} step{'s' * (steps != 1)} of the segment that begins there" if steps else ""
     runs = "no thread runs" if document["running"] is None else f"thread {document['running']} runs"
-    return [f"moment     {place}",
-            f"clock      {count(document['clock'])}, {runs}, {count(document['cost'])} instructions in the segments before",
-            f"chunks     {count(chunks['free'])} of {count(chunks['all'])} free"]
+    return [
+        f"moment     {place}",
+        f"clock      {count(document['clock'])}, {runs}, {count(document['cost'])} instructions in the segments before",
+        f"chunks     {count(chunks['free'])} of {count(chunks['all'])} free",
+    ]
 
 
 def text_of(document, name, is_full=False):

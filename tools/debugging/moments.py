@@ -34,7 +34,9 @@ class Told:
         except ValueError:
             raise NoMoment(told.stderr.strip().partition("\n")[0] or "the program printed no moment") from None
         if "refused" in document:
-            raise NoMoment(f"the program refuses line {line}+{steps}: {document['refused']} {document.get('at', '')}".strip())
+            raise NoMoment(
+                f"the program refuses line {line}+{steps}: {document['refused']} {document.get('at', '')}".strip()
+            )
         return document
 
     def can_tell(self, run, code):
@@ -53,21 +55,44 @@ class Replayed:
 
     def at(self, run, code):
         line, steps = run.moment
-        costs = [int(fields[-2]) for number in range(1, line + 1) if (fields := run.log.fields(number))[0] in ("block", "end")]
+        costs = [
+            int(fields[-2])
+            for number in range(1, line + 1)
+            if (fields := run.log.fields(number))[0] in ("block", "end")
+        ]
         channels = [{"channel": it, "messages": list(queue)} for it, queue in sorted(run.channels.items()) if queue]
         resources = [{"resource": it, "used": run.uses[it], "cap": cap} for it, cap in sorted(run.caps.items())]
-        return {"version": 1, "line": line, "steps": steps, "outputs": len(run.outputs) if run.running else 0,
-                "clock": run.log.clocks[line - 1] if line else 0, "cost": sum(costs),
-                "chunks": {"free": run.free, "all": self.chunks}, "running": run.running.number if run.running else None,
-                "threads": [thread(it, run, code) for _, it in sorted(run.threads.items())],
-                "globals": [variable(it, value) for it, value in zip(code.globals, run.globals)],
-                "arrivals": list(run.arrivals), "channels": channels, "resources": resources}
+        return {
+            "version": 1,
+            "line": line,
+            "steps": steps,
+            "outputs": len(run.outputs) if run.running else 0,
+            "clock": run.log.clocks[line - 1] if line else 0,
+            "cost": sum(costs),
+            "chunks": {"free": run.free, "all": self.chunks},
+            "running": run.running.number if run.running else None,
+            "threads": [thread(it, run, code) for _, it in sorted(run.threads.items())],
+            "globals": [variable(it, value) for it, value in zip(code.globals, run.globals)],
+            "arrivals": list(run.arrivals),
+            "channels": channels,
+            "resources": resources,
+        }
 
 
 def thread(it, run, code):
     state = "running" if it is run.running else "ready" if run.is_ready(it, run.clock) else "waiting"
-    call = it.block and {"name": it.block[0], "arguments": list(it.block[1:]), "since": it.since, "until": run.until(it)}
-    return {"thread": it.number, "state": state, "call": call, "stack": [frame(one, code) for one in reversed(it.frames)]}
+    call = it.block and {
+        "name": it.block[0],
+        "arguments": list(it.block[1:]),
+        "since": it.since,
+        "until": run.until(it),
+    }
+    return {
+        "thread": it.number,
+        "state": state,
+        "call": call,
+        "stack": [frame(one, code) for one in reversed(it.frames)],
+    }
 
 
 def frame(it, code):
@@ -77,8 +102,13 @@ def frame(it, code):
     kind = "call" if it.waits else "end" if ends else kinds.get(type(does), "statement")
     line, column = (does.line, does.column) if not it.waits else code.place_of(does.call.at)
     names = [*does.scope, *does.held]
-    return {"function": it.function.name, "does": kind, "line": line, "column": column,
-            "locals": [variable(one, it.words[it.function.slots[one]], code) for one in names]}
+    return {
+        "function": it.function.name,
+        "does": kind,
+        "line": line,
+        "column": column,
+        "locals": [variable(one, it.words[it.function.slots[one]], code) for one in names],
+    }
 
 
 def variable(it, value, code=None):

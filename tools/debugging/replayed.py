@@ -50,8 +50,8 @@ class Log:
         return bisect.bisect_right(self.clocks, clock)
 
     def outputs_after(self, number):
-        """The values of the `out` lines that follow a line, and the number of the line that ends their segment: the last
-        line of the log if the segment was cut."""
+        """The values of the `out` lines that follow a line, and the number of the line that ends their segment: the
+        last line of the log if the segment was cut."""
         values = []
         for following in itertools.count(number + 1):
             fields = self.fields(following)
@@ -61,8 +61,8 @@ class Log:
 
 
 class Replayed(World):
-    """A run at a moment: after `line` lines of its log and `steps` steps of the segment that begins there. `time` counts
-    the moves. `stop` is the last line's text at the end."""
+    """A run at a moment: after `line` lines of its log and `steps` steps of the segment that begins there. `time`
+    counts the moves. `stop` is the last line's text at the end."""
 
     def __init__(self, code, caps, log, chunks):
         super().__init__(code, caps)
@@ -83,7 +83,7 @@ class Replayed(World):
 
     @property
     def moment(self):
-        """This moment as the number of lines and of steps after them. A segment that a stop cut stays where it was cut."""
+        """This moment as the number of lines and of steps after them. A segment that was cut stays where it was."""
         return (self.begun, self.steps) if self.running else (self.line, 0)
 
     def frame_now(self):
@@ -165,7 +165,7 @@ class Replayed(World):
         if word == "stop":  # a stop at the call itself
             self.running = thread
             return self.finish()
-        key = "<".join(str(it.waits[0].call.site) for it in thread.frames[: -9 : -1])
+        key = "<".join(str(it.waits[0].call.site) for it in thread.frames[:-9:-1])
         found = [word, fields[0], *([fields[2]] if word == "block" else [])]
         wanted = ["block", str(thread.number), key] if thread.block else ["end", str(thread.number)]
         if found != wanted:
@@ -174,5 +174,11 @@ class Replayed(World):
         thread.since = self.clock if thread.block else None
 
     def check_outputs(self, thread):
-        if self.outputs != self.expected[: len(self.outputs)] or self.running is None and self.outputs != self.expected:
-            raise self.differs(self.after, f"thread {thread.number} puts {' '.join(map(str, self.outputs)) or 'nothing'}")
+        if (
+            self.outputs != self.expected[: len(self.outputs)]
+            or self.running is None
+            and self.outputs != self.expected
+        ):
+            raise self.differs(
+                self.after, f"thread {thread.number} puts {' '.join(map(str, self.outputs)) or 'nothing'}"
+            )

@@ -1,10 +1,25 @@
-"""The rewriting of calls inside expressions (docs/LANGUAGE.md, "Calls inside expressions"): each nested call is assigned
-to a temporary before its statement, so that a run of the rewritten tree has the steps of the program's own.
+"""The rewriting of calls inside expressions (docs/LANGUAGE.md, "Calls inside expressions"): each nested call is
+assigned to a temporary before its statement, so that a run of the rewritten tree has the steps of the program's own.
 
 `rewritten(statements)` gives the statements in their place. A temporary is a `Temporary`, with the expression whose
 value it has.
 """
-from sources.tree import Assign, Binary, Block, Call, Choice, Declare, Do, If, Leave, Loop, Number, Unary, Use, Variable
+from sources.tree import (
+    Assign,
+    Binary,
+    Block,
+    Call,
+    Choice,
+    Declare,
+    Do,
+    If,
+    Leave,
+    Loop,
+    Number,
+    Unary,
+    Use,
+    Variable,
+)
 
 from .text_tree import For, Group
 
@@ -18,7 +33,7 @@ class Temporary(Variable):
 
 
 class Made(Block):
-    """A block that the rewriting makes: the right side of `&&` or `||`, a side of `?:`, its `break`, or a loop's body."""
+    """A block that the rewriting makes: the right side of `&&` or `||`, a side of `?:`, its `break`, a loop's body."""
 
 
 def holds_call(node):

@@ -7,8 +7,8 @@ from .timeline import Timeline
 
 
 class Session:
-    """`thread` and `level` are what the user has selected: a thread's number, and a frame of it, 0 the innermost. `told`
-    gives the document of a moment (moments.py)."""
+    """`thread` and `level` are what the user has selected: a thread's number, and a frame of it, 0 the innermost.
+    `told` gives the document of a moment (moments.py)."""
 
     def __init__(self, code, caps, log, chunks, told, name):
         self.code, self.told, self.name = code, told, name
@@ -148,7 +148,9 @@ class Session:
         """Until the selected frame has returned."""
         number, frames = self.thread, self.frames()
         depth = len(frames) - self.level
-        returned = lambda run: Hit("finish") if runs(run, number) and len(run.running.frames) < depth else gone(run, number)
+        returned = (
+            lambda run: Hit("finish") if runs(run, number) and len(run.running.frames) < depth else gone(run, number)
+        )
         return self.forward(returned)
 
     def reverse_step(self):
@@ -160,12 +162,16 @@ class Session:
         """Back to the statement before of the selected frame, or to the call in its caller."""
         number, frames = self.thread, self.frames()
         serials = {it.serial for it in frames}
-        return self.backward(lambda run: Hit("step") if begins(run, number) and run.running.frames[-1].serial in serials else None)
+        return self.backward(
+            lambda run: Hit("step") if begins(run, number) and run.running.frames[-1].serial in serials else None
+        )
 
     def reverse_finish(self):
         """Back to the call of the selected frame."""
         number, serials = self.thread, {it.serial for it in self.frames()[self.level + 1 :]}
-        return self.backward(lambda run: Hit("step") if begins(run, number) and run.running.frames[-1].serial in serials else None)
+        return self.backward(
+            lambda run: Hit("step") if begins(run, number) and run.running.frames[-1].serial in serials else None
+        )
 
     def go_to_clock(self, clock):
         """To the moment at a clock: within a segment to its start."""
@@ -173,11 +179,18 @@ class Session:
 
     def go_to_words(self, text):
         """To the moment of the words CLOCK, or `line N [+K]`."""
-        found = re.fullmatch(r"\s*(?:line\s+(?P<line>[\d,]+)\s*(?:\+\s*(?P<steps>[\d,]+))?|(?P<clock>[\d,]+))\s*", text)
+        found = re.fullmatch(
+            r"\s*(?:line\s+(?P<line>[\d,]+)\s*(?:\+\s*(?P<steps>[\d,]+))?|(?P<clock>[\d,]+))\s*", text
+        )
         if not found:
-            raise Unknown(f"expected a clock, or `line N` or `line N +K` for a line of the log, found {text.strip() or 'nothing'!r}")
+            raise Unknown(
+                "expected a clock, or `line N` or `line N +K` for a line of the log,"
+                f" found {text.strip() or 'nothing'!r}"
+            )
         number = {name: int(it.replace(",", "")) for name, it in found.groupdict(default="0").items()}
-        return self.go_to_clock(number["clock"]) if found["clock"] else self.go_to_line(number["line"], number["steps"])
+        return (
+            self.go_to_clock(number["clock"]) if found["clock"] else self.go_to_line(number["line"], number["steps"])
+        )
 
     def go_to_line(self, line, steps=0):
         """To the moment after some lines of the log and steps."""
@@ -240,5 +253,6 @@ def in_frame(run, number, serial, depth, after=-1):
     frames = run.running.frames
     if len(frames) < depth:
         return Hit("step")
-    return Hit("step") if frames[-1].serial == serial and frames[-1].does.begins and frames[-1].does.at > after else None
-
+    return (
+        Hit("step") if frames[-1].serial == serial and frames[-1].does.begins and frames[-1].does.at > after else None
+    )

@@ -51,7 +51,9 @@ class Breakpoint(Point):
 
     def set_condition(self, text):
         """The expression without which it doesn't stop, in the scope of each of its instructions."""
-        self.tests = {it: Expression(text, self.code, it.scope, it.function) for it in self.instructions} if text else {}
+        self.tests = (
+            {it: Expression(text, self.code, it.scope, it.function) for it in self.instructions} if text else {}
+        )
         if any(it.array for it in self.tests.values()):
             raise Unknown(f"{text.strip()} is an array: give an index, as in {text.strip()}[0]")
         self.condition = text or None
@@ -80,8 +82,8 @@ class Catch(Breakpoint):
 
 
 class Watch(Point):
-    """Stops when a variable changes: a global, an element of one, a local in scope in a frame, or `function.name` for a local
-    in all threads."""
+    """Stops when a variable changes: a global, an element of one, a local in scope in a frame, or `function.name` for a
+    local in all threads."""
 
     def __init__(self, number, code, text, frame=None, thread=None):
         super().__init__(number, thread)
@@ -140,7 +142,10 @@ class Watch(Point):
         for it in frame.does.reads:
             if it.variable in self.variables:
                 try:
-                    if None in (self.index, it.index) or function_of(it.index, slots)(frame.words, run.globals) == self.index:
+                    if (
+                        None in (self.index, it.index)
+                        or function_of(it.index, slots)(frame.words, run.globals) == self.index
+                    ):
                         return True
                 except Trap:
                     pass

@@ -7,10 +7,32 @@ from .moments import NoMoment
 from .replayed import Differs
 from .stops import Catch
 
-ALIASES = {"b": "break", "tb": "tbreak", "c": "continue", "rc": "reverse-continue", "n": "next", "rn": "reverse-next",
-           "s": "step", "rs": "reverse-step", "fin": "finish", "u": "until", "i": "info", "p": "print", "l": "list",
-           "bt": "backtrace", "where": "backtrace", "t": "thread", "q": "quit", "h": "help", "d": "delete", "r": "run",
-           "f": "frame", "cond": "condition", "exit": "quit", "g": "goto"}
+ALIASES = {
+    "b": "break",
+    "tb": "tbreak",
+    "c": "continue",
+    "rc": "reverse-continue",
+    "n": "next",
+    "rn": "reverse-next",
+    "s": "step",
+    "rs": "reverse-step",
+    "fin": "finish",
+    "u": "until",
+    "i": "info",
+    "p": "print",
+    "l": "list",
+    "bt": "backtrace",
+    "where": "backtrace",
+    "t": "thread",
+    "q": "quit",
+    "h": "help",
+    "d": "delete",
+    "r": "run",
+    "f": "frame",
+    "cond": "condition",
+    "exit": "quit",
+    "g": "goto",
+}
 AROUND = 5  # lines that `list` shows before and after
 
 
@@ -30,7 +52,9 @@ class Terminal:
     def __init__(self, session, put):
         self.session, self.put, self.is_over, self.results, self.listed_to = session, put, False, 0, None
         self.displayed, self.last = [], ""
-        self.commands = {name[3:].replace("_", "-"): it for name, it in inspect.getmembers(self) if name.startswith("do_")}
+        self.commands = {
+            name[3:].replace("_", "-"): it for name, it in inspect.getmembers(self) if name.startswith("do_")
+        }
 
     def do(self, line):
         """Does a command. Raises Bad for one that can't be done."""
@@ -127,7 +151,9 @@ class Terminal:
         place, _, condition = re.sub(r"(^|\s)if(?=[\s(])", r"\1\0", f"{rest} ").partition("\0")
         place, is_there, thread = place.partition("thread ")
         return place.strip() or str(self.session.current_line() or ""), {
-            "condition": condition.strip() or None, "thread": number_of(thread, "a thread's number") if is_there else None}
+            "condition": condition.strip() or None,
+            "thread": number_of(thread, "a thread's number") if is_there else None,
+        }
 
     def add_point(self, rest, **more):
         place, words = self.point_words(rest)
@@ -214,7 +240,11 @@ class Terminal:
     def select_level(self, level):
         frames = self.session.frames()
         if not 0 <= level < len(frames):
-            raise Bad(f"thread {self.session.thread} has the frames 0 to {len(frames) - 1}" if frames else "no thread lives at this moment")
+            raise Bad(
+                f"thread {self.session.thread} has the frames 0 to {len(frames) - 1}"
+                if frames
+                else "no thread lives at this moment"
+            )
         self.session.level = level
         self.put_frame()
 
@@ -223,7 +253,10 @@ class Terminal:
         if rest:
             number = number_of(rest, "a thread's number")
             if number not in self.session.run.threads:
-                raise Bad(f"no thread {number} lives at this moment: there are {listed(map(str, sorted(self.session.run.threads)))}")
+                raise Bad(
+                    f"no thread {number} lives at this moment:"
+                    f" there are {listed(map(str, sorted(self.session.run.threads)))}"
+                )
             self.session.thread, self.session.level = number, 0
         self.put_state()
         self.put_frame()
@@ -303,13 +336,23 @@ class Terminal:
 
     def info_resources(self):
         for it in self.session.document()["resources"]:
-            held = {thread: units for (number, thread), units in self.session.run.holders.items() if number == it["resource"] and units}
+            held = {
+                thread: units
+                for (number, thread), units in self.session.run.holders.items()
+                if number == it["resource"] and units
+            }
             holders = ", ".join(f"{units} by thread {thread}" for thread, units in sorted(held.items()))
-            self.put(f"resource {it['resource']}  {it['used']} of {it['cap']} in use{': ' if holders else ''}{holders}")
+            self.put(
+                f"resource {it['resource']}  {it['used']} of {it['cap']} in use{': ' if holders else ''}{holders}"
+            )
 
     def info_breakpoints(self):
         for it in self.session.points.values():
-            what = f"{type(it).__name__.lower()} {it.text}" if hasattr(it, "text") else f"{self.session.name}:{it.line} in {it.function}"
+            what = (
+                f"{type(it).__name__.lower()} {it.text}"
+                if hasattr(it, "text")
+                else f"{self.session.name}:{it.line} in {it.function}"
+            )
             more = [f"thread {it.thread}"] if it.thread is not None else []
             more += [f"if {it.condition}"] if it.condition else []
             more += ["once"] if getattr(it, "is_temporary", False) else []
@@ -348,7 +391,9 @@ class Terminal:
         self.listed_to = None
         reason = hit.reason if hit else ""
         if reason == "end":
-            self.put(f"The run is over: {self.session.run.stop}, at clock {moment_text.count(self.session.run.clock)}.")
+            self.put(
+                f"The run is over: {self.session.run.stop}, at clock {moment_text.count(self.session.run.clock)}."
+            )
             if not self.session.run.running:
                 return
         elif reason == "start":
@@ -382,7 +427,10 @@ class Terminal:
             (clock, place), writes = found
             self.put(f"  this thread read it last at clock {moment_text.count(clock)}, {place}")
             for at, thread, new in writes:
-                self.put(f"  since then thread {thread} wrote {self.shown(new)}, in a segment from clock {moment_text.count(at)} on")
+                self.put(
+                    f"  since then thread {thread} wrote {self.shown(new)},"
+                    f" in a segment from clock {moment_text.count(at)} on"
+                )
 
     def put_state(self):
         run = self.session.run
@@ -397,6 +445,9 @@ class Terminal:
             return
         told, count = self.session.told_frame(), len(frame.function.parameters)
         arguments = ", ".join(moment_text.variable_text(it, False) for it in moment_text.shown(told["locals"])[:count])
-        self.put(f"#{self.session.level}  {told['function']} ({arguments}) at {moment_text.place_text(told, self.session.name)}")
+        self.put(
+            f"#{self.session.level}  {told['function']} ({arguments})"
+            f" at {moment_text.place_text(told, self.session.name)}"
+        )
         if told["line"]:
             self.put(f"{told['line']}\t{self.session.source_lines[told['line'] - 1]}".rstrip())

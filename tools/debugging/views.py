@@ -33,36 +33,60 @@ class Views:
     def threads(self):
         """The threads, whose ids are their numbers plus 1."""
         document = self.session.document()
-        found = [{"id": it["thread"] + 1, "name": f"{it['thread']} {it['stack'][-1]['function']}: {moment_text.state_text(it)}"}
-                 for it in document["threads"]]
+        found = [
+            {
+                "id": it["thread"] + 1,
+                "name": f"{it['thread']} {it['stack'][-1]['function']}: {moment_text.state_text(it)}",
+            }
+            for it in document["threads"]
+        ]
         return {"threads": found or [{"id": 1, "name": OVER}]}
 
     def stack(self, number, first=0, levels=0):
         """The frames of a thread, the innermost first."""
         frames = next((it["stack"] for it in self.session.document()["threads"] if it["thread"] == number), [])
         shown = frames[first : first + levels if levels else None]
-        return {"stackFrames": [self.frame(number, first + level, it) for level, it in enumerate(shown)],
-                "totalFrames": len(frames)}
+        return {
+            "stackFrames": [self.frame(number, first + level, it) for level, it in enumerate(shown)],
+            "totalFrames": len(frames),
+        }
 
     def frame(self, number, level, it):
-        return {"id": self.refer(("frame", (number, level, it))), "name": it["function"], "source": self.source(),
-                "line": it["line"] or 0, "column": it["column"] or 0}
+        return {
+            "id": self.refer(("frame", (number, level, it))),
+            "name": it["function"],
+            "source": self.source(),
+            "line": it["line"] or 0,
+            "column": it["column"] or 0,
+        }
 
     def scopes(self, reference):
         _, _, frame = self.referred(reference, "frame")
         document = self.session.document()
         queues = [{"name": "arrivals", "values": document["arrivals"], "words": len(document["arrivals"])}]
-        queues += [{"name": f"channel {it['channel']}", "values": it["messages"], "words": len(it["messages"])}
-                   for it in document["channels"]]
-        resources = [{"name": f"resource {it['resource']}", "text": f"{it['used']} of {it['cap']} in use"}
-                     for it in document["resources"]]
-        scopes = [("Locals", moment_text.shown(frame["locals"]), "locals"), ("Globals", document["globals"], "globals"),
-                  ("Queues", queues, None), ("Resources", resources, None)]
+        queues += [
+            {"name": f"channel {it['channel']}", "values": it["messages"], "words": len(it["messages"])}
+            for it in document["channels"]
+        ]
+        resources = [
+            {"name": f"resource {it['resource']}", "text": f"{it['used']} of {it['cap']} in use"}
+            for it in document["resources"]
+        ]
+        scopes = [
+            ("Locals", moment_text.shown(frame["locals"]), "locals"),
+            ("Globals", document["globals"], "globals"),
+            ("Queues", queues, None),
+            ("Resources", resources, None),
+        ]
         return {"scopes": [self.scope(*it, frame["function"]) for it in scopes]}
 
     def scope(self, name, variables, hint, function):
-        found = {"name": name, "variablesReference": self.refer(("variables", (variables, hint, function))),
-                 "namedVariables": len(variables), "expensive": False}
+        found = {
+            "name": name,
+            "variablesReference": self.refer(("variables", (variables, hint, function))),
+            "namedVariables": len(variables),
+            "expensive": False,
+        }
         return found | ({"presentationHint": "locals"} if hint == "locals" else {})
 
     def variables(self, reference, first=0, count=0):
@@ -79,7 +103,9 @@ class Views:
             found["evaluateName"] = it["name"]
         if "values" in it and it["values"]:
             elements = [{"name": f"[{number}]", "value": value} for number, value in enumerate(it["values"])]
-            found["variablesReference"] = self.refer(("variables", (elements, f"{hint} {name}" if hint else None, function)))
+            found["variablesReference"] = self.refer(
+                ("variables", (elements, f"{hint} {name}" if hint else None, function))
+            )
             found |= {"type": f"int[{it['words']}]", "indexedVariables": len(elements)}
         return found
 

@@ -26,8 +26,8 @@ def write_message(stream, message):
 
 
 class Wire:
-    """Requests that come in, in order, and what goes out, numbered from 1. A thread reads, so that a `pause` is seen while
-    a request is under way."""
+    """Requests that come in, in order, and what goes out, numbered from 1. A thread reads, so that a `pause` is seen
+    while a request is under way."""
 
     def __init__(self, source, sink):
         self.source, self.sink, self.sent, self.waiting = source, sink, 0, queue.Queue()
@@ -64,5 +64,13 @@ class Wire:
         self.send(found | ({"body": body} if body is not None else {}))
 
     def refuse(self, request, why):
-        self.send({"type": "response", "request_seq": request["seq"], "command": request["command"], "success": False,
-                   "message": why, "body": {"error": {"id": 1, "format": why.replace("{", "(").replace("}", ")"), "showUser": True}}})
+        self.send(
+            {
+                "type": "response",
+                "request_seq": request["seq"],
+                "command": request["command"],
+                "success": False,
+                "message": why,
+                "body": {"error": {"id": 1, "format": why.replace("{", "(").replace("}", ")"), "showUser": True}},
+            }
+        )

@@ -35,7 +35,13 @@ class Thread:
     __slots__ = ("number", "starter", "frames", "block", "since")
 
     def __init__(self, number, frames):
-        self.number, self.starter, self.frames, self.block, self.since = number, frames[0].function.name, frames, None, None
+        self.number, self.starter, self.frames, self.block, self.since = (
+            number,
+            frames[0].function.name,
+            frames,
+            None,
+            None,
+        )
 
     def copy(self):
         made = Thread.__new__(Thread)
@@ -90,9 +96,14 @@ class World:
             return True
         name, *values = thread.block
         until = self.until(thread)
-        held = {"accept": lambda: self.arrivals, "wait": lambda: self.is_held(values[0]), "yield": lambda: True,
-                "waitfor": lambda: self.is_held(values[0]), "sleep": lambda: False,
-                "take": lambda: self.uses[values[0]] + values[1] <= self.caps[values[0]]}
+        held = {
+            "accept": lambda: self.arrivals,
+            "wait": lambda: self.is_held(values[0]),
+            "yield": lambda: True,
+            "waitfor": lambda: self.is_held(values[0]),
+            "sleep": lambda: False,
+            "take": lambda: self.uses[values[0]] + values[1] <= self.caps[values[0]],
+        }
         return bool(held[name]()) or until is not None and until <= clock
 
     def until(self, thread):
