@@ -20,6 +20,12 @@ def debug(*words, trace="", **more):
         )
 
 
+def moment(*words, trace):
+    with open(TOP / trace) as given:
+        command = [sys.executable, TOP / "tools/moment", *words]
+        return subprocess.run(command, stdin=given, cwd=TOP, capture_output=True, text=True)
+
+
 def sessions():
     """The sessions of the page: the words of a call, its trace, and what it shows."""
     blocks = re.findall(r"^```\n(.*?)^```", PAGE.read_text(), re.M | re.S)
@@ -40,6 +46,26 @@ class Sessions(unittest.TestCase):
                 script.flush()
                 told = debug("-x", script.name, *words, trace=trace)
                 self.assertEqual((told.stdout, told.returncode), (shown, 0), told.stderr)
+
+    def test_the_moment_is_what_the_tool_prints(self):
+        call, shown = re.search(r"^```\ntools/moment (.*?)\n```\n\n```\n(.*?)^```", PAGE.read_text(), re.M | re.S).groups()
+        words, _, trace = call.partition(" < ")
+        told = moment(*shlex.split(words), trace=trace)
+        self.assertEqual((told.stdout, told.returncode), (shown, 0), told.stderr)
+
+    def test_moments_that_are_not_there(self):
+        run = ("serve", "--caps", "1=1,2=1", "examples/bank/server.c")
+        for words, why in (
+            (("--at-line", "14+99"), "fewer than 99 steps"),
+            (("--at-line", "99"), "has the lines 1 to 48"),
+            (("--at", "soon"), "expected a clock"),
+            (("--at", "1040", "--thread", "9"), "no thread 9 lives at this moment: there are 1, 2"),
+        ):
+            told = moment(*words, *run, trace="examples/bank/trace")
+            with self.subTest(words=words):
+                self.assertEqual((told.stdout, told.returncode), ("", 1), told.stderr)
+                self.assertIn(why, told.stderr)
+        self.assertEqual(moment(*run, trace="examples/bank/trace").returncode, 2)
 
     def test_a_command_that_cannot_be_done_ends_a_script(self):
         for command, why in (

@@ -11,16 +11,17 @@ from .session import Session
 
 TAKES = {"serve": 1, "run": 3}  # the commands that are runs, with the number of their files
 DEFAULT_CHUNKS = 1024
+AUDITED = ("--chunks", "--extra", "--fuel", "--backlog", "--caps", "--high", "--low", "--knee")  # options of an audit
+STRIDES = "values: those of a replay in Python, of which nothing is proved: the rule of strides isn't audited"
 REPLAYED = (
-    "values: those of a replay in Python, of which nothing is proved; this program `report` prints no moments "
+    "values: those of a replay in Python, of which nothing is proved, as the program `moments` isn't built "
     "(docs/DEBUGGING.md)"
 )
 
 
-def report_itself():
-    """The path of the program `report` behind its script, or of the script if the program isn't built."""
-    built = os.path.join(os.environ.get("CAPRICCIO_PROGRAMS") or str(program.TOP / "built"), "report")
-    return built if os.access(built, os.X_OK) else program.report()
+def moments_program():
+    """The path of the program that prints moments, whether it is there or not."""
+    return os.path.join(os.environ.get("CAPRICCIO_PROGRAMS") or str(program.TOP / "built"), "moments")
 
 
 class Refused(Exception):
@@ -80,7 +81,7 @@ class Launch:
         if not os.path.getsize(self.log):
             raise Refused("the run was refused, so there is nothing to debug", made.returncode or 1)
 
-    def session(self, asks_program=True):
+    def session(self):
         """The session over the run."""
         source = self.words.files[0]
         for name in [source, *([self.log] if self.is_stored else [])]:
@@ -97,8 +98,17 @@ class Launch:
                 ) from None
             except Differs as why:
                 raise Refused(f"{why}", 4) from None
-        told = moments.Told(report_itself(), self.words.words, self.trace, self.log)
-        session = Session(code, self.words.caps(), log, self.words.chunks(), told, source)
-        if not asks_program or not told.can_tell(session.run, code):
-            session.told, self.note = moments.Replayed(self.words.chunks()), REPLAYED
+        session = Session(code, self.words.caps(), log, self.words.chunks(), self.told(), source)
+        if self.words.options.get("--rule") == "stride":
+            self.note = STRIDES
+        elif not session.told.can_tell(session.run, code):
+            self.note = REPLAYED
+        if self.note:
+            session.told = moments.Replayed(self.words.chunks())
         return session
+
+    def told(self):
+        """What asks the program for moments."""
+        options = [it for name, value in self.words.options.items() if name in AUDITED for it in (name, value)]
+        source, chunks = self.words.files[0], self.words.chunks()
+        return moments.Told(moments_program(), source, self.trace, self.log, options, chunks)

@@ -1,15 +1,10 @@
 """A moment of a run as text: the document of docs/moment.schema.json, laid out for a terminal."""
 import textwrap
 
+from .moments import refusal_text
+
 WIDTH = 100
 SHOWN = 16  # elements of an array without --full
-REFUSED = {
-    "unlawful": "line {at} of the log isn't lawful: `./capriccio audit` says the same",
-    "limit": "line {at} of the log needs more steps of the source than the limit",
-    "over": "the log has only {at} lines",
-    "rests": "the segment that begins after line {line} has only {at} steps: a moment within it has fewer",
-    "between": "no segment is in progress after line {line}: only the line of a `run` has steps after it",
-}
 
 
 def count(number):
@@ -89,13 +84,14 @@ def stack_lines(thread, name, is_full=True):
 def shared_lines(document, is_full=True):
     """Globals, queues and resources."""
     lines = wrapped("globals    ", [variable_text(it, is_full) for it in document["globals"]])
-    lines += wrapped("arrivals   ", list(map(str, document["arrivals"])))
-    for it in document["channels"]:
-        lines += wrapped(f"channel {it['channel']:<3}", list(map(str, it["messages"])))
+    if "arrivals" in document:
+        lines += wrapped("arrivals   ", list(map(str, document["arrivals"])))
+    for it in document.get("channels", []):
+        lines += wrapped(f"channel {it['channel']}: ", list(map(str, it["messages"])))
     for it in document["resources"]:
         holders = [f"{one['units']} by thread {one['thread']}" for one in it.get("holders", [])]
         lines.append(
-            f"resource {it['resource']} {it['used']} of {it['cap']} in use"
+            f"resource {it['resource']}: {it['used']} of {it['cap']} in use"
             + (f": {', '.join(holders)}" if holders else "")
         )
     return lines
@@ -116,7 +112,7 @@ def head_lines(document):
 def text_of(document, name, is_full=False):
     """The text of a document; `name` is the source's."""
     if "refused" in document:
-        return f"there is no such moment: {REFUSED[document['refused']].format(**document)}\n"
+        return f"{refusal_text(document)}\n"
     lines = head_lines(document)
     for it in document["threads"]:
         lines += ["", f"thread {it['thread']}  {state_text(it)}", *stack_lines(it, name, is_full)]
