@@ -74,11 +74,7 @@ fn put_below(
     subject: Subject,
     thread: &Thread,
 ) -> Result<(), AllocError> {
-    let below = thread.below();
-    let mut left = below.len();
-    while left > 0 {
-        left -= 1;
-        let waiting = &below[left];
+    for waiting in thread.below().iter().rev() {
         let frame = &waiting.frame;
         let doing = calling(alloc, subject, frame.function, waiting.site)?;
         text.words(",");

@@ -26,7 +26,7 @@ pub(crate) fn put_threads<C: Measure + Drop>(
     for (place, slot) in reading.threads.slots().iter() {
         if let Ok(place) = u32::try_from(place) {
             if subject.thread.is_none() || subject.thread == Some(slot.number) {
-                keys.push(u64::from(slot.number) * PLACES + u64::from(place))?;
+                keys.push(key_of(slot.number, place))?;
             }
         }
     }
@@ -45,6 +45,11 @@ pub(crate) fn put_threads<C: Measure + Drop>(
     }
     text.words("]");
     Ok(())
+}
+
+/// Returns a number that orders threads by their numbers, with the place in its lower half.
+fn key_of(number: u32, place: u32) -> u64 {
+    u64::from(number) * PLACES + u64::from(place)
 }
 
 /// Appends a thread.

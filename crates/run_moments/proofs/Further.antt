@@ -1,5 +1,5 @@
 -- Further steps of a segment, part by part.
-use Rattle.std.proofs.Common.{◌≡◌, ℕ, suc, ◌+◌, ◌-◌, ◌<◌, ◌≤◌, false, true, List, Option, Some, None, Ok, refl, sym, ap, ◌∙◌, subst, arith}
+use Rattle.std.proofs.Common.{◌≡◌, ℕ, suc, ◌+◌, ◌-◌, ◌<◌, ◌≤◌, false, true, Ok, refl, ap, ◌∙◌, subst, arith}
 use Rattle.cap_word.proofs.RunLemmas.{goes_on}
 use Rattle.cap_word.specs.Runs.{Goes, Stops, and_then, moves}
 use Rattle.c_mean.specs.World as source
@@ -104,7 +104,11 @@ module _ (old : Core) (old_under : Under) (steps : ℕ) (k : Core) (under : Unde
 -- it isn't crowded, as this isn't asked for
 pub never_crowded : (g : Given) (here : Segment) (taken : ℕ) (came : Happening) → CrowdsFirst g here false taken (Ok came) → came ≡ happening.IsCrowded → ⊥
 never_crowded g here taken happening.IsCrowded first e = absurd (cc)
-never_crowded g here taken _ first e = absurd (cc)
+never_crowded g here taken (happening.Puts word) first e = absurd (cc)
+never_crowded g here taken (happening.Blocks block) first e = absurd (cc)
+never_crowded g here taken happening.Ends first e = absurd (cc)
+never_crowded g here taken (happening.Traps kind) first e = absurd (cc)
+never_crowded g here taken happening.OutOfSteps first e = absurd (cc)
 
 -- nothing has been done yet
 pub runs_start : (k : Core) (under : Under) (steps : ℕ) → RunsFurther k under steps k under steps

@@ -68,16 +68,14 @@ fn are_same_operands(a: &[(c_tree::Infix, Expr)], b: &[(c_tree::Infix, Expr)]) -
     if a.len() != b.len() {
         return false;
     }
-    let mut place: usize = 0;
-    for (operator, operand) in a {
-        if place >= b.len() {
+    for (place, pair) in a.iter().enumerate() {
+        let (operator, operand) = pair;
+        let Some((other, value)) = b.get(place) else {
             return false;
-        }
-        let (other, value) = &b[place];
+        };
         if *operator != *other || !is_same_expr(operand, value) {
             return false;
         }
-        place += 1;
     }
     true
 }
@@ -87,12 +85,13 @@ fn are_same_exprs(a: &[Expr], b: &[Expr]) -> bool {
     if a.len() != b.len() {
         return false;
     }
-    let mut place: usize = 0;
-    for expr in a {
-        if place >= b.len() || !is_same_expr(expr, &b[place]) {
+    for (place, expr) in a.iter().enumerate() {
+        let Some(other) = b.get(place) else {
+            return false;
+        };
+        if !is_same_expr(expr, other) {
             return false;
         }
-        place += 1;
     }
     true
 }
@@ -170,12 +169,13 @@ fn are_same_simples(a: &[Simple], b: &[Simple]) -> bool {
     if a.len() != b.len() {
         return false;
     }
-    let mut place: usize = 0;
-    for simple in a {
-        if place >= b.len() || !is_same_simple(simple, &b[place]) {
+    for (place, simple) in a.iter().enumerate() {
+        let Some(other) = b.get(place) else {
+            return false;
+        };
+        if !is_same_simple(simple, other) {
             return false;
         }
-        place += 1;
     }
     true
 }
@@ -265,12 +265,13 @@ fn are_same_stmts(a: &[Stmt], b: &[Stmt]) -> bool {
     if a.len() != b.len() {
         return false;
     }
-    let mut place: usize = 0;
-    for stmt in a {
-        if place >= b.len() || !is_same_stmt(stmt, &b[place]) {
+    for (place, stmt) in a.iter().enumerate() {
+        let Some(other) = b.get(place) else {
+            return false;
+        };
+        if !is_same_stmt(stmt, other) {
             return false;
         }
-        place += 1;
     }
     true
 }

@@ -129,39 +129,53 @@ impl Sources {
         rest
     }
 
-    /// Returns the place of a spot of a function: of the statement's first token, or of the call that is made for it
-    /// before.
+    /// Returns the place of a spot of a function: of the statement's first token, of the call that is made for it
+    /// before, or of the name that it declares.
     pub fn place(&self, function: &FunctionText, spot: u32) -> Option<u32> {
-        let number = spot as usize;
-        let found = *function.spots.get(number)?;
-        if !found.is_condition {
-            return known(found.at);
-        }
-        if found.at != NOWHERE {
-            return Some(self.keyword_before(found.at));
-        }
-        match self.neighbour(function, number) {
-            Some(at) => Some(self.keyword_before(at)),
-            None => None,
+        let found = *function.spots.get(spot as usize)?;
+        match found.head {
+            Some(head) => {
+                let condition = *function.spots.get(head as usize)?;
+                self.place_of(function, head as usize, condition)
+            }
+            None => self.place_of(function, spot as usize, found),
         }
     }
 
-    /// Returns a place behind the keyword of a condition that has no name of the text: of what is computed for it
-    /// before, or of the next spot with a place.
-    fn neighbour(&self, function: &FunctionText, number: usize) -> Option<u32> {
-        if number > 0 {
-            if let Some(before) = function.spots.get(number - 1) {
-                if before.is_part && before.at != NOWHERE {
-                    return Some(before.at);
-                }
+    /// Returns the place of a spot that is no jump back.
+    fn place_of(&self, function: &FunctionText, number: usize, spot: Spot) -> Option<u32> {
+        if !spot.is_condition {
+            return known(spot.at);
+        }
+        if spot.at != NOWHERE {
+            return Some(self.keyword_before(spot.at));
+        }
+        match part_before(function, number) {
+            Some(at) => Some(self.keyword_before(at)),
+            None => {
+                let (at, skipped) = last_before(function, number);
+                self.keyword_after(at, skipped)
             }
         }
-        let mut place: usize = 0;
-        for spot in function.spots.as_slice() {
-            if place > number && spot.at != NOWHERE {
-                return Some(spot.at);
+    }
+
+    /// Returns the place of the first `if`, `while` or `for` after a place, or of a later one if some are skipped.
+    fn keyword_after(&self, at: u32, skipped: u32) -> Option<u32> {
+        let mut left = skipped;
+        for token in self.tokens.as_slice() {
+            if token.at > at {
+                match token.kind {
+                    TokenKind::Keyword(Keyword::If)
+                    | TokenKind::Keyword(Keyword::While)
+                    | TokenKind::Keyword(Keyword::For) => {
+                        if left == 0 {
+                            return Some(token.at);
+                        }
+                        left -= 1;
+                    }
+                    _ => (),
+                }
             }
-            place = place.saturating_add(1);
         }
         None
     }
@@ -184,6 +198,27 @@ impl Sources {
         }
         found
     }
+}
+
+/// Returns the place of what is computed for a spot before it.
+fn part_before(function: &FunctionText, number: usize) -> Option<u32> {
+    let before = *function.spots.get(number.checked_sub(1)?)?;
+    if before.is_part { known(before.at) } else { None }
+}
+
+/// Returns the last place of the spots before a number, and the number of conditions without a place after it.
+fn last_before(function: &FunctionText, number: usize) -> (u32, u32) {
+    let mut last = function.at;
+    let mut without: u32 = 0;
+    for spot in function.spots.iter().take(number) {
+        if spot.at != NOWHERE && spot.at > last {
+            last = spot.at;
+            without = 0;
+        } else if spot.at == NOWHERE && spot.is_condition {
+            without = without.saturating_add(1);
+        }
+    }
+    (last, without)
 }
 
 fn known(at: u32) -> Option<u32> {

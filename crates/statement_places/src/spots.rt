@@ -29,10 +29,12 @@ pub fn spot_of_items<'w>(
     function: &'w Function,
     items: &'w [Item<'w>],
 ) -> Result<Option<u32>, AllocError> {
-    let mut count = items.len();
-    while count > 0 && items[count - 1].part == Part::Enter {
-        count -= 1;
-    }
+    let marks = items
+        .iter()
+        .rev()
+        .take_while(|item| item.part == Part::Enter)
+        .count();
+    let count = items.len().saturating_sub(marks);
     search(alloc, function, Wanted::Items(&items[..count]))
 }
 
@@ -83,15 +85,16 @@ fn is_wanted(wanted: Wanted, items: &[Item]) -> bool {
     }
 }
 
-/// Checks whether two lists of items are equal; the last ones, which are next, are compared first.
+/// Checks whether two lists of items are equal.
 fn are_same(items: &[Item], others: &[Item]) -> bool {
     if items.len() != others.len() {
         return false;
     }
-    let mut left = items.len();
-    while left > 0 {
-        left -= 1;
-        if left >= others.len() || !are_same_items(&items[left], &others[left]) {
+    for (place, item) in items.iter().enumerate() {
+        let Some(other) = others.get(place) else {
+            return false;
+        };
+        if !are_same_items(item, other) {
             return false;
         }
     }

@@ -15,6 +15,8 @@ pub struct Spot {
     pub is_condition: bool,
     /// Whether it computes a part of the next statement, before that.
     pub is_part: bool,
+    /// Of the jump back at the end of a loop's turn: the number of the spot at the loop's head.
+    pub head: Option<u32>,
 }
 
 /// A parameter or a name that a function declares, or the name of a value that the rewriting made.
@@ -85,6 +87,7 @@ fn add_at(text: &mut FunctionText, at: u32) -> Result<(), AllocError> {
             at,
             is_condition: false,
             is_part: false,
+            head: None,
         },
     )
 }
@@ -98,6 +101,20 @@ fn add_condition(text: &mut FunctionText, condition: &RawExpr) -> Result<(), All
             at,
             is_condition: true,
             is_part: false,
+            head: None,
+        },
+    )
+}
+
+/// Adds the spot of the jump back to a loop's head.
+fn add_back(text: &mut FunctionText, head: u32) -> Result<(), AllocError> {
+    add(
+        text,
+        Spot {
+            at: NOWHERE,
+            is_condition: false,
+            is_part: false,
+            head: Some(head),
         },
     )
 }
@@ -233,6 +250,7 @@ fn add_part(text: &mut FunctionText, value: &RawExpr) -> Result<(), AllocError> 
             at,
             is_condition: false,
             is_part: true,
+            head: None,
         },
     )
 }
@@ -311,9 +329,10 @@ fn add_stmt(text: &mut FunctionText, stmt: &RawStmt) -> Result<(), AllocError> {
             add_inner(text, otherwise)
         }
         RawStmt::While { condition, body } => {
+            let head = next_spot(text);
             add_condition(text, condition)?;
             add_inner(text, body)?;
-            add_condition(text, condition)
+            add_back(text, head)
         }
         RawStmt::For { parts, body } => add_for(text, parts, body),
     }
@@ -331,12 +350,13 @@ fn add_for(
     for simple in parts.init.as_slice() {
         add_simple(text, simple)?;
     }
+    let head = next_spot(text);
     add_turn(text, parts)?;
     add_inner(text, body)?;
     if let Some(step) = &parts.step {
         add_simple(text, step)?;
     }
-    add_turn(text, parts)?;
+    add_back(text, head)?;
     close(text, first);
     Ok(())
 }
@@ -351,6 +371,7 @@ fn add_turn(text: &mut FunctionText, parts: &RawForParts) -> Result<(), AllocErr
                 at: NOWHERE,
                 is_condition: true,
                 is_part: false,
+                head: None,
             },
         ),
     }

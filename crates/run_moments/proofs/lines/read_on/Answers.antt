@@ -1,6 +1,5 @@
-use Rattle.schedule_audit.proofs.Common.{◌≡◌, ◌∙◌, ◌+◌, ◌-◌, Result, Ok, List, ℕ, Option, ap, arith, drop, length, refl, subst, sym, take, IsReadTo, Failure, Ruling, IsJudgementOf}
+use Rattle.schedule_audit.proofs.Common.{◌≡◌, ◌∙◌, ◌+◌, ◌-◌, Result, Ok, List, ℕ, ap, arith, drop, length, refl, subst, sym, take, IsReadTo, Failure, Ruling}
 use Rattle.std.proofs.lemmas.List.{take_rest}
-use Rattle.lawful_reading.specs.declared.judgement.Judgement.{Judgement}
 use Rattle.schedule_reading.specs.declared.rulings.Ruling.TheVariants as ruling
 use Rattle.schedule_audit.proofs.Judged.{line_late, line_on, line_refused, still_stands}
 use Rattle.run_moments.proofs.lines.read_on.Goals as goal

@@ -1,4 +1,4 @@
-use Rattle.schedule_audit.proofs.Common.{◌≡◌, ◌+◌, ◌-◌, ◌≤◌, ℕ, List, Option, length, Given, IsReadTo, StandsSomehow}
+use Rattle.schedule_audit.proofs.Common.{◌≡◌, ◌+◌, ◌-◌, ◌≤◌, ℕ, List, Option, Given, IsReadTo, StandsSomehow}
 use Rattle.run_moments.proofs.lines.read_on.Given as goal
 
 abbrev pub invariant-loop-missing : goal.invariant-loop-missing
