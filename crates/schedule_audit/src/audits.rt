@@ -92,7 +92,7 @@ fn lines<S: Source, C: Measure + Drop>(
 }
 
 /// Judges one line, without its line feed.
-fn take_line<S: Source, C: Measure + Drop>(
+pub fn take_line<S: Source, C: Measure + Drop>(
     reading: &mut Reading<'_, C>,
     trace: &mut S,
     line: &[u8],

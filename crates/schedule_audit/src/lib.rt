@@ -15,6 +15,6 @@ mod ends;
 mod segments;
 mod verdicts;
 
-pub use audits::audit;
+pub use audits::{audit, take_line};
 pub use schedule_reading::AuditPolicy;
 pub use verdicts::Verdict;

@@ -139,6 +139,13 @@ module _ (g : Given) (state : State) (here : Segment) (crowds : Bool) (k : Core)
       let moved : moves (source_machine g.program) old here.running ≡ Goes (running_of g.program thread words) = subst (λ (r : Running). moves (source_machine g.program) old r ≡ Goes (running_of g.program thread words)) may.runs.running is.1 in
       let none : left ≡ 0 = is.0 in
       let all : old ≡ old - left = omega (arith, none) in (
-        (is.0, record { after = at g.program g.policy.caps here (running_of g.program thread words); silent = silent_at g.program g.policy.caps here old (running_of g.program thread words) moved }),
+        (
+          is.0,
+          record {
+            after = at g.program g.policy.caps here (running_of g.program thread words);
+            silent = silent_at g.program g.policy.caps here old (running_of g.program thread words) moved;
+            runs = record { beside = may.runs.beside; thread = is.2; running = refl };
+          },
+        ),
         λ asked. subst (λ (n : ℕ). NoneCrowded g here n) all (quiet_none g here old (running_of g.program thread words) moved),
       )

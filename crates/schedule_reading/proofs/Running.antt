@@ -127,13 +127,21 @@ module _ (old : Core) (old_under : Under) (old_left : ℕ) (crowds : Bool) (k : 
           after = h.1.after;
           silent = subst (λ (n : ℕ). IsSilent g.program g.policy.caps here n h.1.after) (let less = keeps.fewer in omega (arith, less))
               (silent_on g.program g.policy.caps here gone.after h.1.after (old_left - left) left gone.silent h.1.silent);
+          runs = h.1.runs;
         },
       )
 
     -- ---- no step is left
 
     pub over : left ≡ 0 → HasHappened g state here old_left left k under (Ok happening.OutOfSteps)
-    over none = (none, record { after = gone.after; silent = subst (λ (n : ℕ). IsSilent g.program g.policy.caps here n gone.after) (let less = keeps.fewer in omega (arith, less, none)) gone.silent })
+    over none = (
+      none,
+      record {
+        after = gone.after;
+        silent = subst (λ (n : ℕ). IsSilent g.program g.policy.caps here n gone.after) (let less = keeps.fewer in omega (arith, less, none)) gone.silent;
+        runs = gone.runs;
+      },
+    )
 
     pub over_first : CrowdsFirst g here crowds (old_left - left) (Ok happening.OutOfSteps)
     over_first asked = gone.none asked

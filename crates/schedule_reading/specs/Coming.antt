@@ -99,10 +99,11 @@ pub record IsCrowded (g : Given) (here : source.Segment) (taken : ℕ) : Type 0 
   pub next : IsCrowdedNext g.program g.policy.caps here steps
   pub taken_is : taken ≡ suc steps
 
--- this number of steps continues silently
-pub record GoesOnFor (g : Given) (here : source.Segment) (steps : ℕ) : Type 0 where
+-- this number of steps continues silently, and the source's run is then in this state
+pub record GoesOnFor (g : Given) (state : State) (here : source.Segment) (steps : ℕ) (k : Core) (under : Under) : Type 0 where
   pub after : source.Segment
   pub silent : IsSilent g.program g.policy.caps here steps after
+  pub runs : IsRunning g state after k under
 
 abbrev pub HasHappened : Given → State → source.Segment → (old_left left : ℕ) → Core → Under → Result Happening Failure → Type 0
 HasHappened g state here old_left left k under (Ok (happening.Puts word)) = Puts g state here (old_left - left) word k under
@@ -110,7 +111,7 @@ HasHappened g state here old_left left k under (Ok (happening.Blocks block)) = B
 HasHappened g state here old_left left k under (Ok happening.Ends) = Ends g state here (old_left - left) k under
 HasHappened g state here old_left left k under (Ok (happening.Traps kind)) = Traps g here (old_left - left) kind
 HasHappened g state here old_left left k under (Ok happening.IsCrowded) = IsCrowded g here (old_left - left)
-HasHappened g state here old_left left k under (Ok happening.OutOfSteps) = (left ≡ 0) × GoesOnFor g here old_left
+HasHappened g state here old_left left k under (Ok happening.OutOfSteps) = (left ≡ 0) × GoesOnFor g state here old_left k under
 HasHappened g state here old_left left k under (Err failure) = failure ≡ Failure.Memory
 
 -- within this number of steps there is no start while the maximum number is live

@@ -165,6 +165,20 @@ impl<'a, C: Measure + Drop> Reading<'a, C> {
         }
     }
 
+    /// Returns the words of the globals, those of one global after another.
+    pub fn globals(&self) -> &[u32]
+        ensures { result.now ≡ self.now.core.words }
+    {
+        self.globals.as_slice()
+    }
+
+    /// Returns the number of free chunks that was printed last.
+    pub fn free(&self) -> u32
+        ensures { result ≡ self.now.core.free }
+    {
+        self.free
+    }
+
     /// Checks whether the end of the log hasn't begun.
     pub fn is_before_end(&self) -> bool
         ensures { IsTrue result ↔ (self.now.end ≡ NotYet) }

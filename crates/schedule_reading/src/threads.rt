@@ -212,8 +212,29 @@ impl<'a> Threads<'a> {
         }
     }
 
+    /// Returns the live threads by their places.
+    pub fn slots(&self) -> &Slab<Slot<'a>>
+        ensures { result.now ≡ self.now.slots }
+    {
+        &self.slots
+    }
+
+    /// Returns what the thread at a place waits for, if it waits.
+    pub fn wait_at(&self, place: usize) -> Option<Wait>
+        ensures { result ≡ wait_at self.now.waits place }
+    {
+        self.waits.at(place)
+    }
+
+    /// Returns the queues and the uses of resources.
+    pub fn exchange(&self) -> &Exchange
+        ensures { result.now ≡ self.now.exchange }
+    {
+        &self.exchange
+    }
+
     /// Returns the clock.
-    pub(crate) fn clock(&self) -> u64
+    pub fn clock(&self) -> u64
         ensures { result ≡ self.now.waits.clock }
     {
         self.waits.clock()

@@ -8,7 +8,7 @@ use std::alloc::AllocError;
 
 /// The destination of a result: none, a name, an element whose index has been evaluated, or the caller.
 #[derive(Clone, Copy)]
-pub(crate) enum Place {
+pub enum Place {
     Nowhere,
     Local(u32),
     Global(u32),
@@ -19,7 +19,7 @@ pub(crate) enum Place {
 
 /// What a frame does next.
 #[derive(Clone, Copy)]
-pub(crate) enum Next {
+pub enum Next {
     /// Its items, one after another.
     Items,
     /// It returns this word, the result of the call in its `return`, and has nothing else to do.
@@ -30,19 +30,19 @@ pub(crate) enum Next {
 
 /// A frame: a function, the words of its names, and what it has still to do.
 #[derive(Drop)]
-pub(crate) struct Frame<'a> {
-    pub(crate) function: u32,
-    pub(crate) names: Vec<u32>,
-    pub(crate) next: Next,
-    pub(crate) items: Vec<Item<'a>>,
+pub struct Frame<'a> {
+    pub function: u32,
+    pub names: Vec<u32>,
+    pub next: Next,
+    pub items: Vec<Item<'a>>,
 }
 
 /// A frame that waits for the result of its call at a site.
 #[derive(Drop)]
-pub(crate) struct WaitingFrame<'a> {
-    pub(crate) frame: Frame<'a>,
-    pub(crate) site: u32,
-    pub(crate) place: Place,
+pub struct WaitingFrame<'a> {
+    pub frame: Frame<'a>,
+    pub site: u32,
+    pub place: Place,
 }
 
 /// A thread of a source: the frame that runs, or waits at a modelled call, and the frames below it, the innermost last.
@@ -59,6 +59,27 @@ impl<'a> Thread<'a> {
     ghost use Rattle.c_mean.specs.Frames.{key_of};
     ghost use Rattle.c_tree.specs.Trees.{ProgramTree};
     ghost use Rattle.source_runs.specs.Threads.{waiting_of};
+
+    /// Returns the frame that runs, or waits at a modelled call.
+    pub fn front(&self) -> &Frame<'a>
+        ensures { result.now ≡ self.now.front }
+    {
+        &self.front
+    }
+
+    /// Returns the frames below, the innermost last: each waits for the result of its call.
+    pub fn below(&self) -> &[WaitingFrame<'a>]
+        ensures { result.now ≡ self.now.below.items }
+    {
+        self.below.as_slice()
+    }
+
+    /// Returns the site of the modelled call at which the thread waits, or of the last one.
+    pub fn site(&self) -> u32
+        ensures { result ≡ self.now.site }
+    {
+        self.site
+    }
 
     /// Returns the key of a thread at a modelled call: the site of that call, followed by those of up to seven
     /// innermost calls, innermost first.

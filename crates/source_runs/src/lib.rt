@@ -21,5 +21,5 @@ mod spare;
 mod steps;
 mod storing;
 
-pub use frames::Thread;
+pub use frames::{Frame, Next, Place, Thread, WaitingFrame};
 pub use interpreter::{Coming, Interpreter};
