@@ -18,3 +18,4 @@ pub mod Spells
 pub mod Takes
 pub mod Unasked
 pub mod Waits
+pub mod Work

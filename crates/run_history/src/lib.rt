@@ -24,7 +24,7 @@
 // How often and for how long the gate was closed (`Spells`) follows from the happenings of a log and the thresholds of
 // the gate. A log has only the use of chunks, so this applies to a run without other resources. `Spells::start` and
 // `Spells::with` are over `at_start` and `with_happening` (specs/Spells.antt), whose gate and pressure are those of
-// `resource_monitor`.
+// `resource_monitor`. The ticks for which threads ran, and the latest clock (`Work`), are over specs/Work.antt.
 #![tactic(auto)]
 
 mod answering;
@@ -44,6 +44,7 @@ mod takes;
 mod threads;
 mod unasked;
 mod waits;
+mod work;
 
 pub use answering::Answering;
 pub use answers::{AnswerList, Answers};
@@ -61,3 +62,4 @@ pub use takes::Takes;
 pub use threads::{Standing, Thread};
 pub use unasked::Unasked;
 pub use waits::{SiteWaits, WaitLength, WaitLists};
+pub use work::Work;
