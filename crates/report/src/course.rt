@@ -5,16 +5,20 @@ ghost use Rattle.std.specs.Prelude.{◌≤◌};
 use crate::report::Options;
 use cap_word::SiteKey;
 use report_figures::{TickList, Window};
-use report_lines::{BlockingGraph, Counts};
+use report_lines::{BlockingGraph, Counts, SitedLog};
 use run_history::{Happening, HistoryError, Marks, Spells, Takes, Unasked, Watch, Work};
 use schedule_log::{Entry, Item};
 use std::alloc::{AllocError, Global};
+use std::collections::{BTreeMap, VecDeque};
+
+/// The number of choices after which a thread starves that is ready and isn't chosen.
+const MANY: usize = 1000;
 
 /// What is read from a log in addition to its numbers.
 #[derive(Drop)]
 pub(crate) struct Course<'a> {
-    /// For each site, whether its call is `accept`.
-    pub(crate) accepts: &'a [bool],
+    /// The log, and for each site whether its call is `accept`, and what a thread waits for there.
+    pub(crate) sited: SitedLog<'a>,
     /// For each site, whether its call is `take`.
     at_take: &'a [bool],
     /// For each site, whether its call is one at which threads wait.
@@ -45,6 +49,12 @@ pub(crate) struct Course<'a> {
     pub(crate) work: Work,
     /// The nodes and edges so far.
     pub(crate) graph: BlockingGraph,
+    /// The requests and messages that wait.
+    pub(crate) queues: Queues,
+    /// The waits of each site in two parts.
+    pub(crate) splits: BTreeMap<u32, Split>,
+    /// The clocks of the last choices, at most `MANY`.
+    recent: VecDeque<u64>,
 }
 
 impl<'a> Watch for Course<'a> {
@@ -76,7 +86,7 @@ impl<'a> Course<'a> {
     /// Returns the state before the first entry.
     pub(crate) fn new(
         alloc: Global,
-        accepts: &'a [bool],
+        sited: SitedLog<'a>,
         at_take: &'a [bool],
         waiting: &'a [bool],
         times: &'a TickList,
@@ -85,7 +95,7 @@ impl<'a> Course<'a> {
     ) -> Course<'a> {
         let spells = Spells::start(in_range(options.marks));
         Course {
-            accepts,
+            sited,
             at_take,
             waiting,
             times,
@@ -104,6 +114,9 @@ impl<'a> Course<'a> {
             held_back: 0,
             work: Work::new(),
             graph: BlockingGraph::new(alloc),
+            queues: Queues::new(alloc),
+            splits: BTreeMap::new(alloc),
+            recent: VecDeque::new(alloc),
         }
     }
 
@@ -112,6 +125,7 @@ impl<'a> Course<'a> {
     fn take(&mut self, entry: &Entry, told: Happening) -> Result<(), HistoryError> {
         match entry {
             Entry::Run { thread, clock, .. } => {
+                self.note(*clock)?;
                 self.threads = self.threads.max(thread.saturating_add(1));
                 self.counts.choose(*clock);
                 self.choose(told, *clock);
@@ -121,13 +135,14 @@ impl<'a> Course<'a> {
             Entry::Block { key, .. } => {
                 self.graph.add(entry)?;
                 self.fits = self.fits && is_innermost_in(self.waiting, key);
-                if is_innermost_in(self.accepts, key) {
+                if is_innermost_in(self.sited.accepts, key) {
                     self.at_accept = self.at_accept.saturating_add(1);
                 }
             }
             Entry::Edge { .. } => self.graph.add(entry)?,
             _ => (),
         }
+        self.part(told)?;
         self.work = match self.work.with(told) {
             Some(work) => work,
             None => return Err(HistoryError::Count),
@@ -149,6 +164,49 @@ impl<'a> Course<'a> {
             _ => (),
         }
         Ok(())
+    }
+
+    /// Takes up when the thread became ready whose wait is over, and the requests and messages that wait then.
+    #[inline(always)]
+    fn part(&mut self, told: Happening) -> Result<(), HistoryError> {
+        if let Happening::Waited(wait) = told {
+            if let Some(ready) = self.sited.ready_at(&self.queues, told) {
+                if self.counts.has(wait.until) {
+                    add_split(&mut self.splits, wait, ready)?;
+                }
+            }
+        }
+        self.queues.add(told, self.sited.need_of(told))
+    }
+
+    /// Takes up the clock of a choice.
+    fn note(&mut self, clock: u64) -> Result<(), HistoryError> {
+        if self.recent.len() >= MANY {
+            self.recent.pop_front();
+        }
+        match self.recent.push_back(clock) {
+            Ok(()) => Ok(()),
+            Err(_) => Err(HistoryError::Memory),
+        }
+    }
+
+    /// Returns the clock of the first of the last 1,000 choices, if there were as many: a thread that is ready at the end
+    /// since then starves.
+    pub(crate) fn starving(&self) -> Option<u64> {
+        if self.recent.len() < MANY {
+            return None;
+        }
+        self.recent.front().copied()
+    }
+
+    /// Returns since when a thread is ready at the end that has waited at that site since that clock, if it is known to be.
+    pub(crate) fn ready_since(&self, site: u32, since: u64) -> Option<u64> {
+        let ready = self.queues.ready_at(self.sited.need_at(site), since)?;
+        if ready <= self.work.ended {
+            Some(ready)
+        } else {
+            None
+        }
     }
 
     /// Takes up a finished segment: the gate changes only then.

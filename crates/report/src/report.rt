@@ -10,8 +10,8 @@ use crate::left::put_left;
 use repeated_run::Decided;
 use report_figures::{TickList, Window};
 use report_lines::{
-    Asked, Closed, Counts, Ending, put_chunks, put_parts, put_queue, put_requests, put_unasked,
-    put_verdict, put_waits,
+    Asked, Closed, Counts, Ending, SitedLog, needs_of, put_chunks, put_parts, put_queue,
+    put_requests, put_unasked, put_verdict, put_waits,
 };
 use report_text::Document;
 use run_history::{Answering, Marks, Numbers, Pairing, ReadError, Reading, Work, numbers_of};
@@ -72,9 +72,15 @@ pub fn put_report(
     let accepts = places.sites_of(alloc, b"accept")?;
     let at_take = places.sites_of(alloc, b"take")?;
     let waiting = places.waiting_sites(alloc)?;
+    let needs = needs_of(alloc, places)?;
+    let sited = SitedLog {
+        log: run.log,
+        accepts: accepts.as_slice(),
+        needs: needs.as_slice(),
+    };
     let course = Course::new(
         alloc,
-        accepts.as_slice(),
+        sited,
         at_take.as_slice(),
         waiting.as_slice(),
         run.times,
@@ -93,7 +99,7 @@ fn put_course(
     run: RunLog,
     mut course: Course,
 ) -> Result<u64, Failure> {
-    let accepts = course.accepts;
+    let accepts = course.sited.accepts;
     let chunks = course.options.marks.chunks;
     match numbers_of(
         alloc,
@@ -141,11 +147,12 @@ fn put_numbers(
     let scope = course.counts.scope(&reading.numbers, run.times);
     put_queue(document, scope, &mut firsts);
     drop(firsts);
-    put_waits(document, places, &mut reading.numbers.waits);
+    put_waits(document, places, &mut reading.numbers.waits, &course.splits);
     document.end_list();
     put_choices(document, &reading.numbers, course, run.decided);
     document.name("graph");
     course.graph.put(document, places);
+    let left = put_left(alloc, document, places, &reading.history, course, run.world);
     document.name("verdict");
     put_verdict(
         document,
@@ -153,11 +160,11 @@ fn put_numbers(
         Ending {
             has_circle: run.has_circle,
             failure: run.failure,
-            has_starved: false,
+            has_starved: left.has_starved,
             has_other_outputs: !course.unasked.puts.is_empty(),
         },
     );
-    Ok(put_left(alloc, document, places, &reading.history, course, run.world))
+    Ok(left.count)
 }
 
 /// Writes the members on requests: how many there were, their latencies, outputs of threads that served none, and the
@@ -182,15 +189,7 @@ fn put_served(
     };
     document.name("request");
     match asked {
-        Some(request) => put_parts(
-            alloc,
-            document,
-            places,
-            scope,
-            run.log,
-            course.accepts,
-            request,
-        )?,
+        Some(request) => put_parts(alloc, document, places, scope, course.sited, request)?,
         None => document.null(),
     }
     Ok(())

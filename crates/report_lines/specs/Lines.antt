@@ -2,6 +2,7 @@
 use Rattle.std.specs.Prelude.{ℕ, List, [], ◌∷◌, codes, decimal}
 use Rattle.json.specs.Token.{Token, begin_object, end_object, key, number}
 use Rattle.report_text.specs.Documents.{number_or_null}
+use Rattle.run_history.specs.declared.splits.Split.{Split}
 use Rattle.report_lines.specs.declared.lines.RequestCounts.{RequestCounts}
 use Rattle.report_lines.specs.declared.lines.WaitCounts.{WaitCounts}
 
@@ -20,3 +21,10 @@ waits_tokens w =
 abbrev pub chunks_tokens : ℕ → ℕ → List Token
 chunks_tokens most_held chunks =
     begin_object ∷ key (codes "most_held") ∷ number (decimal most_held) ∷ key (codes "of") ∷ number (decimal chunks) ∷ end_object ∷ []
+
+-- the waits at a place in their two parts
+abbrev pub split_tokens : Split → List Token
+split_tokens s =
+    begin_object ∷ key (codes "count") ∷ number (decimal s.count) ∷ key (codes "blocked") ∷ number (decimal s.blocked)
+    ∷ key (codes "ready") ∷ number (decimal s.ready) ∷ key (codes "greatest_ready") ∷ number (decimal s.greatest)
+    ∷ key (codes "thread") ∷ number (decimal s.thread) ∷ key (codes "until") ∷ number (decimal s.until) ∷ end_object ∷ []

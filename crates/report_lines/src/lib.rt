@@ -11,9 +11,11 @@ mod counts;
 mod graph;
 mod latencies;
 mod lines;
+mod needs;
 mod queues;
 mod requests;
 mod scopes;
+mod sited;
 mod ticks;
 mod told;
 mod unasked;
@@ -23,10 +25,14 @@ mod waits;
 pub use counts::{Closed, Counts};
 pub use graph::BlockingGraph;
 pub use latencies::put_requests;
-pub use lines::{RequestCounts, WaitCounts, put_chunks, put_request_counts, put_wait_counts};
+pub use lines::{
+    RequestCounts, WaitCounts, put_chunks, put_request_counts, put_split, put_wait_counts,
+};
+pub use needs::needs_of;
 pub use queues::put_queue;
 pub use requests::{Asked, put_parts};
 pub use scopes::Scope;
+pub use sited::SitedLog;
 pub use told::{LinesError, told_by};
 pub use unasked::put_unasked;
 pub use verdicts::{Ending, put_verdict};

@@ -1,9 +1,10 @@
 // Members of a report that show numbers, each with its tokens as a clause.
 ghost use Rattle.std.specs.Prelude.{◌≡◌};
 ghost use Rattle.report_text.specs.Documents.{Puts};
-ghost use Rattle.report_lines.specs.Lines.{chunks_tokens, requests_tokens, waits_tokens};
+ghost use Rattle.report_lines.specs.Lines.{chunks_tokens, requests_tokens, split_tokens, waits_tokens};
 
 use report_text::Document;
+use run_history::Split;
 
 /// The numbers of requests that came, were dropped, were taken and were answered.
 #[derive(Clone, Copy)]
@@ -66,5 +67,19 @@ pub fn put_chunks(document: &mut Document, most_held: u32, chunks: u32)
     document.begin_object();
     document.count("most_held", u64::from(most_held));
     document.count("of", u64::from(chunks));
+    document.end_object()
+}
+
+/// Writes the waits at a place in their two parts, as an object.
+pub fn put_split(document: &mut Document, split: Split)
+    ensures { Puts (split_tokens split) document.old document.new }
+{
+    document.begin_object();
+    document.count("count", split.count);
+    document.count("blocked", split.blocked);
+    document.count("ready", split.ready);
+    document.count("greatest_ready", split.greatest);
+    document.count("thread", u64::from(split.thread));
+    document.count("until", split.until);
     document.end_object()
 }

@@ -65,6 +65,8 @@ fn put_row(document: &mut Document, scope: Scope, ticks: &mut TickList) -> Resul
     document.count("request", (longest.request as u64).saturating_add(1));
     document.count("thread", u64::from(longest.queued.thread));
     document.count("until", longest.queued.taken);
+    document.name("split");
+    document.null();
     document.end_object();
     Ok(())
 }

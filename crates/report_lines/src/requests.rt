@@ -2,10 +2,11 @@
 
 use crate::queues::ticks_of;
 use crate::scopes::Scope;
+use crate::sited::SitedLog;
 use crate::told::{LinesError, told_by};
 use cap_text::Lines;
 use report_text::Document;
-use run_history::{Happening, History, Numbers, Part, Parts, Queued, queued_of};
+use run_history::{Happening, History, Numbers, Part, Parts, Queued, Queues, queued_of};
 use source_places::Places;
 use std::alloc::{AllocError, Global};
 
@@ -44,8 +45,7 @@ pub fn put_parts(
     document: &mut Document,
     places: &Places,
     scope: Scope,
-    log: &[u8],
-    accepts: &[bool],
+    sited: SitedLog,
     asked: Asked,
 ) -> Result<(), LinesError> {
     document.begin_object();
@@ -56,7 +56,7 @@ pub fn put_parts(
         Some(queued) => {
             document.count("arrived", queued.arrived);
             document.count("thread", u64::from(queued.thread));
-            put_taken(alloc, document, places, queued, log, accepts, asked)
+            put_taken(alloc, document, places, queued, sited, asked)
         }
         None => {
             put_untaken(document, scope.numbers.arrivals.len() as u64, asked.request);
@@ -80,18 +80,22 @@ fn put_taken(
     document: &mut Document,
     places: &Places,
     queued: Queued,
-    log: &[u8],
-    accepts: &[bool],
+    sited: SitedLog,
     asked: Asked,
 ) -> Result<(), LinesError> {
     let mut parts = Parts::new(alloc, asked.request);
-    let read = match read_parts(alloc, &mut parts, log, accepts, asked) {
+    let mut readies = Vec::new(alloc);
+    let read = match read_parts(alloc, &mut parts, &mut readies, sited, asked) {
         Ok(other) => {
             document.name("parts");
             document.begin_list();
             begin_part(document, "queue", ticks_of(queued), queued.taken);
             document.end_object();
-            let shorter = put_listed(alloc, document, places, parts.parts.as_slice(), asked);
+            let timed = Timed {
+                parts: parts.parts.as_slice(),
+                readies: readies.as_slice(),
+            };
+            let shorter = put_listed(alloc, document, places, timed, asked);
             let end = end_of(parts.parts.as_slice(), queued.taken);
             put_rest(document, end, asked.until, other);
             document.end_list();
@@ -101,22 +105,30 @@ fn put_taken(
         Err(error) => Err(error),
     };
     drop(parts);
+    drop(readies);
     read
 }
 
-/// Reads a log for the parts of a request, up to its last answer, if it has one. Returns the thread that put that
-/// answer, if it isn't the one that took the request.
+/// Reads a log for the parts of a request, up to its last answer, if it has one, and for the clock at which the thread of
+/// each wait became ready, if that is known. Returns the thread that put that answer, if it isn't the one that took the
+/// request.
 fn read_parts(
     alloc: Global,
     parts: &mut Parts,
-    log: &[u8],
-    accepts: &[bool],
+    readies: &mut Vec<Option<u64>>,
+    sited: SitedLog,
     asked: Asked,
 ) -> Result<Option<u32>, LinesError> {
     let mut history = History::new(alloc);
-    for line in Lines::new(log) {
-        let told = told_by(&mut history, line, accepts)?;
+    let mut queues = Queues::new(alloc);
+    for line in Lines::new(sited.log) {
+        let told = told_by(&mut history, line, sited.accepts)?;
+        let ready = sited.ready_at(&queues, told);
+        queues.add(told, sited.need_of(told))?;
         parts.add(told)?;
+        if readies.len() < parts.parts.len() {
+            readies.push(ready)?;
+        }
         if is_over(parts.parts.as_slice(), asked.until) {
             return Ok(None);
         }
@@ -172,26 +184,31 @@ struct Shorter {
     ticks: u64,
 }
 
+/// Parts, and at the same places the clock at which the thread of a wait became ready, if that is known.
+#[derive(Clone, Copy)]
+struct Timed<'a> {
+    parts: &'a [Part],
+    readies: &'a [Option<u64>],
+}
+
 /// Writes an object for each part, in order. Of the slowest request at most 20 are listed, those that took longest.
 /// Returns what isn't listed.
 fn put_listed(
     alloc: Global,
     document: &mut Document,
     places: &Places,
-    parts: &[Part],
+    timed: Timed,
     asked: Asked,
 ) -> Option<Shorter> {
     let most = if asked.is_slowest {
         LISTED
     } else {
-        parts.len()
+        timed.parts.len()
     };
-    match longest_left_out(alloc, parts, most) {
-        Ok(Some(bound)) => Some(put_longer(document, places, parts, bound)),
+    match longest_left_out(alloc, timed.parts, most) {
+        Ok(Some(bound)) => Some(put_longer(document, places, timed, Some(bound))),
         Ok(None) => {
-            for part in parts {
-                put_part(document, places, *part);
-            }
+            put_longer(document, places, timed, None);
             None
         }
         Err(AllocError) => {
@@ -229,20 +246,36 @@ fn longest_left_out(alloc: Global, parts: &[Part], most: usize) -> Result<Option
     Ok(ticks.as_slice().get(left_out - 1).copied())
 }
 
-/// Writes an object for each part that is longer than `bound`. Returns the others.
-fn put_longer(document: &mut Document, places: &Places, parts: &[Part], bound: u64) -> Shorter {
+/// Writes an object for each part that is longer than `bound`, or for all without a bound. Returns the others.
+fn put_longer(
+    document: &mut Document,
+    places: &Places,
+    timed: Timed,
+    bound: Option<u64>,
+) -> Shorter {
     let mut count: u64 = 0;
     let mut ticks: u64 = 0;
-    for part in parts {
+    let mut place: usize = 0;
+    for part in timed.parts {
         let length = length_of(*part);
-        if length > bound {
-            put_part(document, places, *part);
+        if is_longer(length, bound) {
+            let ready = timed.readies.get(place).copied().unwrap_or(None);
+            put_part(document, places, *part, ready);
         } else {
             count = count.saturating_add(1);
             ticks = ticks.saturating_add(length);
         }
+        place = place.saturating_add(1);
     }
     Shorter { count, ticks }
+}
+
+/// Checks whether a length is above a bound, if there is one.
+fn is_longer(length: u64, bound: Option<u64>) -> bool {
+    match bound {
+        Some(most) => length > most,
+        None => true,
+    }
 }
 
 /// Returns the length of a part in ticks.
@@ -253,14 +286,15 @@ fn length_of(part: Part) -> u64 {
     }
 }
 
-/// Writes a part.
-fn put_part(document: &mut Document, places: &Places, part: Part) {
+/// Writes a part; of a wait also the clock at which its thread became ready, if that is known.
+fn put_part(document: &mut Document, places: &Places, part: Part, ready: Option<u64>) {
     match part {
         Part::Runs { ended, .. } => begin_part(document, "runs", length_of(part), ended),
         Part::Waits { site, until, .. } => {
             begin_part(document, "waits", length_of(part), until);
             document.name("place");
-            places.put_site(document, site)
+            places.put_site(document, site);
+            document.count_or_null("ready_at", ready)
         }
     }
     document.end_object()

@@ -1,15 +1,22 @@
-use crate::lines::{WaitCounts, put_wait_counts};
+use crate::lines::{WaitCounts, put_split, put_wait_counts};
 use report_figures::{TickList, spread_of, total_of};
 use report_text::Document;
-use run_history::{SiteWaits, WaitLists};
+use run_history::{SiteWaits, Split, WaitLists};
 use source_places::Places;
 use std::alloc::AllocError;
+use std::collections::BTreeMap;
 
-/// Writes the waits by the place at which threads waited, an object for each. It leaves the waits of each place sorted
-/// by length.
-pub fn put_waits(document: &mut Document, places: &Places, lists: &mut WaitLists) {
+/// Writes the waits by the place at which threads waited, an object for each, with their two parts if these are known. It
+/// leaves the waits of each place sorted by length.
+pub fn put_waits(
+    document: &mut Document,
+    places: &Places,
+    lists: &mut WaitLists,
+    splits: &BTreeMap<u32, Split>,
+) {
     for (site, waits) in &mut lists.sites {
-        if put_site_waits(document, places, *site, waits).is_err() {
+        let split = splits.get(site).copied();
+        if put_site_waits(document, places, *site, waits, split).is_err() {
             document.lack()
         }
     }
@@ -21,6 +28,7 @@ fn put_site_waits(
     places: &Places,
     site: u32,
     waits: &mut SiteWaits,
+    split: Option<Split>,
 ) -> Result<(), AllocError> {
     document.begin_object();
     document.name("place");
@@ -29,6 +37,11 @@ fn put_site_waits(
     let longest = waits.longest;
     document.count("thread", u64::from(longest.thread));
     document.count("until", longest.until);
+    document.name("split");
+    match split {
+        Some(parts) => put_split(document, parts),
+        None => document.null(),
+    }
     document.end_object();
     Ok(())
 }

@@ -5,6 +5,7 @@
 // and functions have the numbers that images and logs use; lines and columns are those of `report_figures`.
 #![tactic(auto)]
 
+mod arguments;
 mod elements;
 mod places;
 

@@ -1,5 +1,6 @@
 ghost use Rattle.std.specs.Prelude.{◌≤◌, length};
 
+use crate::arguments::literal_at;
 use crate::elements::{Element, elements_of};
 use c_lex::{LexError, Mark, Token, TokenKind, lex};
 use c_parse::{ParseError, parse_nested};
@@ -123,6 +124,25 @@ impl<'a> Places<'a> {
             sites.push(self.name_at(*at) == name)?;
         }
         Ok(sites)
+    }
+
+    /// Returns the number of sites.
+    pub fn sites(&self) -> usize {
+        self.names.calls.len()
+    }
+
+    /// Returns the name of a site's call, which is empty if there is no such site.
+    pub fn call_name(&self, site: u32) -> &[u8] {
+        match self.call(site) {
+            Some(at) => self.name_at(at),
+            None => &[],
+        }
+    }
+
+    /// Returns the argument of that number, from 0, of a site's call, if it is a number alone, and each one before it a number
+    /// or a name alone.
+    pub fn literal(&self, site: u32, argument: usize) -> Option<u32> {
+        literal_at(self.tokens.as_slice(), self.call(site)?, argument)
     }
 
     /// Returns for each site whether its call is one at which a thread waits.
