@@ -6,7 +6,9 @@ use crate::report::Options;
 use cap_word::SiteKey;
 use report_figures::{TickList, Window};
 use report_lines::{BlockingGraph, Counts, SitedLog};
-use run_history::{Happening, HistoryError, Marks, Spells, Takes, Unasked, Watch, Work};
+use run_history::{
+    Happening, HistoryError, Marks, Queues, Spells, Split, Takes, Unasked, Watch, Work, add_split,
+};
 use schedule_log::{Entry, Item};
 use std::alloc::{AllocError, Global};
 use std::collections::{BTreeMap, VecDeque};

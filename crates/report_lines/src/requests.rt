@@ -127,7 +127,10 @@ fn read_parts(
         queues.add(told, sited.need_of(told))?;
         parts.add(told)?;
         if readies.len() < parts.parts.len() {
-            readies.push(ready)?;
+            match readies.push(ready) {
+                Ok(()) => (),
+                Err(_) => return Err(LinesError::Memory),
+            }
         }
         if is_over(parts.parts.as_slice(), asked.until) {
             return Ok(None);

@@ -117,10 +117,10 @@ impl Queues {
             Need::Request => behind(since, self.requests.front().copied()),
             Need::Message { channel } => behind(since, self.oldest(channel)),
             Need::MessageOrTicks { channel, ticks } => {
-                let late = since.checked_add(u64::from(ticks))?;
+                let time = u64::from(ticks);
                 match self.oldest(channel) {
-                    Some(came) => Some(since.max(came.min(late))),
-                    None => Some(late),
+                    Some(came) => Some(since.max(came.min(since.saturating_add(time)))),
+                    None => since.checked_add(time),
                 }
             }
             Need::Unknown => None,
