@@ -1,29 +1,34 @@
-use report_text::Text;
+use report_text::Document;
 use run_history::Unasked;
 
 /// The maximum number of threads that are listed.
 const LISTED: u64 = 20;
 
-/// Appends the number of outputs of threads that served no request, and the first 20 such threads, or nothing if there
-/// are none.
-pub fn put_unasked(text: &mut Text, unasked: &Unasked) {
+/// Writes the number of outputs of threads that served no request, and the first 20 such threads, or `null` if there are
+/// none.
+pub fn put_unasked(document: &mut Document, unasked: &Unasked) {
     let total = total_in(unasked);
     if total == 0 {
+        document.null();
         return;
     }
-    text.form("outputs by threads that served no request: $", &[total]);
+    document.begin_object();
+    document.count("count", total);
+    document.name("threads");
+    document.begin_list();
     let mut shown: u64 = 0;
     for (thread, puts) in &unasked.puts {
         if shown < LISTED {
-            text.form(", $ by thread $", &[*puts, u64::from(*thread)]);
+            document.begin_object();
+            document.count("thread", u64::from(*thread));
+            document.count("outputs", *puts);
+            document.end_object();
         }
         shown = shown.saturating_add(1);
     }
-    if shown > LISTED {
-        text.words(", the others by ");
-        text.counted(shown - LISTED, "more thread", "more threads")
-    }
-    text.words("\n")
+    document.end_list();
+    document.count("more_threads", shown.saturating_sub(LISTED));
+    document.end_object()
 }
 
 /// Returns the total number of these outputs.

@@ -1,49 +1,70 @@
-use crate::lines::WaitsPart;
+use crate::lines::{WaitCounts, put_split, put_wait_counts};
 use report_figures::{TickList, spread_of, total_of};
-use report_text::Text;
-use run_history::{SiteWaits, WaitLists};
+use report_text::Document;
+use run_history::{SiteWaits, Split, WaitLists};
 use source_places::Places;
 use std::alloc::AllocError;
+use std::collections::BTreeMap;
 
-/// Appends the rows of waits by the place at which threads waited. It leaves the waits of each place sorted by length.
-pub fn put_waits(text: &mut Text, places: &Places, lists: &mut WaitLists) {
+/// Writes the waits by the place at which threads waited, an object for each, with their two parts if these are known. It
+/// leaves the waits of each place sorted by length.
+pub fn put_waits(
+    document: &mut Document,
+    places: &Places,
+    lists: &mut WaitLists,
+    splits: &BTreeMap<u32, Split>,
+) {
     for (site, waits) in &mut lists.sites {
-        if put_site_waits(text, places, *site, waits).is_err() {
-            text.lack()
+        let split = splits.get(site).copied();
+        if put_site_waits(document, places, *site, waits, split).is_err() {
+            document.lack()
         }
     }
 }
 
-/// Appends the row of a site: its waits, the thread with the longest one, and the end of that.
+/// Writes the waits at a site, with the thread of the longest one, and the end of that.
 fn put_site_waits(
-    text: &mut Text,
+    document: &mut Document,
     places: &Places,
     site: u32,
     waits: &mut SiteWaits,
+    split: Option<Split>,
 ) -> Result<(), AllocError> {
-    text.words("  ");
-    places.put_site(text, site);
-    text.words(": ");
-    put_part(text, &mut waits.ticks)?;
+    document.begin_object();
+    document.name("place");
+    places.put_site(document, site);
+    put_lengths(document, &mut waits.ticks)?;
     let longest = waits.longest;
-    text.form(
-        " (thread $, until $)\n",
-        &[u64::from(longest.thread), longest.until],
-    );
+    document.count("thread", u64::from(longest.thread));
+    document.count("until", longest.until);
+    document.name("split");
+    match split {
+        Some(parts) => put_split(document, parts),
+        None => document.null(),
+    }
+    document.end_object();
     Ok(())
 }
 
-/// Appends the number of waits and their lengths, from these ticks, or nothing if there are none.
-pub(crate) fn put_part(text: &mut Text, ticks: &mut TickList) -> Result<(), AllocError> {
-    let total = total_of(ticks).unwrap_or(u128::MAX);
+/// Writes the number of waits and their lengths, from these ticks, as members of an object, or nothing if there are
+/// none.
+pub(crate) fn put_lengths(document: &mut Document, ticks: &mut TickList) -> Result<(), AllocError> {
+    let total = match total_of(ticks) {
+        Some(total) => u64::try_from(total).ok(),
+        None => None,
+    };
     if let Some(spread) = spread_of(ticks)? {
-        text.line(&WaitsPart {
-            count: spread.count,
-            total,
-            median: spread.median,
-            ninety_ninth: spread.ninety_ninth,
-            greatest: spread.greatest,
-        })
+        put_wait_counts(
+            document,
+            WaitCounts {
+                count: spread.count,
+                total,
+                median: spread.median,
+                ninetieth: spread.ninetieth,
+                ninety_ninth: spread.ninety_ninth,
+                greatest: spread.greatest,
+            },
+        )
     }
     Ok(())
 }
