@@ -1,10 +1,7 @@
 """Moments of a run, by the program where the folder that CAPRICCIO_PROGRAMS names has it. The values are worked out by
 hand from the source and its log."""
-import json, os, pathlib, subprocess, sys, tempfile, unittest
+import json, os, pathlib, subprocess, tempfile, unittest
 
-from runs import moments
-
-TOP = pathlib.Path(__file__).resolve().parent.parent.parent
 SOURCE = """int total;
 int seen[3];
 
@@ -60,22 +57,6 @@ def local(name, line, column, value):
     return {"name": name, "line": line, "column": column, "value": value}
 
 
-class Words(unittest.TestCase):
-    """What a run's words become for an audit."""
-
-    def test_options_of_the_placement_go(self):
-        words = ["serve", "--chunk", "256", "--fuel=99", "--caps", "1=3", "a.c"]
-        self.assertEqual(moments.audited(words), ("a.c", ["--fuel", "99", "--caps", "1=3"]))
-
-    def test_a_run_of_a_pair_has_three_files(self):
-        self.assertEqual(moments.audited(["run", "a.c", "a.img", "a.crt"]), ("a.c", []))
-
-    def test_other_words_are_refused_with_what_was_expected(self):
-        for words in ([], ["audit", "a.c", "log"], ["serve"], ["serve", "a.c", "--rule", "stride"], ["serve", "a.c", "--fuel"]):
-            with self.assertRaisesRegex(moments.NoMoments, "^expected .* found "):
-                moments.audited(words)
-
-
 @unittest.skipUnless(is_there("moments"), "the program `moments` isn't built")
 class OfTheProgram(unittest.TestCase):
     def setUp(self):
@@ -86,8 +67,16 @@ class OfTheProgram(unittest.TestCase):
         pathlib.Path(self.log).write_text(LOG)
 
     def at(self, *asked):
-        words = [it for one in asked for it in ("--at-line", one)]
-        return moments.asked(words, ["serve", self.source], TRACE.encode(), self.log)
+        return self.documents(*[it for one in asked for it in ("--at-line", one)])
+
+    def documents(self, *words):
+        told = self.run_with(*words, "audit", self.source, self.log)
+        self.assertEqual((told.returncode, told.stderr), (0, ""))
+        return [json.loads(it) for it in told.stdout.splitlines()]
+
+    def run_with(self, *words):
+        program = os.path.join(os.environ["CAPRICCIO_PROGRAMS"], "moments")
+        return subprocess.run([program, *words], input=TRACE, capture_output=True, text=True)
 
     def test_a_thread_rests_at_a_call(self):
         (it,) = self.at("3")
@@ -140,14 +129,21 @@ class OfTheProgram(unittest.TestCase):
         self.assertEqual((lawful["line"], refused["refused"], refused["at"]), (11, "unlawful", 12))
 
     def test_a_clock_is_the_last_line_up_to_it(self):
-        (it,) = moments.asked(["--at", "60"], ["serve", self.source], TRACE.encode(), self.log)
+        (it,) = self.documents("--at", "60")
         self.assertEqual((it["line"], it["clock"], it["running"]), (7, 60, 0))
 
-    @unittest.skipUnless(is_there("capriccio_cli"), "the program isn't built")
-    def test_the_tool_makes_the_run_first(self):
-        told = subprocess.run([sys.executable, TOP / "tools/moments", "--at-line", "6", "serve", self.source], input=TRACE,
-                              capture_output=True, text=True)
-        self.assertEqual((told.returncode, [json.loads(told.stdout)]), (0, self.at("6")))
+    def test_other_words_are_refused(self):
+        for words in ((), ("--at-line", "x"), ("--at-line", "2"), ("--at-line", "2", "serve", self.source), ("--at", "-1")):
+            told = self.run_with(*words)
+            self.assertEqual((told.returncode, told.stdout, told.stderr[:15]), (2, "", "usage: moments "))
+
+    def test_an_absent_file_is_named(self):
+        told = self.run_with("--at-line", "2", "audit", self.source, self.log + "s")
+        self.assertEqual((told.returncode, told.stderr), (9, "absent: log\n"))
+
+    def test_one_thread_and_whole_arrays(self):
+        (it,) = self.documents("--thread", "1", "--full", "--at-line", "6")
+        self.assertEqual((it["threads"], it["globals"][1]["values"]), ([], [40, 0, 0]))
 
 
 if __name__ == "__main__":

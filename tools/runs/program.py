@@ -22,11 +22,6 @@ def report():
     return str(TOP / "report")
 
 
-def moments():
-    """The path of the program that shows moments of a run."""
-    return os.path.join(os.environ.get("CAPRICCIO_PROGRAMS") or str(TOP / "built"), "moments")
-
-
 def make_ready(source, options=()):
     """Builds the program if need be, and has it read the source: gives its status, and leaves what
     it refuses on standard error."""

@@ -44,12 +44,7 @@ pub(crate) fn put_resting(
 }
 
 /// Appends the only frame of a thread that hasn't run.
-pub(crate) fn put_fresh(
-    text: &mut Text,
-    subject: Subject,
-    function: u32,
-    argument: Option<u32>,
-) {
+pub(crate) fn put_fresh(text: &mut Text, subject: Subject, function: u32, argument: Option<u32>) {
     let at = match subject.sources.function(function) {
         Some(names) => subject.sources.place(names, 0).or(Some(names.at)),
         None => None,
@@ -85,12 +80,7 @@ fn put_below(
 }
 
 /// Returns what a frame does at the call of a site.
-fn calling(
-    alloc: Global,
-    subject: Subject,
-    function: u32,
-    site: u32,
-) -> Result<Doing, AllocError> {
+fn calling(alloc: Global, subject: Subject, function: u32, site: u32) -> Result<Doing, AllocError> {
     let spot = match subject.program.functions().get(function as usize) {
         Some(whole) => spot_of_site(alloc, whole, site)?,
         None => None,

@@ -254,10 +254,12 @@ fn refuse(teller: &mut Teller, line: u64, steps: u64, reached: Reached) {
     let refusal = match reached {
         Reached::All(_) => return,
         Reached::Over { missing } => Refusal::Over(line.saturating_sub(missing)),
-        Reached::Unlawful { missing } =>
-            Refusal::Unlawful(line.saturating_sub(missing).saturating_add(1)),
-        Reached::Steps { missing } =>
-            Refusal::Limit(line.saturating_sub(missing).saturating_add(1)),
+        Reached::Unlawful { missing } => Refusal::Unlawful(
+            line.saturating_sub(missing).saturating_add(1),
+        ),
+        Reached::Steps { missing } => Refusal::Limit(
+            line.saturating_sub(missing).saturating_add(1),
+        ),
     };
     put_refusal(&mut teller.text, moment, refusal)
 }

@@ -24,8 +24,7 @@ pub enum When {
 }
 
 /// Returns the moments by their lines, in the order in which they are named.
-pub fn asked_of(alloc: Global, moments: &[When], log: &[u8]) -> Result<Vec<Asked>, AllocError>
-{
+pub fn asked_of(alloc: Global, moments: &[When], log: &[u8]) -> Result<Vec<Asked>, AllocError> {
     let mut asked = Vec::new(alloc);
     for when in moments {
         asked.push(asked_by(*when, log))?;
@@ -34,8 +33,7 @@ pub fn asked_of(alloc: Global, moments: &[When], log: &[u8]) -> Result<Vec<Asked
 }
 
 /// Returns moments by their line.
-fn asked_by(when: When, log: &[u8]) -> Asked
-{
+fn asked_by(when: When, log: &[u8]) -> Asked {
     match when {
         When::Clock(clock) => Asked {
             line: line_at(log, clock),

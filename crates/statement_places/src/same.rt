@@ -116,12 +116,22 @@ fn is_same_right(a: &RightSide, b: &RightSide) -> bool {
 
 fn is_same_simple(a: &Simple, b: &Simple) -> bool {
     match (a, b) {
-        (Simple::DeclareScalar { variable }, Simple::DeclareScalar { variable: other }) =>
-            *variable == *other,
-        (Simple::DeclareArray { variable, .. }, Simple::DeclareArray { variable: other, .. }) =>
-            *variable == *other,
-        (Simple::DeclareWith { variable, .. }, Simple::DeclareWith { variable: other, .. }) =>
-            *variable == *other,
+        (Simple::DeclareScalar { variable }, Simple::DeclareScalar { variable: other }) => *variable
+            == *other,
+        (
+            Simple::DeclareArray { variable, .. },
+            Simple::DeclareArray {
+                variable: other,
+                ..
+            },
+        ) => *variable == *other,
+        (
+            Simple::DeclareWith { variable, .. },
+            Simple::DeclareWith {
+                variable: other,
+                ..
+            },
+        ) => *variable == *other,
         (
             Simple::SetLocal { variable, value },
             Simple::SetLocal {

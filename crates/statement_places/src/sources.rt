@@ -132,28 +132,25 @@ impl Sources {
     /// Returns the place of a spot of a function: of the statement's first token, of the call that is made for it
     /// before, or of the name that it declares.
     pub fn place(&self, function: &FunctionText, spot: u32) -> Option<u32> {
-        let found = *function.spots.get(spot as usize)?;
-        match found.head {
-            Some(head) => {
-                let condition = *function.spots.get(head as usize)?;
-                self.place_of(function, head as usize, condition)
-            }
-            None => self.place_of(function, spot as usize, found),
+        match function.spots.get(spot as usize)?.head {
+            Some(head) => self.place_of(function, head),
+            None => self.place_of(function, spot),
         }
     }
 
     /// Returns the place of a spot that is no jump back.
-    fn place_of(&self, function: &FunctionText, number: usize, spot: Spot) -> Option<u32> {
+    fn place_of(&self, function: &FunctionText, number: u32) -> Option<u32> {
+        let spot = *function.spots.get(number as usize)?;
         if !spot.is_condition {
             return known(spot.at);
         }
         if spot.at != NOWHERE {
             return Some(self.keyword_before(spot.at));
         }
-        match part_before(function, number) {
+        match part_before(function, number as usize) {
             Some(at) => Some(self.keyword_before(at)),
             None => {
-                let (at, skipped) = last_before(function, number);
+                let (at, skipped) = last_before(function, number as usize);
                 self.keyword_after(at, skipped)
             }
         }
@@ -203,7 +200,11 @@ impl Sources {
 /// Returns the place of what is computed for a spot before it.
 fn part_before(function: &FunctionText, number: usize) -> Option<u32> {
     let before = *function.spots.get(number.checked_sub(1)?)?;
-    if before.is_part { known(before.at) } else { None }
+    if before.is_part {
+        known(before.at)
+    } else {
+        None
+    }
 }
 
 /// Returns the last place of the spots before a number, and the number of conditions without a place after it.

@@ -166,7 +166,9 @@ fn pass_stmt<'w>(walk: &mut Walk<'w>, stmt: &'w Stmt) -> Result<(), AllocError> 
             pass_stmt(walk, then)
         }
         Stmt::IfElse {
-            then, otherwise, ..
+            then,
+            otherwise,
+            ..
         } => {
             pass(walk);
             push_stmt(&mut walk.items, then)?;

@@ -341,11 +341,7 @@ fn add_stmt(text: &mut FunctionText, stmt: &RawStmt) -> Result<(), AllocError> {
 /// Adds the spots of a `for`: its first part, its condition or the mark of its first turn, its body, its step and the
 /// jump back.
 #[cycle(stmts)]
-fn add_for(
-    text: &mut FunctionText,
-    parts: &RawForParts,
-    body: &RawStmt,
-) -> Result<(), AllocError> {
+fn add_for(text: &mut FunctionText, parts: &RawForParts, body: &RawStmt) -> Result<(), AllocError> {
     let first = text.locals.len();
     for simple in parts.init.as_slice() {
         add_simple(text, simple)?;
