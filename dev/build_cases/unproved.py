@@ -103,6 +103,27 @@ def ended(clone, number):
     return wrong + wants(clone, COMPILED)
 
 
+def ended_at_the_parts(clone):
+    """A signal ends the call too while it optimizes the parts of the module."""
+    clone.source().write_text("// unproved, ended at the parts\n")
+    at_work = lambda: [it for it in clone.processes() if b"-flto=thin" in it]
+    clone.hold_parts.touch()
+    run = clone.start(TRY)
+    wrong = [] if wait_for(lambda: at_work() or run.poll() is not None) and at_work() else ["no part is compiled"]
+    run.send_signal(signal.SIGINT)
+    try:
+        run.communicate(timeout=60)
+    except subprocess.TimeoutExpired:
+        wrong.append("it goes on")
+    finally:
+        clone.hold_parts.unlink()
+    run.communicate(timeout=PATIENCE)
+    clone.proved()
+    wrong += [f"status {run.returncode}"] if run.returncode != 130 else []
+    wrong += ["parts are still compiled"] if not wait_for(lambda: not at_work(), 60) else []
+    return wrong + wants(clone, COMPILED)
+
+
 def disk_full(clone):
     clone.source().write_text("// unproved, the disk is full\n")
     clone.full.touch()
@@ -173,6 +194,7 @@ CASES = {
     "tools/try ended by TERM": lambda clone: ended(clone, signal.SIGTERM),
     "tools/try ended by INT": lambda clone: ended(clone, signal.SIGINT),
     "tools/try ended by HUP": lambda clone: ended(clone, signal.SIGHUP),
+    "tools/try ended while it optimizes": ended_at_the_parts,
     "tools/try, the disk full": disk_full,
     "tools/try, a folder that can't be written": folder_not_written,
     "from another folder": from_elsewhere,
