@@ -2,7 +2,7 @@
 import os, pathlib, shutil, subprocess, tempfile, unittest
 
 from build_cases.clone import MODULE
-from building import inlining
+from building import inlining, memory
 from building.estimate import Estimate
 from building.module_text import Module
 
@@ -117,6 +117,21 @@ class OfTime(unittest.TestCase):
             self.estimate.note(it, 60)
         self.assertEqual(self.estimate.minutes_left(self.names[5:]), 2.5)
         self.assertEqual(self.estimate.in_words([]), "")
+
+
+class Memory(unittest.TestCase):
+    """A row: what the system says is free, and how many proofs of 2 GB fit."""
+
+    def test_as_many_fit_as_are_free(self):
+        rows = (("MemTotal: 24000000 kB\nMemAvailable:    8388608 kB\n", 4), ("MemAvailable: 4194303 kB\n", 1),
+                ("MemAvailable: 100 kB\n", 0), ("MemFree: 8388608 kB\n", 1))
+        with tempfile.TemporaryDirectory() as folder:
+            for text, number in rows:
+                with self.subTest(text=text):
+                    file = pathlib.Path(folder) / "meminfo"
+                    file.write_text(text)
+                    self.assertEqual(memory.room(file), number)
+            self.assertEqual(memory.room(pathlib.Path(folder) / "none"), 1)
 
 
 if __name__ == "__main__":
