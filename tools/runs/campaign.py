@@ -1,5 +1,5 @@
 """An exploration from its first run to what it prints."""
-import contextlib, json, os, sys, time
+import contextlib, json, os, pathlib, sys, time
 
 from . import exploring, groups, hosts, many
 
@@ -60,19 +60,23 @@ class Campaign:
 
     def tell(self):
         """Stores what was found, and prints it."""
-        found = list(self.groups.stored(self.asked.output)) if self.groups.found else []
+        folder = self.asked.output or os.path.join("explored", pathlib.Path(self.asked.source).stem)
+        found = list(self.groups.stored(folder)) if self.groups.found else []
         if self.asked.json:
             print(json.dumps(self.summary() | {"finds": found}, indent=2))
         else:
             print(self.verdict(found))
+            if self.asked.any_order:
+                print("any thread that is ready may run next in them: no rule of serve need choose so")
             for value in found:
                 print("\n" + told(value))
         self.warn()
 
     def summary(self):
         source = os.fspath(self.exploration.server.source)
+        spent = {f"{part}_seconds": round(seconds, 2) for part, seconds in self.groups.seconds.items()}
         return {"source": source, "traces": self.asked.traces, "seed": self.asked.seed, "runs": self.groups.runs,
-                "seconds": round(self.taken, 2)}
+                "seconds": round(self.taken, 2)} | spent
 
     def verdict(self, found):
         runs, seconds = self.groups.runs, max(self.taken, 0.001)
@@ -115,4 +119,5 @@ def told(value):
     lines = [f"{value['kind']}: {runs}{as_given}, shortest trace {value['lines']:,} lines"]
     lines += [f"  {it}" for it in value["where"].split("\n") if it]
     lines += [f"  {value['detail']}"] if value["detail"] else []
-    return "\n".join([*lines, f"  repeat: {value['repeat']}", f"  shrink: {value['shrink']}"])
+    commands = [f"  {name}: {value[name]}" for name in ("audit", "report", "repeat", "shrink") if name in value]
+    return "\n".join([*lines, *commands])

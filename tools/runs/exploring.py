@@ -9,15 +9,17 @@ from explained.commands import OPTIONS
 from traces import events, variants
 from traces.lines import Refused
 
-from . import finds, many, story
+from . import finds, free_server, story
 
 BAD_TRACE = 4  # the status for a trace that is none
 CHOICES = ("rule", "tickets", "gate", "pool", "backlog")  # what is varied of the options
 USUAL = ("times", "order", "bursts", "late", "rule", "tickets", "gate")
+ANY_ORDER = "any-order"  # an option of runs that aren't the program's (free_server.py): no rule chooses their threads
 OPTIONS_OF = {"rule": ["rule"], "tickets": ["tickets"], "gate": ["high", "low", "knee"], "pool": ["chunks"],
               "backlog": ["backlog"]}
 DEFAULTS = {name[2:]: it.default for name, it in OPTIONS.items()}
 MOST_TICKETS, MOST_NAMED = 1024, 64  # of one thread; threads that --tickets may name
+MOST_ORDERS = 1_000_000
 
 Given = collections.namedtuple("Given", "text varied first threads held")
 Given.__doc__ = """A trace that was given: its text as bytes, its events ready to be varied, the outputs of its run by
@@ -69,13 +71,13 @@ class Exploration:
         chance = self.chance(number)
         options = self.options | self.drawn(given, chance)
         kinds = [it for it in self.changes if it in variants.CHANGES]
-        if options != self.options and chance.random() < 0.1:
+        if options != self.options and chance.random() < (0.5 if ANY_ORDER in options else 0.1):
             kinds = []  # some runs have other options alone
         return given, variants.variant(given.varied, kinds, chance), options
 
     def drawn(self, given, chance):
-        """The options that are varied, by chance: each kind in every second run."""
-        drawn = {}
+        """The options that are varied, by chance: each kind in every second run, but an order of threads in each."""
+        drawn = {ANY_ORDER: chance.randrange(MOST_ORDERS)} if ANY_ORDER in self.changes else {}
         for kind in CHOICES:
             if kind in self.changes and chance.random() < 0.5:
                 drawn |= DRAWS[kind](self.options | drawn, given, chance)
@@ -116,7 +118,7 @@ def begun(value, folder, source, traces):
     with open(source, "rb") as file:
         text = file.read()
     looker = finds.Looker(text, value["kinds"], value["title"], value["patience"], value["answers"], value["command"])
-    exploration = Exploration(many.Server(source, folder), looker, value["options"], value["changes"], value["seed"])
+    exploration = Exploration(free_server.FreeServer(source, folder), looker, value["options"], value["changes"], value["seed"])
     for name in traces:
         with open(name, "rb") as file:
             exploration.add(file.read(), name)

@@ -19,6 +19,10 @@ KINDS = {
     "command": "the command that reads the log found something",
 }
 USUAL = ("deadlock", "unanswered", "drop", "trap", "nochunk", "threads", "starved")
+OF_A_RULE = {
+    "starved": "in any order a thread may wait for long",
+    "nochunk": "these runs have no chunks",
+}  # what isn't looked for where any thread may run next, and why
 FOLLOW = ("starved", "unanswered", "drop", "outputs")  # what a deadlock brings about isn't told beside it
 PATIENCE = 20_000  # ticks
 

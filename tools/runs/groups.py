@@ -1,11 +1,11 @@
 """The finds of many runs, in groups: how often each came, and the run with the shortest trace."""
-import os, pathlib, re, shlex
+import os, pathlib, re, shlex, subprocess
 
 from traces import events
 
-from . import finds, many, program
+from . import finds, free_server, many, program
 
-OWN = re.compile(r"[a-z]+_\d+\.(trace|first|options)")  # names of the files that are stored
+OWN = re.compile(r"[a-z]+_\d+\.(trace|first|options|log)")  # names of the files that are stored
 
 
 class Group:
@@ -76,8 +76,24 @@ class Groups:
         needs_first = group.kind == "outputs" or group.kind == "unanswered" and not group.where
         if needs_first:
             put(f"{stem}.first", events.text_of(self.exploration.first_of(given, found)))
+        if "any-order" in options:
+            value |= self.beyond_the_rules(options, stem)
         return value | {"repeat": repeated(self.exploration, words, stem),
                         "shrink": self.shrunk(group, words, stem, needs_first)}
+
+    def beyond_the_rules(self, options, stem):
+        """Stores the log of a run that no rule need choose, and tells what the audit and the report take of it."""
+        server = self.exploration.server
+        with open(f"{stem}.trace", "rb") as trace:
+            log = server.run(options, trace.read()).log
+        put(f"{stem}.log", log)
+        own = many.words_of({name: options[name] for name in free_server.HAS_EFFECT if name in options})
+        with open(f"{stem}.trace", "rb") as trace:
+            audit = subprocess.run([program.itself(), "audit", *own, server.source, f"{stem}.log"], stdin=trace,
+                                   capture_output=True, text=True)
+        words = [nearest(program.TOP / "report"), "--log", f"{stem}.log", "serve", *own, server.source]
+        return {"log": f"{stem}.log", "audit": audited(audit.stdout.strip() or audit.stderr.strip(), log),
+                "report": f"{shlex.join(words)} < {shlex.quote(f'{stem}.trace')}"}
 
     def shrunk(self, group, words, stem, needs_first):
         """The line that makes the trace of a group smaller."""
@@ -95,8 +111,24 @@ class Groups:
 
 def repeated(exploration, words, stem):
     """The line that makes a stored run again."""
-    script = nearest(program.TOP / "capriccio")
+    script = nearest(program.TOP / script_for(words))
     return f"{shlex.join([script, 'serve', *words, exploration.server.source])} < {shlex.quote(f'{stem}.trace')}"
+
+
+def script_for(words):
+    """What makes a run with these options, by its path from the top."""
+    return "tools/any_order" if "--any-order" in words else "capriccio"
+
+
+def audited(verdict, log):
+    """The verdict of the proved audit on a log of a run that no rule need choose."""
+    word, *line = verdict.split(" ")
+    if word == "lawful":
+        return "lawful: the priority rule chooses so too"
+    said = log.splitlines()[int(line[0]) - 1] if word == "unlawful" else ""
+    if said.startswith("run "):
+        return f"lawful up to line {int(line[0]) - 1} of the log; then the priority rule doesn't choose `{said}`"
+    return f"{verdict} {said}".strip()
 
 
 def nearest(path):

@@ -23,13 +23,17 @@ class Replay:
         self.arrivals, self.channels = collections.deque(), collections.defaultdict(collections.deque)
         self.threads, self.started, self.running, self.outputs = {}, 1, 0, []
         self.is_lost = False
-        names = {"put": self.put, "give": self.give, "spawn": self.spawn, "self_": lambda: self.running}
+        names = self.names()
         try:
             exec(code_of(source, translate), names)
             self.threads[0], self.trap = begun(names["f_main"]), names["Trap"]
         except (Untranslated, SyntaxError, RecursionError, MemoryError, KeyError):
             self.is_lost = True
         sys.setrecursionlimit(MOST_DEPTH)
+
+    def names(self):
+        """What the source calls, by its names in Python."""
+        return {"put": self.put, "give": self.give, "spawn": self.spawn, "self_": lambda: self.running}
 
     def put(self, value):
         self.outputs.append(value)

@@ -311,7 +311,7 @@ class Translation:
             return f"({inside})"
         if self.tokens[self.at][0].isdigit():
             return f"({self.number()})"
-        name = self.next()
+        at, name = self.at, self.next()
         if self.sees("("):
             return self.call(name)
         if not self.takes("["):
@@ -319,7 +319,7 @@ class Translation:
         index = self.expression()
         self.at += 1
         if self.sees("("):
-            return self.table_call(name, index)
+            return self.table_call(name, index, at)
         return f"({self.named(name)}[index_] if (index_ := {index}) >= 0 else trap())"
 
     def arguments(self):
@@ -345,7 +345,8 @@ class Translation:
             return f"{'self_' if name == 'self' else name}({arguments})"
         return f"(yield from f_{name}({arguments}))" if name in self.blocking else f"f_{name}({arguments})"
 
-    def table_call(self, name, index):
+    def table_call(self, name, index, at):
+        """A call through a table, whose name is the token at this place."""
         member = f"{self.named(name)}()[index_ if (index_ := {index}) >= 0 else trap()]({', '.join(self.arguments())})"
         return f"(yield from {member})" if name in self.blocking else member
 
