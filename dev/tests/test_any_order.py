@@ -4,8 +4,8 @@ import json, os, pathlib, re, subprocess, sys, tempfile, unittest
 from runs import free_run, free_server, orders
 from traces import events
 
-TOOLS = pathlib.Path(__file__).resolve().parent.parent
-TOP = TOOLS.parent
+TOP = pathlib.Path(__file__).resolve().parent.parent.parent
+TOOLS = TOP / "tools"
 PROGRAMS = os.environ.get("CAPRICCIO_PROGRAMS", "no folder")
 LOGS = sorted(TOP.glob("examples/*/log*"))
 FREE = re.compile(r"^((?:block|end|stop) .*) \d+$|^(edge(?: \S+){4}) \S+")  # the last number, or the change of chunks

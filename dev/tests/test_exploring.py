@@ -25,6 +25,8 @@ SOURCES = {
     "void worker(int n) { int v; while (1) { v = accept(); if (busy) wait(1); busy = 1; sleep(300); busy = 0; put(v); } }\n"
     "int main() { spawn(worker, 1); spawn(worker, 2); return 0; }\n",
     "nochunk": "void one(int v) { sleep(400); put(v); }\nint main() { while (1) spawn(one, accept()); }\n",
+    "threads": "void f(int n) { accept(); }\nint main() { while (1) spawn(f, 1); return 0; }\n",
+    "fuel": "int main() { while (1) { put(accept()); while (1) { } } }\n",
     "starved": "int ready;\nvoid spinner(int n) { while (!ready) yield(); put(1); }\nvoid setter(int n) { ready = 1; }\n"
     "int main() { spawn(spinner, 0); spawn(setter, 0); return 0; }\n",
 }
@@ -55,7 +57,8 @@ class WithTheProgram(unittest.TestCase):
         trace = self.put("trace", EVERY)
         burst = ["--change", "bursts,times", "--runs", "12"]
         cases = {"drop": ["--backlog", "1", *burst], "nochunk": ["--chunks", "3", *burst],
-                 "starved": ["--fuel", "60000", "--runs", "1"]}
+                 "starved": ["--fuel", "60000", "--runs", "1"], "fuel": ["--fuel", "60000", "--runs", "4"],
+                 "threads": ["--chunk", "64", "--max-path", "48", "--chunks", "65536", "--runs", "1"]}
         cases |= {"trap": burst, "unanswered": burst}
         for kind, words in cases.items():
             with self.subTest(kind=kind):
@@ -94,11 +97,12 @@ class WithTheProgram(unittest.TestCase):
         untimed = lambda text: re.sub(r"[\d.]+ s, [\d,]+ runs a second", "", text)
         shown = [(command.split(), untimed(output)) for command, output in zip(blocks, blocks[1:])
                  if command.startswith("tools/explore")]
-        self.assertEqual(len(shown), 2)
+        self.assertEqual(len(shown), 4)
         for (tool, *words), output in shown:
             folder = str(self.room / "explored")
             made = subprocess.run([sys.executable, tool, "-o", folder, *words], cwd=TOP, capture_output=True, text=True)
-            self.assertEqual(untimed(made.stdout).replace(folder, "explored"), output, made.stderr)
+            stem = pathlib.Path(words[-2]).stem
+            self.assertEqual(untimed(made.stdout).replace(folder, f"explored/{stem}"), output, made.stderr)
 
     def test_locks_in_one_order_have_no_deadlock(self):
         text = (STORIES / "kv.c").read_text()

@@ -67,7 +67,7 @@ class Campaign:
         else:
             print(self.verdict(found))
             if self.asked.any_order:
-                print("any thread that is ready may run next in them: no rule of serve need choose so")
+                print("the runs are made in Python, and any thread that is ready may run next: no rule of serve need choose so")
             for value in found:
                 print("\n" + told(value))
         self.warn()
