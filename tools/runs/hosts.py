@@ -22,6 +22,9 @@ with tempfile.TemporaryDirectory() as folder:
 '''
 
 
+RETRIES = "3"  # of a command that fails, on another machine if there is one
+
+
 class NoParallel(Exception):
     """GNU parallel is missing, or it failed."""
 
@@ -60,23 +63,29 @@ class Hosts:
     def __init__(self, logins, work, value, source, traces):
         if not shutil.which("parallel"):
             raise NoParallel("--hosts needs GNU parallel: Debian's package `parallel`")
+        if not os.path.isfile(logins):
+            raise NoParallel(f"there is no file {logins}: --hosts names a list of logins, as parallel's --sshloginfile")
         self.logins, self.folder = os.path.abspath(logins), tempfile.TemporaryDirectory(prefix="capriccio-hosts-")
         self.name = os.path.join(self.folder.name, "runs.pyz")
         write(self.name, work, value, source, traces)
 
     def each(self, count, together):
         """The number and the value of each run, as they come, in any order."""
-        words = ["parallel", "--will-cite", "--line-buffer", "--sshloginfile", self.logins]
+        words = ["parallel", "--will-cite", "--line-buffer", "--retries", RETRIES, "--sshloginfile", self.logins]
         if has_others(self.logins):
             words += ["--basefile", self.name, "--cleanup"]
         self.process = subprocess.Popen(words, cwd=self.folder.name, stdin=subprocess.PIPE, stdout=subprocess.PIPE,
                                         text=True)
         with self.process.stdin as lines:
             lines.write("\n".join(commands(self.name, count, together)) + "\n")
+        known = set()  # (a command that is tried again on another machine repeats what it has told)
         for line in self.process.stdout:
-            yield json.loads(line)
+            number, value = json.loads(line)
+            if number not in known:
+                known.add(number)
+                yield number, value
         if self.process.wait():
-            raise NoParallel(f"parallel ended with status {self.process.returncode}")
+            raise NoParallel(f"parallel ended with status {self.process.returncode}: see its lines above, and {self.logins}")
 
     def __enter__(self):
         return self
