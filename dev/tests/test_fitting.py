@@ -2,7 +2,7 @@
 whose bytes follow from docs/MACHINE.md by hand."""
 import json, os, pathlib, subprocess, sys, tempfile, unittest
 
-from fitting import placements, search, threads, trials
+from fitting import placements, search, table, threads, trials
 from runs import many
 from sources import tree
 
@@ -35,6 +35,15 @@ class Search(unittest.TestCase):
                 if truth > 1:
                     self.assertIn(truth - 1, tried)  # what is said to be too few was tried
         self.assertIsNone(search.least(lambda count: False, 3, 100))
+
+    def test_rows_that_show_the_same_instructions_are_left_out(self):
+        """But for the first that is enough for all traces."""
+        parts = [(0.054, table.THESE), (0.0541, table.ALL), (0.0539, table.THESE), (0.002, table.THESE),
+                 (0.0016, table.ALL), (0.0, table.THESE)]
+        rows = [table.Row(None, place, place, more, {}, enough, "") for place, (more, enough) in enumerate(parts)]
+        self.assertEqual([it.pool for it in table.told_apart(rows)], [0, 1, 3, 5])
+        unrun = [it._replace(more=None) for it in rows[:2]]
+        self.assertEqual(list(table.told_apart(unrun)), unrun)
 
     def test_the_front_has_what_nothing_beats(self):
         pairs = ((3, 50), (1, 90), (2, 90), (4, 50), (5, 49), (2, 70))

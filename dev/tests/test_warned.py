@@ -258,6 +258,10 @@ class Others(unittest.TestCase):
         kinds = [it.partition(":")[0] for it in told(TILL.replace(line, line + " // allow(order)"))]
         self.assertEqual(kinds, ["update 7", "allow 7"])
         self.assertIn("there is no kind 'updates'", "".join(told(TILL.replace(line, line + " // allow(updates)"))))
+        apart = TILL.replace(line, "  int due = total;\n  due = due + price + tax(price);\n  total = due;")
+        self.assertEqual([it.partition(":")[0] for it in told(apart)], ["update 7"])
+        call = "tax(price);"  # between the read and the write
+        self.assertEqual(told(apart.replace(call, call + " // allow(update)")), [])
         beside = told(TILL.replace(line, "  put(1); // allow(update)\n" + line))
         self.assertEqual(len(beside), 2)  # the line above has tokens of its own
 

@@ -8,6 +8,7 @@ from .trials import options_of, pool_bytes
 
 ALL, THESE = "all traces", "these traces"
 RANKS = ["median", "99th", "greatest"]
+DIGITS = 3  # behind the point, of a part that is shown in percent with one digit
 Row = collections.namedtuple("Row", "layout pool in_all more latency enough_for options")
 Row.__doc__ = """`pool` and `in_all` are bytes; `more` is the instructions above those with one large chunk for each
 thread, in parts of them, None without a trace; `latency` has the ranks by name."""
@@ -28,7 +29,19 @@ def rows_of(plan, found, safe, threads, reference):
         more = costs[layout] / reference.cost - 1 if reference and reference.cost and costs[layout] != NOT_RUN else None
         in_all = pool_bytes(layout) + sum(plan.image_bytes(layout))
         rows.append(Row(layout, pool_bytes(layout), in_all, more, latency, ALL if is_safe else THESE, words(layout)))
-    return rows
+    return list(told_apart(rows))
+
+
+def told_apart(rows):
+    """Those whose instructions are fewer, as they are shown, than those of each row before, and the first that is enough
+    for all traces."""
+    least, has_all = None, False
+    for it in rows:
+        more = it.more if it.more is None else round(it.more, DIGITS)
+        if more is None or least is None or more < least or it.enough_for == ALL and not has_all:
+            yield it
+        least = more if least is None else min(least, more if more is not None else least)
+        has_all = has_all or it.enough_for == ALL
 
 
 def table(rows):

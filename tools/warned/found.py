@@ -12,9 +12,9 @@ KINDS = {
     "spin": "a loop does nothing but wait for a global",
     "allow": "a comment `allow(KIND)` that silences nothing",
 }
-Warning = collections.namedtuple("Warning", "kind at text places file", defaults=[None])
+Warning = collections.namedtuple("Warning", "kind at text places file near", defaults=[None, ()])
 Warning.__doc__ = """A warning at a place of the source, in bytes; `{0}`, `{1}` .. in its text stand for further
-places. Of a trace it has the file, and `at` is a line."""
+places, and at those `near` it may be silenced too. Of a trace it has the file, and `at` is a line."""
 ALLOWED = re.compile(rb"\ballow\(([\w, ]*)\)")
 
 
@@ -47,7 +47,7 @@ class Comments:
         the others."""
         used, left = set(), []
         for it in warnings:
-            lines = {self.line(at) for at in (it.at, *it.places)} if it.file is None else set()
+            lines = {self.line(at) for at in (it.at, *it.places, *it.near)} if it.file is None else set()
             silent = [comment for comment in self.allowed if it.kind in comment[2] and comment[1] & lines]
             used |= {at for at, _, _ in silent}
             left += [] if silent else [it]

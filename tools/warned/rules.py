@@ -37,7 +37,7 @@ class Updates:
         name, path = read.variable.name, block.path
         callee, last = path[min(read.depth, len(path) - 1)], path[-1]
         text = f"{name} is {how}, {callee.name}() may block at {{0}}, then {name} is written at {{1}}: {why}"
-        self.found.setdefault((read.at, at), Warning("update", read.at, text, [last.at, at]))
+        self.found.setdefault((read.at, at), Warning("update", read.at, text, [last.at, at], near=[callee.at]))
 
     def warnings(self):
         return self.found.values()
