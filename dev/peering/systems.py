@@ -3,8 +3,9 @@ import dataclasses, os, pathlib, shutil, subprocess
 
 SOURCES = pathlib.Path(__file__).resolve().parent / "sources"
 WORKERS = 16
-# The longest run of Capriccio's language, in instructions.
-FUEL = 1_000_000_000
+# The longest run of Capriccio, in instructions, and a time at which every thread waits.
+FUEL, LATE = 1_000_000_000, 500_000_000
+APART = 25  # ticks between requests: a worker of the pool takes 20 for one
 
 
 class Missing(Exception):
@@ -81,18 +82,20 @@ def source_of(folder, task, number):
 
 
 def options_of(task, number):
-    """The options under which a task runs: chunks as small as its threads allow."""
+    """The options under which a task runs: chunks as small as its threads allow, and room for a message to each."""
     if task == "waiters":
-        return ["--chunk", "64", "--max-path", "48", "--chunks", str(number + 2)]
+        room = ["--backlog", str(max(64, -(-number // 64)))]
+        return ["--chunk", "64", "--max-path", "48", "--chunks", str(number + 2), *room]
     if task == "deep":
         return [*options_of("waiters", number), "--extra-size", "4096", "--extra", "100"]
-    return {"handing": ["--caps", "1=1,2=1"], "pool": ["--backlog", "1000000"]}[task]
+    return {"handing": ["--caps", "1=1,2=1"], "pool": []}[task]
 
 
 def trace_of(task, number):
-    """The lines of the trace of a task: what wakes the threads, or the requests."""
-    if task == "waiters":
-        return "".join(f"data {FUEL // 2} {i % 64} 1\n" for i in range(number))
-    if task == "pool":
-        return "".join(f"arrive {i * 4} {i % 100}\n" for i in range(number))
-    return ""
+    """The trace of a task, its first line apart: what wakes the threads, or the requests."""
+    lines = {
+        "waiters": lambda: [f"data {LATE} {i % 64} 1\n" for i in range(number)],
+        "deep": lambda: [f"data {LATE} 0 1\n", f"arrive {LATE} 0\n"],
+        "pool": lambda: [f"arrive {i * APART} {i % 100}\n" for i in range(number)],
+    }.get(task, list)()
+    return "".join(lines[:1]), "".join(lines[1:])

@@ -1,33 +1,47 @@
 """dev/peers: its tables, what it skips, and the programs of its tasks."""
-import importlib.machinery, importlib.util, pathlib, subprocess, sys, tempfile, unittest
+import os, pathlib, subprocess, sys, tempfile, unittest, xml.etree.ElementTree
 from unittest import mock
 
 DEV = pathlib.Path(__file__).resolve().parent.parent
 sys.path.insert(0, str(DEV))
-from peering import runs, systems
+from peering import chart, held, runs, systems, tables
 
-
-def tool():
-    loader = importlib.machinery.SourceFileLoader("peers", str(DEV / "peers"))
-    made = importlib.util.module_from_spec(importlib.util.spec_from_loader("peers", loader))
-    loader.exec_module(made)
-    return made
+PROGRAM = os.path.join(os.environ.get("CAPRICCIO_PROGRAMS", "no folder"), "capriccio_cli")
 
 
 class Tables(unittest.TestCase):
     def test_median_and_spread(self):
         rows = {"X": [({"seconds": s}, "") for s in (2.0, 1.0, 4.0)]}
-        text = "\n".join(tool().tables({("pool", 8, 16): rows}))
+        text = "\n".join(tables.tables({("pool", 8, 16): rows}))
         self.assertIn("| X | 4 (2 to 8) |", text)
 
     def test_memory_a_thread(self):
         rows = {"X": [({"before": 1000.0, "after": 5000.0, "start": 0.5, "wake": 0.25}, "")]}
-        text = "\n".join(tool().tables({("waiters", 4, 16): rows}))
+        text = "\n".join(tables.tables({("waiters", 4, 16): rows}))
         self.assertIn("| X | 1,000 | 0.500 | 0.250 |", text)
 
     def test_what_failed(self):
-        text = "\n".join(tool().tables({("deep", 8, 16): {"X": [(None, "ends with signal 11")]}}))
+        text = "\n".join(tables.tables({("deep", 8, 16): {"X": [(None, "ends with signal 11")]}}))
         self.assertIn("| X | ends with signal 11 |", text)
+
+
+class Charts(unittest.TestCase):
+    found = {("waiters", number, 16): {name: [({"before": 0, "after": number * bytes_}, "")]
+                                       for name, bytes_ in (("Capriccio", 400), ("A", 8000), ("B", 8001))}
+             for number in (1000, 10_000)}
+
+    def test_places_follow_the_scales(self):
+        scale = chart.Scale(1000, 100_000, 0, 200)
+        self.assertEqual([scale(it) for it in (1000, 10_000, 100_000)], [0, 100, 200])
+
+    def test_each_system_has_a_line_and_a_name_of_its_own(self):
+        tree = xml.etree.ElementTree.fromstring(chart.chart(self.found))
+        svg = "{http://www.w3.org/2000/svg}"
+        names = {it.text: float(it.get("y")) for it in tree.iter(svg + "text") if it.text in ("Capriccio", "A", "B")}
+        self.assertEqual(len(names), 3)
+        self.assertGreaterEqual(abs(names["A"] - names["B"]), 15)
+        self.assertGreater(names["Capriccio"], names["A"])  # less memory stands lower
+        self.assertEqual(len(list(tree.iter(svg + "circle"))), 6)
 
 
 class Systems(unittest.TestCase):
@@ -44,17 +58,43 @@ class Systems(unittest.TestCase):
         self.assertNotIn("THREADS;", text)
 
     def test_trace_wakes_each_thread_on_its_channel(self):
-        lines = systems.trace_of("waiters", 130).splitlines()
+        lines = "".join(systems.trace_of("waiters", 130)).splitlines()
         self.assertEqual(len(lines), 130)
         self.assertEqual([line.split()[2] for line in lines], [str(i % 64) for i in range(130)])
 
 
 class Runs(unittest.TestCase):
     def test_a_command_is_timed(self):
-        status, taken, memory, said = runs.timed(["sh", "-c", "cat; exit 3"], b"given")
-        self.assertEqual((status, said), (3, "given"))
-        self.assertGreater(memory, 0)
+        status, taken, said = runs.timed(["sh", "-c", "cat; exit 3"], b"given")
+        self.assertEqual((status, said), (3, b"given"))
         self.assertLess(taken, 60)
+
+    def test_a_run_rests_where_it_reads_on(self):
+        """`cat` has written its first line when it waits for more."""
+        with held.Held(["cat"], "first\n") as made:
+            self.assertLess(made.rest(), 60)
+            self.assertGreater(made.resident(), 0)
+            status, _, said = made.finish("rest\n")
+        self.assertEqual((status, said), (0, "first\nrest\n"))
+
+    def test_a_run_that_ends_before_is_said(self):
+        with held.Held(["sh", "-c", "read line; exit 5"], "first\n") as made, self.assertRaisesRegex(held.NotAtRest, "status 5"):
+            made.rest()
+
+    def test_a_wrong_sum_is_said(self):
+        system = systems.System("X", None, lambda *_: ["echo", "sum 7"])
+        self.assertEqual(runs.peer_run(system, None, "pool", 3, 16), (None, "has the sum 7"))  # 0 + 1 + 4 is 5
+
+    @unittest.skipUnless(os.access(PROGRAM, os.X_OK), "the program isn't built")
+    def test_capriccio_does_its_tasks(self):
+        """Each thread that waits holds a chunk of 64 bytes at least, and has all its messages."""
+        with tempfile.TemporaryDirectory() as folder:
+            told = {task: held.capriccio_run(PROGRAM, pathlib.Path(folder), task, number)
+                    for task, number in (("waiters", 5000), ("handing", 100), ("pool", 1000), ("deep", 50))}
+        self.assertEqual({task: why for task, (_, why) in told.items()}, dict.fromkeys(told, ""))
+        waiters, deep = told["waiters"][0], told["deep"][0]
+        self.assertGreater(waiters["after"] - waiters["before"], 5000 * 64)
+        self.assertEqual(deep["depth"], 10_000)
 
     def test_asyncio_does_its_tasks(self):
         python = next(it for it in systems.SYSTEMS if it.name.startswith("Python"))

@@ -1,4 +1,4 @@
-/* THREADS threads that wait, and one that recurses 10,000 deep. */
+/* THREADS threads that wait, and one that recurses 10,000 deep, where it waits for a request. */
 void waiter(int channel) {
   int message;
   message = wait(channel);
@@ -6,7 +6,7 @@ void waiter(int channel) {
 
 int depth(int n) {
   if (n < 1)
-    return 0;
+    return accept();
   return depth(n - 1) + 1;
 }
 
