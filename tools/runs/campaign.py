@@ -119,5 +119,5 @@ def told(value):
     lines = [f"{value['kind']}: {runs}{as_given}, shortest trace {value['lines']:,} lines"]
     lines += [f"  {it}" for it in value["where"].split("\n") if it]
     lines += [f"  {value['detail']}"] if value["detail"] else []
-    commands = [f"  {name}: {value[name]}" for name in ("audit", "report", "repeat", "shrink") if name in value]
+    commands = [f"  {name}: {value[name]}" for name in ("audit", "report", "debug", "repeat", "shrink") if name in value]
     return "\n".join([*lines, *commands])
