@@ -75,16 +75,19 @@ def line(system, points, colour, across, upwards, place):
     width = 3 if colour is None else 2
     yield f'<path {paint} style="fill:none" stroke-width="{width}" d="M{path}"/>'
     for number, value in points:
-        yield f'<circle {paint} r="3.5" cx="{across(number)}" cy="{upwards(value)}"><title>{system}, {number:,} threads: {bytes_in_words(round(value, -3))}</title></circle>'
+        said = f"{system}, {number:,} threads: {bytes_in_words(round(value, -3))}"
+        spot = f'cx="{across(number)}" cy="{upwards(value)}"'
+        yield f'<circle {paint} r="3.5" {spot}><title>{said}</title></circle>'
     name = 'class="own"' if colour is None else f'style="fill:{colour}"'
     yield f'<text {name} x="{place[0]}" y="{place[1] + 4}">{system}</text>'
 
 
 def places_of_names(systems, most, across, upwards):
-    """Where the names of systems stand: right of the chart, or above the end of a line that doesn't reach the most threads."""
+    """Where the names of systems stand: right of the chart, or above the end of a line that ends before the right."""
     ends = {system: points[-1] for system, points in systems.items()}
     heights = spread_out({system: upwards(value) for system, (number, value) in ends.items() if number == most}, 15)
-    early = {system: (across(number) + 10, upwards(value) - 8) for system, (number, value) in ends.items() if number < most}
+    early = {system: (across(number) + 10, upwards(value) - 8)
+             for system, (number, value) in ends.items() if number < most}
     return early | {system: (WIDTH - RIGHT + 12, height) for system, height in heights.items()}
 
 

@@ -68,7 +68,8 @@ class Pages(unittest.TestCase):
 
 class Stored(unittest.TestCase):
     def test_numbers_are_read_as_they_are_written(self):
-        found = {("pool", 8, 16): {"X": [[{"seconds": 0.5}, ""], [None, "ends with status 1"]], "Y": []}, ("deep", 1, 16): {}}
+        found = {("pool", 8, 16): {"X": [[{"seconds": 0.5}, ""], [None, "ends with status 1"]], "Y": []},
+                 ("deep", 1, 16): {}}
         with tempfile.TemporaryDirectory() as folder:
             file = pathlib.Path(folder, "json")
             file.write_text(text_of("a machine", found))
@@ -109,8 +110,9 @@ class Runs(unittest.TestCase):
         self.assertEqual((status, said), (0, "first\nrest\n"))
 
     def test_a_run_that_ends_before_is_said(self):
-        with held.Held(["sh", "-c", "read line; exit 5"], "first\n") as made, self.assertRaisesRegex(held.NotAtRest, "status 5"):
-            made.rest()
+        with held.Held(["sh", "-c", "read line; exit 5"], "first\n") as made:
+            with self.assertRaisesRegex(held.NotAtRest, "status 5"):
+                made.rest()
 
     def test_a_wrong_sum_is_said(self):
         system = systems.System("X", None, lambda *_: ["echo", "sum 7"])

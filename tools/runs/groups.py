@@ -97,7 +97,8 @@ class Groups:
         told |= {"report": f"{shlex.join(words)} < {shlex.quote(f'{stem}.trace')}"}
         if (program.TOP / DEBUGGER).exists():
             words = [nearest(program.TOP / DEBUGGER), "--log", f"{stem}.log", "--trace", f"{stem}.trace", "serve"]
-            told |= {"debug": shlex.join([*words, "--rule", "stride", *own, server.source])}  # (of that rule no choice is audited)
+            words += ["--rule", "stride"]  # (of that rule no choice is audited)
+            told |= {"debug": shlex.join([*words, *own, server.source])}
         return told
 
     def shrunk(self, group, words, stem, needs_first):

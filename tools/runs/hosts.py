@@ -85,7 +85,8 @@ class Hosts:
                 known.add(number)
                 yield number, value
         if self.process.wait():
-            raise NoParallel(f"parallel ended with status {self.process.returncode}: see its lines above, and {self.logins}")
+            status = self.process.returncode
+            raise NoParallel(f"parallel ended with status {status}: see its lines above, and {self.logins}")
 
     def __enter__(self):
         return self
