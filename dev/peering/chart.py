@@ -68,17 +68,27 @@ def spread_out(places, least):
     return found
 
 
-def line(system, points, colour, across, upwards, height):
-    """The line of a system, with its name at the right end and what a thread takes there."""
+def line(system, points, colour, across, upwards, place):
+    """The line of a system, with its name at this place."""
     paint = 'class="own"' if colour is None else f'stroke="{colour}" fill="{colour}"'
     path = "L".join(f"{across(number)} {upwards(value)}" for number, value in points)
     width = 3 if colour is None else 2
     yield f'<path {paint} style="fill:none" stroke-width="{width}" d="M{path}"/>'
     for number, value in points:
-        yield f'<circle {paint} r="3.5" cx="{across(number)}" cy="{upwards(value)}"><title>{system}, {number:,} threads: {bytes_in_words(round(value, -3))}</title></circle>'
-    number, value = points[-1]
+        said = f"{system}, {number:,} threads: {bytes_in_words(round(value, -3))}"
+        spot = f'cx="{across(number)}" cy="{upwards(value)}"'
+        yield f'<circle {paint} r="3.5" {spot}><title>{said}</title></circle>'
     name = 'class="own"' if colour is None else f'style="fill:{colour}"'
-    yield f'<text {name} x="{WIDTH - RIGHT + 12}" y="{height + 4}">{system}</text>'
+    yield f'<text {name} x="{place[0]}" y="{place[1] + 4}">{system}</text>'
+
+
+def places_of_names(systems, most, across, upwards):
+    """Where the names of systems stand: right of the chart, or above the end of a line that ends before the right."""
+    ends = {system: points[-1] for system, points in systems.items()}
+    heights = spread_out({system: upwards(value) for system, (number, value) in ends.items() if number == most}, 15)
+    early = {system: (across(number) + 10, upwards(value) - 8)
+             for system, (number, value) in ends.items() if number < most}
+    return early | {system: (WIDTH - RIGHT + 12, height) for system, height in heights.items()}
 
 
 def chart(found):
@@ -89,12 +99,12 @@ def chart(found):
     least, most = power(min(values), False), power(max(values), True)
     across = Scale(numbers[0], numbers[-1], LEFT + 24, WIDTH - RIGHT - 8)
     upwards = Scale(least, most, HEIGHT - BOTTOM, TOP)
-    heights = spread_out({system: upwards(points[-1][1]) for system, points in systems.items()}, 15)
+    places = places_of_names(systems, numbers[-1], across, upwards)
     colours = dict(zip((it for it in systems if it != "Capriccio"), COLOURS))
     parts = [f'<svg xmlns="http://www.w3.org/2000/svg" viewBox="0 0 {WIDTH} {HEIGHT}" width="{WIDTH}" role="img">',
              "<title>Memory of threads that wait, by their number</title>", STYLE,
              f'<text class="title" x="{LEFT}" y="24">Memory of threads that wait</text>',
              *grid(across, upwards, numbers, least, most)]
     for system, points in systems.items():
-        parts += line(system, points, colours.get(system), across, upwards, heights[system])
+        parts += line(system, points, colours.get(system), across, upwards, places[system])
     return "\n".join([*parts, "</svg>", ""])

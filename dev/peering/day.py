@@ -1,4 +1,5 @@
-"""What a developer does with Capriccio in a day, timed: many runs by tools/explore, an audit and a report of a long log."""
+"""What a developer does with Capriccio in a day, timed: many runs by tools/explore, an audit and a report of a long
+log."""
 import json, pathlib, subprocess, sys, tempfile
 
 from .runs import failed, timed

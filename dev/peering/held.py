@@ -1,8 +1,8 @@
 """The same numbers of Capriccio: a run whose trace is held back at its first line, so that it rests where all threads
 wait, and its memory can be read there.
 
-The program examines the next line of its trace at each choice point. The first line is of a far time, so it is delivered
-once no thread is ready; then the program reads on, and waits for the rest of the trace.
+The program examines the next line of its trace at each choice point. The first line is of a far time, so it is
+delivered once no thread is ready; then the program reads on, and waits for the rest of the trace.
 """
 import array, fcntl, os, signal, subprocess, tempfile, termios, time
 

@@ -21,10 +21,16 @@ def timed(words, given=b""):
         return status, taken, output.read()
 
 
+# What statuses of the peers mean: their own, and of a signal the negative number.
+MEANINGS = {3: "can't start so many threads", -11: "overflows its stack"}
+
+
 def failed(status):
     """The words for how a run ended that didn't come to its end."""
     if status is None:
         return f"takes over {LONGEST} s"
+    if status in MEANINGS:
+        return MEANINGS[status]
     return f"ends with {'signal' if status < 0 else 'status'} {abs(status)}"
 
 

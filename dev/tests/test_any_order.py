@@ -6,7 +6,7 @@ from traces import events
 
 TOP = pathlib.Path(__file__).resolve().parent.parent.parent
 TOOLS = TOP / "tools"
-PROGRAMS = os.environ.get("CAPRICCIO_PROGRAMS", "no folder")
+PROGRAM = os.path.join(os.environ.get("CAPRICCIO_PROGRAMS", "no folder"), "capriccio_cli")
 LOGS = sorted(TOP.glob("examples/*/log*"))
 FREE = re.compile(r"^((?:block|end|stop) .*) \d+$|^(edge(?: \S+){4}) \S+")  # the last number, or the change of chunks
 
@@ -84,10 +84,11 @@ def made(source, number, trace="", **options):
 class ByHand(unittest.TestCase):
     def test_stops_and_traps(self):
         body = "int a[2]; int f(int n) { return n; } int (*t[1])(int) = {f}; int main() { %s return 0; }"
-        cases = {"": ("done",), "accept();": ("idle",), "put(a[2]);": ("trap", 0, "index"), "a[0 - 1] = 1;": ("trap", 0, "index"),
-                 "put(t[1](5));": ("trap", 0, "table"), "give(1, 1);": ("trap", 0, "resource"), "take(2, 1);": ("trap", 0, "resource"),
-                 "take(1, 4);": ("trap", 0, "resource"), "put(wait(64));": ("trap", 0, "channel"),
-                 "while (1) {}": ("fuel", 0), "while (1) yield();": ("fuel", 0)}
+        trap = lambda kind: ("trap", 0, kind)
+        cases = {"": ("done",), "accept();": ("idle",), "while (1) {}": ("fuel", 0), "while (1) yield();": ("fuel", 0),
+                 "put(a[2]);": trap("index"), "a[0 - 1] = 1;": trap("index"), "put(t[1](5));": trap("table"),
+                 "give(1, 1);": trap("resource"), "take(2, 1);": trap("resource"), "take(1, 4);": trap("resource"),
+                 "put(wait(64));": trap("channel")}
         for text, stop in cases.items():
             with self.subTest(text=text):
                 self.assertEqual(made(body % text, 1, caps="1=3", fuel="10000")[0][: len(stop)], stop)
@@ -98,7 +99,8 @@ class ByHand(unittest.TestCase):
         self.assertEqual(outputs, {("out 1 1", "out 2 2"), ("out 2 2", "out 1 1")})
 
     def test_a_thread_that_yields_lets_others_run(self):
-        source = "int x; void f(int n) { while (!x) yield(); put(1); } void g(int n) { x = 1; } int main() { spawn(f, 0); spawn(g, 0); return 0; }"
+        source = ("int x; void f(int n) { while (!x) yield(); put(1); } void g(int n) { x = 1; } "
+                  "int main() { spawn(f, 0); spawn(g, 0); return 0; }")
         for number in range(30):
             self.assertEqual(made(source, number, fuel="100000")[0], ("done",))
 
@@ -116,7 +118,7 @@ int main() { spawn(sizer, 0); spawn(worker, 0); return 0; }
 EVERY = "".join(f"arrive {it} {it + 4}\n" for it in range(8))
 
 
-@unittest.skipUnless(os.access(os.path.join(PROGRAMS, "capriccio_cli"), os.X_OK), "the program isn't built")
+@unittest.skipUnless(os.access(PROGRAM, os.X_OK), "the program isn't built")
 class WithTheProgram(unittest.TestCase):
     def setUp(self):
         room = tempfile.TemporaryDirectory()
@@ -126,6 +128,9 @@ class WithTheProgram(unittest.TestCase):
     def tool(self, name, *words, given=None):
         words = [sys.executable, TOOLS / name, *map(str, words)]
         return subprocess.run(words, cwd=self.room, input=given, capture_output=True, text=True)
+
+    def shell(self, command):
+        return subprocess.run(["bash", "-c", command], cwd=self.room, capture_output=True, text=True)
 
     def put(self, name, text):
         (self.room / name).write_text(text)
@@ -140,16 +145,17 @@ class WithTheProgram(unittest.TestCase):
         """Up to the first line that it refuses, which is one with a choice; with one thread there is none."""
         refused, lawful = 0, 0
         for name in ("pool", "bank", "relay", "limiter", "timers", "calculator", "silent"):
-            folder, found = TOP / "examples" / name, events.read((TOP / "examples" / name / "trace").read_text())
-            options = options_of(folder / "log")
+            folder = TOP / "examples" / name
+            source, options = (folder / "server.c").read_bytes(), options_of(folder / "log")
+            found = events.read((folder / "trace").read_text())
+            words = [it for key in free_server.HAS_EFFECT if key in options for it in (f"--{key}", options[key])]
             for number in range(4):
-                run = free_run.FreeRun((folder / "server.c").read_bytes(), options, orders.Order(number, len(found)), found)
+                run = free_run.FreeRun(source, options, orders.Order(number, len(found)), found)
                 run.run()
                 self.put("log", "\n".join(run.lines) + "\n")
-                words = [it for key in free_server.HAS_EFFECT if key in options for it in (f"--{key}", options[key])]
+                audit = ["audit", *words, folder / "server.c", self.room / "log"]
                 with open(folder / "trace") as trace, self.subTest(name=name, number=number):
-                    told = subprocess.run([os.path.join(PROGRAMS, "capriccio_cli"), "audit", *words, folder / "server.c",
-                                           self.room / "log"], stdin=trace, capture_output=True, text=True).stdout
+                    told = subprocess.run([PROGRAM, *audit], stdin=trace, capture_output=True, text=True).stdout
                     line = re.match(r"unlawful (\d+)$", told)
                     self.assertTrue(told == "lawful\n" or run.lines[int(line[1]) - 1].startswith("run "), told)
                     refused, lawful = refused + bool(line), lawful + (told == "lawful\n")
@@ -162,21 +168,24 @@ class WithTheProgram(unittest.TestCase):
         self.assertEqual(self.explored(*words), [])
         found = self.explored("--any-order", *words)
         self.assertEqual([it["where"] for it in found], ["index after late.c:3:45 accept in worker"])
-        log = subprocess.run(["bash", "-c", found[0]["repeat"]], cwd=self.room, capture_output=True, text=True)
+        log = self.shell(found[0]["repeat"])
         self.assertEqual((log.returncode, log.stdout), (11, (self.room / found[0]["log"]).read_text()))
-        self.assertRegex(found[0]["audit"], r"^lawful up to line \d+ of the log; then the priority rule doesn't choose `run \d+ 2 \d+`$")
-        made = subprocess.run(["bash", "-c", found[0]["shrink"]], cwd=self.room, capture_output=True, text=True)
+        lawful = r"^lawful up to line \d+ of the log; then the priority rule doesn't choose `run \d+ 2 \d+`$"
+        self.assertRegex(found[0]["audit"], lawful)
+        made = self.shell(found[0]["shrink"])
         self.assertEqual(len(events.read((self.room / "small").read_text())), 1, made.stderr)
-        again = subprocess.run(["bash", "-c", made.stderr.splitlines()[-1]], cwd=self.room, capture_output=True, text=True)
+        again = self.shell(made.stderr.splitlines()[-1])
         self.assertTrue(again.stdout.splitlines()[-1].startswith("stop trap 2 index "), again.stderr)
 
     def test_a_server_without_a_mistake_has_none_in_any_order(self):
         source = LATE.replace("spawn(sizer, 0);", "sizer(0);")
-        self.assertEqual(self.explored("--any-order", "--runs", "40", self.put("right.c", source), self.put("trace", EVERY)), [])
+        words = [self.put("right.c", source), self.put("trace", EVERY)]
+        self.assertEqual(self.explored("--any-order", "--runs", "40", *words), [])
 
     def test_a_deadlock_of_the_story_is_found(self):
         stories = TOP / "docs/stories"
-        found = self.explored("--any-order", "--first", "--find", "deadlock", "--caps", "1=1,2=1", stories / "kv.c", stories / "kv.trace")
+        words = ["--find", "deadlock", "--caps", "1=1,2=1", stories / "kv.c", stories / "kv.trace"]
+        found = self.explored("--any-order", "--first", *words)
         self.assertEqual([it["kind"] for it in found], ["deadlock"])
 
     def test_words_that_contradict(self):
@@ -187,7 +196,8 @@ class WithTheProgram(unittest.TestCase):
             self.assertIn("--any-order", told.stderr.splitlines()[-1])
 
     def test_refusals_are_the_programs(self):
-        call = lambda source, trace, *more: self.tool("any_order", "serve", "--any-order", "1", *more, source, given=trace).returncode
+        words = ["any_order", "serve", "--any-order", "1"]
+        call = lambda source, trace, *more: self.tool(*words, *more, source, given=trace).returncode
         self.assertEqual(call(self.put("none.c", "int f() { return 0; }\n"), ""), 2)
         self.assertEqual(call("absent.c", ""), 9)
         good = self.put("late.c", LATE)

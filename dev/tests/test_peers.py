@@ -5,6 +5,7 @@ from unittest import mock
 DEV = pathlib.Path(__file__).resolve().parent.parent
 sys.path.insert(0, str(DEV))
 from peering import chart, held, runs, systems, tables
+from peering.stored import stored, text_of
 
 PROGRAM = os.path.join(os.environ.get("CAPRICCIO_PROGRAMS", "no folder"), "capriccio_cli")
 
@@ -43,6 +44,37 @@ class Charts(unittest.TestCase):
         self.assertGreater(names["Capriccio"], names["A"])  # less memory stands lower
         self.assertEqual(len(list(tree.iter(svg + "circle"))), 6)
 
+    def test_the_name_of_a_line_that_ends_early_stands_at_its_end(self):
+        systems = {"A": [(1000, 1e6), (10_000, 1e7)], "B": [(1000, 1e6)]}
+        across, upwards = chart.Scale(1000, 10_000, 100, 600), chart.Scale(1e5, 1e8, 400, 100)
+        places = chart.places_of_names(systems, 10_000, across, upwards)
+        self.assertEqual(places["B"], (110, 292))
+        self.assertGreater(places["A"][0], 600)
+
+
+class Pages(unittest.TestCase):
+    told, found = stored(DEV / "peering/measured.json")
+
+    def test_the_page_has_the_tables_of_what_was_measured(self):
+        page = (DEV.parent / "docs/PERFORMANCE.md").read_text()
+        lines = [it for it in tables.tables(self.found) if it.startswith("|")]
+        self.assertGreater(len(lines), 40)
+        self.assertEqual([it for it in lines if it not in page.splitlines()], [])
+        self.assertIn(self.told.partition(";")[0], page)
+
+    def test_the_chart_is_that_of_what_was_measured(self):
+        self.assertEqual((DEV.parent / "docs/threads.svg").read_text(), chart.chart(self.found))
+
+
+class Stored(unittest.TestCase):
+    def test_numbers_are_read_as_they_are_written(self):
+        found = {("pool", 8, 16): {"X": [[{"seconds": 0.5}, ""], [None, "ends with status 1"]], "Y": []},
+                 ("deep", 1, 16): {}}
+        with tempfile.TemporaryDirectory() as folder:
+            file = pathlib.Path(folder, "json")
+            file.write_text(text_of("a machine", found))
+            self.assertEqual(stored(file), ("a machine", found))
+
 
 class Systems(unittest.TestCase):
     def test_missing_compiler_is_named(self):
@@ -78,8 +110,9 @@ class Runs(unittest.TestCase):
         self.assertEqual((status, said), (0, "first\nrest\n"))
 
     def test_a_run_that_ends_before_is_said(self):
-        with held.Held(["sh", "-c", "read line; exit 5"], "first\n") as made, self.assertRaisesRegex(held.NotAtRest, "status 5"):
-            made.rest()
+        with held.Held(["sh", "-c", "read line; exit 5"], "first\n") as made:
+            with self.assertRaisesRegex(held.NotAtRest, "status 5"):
+                made.rest()
 
     def test_a_wrong_sum_is_said(self):
         system = systems.System("X", None, lambda *_: ["echo", "sum 7"])

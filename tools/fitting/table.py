@@ -33,8 +33,8 @@ def rows_of(plan, found, safe, threads, reference):
 
 
 def told_apart(rows):
-    """Those whose instructions are fewer, as they are shown, than those of each row before, and the first that is enough
-    for all traces."""
+    """Those whose instructions are fewer, as they are shown, than those of each row before, and the first that is
+    enough for all traces."""
     least, has_all = None, False
     for it in rows:
         more = it.more if it.more is None else round(it.more, DIGITS)

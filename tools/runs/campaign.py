@@ -3,6 +3,9 @@ import contextlib, json, os, pathlib, sys, time
 
 from . import exploring, groups, hosts, many
 
+ANY_ORDER = ("the runs are made in Python, and any thread that is ready may run next: "
+             "no rule of serve need choose so")
+COMMANDS = ("audit", "report", "debug", "repeat", "shrink")  # what is told of a find, if it is there
 BATCH, TOGETHER = 8, 100  # runs that a process takes at once, and a command for another machine
 
 
@@ -67,7 +70,7 @@ class Campaign:
         else:
             print(self.verdict(found))
             if self.asked.any_order:
-                print("the runs are made in Python, and any thread that is ready may run next: no rule of serve need choose so")
+                print(ANY_ORDER)
             for value in found:
                 print("\n" + told(value))
         self.warn()
@@ -119,5 +122,5 @@ def told(value):
     lines = [f"{value['kind']}: {runs}{as_given}, shortest trace {value['lines']:,} lines"]
     lines += [f"  {it}" for it in value["where"].split("\n") if it]
     lines += [f"  {value['detail']}"] if value["detail"] else []
-    commands = [f"  {name}: {value[name]}" for name in ("audit", "report", "repeat", "shrink") if name in value]
+    commands = [f"  {name}: {value[name]}" for name in COMMANDS if name in value]
     return "\n".join([*lines, *commands])

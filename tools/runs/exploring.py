@@ -118,7 +118,8 @@ def begun(value, folder, source, traces):
     with open(source, "rb") as file:
         text = file.read()
     looker = finds.Looker(text, value["kinds"], value["title"], value["patience"], value["answers"], value["command"])
-    exploration = Exploration(free_server.FreeServer(source, folder), looker, value["options"], value["changes"], value["seed"])
+    server = free_server.FreeServer(source, folder)
+    exploration = Exploration(server, looker, value["options"], value["changes"], value["seed"])
     for name in traces:
         with open(name, "rb") as file:
             exploration.add(file.read(), name)

@@ -1,7 +1,7 @@
 """A run of a source in Python in which any ready thread may be chosen, and its log.
 
-The threads, their calls and their values are those of the source (docs/LANGUAGE.md, "Meaning"); a choice point delivers,
-skips ahead and stops as docs/SCHEDULING.md says, "The lawful log". What differs from a run of the program:
+The threads, their calls and their values are those of the source (docs/LANGUAGE.md, "Meaning"); a choice point
+delivers, skips ahead and stops as docs/SCHEDULING.md says, "The lawful log". What differs from a run of the program:
 
 - An order (orders.py) chooses the thread, and there is no gate.
 - No machine runs, so each statement costs TICKS, and each live thread holds one chunk.
@@ -46,8 +46,8 @@ class Edges:
 
 
 class FreeRun(replay.Replay):
-    """A run with options by name, as in many.py, on the events of a trace. `order.choose` gives the thread that runs next,
-    of some that are ready. `run` gives the words of its stop, and `lines` has the log then."""
+    """A run with options by name, as in many.py, on the events of a trace. `order.choose` gives the thread that runs
+    next, of some that are ready. `run` gives the words of its stop, and `lines` has the log then."""
 
     def __init__(self, source, options, order, events):
         number = lambda name: int(options.get(name, OPTIONS[f"--{name}"].default))

@@ -5,6 +5,7 @@ from traces import events
 
 from . import finds, free_server, many, program
 
+DEBUGGER = "tools/debug"
 OWN = re.compile(r"[a-z]+_\d+\.(trace|first|options|log)")  # names of the files that are stored
 
 
@@ -91,9 +92,14 @@ class Groups:
         with open(f"{stem}.trace", "rb") as trace:
             audit = subprocess.run([program.itself(), "audit", *own, server.source, f"{stem}.log"], stdin=trace,
                                    capture_output=True, text=True)
+        told = {"log": f"{stem}.log", "audit": audited(audit.stdout.strip() or audit.stderr.strip(), log)}
         words = [nearest(program.TOP / "report"), "--log", f"{stem}.log", "serve", *own, server.source]
-        return {"log": f"{stem}.log", "audit": audited(audit.stdout.strip() or audit.stderr.strip(), log),
-                "report": f"{shlex.join(words)} < {shlex.quote(f'{stem}.trace')}"}
+        told |= {"report": f"{shlex.join(words)} < {shlex.quote(f'{stem}.trace')}"}
+        if (program.TOP / DEBUGGER).exists():
+            words = [nearest(program.TOP / DEBUGGER), "--log", f"{stem}.log", "--trace", f"{stem}.trace", "serve"]
+            words += ["--rule", "stride"]  # (of that rule no choice is audited)
+            told |= {"debug": shlex.join([*words, *own, server.source])}
+        return told
 
     def shrunk(self, group, words, stem, needs_first):
         """The line that makes the trace of a group smaller."""

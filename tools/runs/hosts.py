@@ -8,7 +8,7 @@ from explained import tokens
 from . import program
 
 TOOLS = pathlib.Path(__file__).resolve().parent.parent
-PACKAGES = ("explained", "reporting", "runs", "traces")
+PACKAGES = ("explained", "runs", "traces")
 MAIN = '''import os, sys, tempfile, zipfile
 with tempfile.TemporaryDirectory() as folder:
     with zipfile.ZipFile(sys.argv[0]) as file:
@@ -85,7 +85,8 @@ class Hosts:
                 known.add(number)
                 yield number, value
         if self.process.wait():
-            raise NoParallel(f"parallel ended with status {self.process.returncode}: see its lines above, and {self.logins}")
+            status = self.process.returncode
+            raise NoParallel(f"parallel ended with status {status}: see its lines above, and {self.logins}")
 
     def __enter__(self):
         return self
