@@ -21,8 +21,8 @@ class Differs(Exception):
 
 
 class Log:
-    """The lines of a log, counted from 1, and the clock of each. `costs` are those of the segments that have ended, by the
-    number of lines."""
+    """The lines of a log, counted from 1, and the clock of each. `costs` are those of the segments that have ended, by
+    the number of lines."""
 
     def __init__(self, lines):
         self.lines = [it.rstrip("\n") for it in lines]
