@@ -33,8 +33,8 @@ _capriccio_report() {
     local place=1
     while [ "$place" -lt "$COMP_CWORD" ]; do
         case ${COMP_WORDS[place]} in
-            --why | --json) place=$((place + 1)) ;;
-            --timeline | --graph | --trace | --folded | --html | --request | --answers | --from | --to | --log) place=$((place + 2)) ;;
+            --why | --json | --all) place=$((place + 1)) ;;
+            --timeline | --graph | --html | --trace | --folded | --requests | --coverage | --by | --expect | --unit | --request | --answers | --from | --to | --log) place=$((place + 2)) ;;
             *) break ;;
         esac
     done
@@ -42,7 +42,7 @@ _capriccio_report() {
         compopt -o filenames 2>/dev/null
         mapfile -t COMPREPLY < <(compgen -f -- "${COMP_WORDS[COMP_CWORD]}")
     elif [ "$place" -eq "$COMP_CWORD" ]; then
-        mapfile -t COMPREPLY < <(compgen -W "--timeline --graph --trace --folded --html --json --request --answers --from --to --log --why serve run graph budget" -- "${COMP_WORDS[COMP_CWORD]}")
+        mapfile -t COMPREPLY < <(compgen -W "--timeline --graph --html --trace --folded --requests --coverage --json --all --by --expect --unit --why --request --answers --from --to --log serve run graph budget" -- "${COMP_WORDS[COMP_CWORD]}")
     else
         # The rest is as behind ./capriccio.
         COMP_WORDS=("${COMP_WORDS[0]}" "${COMP_WORDS[@]:place}")

@@ -1,7 +1,8 @@
 """Folded stacks have the run's whole cost, and its waits as the proved report gives them."""
 import collections, io, pathlib, re, unittest
 
-from runs import folded, places, story
+from reporting import folded, readiness
+from runs import places, story
 
 TOP = pathlib.Path(__file__).resolve().parent.parent.parent
 REPORTS = sorted(it for it in TOP.glob("examples/*/report") if (it.parent / "log").exists())
@@ -10,8 +11,9 @@ LINE = re.compile(r"[^\s;]+(;[^\s;]+)* [1-9][0-9]*\n")  # what flame graph tools
 
 def lines_of(folder, log, by_waits):
     with open(folder / "trace") as trace, open(log) as lines:
-        told, file = story.Story(places.Places((folder / "server.c").read_bytes()), trace), io.StringIO()
-        writer = folded.Folded(file, told, by_waits)
+        source, file = (folder / "server.c").read_bytes(), io.StringIO()
+        told = story.Story(places.Places(source), trace)
+        writer = folded.Folded(file, told, by_waits, readiness.Ready(source, {}) if by_waits else None)
         for it in told.happenings(lines):
             writer.tell(it)
         writer.finish()

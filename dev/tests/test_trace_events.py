@@ -6,7 +6,8 @@ counter, flow and metadata events). The JSON is read by Python's own parser.
 """
 import collections, io, json, pathlib, re, unittest
 
-from runs import places, replay, story, trace_events
+from reporting import readiness, trace_events
+from runs import places, story
 from runs.story import Segment
 
 TOP = pathlib.Path(__file__).resolve().parent.parent.parent
@@ -22,10 +23,10 @@ def happenings_of(source, trace, log):
     return told, list(told.happenings(log))
 
 
-def written(source, trace, log, chunks=1024):
+def written(source, trace, log, chunks=1024, caps=""):
     """The events of a run."""
     told, file = story.Story(places.Places(source), trace), io.StringIO()
-    writer = trace_events.TraceEvents(file, told, "server.c", chunks, replay.Replay(source))
+    writer = trace_events.TraceEvents(file, told, "server.c", chunks, readiness.Ready(source, {"--caps": caps}))
     for it in told.happenings(log):
         writer.tell(it)
     writer.finish()

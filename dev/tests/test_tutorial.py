@@ -91,6 +91,21 @@ class Steps(unittest.TestCase):
         status, log, _ = self.serve(server, trace)
         self.assertEqual((status, log.splitlines()[-1].split()[:4]), (11, ["stop", "trap", "0", "resource"]))
 
+    def test_locks_and_queues_and_the_gate(self):
+        (server,) = blocks("Threads that send to one another")
+        doubled = re.sub(r"(take|give)\((\d), 1\)", r"\1(\2, 2)", server)
+        self.assertEqual(doubled.count(", 2)"), 5)
+        trace, _ = blocks("3. A trace")
+        status, log, _ = self.serve(doubled, trace, ["--caps", "1=3,2=3"])
+        self.assertEqual((status, re.findall(r"^out \d+ (.*)", log, re.M)), (10, ["1", "2", "3"]))
+        busy = "void busy(int n) { while (1) yield(); }\n\nint main() {"
+        six = "".join(f"arrive {300 * it} {it}\n" for it in range(1, 7))
+        for source, caps, words, count in ((server, "1=1,2=1", (), 0), (server, "1=1,2=1", ("--high", "1000"), 0),
+                                           (doubled, "1=3,2=3", (), 6)):
+            source = source.replace("int main() {", busy).replace("  return 0;", "  spawn(busy, 0);\n  return 0;")
+            status, log, _ = self.serve(source, six, ["--caps", caps, "--fuel", "20000", *words])
+            self.assertEqual((status, len(re.findall(r"^out ", log, re.M))), (13, count))
+
     def test_many_runs(self):
         commands, table = blocks("Traces at a rate, and many runs")[-2:]
         with tempfile.TemporaryDirectory() as room:

@@ -3,7 +3,6 @@ it; dev/check_tools names it, and nothing is built here."""
 import csv, io, json, os, pathlib, re, shutil, stat, subprocess, sys, tempfile, unittest
 
 from random_programs import compared, printers
-from runs import report_json
 
 TOP = pathlib.Path(__file__).resolve().parent.parent.parent
 TOOLS = TOP / "tools"
@@ -31,6 +30,17 @@ class WithTheProgram(unittest.TestCase):
     def test_a_sweep_pairs_outputs_as_the_kept_report_does(self):
         self.swept(TOP / "examples/relay", "report_first", "--answers", "first")
 
+    def test_a_sweep_says_what_came_of_each_run(self):
+        bank, store = TOP / "examples/bank", TOP / "examples/store"
+        told = run("sweep", bank / "server.c", bank / "trace", "--vary", "caps", "1=1,2=1", "1=9,2=9", "--csv", "--expect",
+                   "answered,no-deadlock")
+        rows = list(csv.DictReader(io.StringIO(told.stdout)))
+        self.assertEqual([it["verdict"] for it in rows], ["deadlock", "answered"])
+        self.assertEqual(told.returncode, 20)
+        self.assertEqual(told.stderr.splitlines()[-1], "sweep: trace: not as expected: answered, no-deadlock")
+        good = run("sweep", store / "server.c", store / "trace", "--expect", "answered,no-drops,no-deadlock")
+        self.assertEqual((good.returncode, good.stderr), (0, ""))
+
     def swept(self, folder, report, *words):
         """The rows of a sweep on an example, of which the first has the latencies of its report."""
         options = folder / "options"
@@ -38,10 +48,10 @@ class WithTheProgram(unittest.TestCase):
         varied = [it for name, value in pairs for it in ("--vary", name[2:], value)]
         told = run("sweep", folder / "server.c", folder / "trace", "--csv", *varied, *words)
         rows = list(csv.DictReader(io.StringIO(told.stdout)))
-        whole = re.search(r"first answer: least (\d+), median (\d+), 90th (\d+), 99th (\d+), greatest (\d+)",
+        whole = re.search(r"first (?:and last )?answer +([\d,]+) +([\d,]+) +([\d,]+) +([\d,]+) +([\d,]+) ",
                           (folder / report).read_text())
         ranks = [rows[0][f"first {rank}"] for rank in ("least", "median", "90th", "99th", "greatest")]
-        self.assertEqual(ranks, list(whole.groups()))
+        self.assertEqual(ranks, [it.replace(",", "") for it in whole.groups()])
         return rows
 
     @unittest.skipUnless(shutil.which("gcc"), "there is no gcc")
@@ -74,23 +84,32 @@ class WithTheReport(unittest.TestCase):
     def test_the_reports_own_options_reach_it(self):
         folder = TOP / "examples/pool"
         words = ["--request", "2", "--answers", "first", "--why", "serve", str(folder / "server.c")]
-        with open(folder / "trace") as trace:
-            alone = subprocess.run([os.path.join(os.environ["CAPRICCIO_PROGRAMS"], "report"), *words], stdin=trace,
-                                   capture_output=True, text=True)
+        alone = run("export", *words, given=folder / "trace")
         with tempfile.TemporaryDirectory() as to:
             told = run("export", "--folded", os.path.join(to, "run.folded"), *words, given=folder / "trace")
-        self.assertIn("request 2: arrived ", told.stdout)
+        self.assertIn("\nrequest 2: arrived at ", told.stdout)
+        self.assertIn(" by turn\n", told.stdout)
         self.assertEqual((told.stdout, told.returncode), (alone.stdout, alone.returncode))
 
-    def test_json_has_the_numbers_of_the_stored_report(self):
+    def test_json_has_the_numbers_of_the_run(self):
         folder = TOP / "examples/limiter"
         told = run("export", "--json", "--why", "serve", *(folder / "options").read_text().split(), folder / "server.c",
                    given=folder / "trace")
         value = json.loads(told.stdout)
-        wanted = report_json.value_of((folder / "report_why").read_text())
-        shown = lambda it: json.dumps(it).replace(f"{TOP}/", "")  # the stored report was made at the top
-        self.assertEqual(json.loads(shown({name: value[name] for name in wanted})), wanted)
+        wanted = {"least": 34, "median": 67, "90th": 1109, "99th": 1109, "greatest": 1109, "arrived": 130, "thread": 1}
+        self.assertEqual(value["latency"]["last"], wanted)
+        self.assertEqual(value["choices"], {"count": 22, "by_score": 0, "by_gate": 0, "by_turn": 22})
         self.assertEqual((value["status"], told.returncode, value["words"][:3]), (10, 10, ["serve", "--caps", "1=2"]))
+
+    def test_an_expectation_has_its_status(self):
+        bank, store = TOP / "examples/bank", TOP / "examples/store"
+        good = run("export", "--expect", "answered,no-drops,no-deadlock", "serve", store / "server.c",
+                   given=store / "trace")
+        self.assertEqual((good.returncode, good.stderr), (0, ""))
+        words = ["serve", "--caps", "1=1,2=1", bank / "server.c"]
+        for expected, status in (("answered", 20), ("no-deadlock", 20), ("no-drops", 0), ("answered,no-drops", 20)):
+            told = run("export", "--expect", expected, *words, given=bank / "trace")
+            self.assertEqual((told.returncode, bool(told.stderr)), (status, status == 20), expected)
 
     def test_where_there_is_no_report_nothing_is_json(self):
         with tempfile.TemporaryDirectory() as to:

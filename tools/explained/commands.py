@@ -84,16 +84,24 @@ OPTIONS = {
     "--steps": Option("maximum steps of the source that an audit takes", ("audit",), 1_000_000_000, 0, 1_000_000_000),
 }
 
+USAGE_OF_REPORT = "usage: report [OPTION ..] serve SRC .. | run SRC IMG CRT ..    the trace on standard input, the report on standard output"
+
 # The options of the report, which go before the command: the value that follows, if there is one,
 # and what they do.
 REPORT_OPTIONS = {
     "--timeline": ("FILE", "stores a timeline as SVG"),
     "--graph": ("FILE", "stores the blocking graph as SVG, or as DOT if FILE ends in .dot"),
-    "--why": (None, "repeats the run: what decided the choices, who holds what, answers of started threads"),
+    "--html": ("FILE", "stores a page: verdict, plots, tables, a timeline that zooms, requests, graph, log, source"),
     "--trace": ("FILE", "stores the run in the Trace Event format, for Perfetto"),
     "--folded": ("FILE", "stores folded stacks by instructions, with --why by waits, for flame graphs"),
-    "--html": ("FILE", "stores a page with the report, a timeline that zooms, requests, graph and log"),
-    "--json": (None, "prints the report as JSON, by docs/report.schema.json"),
+    "--requests": ("FILE", "stores a row for each request as CSV: value, clocks, thread, outputs"),
+    "--coverage": ("FILE", "stores the lines, branches and functions that ran, for lcov"),
+    "--json": (None, "prints the document behind the report, by docs/report.schema.json"),
+    "--all": (None, "prints all rows of each table"),
+    "--by": ("WAY", "adds the latencies by the requests' first output, by their input, or by function"),
+    "--expect": ("WHAT", "status 20 unless answered, no-drops, no-deadlock; several joined by commas"),
+    "--unit": ("UNIT", "shows times in a unit with its number of ticks, as in us=10"),
+    "--why": (None, "repeats the run: what decided the choices, who holds what, answers of started threads"),
     "--request": ("N", "shows the parts of the latency of the N-th request that came"),
     "--answers": ("HOW", "pairs outputs with requests: first, by their order, or value, by their values"),
     "--from": ("CLOCK", "start of the window for requests, waits, choices and the timeline"),

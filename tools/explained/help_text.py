@@ -1,10 +1,9 @@
 """The help of the scripts, and their version."""
 import json, os, subprocess
 
-from .commands import COMMANDS, OPTIONS, REPORT_OPTIONS, USES_TRACE, options_of
+from .commands import COMMANDS, OPTIONS, REPORT_OPTIONS, USAGE_OF_REPORT, USES_TRACE, options_of
 
 WIDTH = 20  # of the first column
-USAGE_OF_REPORT = "usage: report [OPTION ..] serve SRC .. | run SRC IMG CRT ..    the trace on standard input, the report on standard output"
 MORE = "docs/WRITING.md leads from an empty file to a server, docs/FORMATS.md has formats and statuses."
 STATUSES = {  # docs/FORMATS.md has them with their lines
     "0": "success",
@@ -23,12 +22,14 @@ STATUSES = {  # docs/FORMATS.md has them with their lines
 }
 STATUSES_OF_REPORT = {
     "as of the run": "with --log 0",
+    "0, 20": "with --expect: the run is as expected, or isn't",
     "2": "wrong arguments, or a run whose source is refused",
     "3, 4": "with --log: the source is refused, the log is refused",
     "6, 7, 8": "a read failed, a write failed, out of memory",
     "9": "a file doesn't exist",
 }
-EXAMPLES_OF_REPORT = ("report serve server.c < trace", "report --why --timeline timeline.svg serve server.c < trace",
+EXAMPLES_OF_REPORT = ("report serve server.c < trace", "report --html run.html serve server.c < trace",
+                      "report --expect answered,no-deadlock serve server.c < trace",
                       "report --log log serve server.c < trace")
 
 

@@ -1,5 +1,5 @@
 """What is added to what a program said: the notes, a line each, on its refusal or its stop."""
-import os
+import os, stat
 
 from . import audits, files, numbers, pairs, source, stops, words
 from .given import Given
@@ -55,6 +55,32 @@ def of_output(given):
     return stops.why(given, line) if is_watched() else []
 
 
+class Ended:
+    """A run that has ended, of which somebody else has read the output: what Given asks of one."""
+
+    def __init__(self, words, status, called):
+        self.called, self.name, self.words, self.status = called, "report", words, status
+        self.output = self.error = self.trace = None
+        self.trace_start = start_of_trace()
+
+
+def start_of_trace():
+    """Where the trace on standard input stands if it is a regular file, which was read from its start."""
+    try:
+        return 0 if stat.S_ISREG(os.fstat(0).st_mode) else None
+    except OSError:
+        return None
+
+
+def of_stop(line, words, status, called):
+    """The notes on the stop of a run whose report is laid out, if somebody looks on: its last line, its words behind
+    those of the report, its status, and the script that was called."""
+    return stops.why(Given(Ended(words, status, called)), line) if is_watched() else []
+
+
 def is_watched():
-    """Whether somebody looks on; the report explains refusals also where nobody does."""
+    """Whether somebody looks on; the report explains refusals also where nobody does. The stop of a report is
+    explained by whoever lays it out."""
+    if os.environ.get("CAPRICCIO_DOCUMENT"):
+        return False
     return os.isatty(2) or bool(os.environ.get("CAPRICCIO_EXPLAIN"))

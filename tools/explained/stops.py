@@ -53,7 +53,29 @@ def more_by_why(given):
 
 
 def idle(stop):
-    return ["the trace has ended and every remaining thread is waiting; a server normally ends like this (status 10)"]
+    return ["the trace has ended and every remaining thread is waiting" + how_idle(stop.given)]
+
+
+def how_idle(given):
+    """What tells a good end from a bad one, from the whole log, if it was seen."""
+    usual = "; a server normally ends like this (status 10)"
+    tail = given.run.output.tail if given.run.output else None
+    source = given.source()
+    if given.is_report or not tail or tail.lines_before or source is None:
+        return usual
+    from runs import outcome, places, story
+    try:
+        told = outcome.Outcome(tail.text.decode(errors="replace"), places.Places(source))
+    except story.Unfit:
+        return usual
+    missing, untaken = sum(not it for it in told.answers), len(told.delivered) - len(told.takers)
+    if not told.delivered:
+        return usual
+    if untaken:
+        return f", but {some(untaken, 'request')} of {len(told.delivered):,} came and {'was' if untaken == 1 else 'were'} never taken"
+    if missing and len(told.outputs) < len(told.takers):
+        return f", but {some(missing, 'request')} of {len(told.takers):,} {'has' if missing == 1 else 'have'} no answer of the thread that took {'it' if missing == 1 else 'them'}"
+    return f"{usual[:-12]}, and here each request is answered (status 10)" if not missing else usual
 
 
 def trap(stop):

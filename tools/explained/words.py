@@ -3,10 +3,12 @@ import re
 
 from .commands import COMMANDS, MOST_POOL, OPTIONS, READING, REPORT_OPTIONS, form_of
 from .text import listed, nearest, quoted, some
+from reporting.asked import wrong_value as wrong_layout
 
 TICKETS_FORM = "expected T=N,.. as in 1=3,2=1: at most 64 threads from 0 to 1,000,000 in increasing order, each with 1 to 1,024 tickets"
 RUNS = ("serve", "run")  # the commands that are runs
-OF_RUNS = ("--trace", "--folded", "--html", "--json")  # the options of the report that need one
+OF_RUNS = ("--timeline", "--graph", "--html", "--trace", "--folded", "--requests", "--coverage", "--json", "--all", "--by",
+           "--expect", "--unit")  # the options of the report that need one
 CAPS_FORM = "expected R=N,.. as in 1=4,3=10: resources from 1 to 7 in increasing order, each with 1 to 1,000,000 units"
 
 
@@ -45,6 +47,9 @@ BEHIND = {  # what stands behind an option of the report
     "N": "the number of a request, from 1",
     "CLOCK": "a clock",
     "HOW": "first or value",
+    "WAY": "output, input or function",
+    "WHAT": "answered, no-drops or no-deadlock",
+    "UNIT": "a unit and its ticks, as in us=10",
 }
 
 
@@ -53,6 +58,8 @@ def wrong_report_value(name, text):
     kind = REPORT_OPTIONS[name][0]
     if kind == "HOW" and text not in ("first", "value"):
         return f"{quoted(f'{name} {text}')}: expected first, for outputs in the order of the requests, or value, for outputs with their values"
+    if fault := wrong_layout(name[2:], text):
+        return f"{quoted(f'{name} {text}')}: {fault}"
     if kind in ("N", "CLOCK"):
         least = 0 if name == "--from" else 1
         if number_of(text) is None:

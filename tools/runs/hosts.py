@@ -8,7 +8,7 @@ from explained import tokens
 from . import program
 
 TOOLS = pathlib.Path(__file__).resolve().parent.parent
-PACKAGES = ("explained", "runs", "traces")
+PACKAGES = ("explained", "reporting", "runs", "traces")
 MAIN = '''import os, sys, tempfile, zipfile
 with tempfile.TemporaryDirectory() as folder:
     with zipfile.ZipFile(sys.argv[0]) as file:

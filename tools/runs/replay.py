@@ -16,14 +16,14 @@ MOST_DEPTH = 5_000  # frames of Python, of calls inside one another: more may be
 class Replay:
     """The threads of a source. `tell` takes each happening of its log; from then on `uses` has the units in use
     of each resource, `live` the number of threads, and `blocked` the call at which each thread waits. Once
-    something differs `is_lost` holds, and nothing is told any more."""
+    something differs `is_lost` holds, and nothing is told any more. `more` are names that the translated source uses."""
 
-    def __init__(self, source, translate=translated):
+    def __init__(self, source, translate=translated, more={}):
         self.uses, self.live, self.blocked = collections.Counter(), 1, {}
         self.arrivals, self.channels = collections.deque(), collections.defaultdict(collections.deque)
         self.threads, self.started, self.running, self.outputs = {}, 1, 0, []
         self.is_lost = False
-        names = {"put": self.put, "give": self.give, "spawn": self.spawn, "self_": lambda: self.running}
+        names = {"put": self.put, "give": self.give, "spawn": self.spawn, "self_": lambda: self.running} | more
         try:
             exec(code_of(source, translate), names)
             self.threads[0], self.trap = begun(names["f_main"]), names["Trap"]

@@ -1,7 +1,8 @@
 """One of two versions of a run: its source, its log, and what they tell about each request."""
 import collections, pathlib, re
 
-from runs import figures, folded, many, outcome, places, program, story
+from reporting import folded
+from runs import figures, many, outcome, places, program, story
 
 from .puts import place_of_output
 

@@ -6,13 +6,13 @@ const shown = (number) => (number === null ? "" : number.toLocaleString("en"));
 
 // Tabs: a click, the arrows on a tab, or a number chooses one.
 const tabs = [...document.querySelectorAll("[role=tab]")];
-function choose(tab) {
+function choose(tab, isFirst = false) {
   for (const it of tabs) {
     it.setAttribute("aria-selected", it === tab);
     it.tabIndex = it === tab ? 0 : -1;
     $(it.getAttribute("aria-controls")).hidden = it !== tab;
   }
-  history.replaceState(null, "", "#view=" + tab.getAttribute("aria-controls"));
+  if (!isFirst && !location.hash.includes("=")) history.replaceState(null, "", "#view=" + tab.getAttribute("aria-controls"));
   redraw();
 }
 tabs.forEach((tab, index) => {
@@ -37,13 +37,15 @@ document.addEventListener("keydown", (event) => {
 // The segments of each thread, in order of time.
 const threads = Object.keys(run.threads).map(Number).sort((a, b) => a - b);
 const rowOf = new Map(threads.map((thread, row) => [thread, row]));
-const rows = threads.map(() => ({ start: [], end: [], node: [] }));
-const { thread: threadOf, start: starts, cost: costs, end: ends } = run.segments;
+const rows = threads.map(() => ({ start: [], end: [], node: [], ready: [] }));
+const { thread: threadOf, start: starts, cost: costs, end: ends, ready: readies } = run.segments;
+const READY = "#a0651fcc";
 for (let index = 0; index < starts.length; index++) {
   const row = rows[rowOf.get(threadOf[index])];
   row.start.push(starts[index]);
   row.end.push(starts[index] + costs[index]);
   row.node.push(ends[index]);
+  row.ready.push(readies[index]);
 }
 for (const row of rows) {
   row.busy = new Float64Array(row.start.length + 1);
@@ -61,8 +63,26 @@ function above(numbers, limit) {
 }
 const nodes = Object.keys(run.nodes).map(Number).filter((node) => node > 1);
 const isDark = matchMedia("(prefers-color-scheme: dark)");
-const colour = (node) => (node > 1 ? `hsl(${(nodes.indexOf(node) * 137.5) % 360} 55% ${isDark.matches ? 38 : 72}%)` : "transparent");
+// The colour of a node's place, with its pattern, as in the other views.
+const fills = new Map();
+function colour(node, context) {
+  if (node <= 1) return "transparent";
+  const [hue, pattern] = run.styles[node], key = hue + pattern;
+  if (!pattern || !context) return hue;
+  if (!fills.has(key)) {
+    const tile = document.createElement("canvas"), marks = tile.getContext("2d");
+    tile.width = tile.height = 8;
+    marks.fillStyle = hue;
+    marks.fillRect(0, 0, 8, 8);
+    marks.fillStyle = "#0006";
+    for (let at = 0; at < 8; at++) marks.fillRect(pattern === 1 ? at : (at & 4) + 1, pattern === 1 ? 7 - at : (at & 4) + 1, 2, 2);
+    fills.set(key, tile);
+  }
+  return context.createPattern(fills.get(key), "repeat");
+}
 const fromStyle = (name) => getComputedStyle(document.documentElement).getPropertyValue(name);
+
+const arrivals = run.requests.map((it) => it[1]);
 
 // The window of the timeline, in ticks.
 const whole = Math.max(run.clock, 1);
@@ -102,15 +122,22 @@ function drawRow(context, row, y, width, ink) {
     const last = next - 1;
     const waitEnd = next < row.start.length ? row.start[next] : row.node[last] > 1 ? whole : row.end[last];
     if (row.end[last] < waitEnd && waitEnd > from) {
-      context.fillStyle = colour(row.node[last]);
+      context.globalAlpha = isDark.matches ? 0.5 : 1;
+      context.fillStyle = colour(row.node[last], context);
       const begin = Math.max(x(row.end[last]), LABEL);
       context.fillRect(begin, y + 4, Math.max(Math.min(x(waitEnd), LABEL + width) - begin, 0), ROW - 8);
+      context.globalAlpha = 1;
+      if (next < row.start.length && row.ready[next] < row.start[next]) {
+        const since = Math.max(x(row.ready[next]), LABEL);
+        context.fillStyle = READY;
+        context.fillRect(since, y + 4, Math.max(Math.min(x(waitEnd), LABEL + width) - since, 0), ROW - 8);
+      }
     }
     const right = Math.min(x(row.end[last]), LABEL + width);
     if (right > LABEL) {
       const isMany = next - index > 1, begin = isMany ? Math.floor(left) : left, wide = isMany ? Math.floor(right) - begin : right - begin;
       if (isMany && row.node[index] > 1) {
-        context.fillStyle = colour(row.node[index]);
+        context.fillStyle = colour(row.node[index], context);
         context.fillRect(begin, y + 4, Math.max(wide, 1), ROW - 8);
       }
       const share = isMany ? (row.busy[next] - row.busy[index]) / Math.max(row.end[last] - row.start[index], tick) : 1;
@@ -143,6 +170,15 @@ function drawTimeline() {
     context.fillStyle = soft;
     if (x + 80 < wide) context.fillText(shown(mark), x + 3, 14);
   }
+  // Arrivals above the rows, and drops in red.
+  for (const [clocks, ink] of [[arrivals, fromStyle("--accent")], [run.drops, "#cc3311"]]) {
+    context.fillStyle = ink;
+    for (let index = above(clocks, from - 1), before = -1; index < clocks.length && clocks[index] <= to; index++) {
+      const x = Math.floor(LABEL + ((clocks[index] - from) * width) / (to - from));
+      if (x !== before) context.fillRect(x, AXIS - 6, 1.5, 6);
+      before = x;
+    }
+  }
   const first = Math.floor(box.scrollTop / ROW);
   for (let row = first; row < rows.length; row++) {
     const y = AXIS + row * ROW - box.scrollTop;
@@ -162,7 +198,7 @@ for (let index = 0; index < starts.length; index++) {
   }
 }
 function drawOverview() {
-  const canvas = $("overview"), wide = canvas.parentElement.clientWidth - 32, context = sized(canvas, wide, 40), width = wide - LABEL - 8;
+  const canvas = $("strip"), wide = canvas.parentElement.clientWidth - 32, context = sized(canvas, wide, 40), width = wide - LABEL - 8;
   context.fillStyle = fromStyle("--mark");
   context.fillRect(LABEL + (from / whole) * width, 0, Math.max(((to - from) / whole) * width, 2), 40);
   context.fillStyle = fromStyle("--accent");
@@ -228,20 +264,28 @@ function tellAt(row, thread, time) {
   return node > 1 ? `${name}: waits at ${at} from ${shown(end)} ${rest}` : "";
 }
 $("canvas").onpointermove = point;
-const overviewTime = (event) => ((event.clientX - $("overview").getBoundingClientRect().left - LABEL) / ($("overview").clientWidth - LABEL - 8)) * whole;
-$("overview").onpointerdown = (event) => {
+const overviewTime = (event) => ((event.clientX - $("strip").getBoundingClientRect().left - LABEL) / ($("strip").clientWidth - LABEL - 8)) * whole;
+$("strip").onpointerdown = (event) => {
   const first = overviewTime(event);
-  $("overview").setPointerCapture(event.pointerId);
-  $("overview").onpointermove = (it) => show(Math.min(first, overviewTime(it)), Math.max(first, overviewTime(it)));
-  $("overview").onpointerup = () => { $("overview").onpointermove = null; };
+  $("strip").setPointerCapture(event.pointerId);
+  $("strip").onpointermove = (it) => show(Math.min(first, overviewTime(it)), Math.max(first, overviewTime(it)));
+  $("strip").onpointerup = () => { $("strip").onpointermove = null; };
 };
 function drawLegend() {
   $("legend").replaceChildren(...nodes.map((node) => {
     const entry = document.createElement("span"), box = document.createElement("i");
     box.style.background = colour(node);
-    entry.append(box, run.nodes[node]);
+    if (run.styles[node][1]) box.style.backgroundImage = run.styles[node][1] === 1 ? "repeating-linear-gradient(45deg, #0006 0 1px, transparent 1px 4px)" : "radial-gradient(#0008 1px, transparent 1.5px)", box.style.backgroundSize = run.styles[node][1] === 1 ? "" : "4px 4px";
+    entry.append(box, link(`#line=${run.styles[node][2]}`, run.nodes[node]));
     return entry;
   }));
+  const [running, ready] = [["runs", fromStyle("--run")], ["ready, not chosen", READY]].map(([name, ink]) => {
+    const entry = document.createElement("span"), box = document.createElement("i");
+    box.style.background = ink;
+    entry.append(box, name);
+    return entry;
+  });
+  $("legend").prepend(running, ready);
 }
 
 // A list of which only the lines in view are elements.
@@ -295,20 +339,34 @@ function cell(text, name = "cell") {
   return it;
 }
 
-// Requests: number, arrived, taken, thread, first, last, answers.
+function link(target, text) {
+  const it = document.createElement("a");
+  it.href = target;
+  it.textContent = text;
+  it.onclick = (event) => event.stopPropagation();
+  return it;
+}
+
+// Requests: value, arrived, taken, thread, first, last, the number of outputs, the first outputs. A request that was never
+// taken has neither a thread nor later clocks.
 const minus = (a, b) => (a === null ? null : a - b);
 const COLUMNS = [
-  ["request", (it) => it[0]], ["thread", (it) => it[3]], ["arrived", (it) => it[1]], ["taken", (it) => it[2]], ["queued", (it) => it[2] - it[1]],
-  ["first answer", (it) => minus(it[4], it[1])], ["last answer", (it) => minus(it[5], it[1])], ["answers", (it) => it[6]],
+  ["request", (it, index) => index + 1], ["value", (it) => it[0]], ["thread", (it) => it[3]], ["arrived", (it) => it[1]], ["taken", (it) => it[2]],
+  ["queued", (it) => minus(it[2], it[1])], ["first answer", (it) => minus(it[4], it[1])], ["last answer", (it) => minus(it[5], it[1])],
+  ["outputs", (it) => it[6]],
 ];
 const requestList = new List(
   $("requestList"),
-  (row, index) => row.append(...COLUMNS.map(([, value]) => cell(shown(value(run.requests[index]))))),
+  (row, index) => {
+    const it = run.requests[index];
+    row.append(...COLUMNS.map(([, value]) => cell(shown(value(it, index)))));
+    row.append(cell(it[2] === null ? "never taken" : it[7].map(shown).join(" ") + (it[6] > it[7].length ? " .." : ""), "told"));
+  },
   (index) => {
-    const it = run.requests[index], last = it[5] ?? it[2], room = Math.max((last - it[1]) * 0.2, 20);
+    const it = run.requests[index], last = it[5] ?? it[2] ?? it[1], room = Math.max((last - it[1]) * 0.2, 20);
     show(it[1] - room, last + room);
     choose($("tab-timeline"));
-    $("rows").scrollTop = Math.max(rowOf.get(it[3]) * ROW - 100, 0);
+    toThread(it[3]);
   },
 );
 let sortedBy = -1, isFalling = false;
@@ -316,7 +374,7 @@ function sortBy(column) {
   isFalling = column === sortedBy ? !isFalling : false;
   sortedBy = column;
   const value = COLUMNS[column][1], sign = isFalling ? -1 : 1;
-  const keys = run.requests.map((it) => value(it) ?? Infinity);
+  const keys = run.requests.map((it, index) => value(it, index) ?? Infinity);
   requestList.set(keys.map((_, index) => index).sort((a, b) => (keys[a] === keys[b] ? a - b : sign * (keys[a] < keys[b] ? -1 : 1))));
   [...$("columns").children].forEach((it, index) => {
     it.setAttribute("aria-sort", index !== column ? "none" : isFalling ? "descending" : "ascending");
@@ -335,7 +393,7 @@ $("columns").append(...COLUMNS.map(([name], column) => {
 const lines = run.log.split("\n");
 const logList = new List(
   $("logList"),
-  (row, index) => row.append(cell(shown(index + 1), "number"), cell(lines[index], "")),
+  (row, index) => row.append(cell(shown(index + 1), "number"), cell(lines[index], ""), told(lines[index])),
   (index) => {
     while (index >= 0 && !/^(run|event|drop) /.test(lines[index])) index--;
     if (index < 0) return;
@@ -344,6 +402,21 @@ const logList = new List(
     choose($("tab-timeline"));
   },
 );
+// A line of the log in words, with a link to the line of the source.
+function told(line) {
+  const [kind, ...it] = line.split(" "), box = cell("", "told"), name = (thread) => `thread ${run.threads[thread] ?? thread}`;
+  const at = (node) => (node > 1 && run.styles[node] ? link(`#line=${run.styles[node][2]}`, run.nodes[node]) : (run.nodes[node] ?? ""));
+  const says = {
+    run: () => [`${name(it[1])} goes on from `, at(it[2])], out: () => [`${name(it[0])} puts ${shown(Number(it[1]))}`],
+    block: () => [`${name(it[0])} waits at `, at(it[1]), `; ${shown(Number(it[3]))} instructions, ${shown(Number(it[4]))} chunks free`],
+    end: () => [`${name(it[0])} ends; ${shown(Number(it[1]))} instructions, ${shown(Number(it[2]))} chunks free`],
+    event: () => [it[1] === "data" ? `message ${it[3]} on channel ${it[2]}` : `request ${it[2]} comes`],
+    drop: () => [it[1] === "data" ? `message ${it[3]} on channel ${it[2]} is dropped` : `request ${it[2]} is dropped`],
+    edge: () => [`${shown(Number(it[2]))} segments from `, at(it[0]), " to ", at(it[1])],
+  }[kind];
+  if (says) box.append(...says());
+  return box;
+}
 function matcher(text) {
   const pattern = text.match(/^\/(.+)\/$/);
   if (!pattern) return (line) => line.includes(text);
@@ -373,6 +446,49 @@ $("find").onsubmit = (event) => {
 
 if (run.leftOut) document.querySelector("h1 small").append(`; this page has the first ${shown(lines.length)} lines of the log, and ${shown(run.leftOut)} more are left out`);
 
+// Links: to a line of the source, the log's lines at a line, a thread, a request, a clock.
+function toThread(thread) {
+  choose($("tab-timeline"));
+  if (rowOf.has(thread)) $("rows").scrollTop = Math.max(rowOf.get(thread) * ROW - 100, 0);
+}
+const routes = {
+  view: (name) => choose($("tab-" + name) ?? tabs[0]),
+  line: (line) => {
+    choose($("tab-source"));
+    for (const it of document.querySelectorAll(".code.current")) it.classList.remove("current");
+    $("L" + line)?.classList.add("current");
+    $("L" + line)?.scrollIntoView({ block: "center" });
+  },
+  at: (line) => {
+    const here = nodes.filter((node) => run.styles[node][2] === Number(line));
+    choose($("tab-log"));
+    $("search").value = here.length ? `/^(run \\d+ \\d+|block \\d+) (${here.join("|")})( |$)/` : `no thread blocks at line ${line}`;
+    find();
+  },
+  thread: (thread) => toThread(Number(thread)),
+  request: (number) => { choose($("tab-requests")); requestList.go(requestList.order.indexOf(number - 1), false); },
+  clock: (clock) => { show(Number(clock) - 500, Number(clock) + 500); choose($("tab-timeline")); },
+};
+function follow() {
+  const [kind, value] = location.hash.slice(1).split("=");
+  if (routes[kind]) routes[kind](value);
+}
+addEventListener("hashchange", follow);
+
+// Tables that sort by the column whose head is clicked.
+for (const table of document.querySelectorAll("table.sorts")) {
+  [...table.tHead.rows[0].cells].forEach((head, column) => {
+    head.firstChild.onclick = () => {
+      const isUp = head.getAttribute("aria-sort") === "descending";
+      for (const it of table.tHead.rows[0].cells) it.removeAttribute("aria-sort");
+      head.setAttribute("aria-sort", isUp ? "ascending" : "descending");
+      const value = (row) => { const text = row.cells[column].dataset.value; return text !== "" && !isNaN(text) ? Number(text) : text; };
+      const rows = [...table.tBodies[0].rows].sort((a, b) => (value(a) < value(b) ? -1 : value(a) > value(b) ? 1 : 0));
+      table.tBodies[0].append(...(isUp ? rows : rows.reverse()));
+    };
+  });
+}
+
 isDark.addEventListener("change", () => {
   drawLegend();
   redraw();
@@ -382,4 +498,5 @@ addEventListener("resize", redraw);
 sortBy(0);
 find();
 show(0, whole);
-choose($(location.hash.replace("#view=", "tab-")) ?? tabs[0]);
+choose(tabs[0], true);
+follow();

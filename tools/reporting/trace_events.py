@@ -8,8 +8,8 @@ resources, the number of threads that live and the values of calls, comes from a
 """
 import json
 
-from .names import Names
-from .story import END, Edge, Item, Request, Segment, Stop
+from runs.names import Names
+from runs.story import END, Edge, Item, Request, Segment, Stop
 
 SERVER, OUTSIDE = 1, 2  # processes
 ARRIVALS = 0  # the row of arrivals; channel c has row c + 1
@@ -22,8 +22,8 @@ quoted = json.dumps  # a text as JSON
 class TraceEvents:
     """Writes the events of a story to a text file."""
 
-    def __init__(self, file, story, title, chunks, replay):
-        self.file, self.story, self.chunks, self.replay = file, story, chunks, replay
+    def __init__(self, file, story, title, chunks, ready):
+        self.file, self.story, self.chunks, self.ready, self.replay = file, story, chunks, ready, ready.replay
         self.names = Names(story.places, story.keys)
         self.rows, self.counts = set(), {}  # `counts` has the last number of each counter
         self.called = None  # the call from which the thread of a segment went on
@@ -36,13 +36,13 @@ class TraceEvents:
         self.name_process(OUTSIDE, "from outside")
         self.tellers = {Segment: self.segment, Item: self.item, Request: self.request, Stop: self.stop,
                         Edge: lambda it: None}
-        if not replay.is_lost:
-            self.count("live threads", "threads", 0, replay.live)
+        if not self.replay.is_lost:
+            self.count("live threads", "threads", 0, self.replay.live)
 
     def tell(self, happening):
         if isinstance(happening, Segment):
             self.called = self.replay.blocked.get(happening.thread)
-        self.replay.tell(happening)
+        self.ready.tell(happening)
         self.tellers[type(happening)](happening)
 
     def finish(self):
@@ -79,7 +79,10 @@ class TraceEvents:
         if self.names.learn(it) or it.waited_since is None:
             self.name_row(SERVER, it.thread, self.names.thread(it.thread))
         if it.waited_since is not None:
-            self.wait(it.thread, it.node, it.waited_since, it.start, self.called)
+            since = it.start if self.ready.since is None else max(self.ready.since, it.waited_since)
+            self.wait(it.thread, it.node, it.waited_since, since, self.called)
+            if since < it.start:
+                self.put("X", SERVER, it.thread, since, f'"dur":{it.start - since},"name":"ready","cat":"ready","args":{{"from":{self.node(it.node)[0]}}}')
         to = '"cut"' if it.cut else self.node(it.end_node)[0]
         told = f'"from":{self.node(it.node)[0]},"to":{to},"instructions":{it.cost},"free chunks":{it.free}'
         if it.request is not None:

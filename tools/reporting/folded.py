@@ -4,31 +4,34 @@ space, and a number. Flame graph tools read them.
 By instructions, a segment's cost stands under the stack at which the segment ended: its call path,
 and last the blocking call. So the costs are exact and their sum is the run's, but within a segment
 a function is not told from those that it called or that called it. By waits, the ticks from the end
-of a segment to the next one of its thread stand under the stack of the blocking call; a wait that
-is under way at the stop ends there.
+of a segment to the next one of its thread stand under the stack of the blocking call, and the part of them in which
+the thread was ready below that; a wait that is under way at the stop ends there.
 """
 import collections
 
-from .names import Names
-from .places import MOST_SITES_IN_A_KEY
-from .story import END, Segment, Stop
+from runs.names import Names
+from runs.places import MOST_SITES_IN_A_KEY
+from runs.story import END, Segment, Stop
 
 UNKNOWN = "[thread]"  # the function that a thread started in, where the log and the source don't tell it
 CUT_ABOVE = "[..]"  # calls above the eight that a key has
 CUT, ENDED = "[cut]", "[end]"
+READY = "[ready]"  # below a wait: the part of it in which the thread was ready and not chosen
 
 
 class Folded:
     """Sums the segments or waits of a story by their stacks."""
 
-    def __init__(self, file, story, by_waits):
-        self.file, self.by_waits = file, by_waits
+    def __init__(self, file, story, by_waits, ready=None):
+        self.file, self.by_waits, self.ready = file, by_waits, ready
         self.places, self.keys = story.places, story.keys
         self.names = Names(story.places, story.keys)
         self.sums = collections.Counter()
         self.waiting = {}  # thread: node, since
 
     def tell(self, it):
+        if self.ready and self.by_waits:
+            self.ready.tell(it)
         if isinstance(it, Segment):
             (self.wait if self.by_waits else self.spend)(it)
         elif isinstance(it, Stop) and self.by_waits:
@@ -47,7 +50,9 @@ class Folded:
     def wait(self, it):
         if it.waited_since is not None:
             node, since = self.waiting.pop(it.thread)
-            self.sums[self.stack(node)] += it.start - since
+            ready = it.start if not self.ready or self.ready.since is None else max(self.ready.since, since)
+            self.sums[self.stack(node)] += ready - since
+            self.sums[(*self.stack(node), READY)] += it.start - ready
         if it.end_node is not None and it.end_node > END:
             self.waiting[it.thread] = (it.end_node, it.start + it.cost)
 
