@@ -43,7 +43,7 @@ class Told:
         if "refused" in document:
             raise NoMoment(refusal_text(document))
         fill_places(document, self.replayed.at(run, code))
-        return document | self.replayed.queues(run)
+        return document | queues(run)
 
     def documents(self, asked):
         """The documents of the moments that are asked for, in order."""
@@ -94,12 +94,13 @@ class Replayed:
             "threads": [thread(it, run, code) for _, it in sorted(run.threads.items())],
             "globals": [variable(it, value) for it, value in zip(code.globals, run.globals)],
             "resources": resources,
-        } | self.queues(run)
+        } | queues(run)
 
-    def queues(self, run):
-        """The requests that have arrived and weren't taken, and the channels that hold messages."""
-        channels = [{"channel": it, "messages": list(queue)} for it, queue in sorted(run.channels.items()) if queue]
-        return {"arrivals": list(run.arrivals), "channels": channels}
+
+def queues(run):
+    """The requests that have arrived and weren't taken, and the channels that hold messages."""
+    channels = [{"channel": it, "messages": list(queue)} for it, queue in sorted(run.channels.items()) if queue]
+    return {"arrivals": list(run.arrivals), "channels": channels}
 
 
 def thread(it, run, code):
