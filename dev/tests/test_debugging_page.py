@@ -48,10 +48,19 @@ class Sessions(unittest.TestCase):
                 self.assertEqual((told.stdout, told.returncode), (shown, 0), told.stderr)
 
     def test_the_moment_is_what_the_tool_prints(self):
-        call, shown = re.search(r"^```\ntools/moment (.*?)\n```\n\n```\n(.*?)^```", PAGE.read_text(), re.M | re.S).groups()
-        words, _, trace = call.partition(" < ")
-        told = moment(*shlex.split(words), trace=trace)
-        self.assertEqual((told.stdout, told.returncode), (shown, 0), told.stderr)
+        found = re.findall(r"^```\ntools/moment (.*?)\n```\n\n```\n(.*?)^```", PAGE.read_text(), re.M | re.S)
+        self.assertEqual(len(found), 2)
+        for call, shown in found:
+            words, _, trace = call.partition(" < ")
+            told = moment(*shlex.split(words), trace=trace)
+            self.assertEqual((told.stdout, told.returncode), (shown, 0), told.stderr)
+
+    def test_visits_of_a_place(self):
+        run = ("serve", "docs/stories/pages.c")
+        told = moment("--break", "value_of", "--if", "page > 3", *run, trace="docs/stories/pages.trace")
+        rows = told.stdout.splitlines()
+        self.assertEqual(rows[1:], ["1,041       2  docs/stories/pages.c:6:3  page = 7"])
+        self.assertEqual(told.returncode, 0)
 
     def test_moments_that_are_not_there(self):
         run = ("serve", "--caps", "1=1,2=1", "examples/bank/server.c")
@@ -59,6 +68,8 @@ class Sessions(unittest.TestCase):
             (("--at-line", "14+99"), "fewer than 99 steps"),
             (("--at-line", "99"), "has the lines 1 to 48"),
             (("--at", "soon"), "expected a clock"),
+            (("--watch", "balance"), "no name balance is in scope here: balances"),
+            (("--break", "teler"), "functions are transfer, teller, main"),
             (("--at", "1040", "--thread", "9"), "no thread 9 lives at this moment: there are 1, 2"),
         ):
             told = moment(*words, *run, trace="examples/bank/trace")

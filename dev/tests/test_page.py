@@ -146,7 +146,7 @@ class InABrowser(unittest.TestCase):
         return self.browser.value("[from, to]")
 
     def test_keys_and_no_errors(self):
-        for key, view in zip("1234567", ("overview", "timeline", "requests", "graph", "log", "source", "report")):
+        for key, view in zip("12345678", ("overview", "timeline", "requests", "graph", "log", "state", "source", "report")):
             self.browser.press(key)
             self.assertEqual(self.seen(), view)
         self.browser.press("2")
@@ -179,6 +179,20 @@ class InABrowser(unittest.TestCase):
         self.assertEqual(self.browser.value('document.querySelector(".code.current").id'), "L46")
         self.assertEqual(self.browser.value("requestList.order[requestList.current]"), 1)
         self.assertEqual(self.browser.value('logList.order.every((it) => told(lines[it]).textContent.includes("46:19"))'), True)
+        self.assertEqual(self.browser.errors, [])
+
+    def test_the_state_moves_with_the_log_and_the_timeline(self):
+        """Lines 21 and 22 of the log of examples/store, `event 342 data 2 2` and `data 2 7`, are queued on channel 2."""
+        text = lambda: self.browser.value('$("stateBody").innerText')
+        self.browser.press("6")
+        self.browser.value("logList.go(logList.order.indexOf(21), false)")
+        self.assertIn("channel 2: 2, 7", text())
+        clock = self.browser.value('run.states.find((it) => it.line === 22).clock')
+        self.browser.value(f"state.toClock({clock})")
+        self.assertIn(f"clock {clock}", self.browser.value('$("stateWhere").textContent'))
+        line = self.browser.value('Number($("stateLine").value)')
+        self.browser.value('$("stateBack").click()')
+        self.assertLess(self.browser.value('Number($("stateLine").value)'), line)
         self.assertEqual(self.browser.errors, [])
 
     def test_a_table_sorts_by_its_column(self):

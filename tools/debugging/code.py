@@ -130,7 +130,10 @@ class Body:
         for part in it.start:
             self.statement(part, begins)
         start = self.put(Landing(it.at, ()), False)
-        test = None if it.test is None else self.test(it.test, begins and not isinstance(it.body, Made), it.at)
+        test, place = None, it.at
+        if it.test is not None:
+            place = it.test.at if isinstance(it, text_tree.For) else it.at
+            test = self.test(it.test, begins and not isinstance(it.body, Made), place)
         self.loops.append(([], []))
         self.statement(it.body, True)
         leaves, skips = self.loops.pop()
@@ -142,7 +145,7 @@ class Body:
         else:
             for jump in skips:
                 jump.next = start
-        self.put(Jump(it.at, tuple(self.scope)), False)
+        self.put(Jump(place, tuple(self.scope)), False)
         self.leads(start)
         self.open = [(jump, "next") for jump in leaves] + ([(test, "other")] if test else [])
         del self.scope[before:]

@@ -42,7 +42,8 @@ class Told:
         document = self.documents(["--full", "--at-line", f"{line}+{steps}" if steps else str(line)])[0]
         if "refused" in document:
             raise NoMoment(refusal_text(document))
-        return document | self.replayed.queues(run)
+        fill_places(document, self.replayed.at(run, code))
+        return document | queues(run)
 
     def documents(self, asked):
         """The documents of the moments that are asked for, in order."""
@@ -65,6 +66,14 @@ class Told:
             return False
 
 
+def fill_places(document, replayed):
+    """Gives a frame without a place, as at the end of a body or of a loop's turn, that of the replay."""
+    for told, made in zip(document["threads"], replayed["threads"]):
+        for frame_, other in zip(told["stack"], made["stack"]):
+            if frame_["line"] is None:
+                frame_["line"], frame_["column"] = other["line"], other["column"]
+
+
 class Replayed:
     """The moments of the replay."""
 
@@ -73,29 +82,25 @@ class Replayed:
 
     def at(self, run, code):
         line, steps = run.moment
-        costs = [
-            int(fields[-2])
-            for number in range(1, line + 1)
-            if (fields := run.log.fields(number))[0] in ("block", "end")
-        ]
         resources = [{"resource": it, "used": run.uses[it], "cap": cap} for it, cap in sorted(run.caps.items())]
         return {
             "version": 1,
             "line": line,
             "steps": steps,
             "clock": run.log.clocks[line - 1] if line else 0,
-            "cost": sum(costs),
+            "cost": run.log.costs[line],
             "chunks": {"free": run.free, "all": self.chunks},
             "running": run.running.number if run.running else None,
             "threads": [thread(it, run, code) for _, it in sorted(run.threads.items())],
             "globals": [variable(it, value) for it, value in zip(code.globals, run.globals)],
             "resources": resources,
-        } | self.queues(run)
+        } | queues(run)
 
-    def queues(self, run):
-        """The requests that have arrived and weren't taken, and the channels that hold messages."""
-        channels = [{"channel": it, "messages": list(queue)} for it, queue in sorted(run.channels.items()) if queue]
-        return {"arrivals": list(run.arrivals), "channels": channels}
+
+def queues(run):
+    """The requests that have arrived and weren't taken, and the channels that hold messages."""
+    channels = [{"channel": it, "messages": list(queue)} for it, queue in sorted(run.channels.items()) if queue]
+    return {"arrivals": list(run.arrivals), "channels": channels}
 
 
 def thread(it, run, code):

@@ -21,11 +21,13 @@ class Differs(Exception):
 
 
 class Log:
-    """The lines of a log, counted from 1, and the clock of each."""
+    """The lines of a log, counted from 1, and the clock of each. `costs` are those of the segments that have ended, by
+    the number of lines."""
 
     def __init__(self, lines):
         self.lines = [it.rstrip("\n") for it in lines]
         self.clocks, self.run_lines = [], []  # by line; the numbers of the lines that choose a thread
+        self.costs = [0]
         clock = 0
         for number, line in enumerate(self.lines, 1):
             word, *fields = line.split()
@@ -37,6 +39,7 @@ class Log:
             except (ValueError, IndexError):
                 raise Differs(number, line, "it isn't a line of a log") from None
             self.clocks.append(clock)
+            self.costs.append(self.costs[-1] + (int(fields[-2]) if word in ("block", "end") else 0))
             if word == "run":
                 self.run_lines.append(number)
         if not self.lines or not self.lines[-1].startswith("stop "):
@@ -66,7 +69,8 @@ class Replayed(World):
 
     def __init__(self, code, caps, log, chunks):
         super().__init__(code, caps)
-        self.log, self.line, self.steps, self.time, self.free = log, 0, 0, 0, chunks
+        self.log, self.line, self.steps, self.time = log, 0, 0, 0
+        self.free = chunks - 1  # that of main's first frame isn't free
         self.stop, self.expected, self.after, self.trap, self.begun = None, [], 0, None, 0
 
     def copy(self):

@@ -54,10 +54,14 @@ class Session:
 
     def add_watch(self, text):
         """A watch of a variable in scope in the selected frame, of a global, or of `function.name`."""
-        is_qualified = "." in text
-        found = Watch(self.made + 1, self.code, text, *((None, None) if is_qualified else (self.frame(), self.thread)))
+        found = self.watch(text)
         self.points[self.next_number()] = found
         return found
+
+    def watch(self, text):
+        """Such a watch, which stops nothing."""
+        frame = None if "." in text else self.frame()
+        return Watch(self.made + 1, self.code, text, frame, self.thread if frame else None)
 
     # ---- the selected thread and frame
 

@@ -8,7 +8,7 @@ Group = collections.namedtuple("Group", "inner at")  # an expression in parenthe
 
 
 class For(tree.Loop):
-    """A `for`; its test is None without a condition."""
+    """A `for`; its test is None without a condition, and else a group, which has the place of the condition."""
 
 
 class Reader(tree.Reader):
@@ -27,7 +27,8 @@ class Reader(tree.Reader):
         self.scopes.append({})
         start = [] if self.text() == ";" else self.part()
         self.wants(";")
-        test = None if self.text() == ";" else self.expression()
+        place = self.place()
+        test = None if self.text() == ";" else Group(self.expression(), place)
         self.wants(";")
         step = [] if self.text() == ")" else self.part()
         self.wants(")")

@@ -216,6 +216,7 @@ function redraw() {
   if (!$("timeline").hidden) requestAnimationFrame(() => { drawTimeline(); drawOverview(); });
   if (!$("requests").hidden) requestList.draw();
   if (!$("log").hidden) logList.draw();
+  if (!$("state").hidden) state.draw();
 }
 $("window").onsubmit = (event) => {
   event.preventDefault();
@@ -264,6 +265,7 @@ function tellAt(row, thread, time) {
   return node > 1 ? `${name}: waits at ${at} from ${shown(end)} ${rest}` : "";
 }
 $("canvas").onpointermove = point;
+$("canvas").onclick = (event) => state.toClock(timeAt(event, $("canvas")));
 const overviewTime = (event) => ((event.clientX - $("strip").getBoundingClientRect().left - LABEL) / ($("strip").clientWidth - LABEL - 8)) * whole;
 $("strip").onpointerdown = (event) => {
   const first = overviewTime(event);
@@ -321,6 +323,7 @@ class List {
     if (top < box.scrollTop) box.scrollTop = top;
     if (top + LINE > box.scrollTop + box.clientHeight) box.scrollTop = top + LINE - box.clientHeight;
     this.draw();
+    this.moved?.(this.order[this.current]);
     if (isPicked && this.current >= 0) this.pick(this.order[this.current]);
   }
   key(event) {
@@ -446,6 +449,8 @@ $("find").onsubmit = (event) => {
 
 if (run.leftOut) document.querySelector("h1 small").append(`; this page has the first ${shown(lines.length)} lines of the log, and ${shown(run.leftOut)} more are left out`);
 
+/* state.js */
+logList.moved = (index) => index !== undefined && state.toLine(index + 1);
 // Links: to a line of the source, the log's lines at a line, a thread, a request, a clock.
 function toThread(thread) {
   choose($("tab-timeline"));

@@ -6,6 +6,8 @@ run, whatever its length; the other views have the first lines of the log.
 """
 import array, base64, pathlib
 
+from debugging import states
+from runs.finds import caps_of
 from runs.names import Names
 from runs.story import Item, Request, Segment, Stop
 
@@ -31,6 +33,7 @@ class Page:
         self.lines = self.clock = self.cost = 0
         self.stop, self.document = "the log has no last line", None
         self.graph, self.requests = graph.Graph(story), outcomes.Requests(story)
+        self.caps = caps_of({"caps": (options or {}).get("--caps", "")})
         self.ready, self.counts = readiness.Ready(source, options or {}), coverage.Coverage(source, title)
         self.timeline = timeline.Timeline(story, (0, None), chunks, self.ready)
         self.tellers = {Segment: self.segment, Item: self.item, Request: self.request, Stop: self.stopped}
@@ -97,12 +100,18 @@ class Page:
             found[node] = [colour, place // len(palette.HUES), site.line]
         return found
 
+    def states(self):
+        """What each line of the log changes, of a log that isn't too long for that."""
+        if self.lines > len(self.log):
+            return []
+        return states.states_of(self.source, self.caps, self.log, self.chunks)
+
     def data(self):
         nodes = {"0": "start", "1": "end"} | {node: self.names.node(node) for node in self.keys}
         return {
             "clock": self.clock, "nodes": nodes, "styles": self.styles(), "threads": self.threads, "segments": self.segments,
             "drops": self.drops, "log": "\n".join(self.log), "requests": self.rows_of_requests(),
-            "unit": [self.unit.name, self.unit.ticks], "leftOut": max(self.lines - MOST_LINES, 0),
+            "states": self.states(), "unit": [self.unit.name, self.unit.ticks], "leftOut": max(self.lines - MOST_LINES, 0),
         }
 
     def dashboard(self):
@@ -131,7 +140,7 @@ class Page:
         parts = {
             "TITLE": escape.text(self.title), "STOP": escape.text(self.stop), "OVERVIEW": self.dashboard(), "REPORT": self.report(),
             "SOURCE": "\n".join(self.source_lines()), "GRAPH": image, "DATA": escape.script(self.data()),
-            "STYLE": palette.STYLE + (HERE / "page.css").read_text(), "SCRIPT": (HERE / "page.js").read_text(),
+            "STYLE": palette.STYLE + (HERE / "page.css").read_text(), "SCRIPT": (HERE / "page.js").read_text().replace("/* state.js */", (HERE / "state.js").read_text()),
         }
         for place, piece in enumerate((HERE / "page.html").read_text().split("@@")):
             self.file.write(parts[piece] if place % 2 else piece)
