@@ -58,7 +58,8 @@ def unanswered(document):
     others = (document.get("other_outputs") or {}).get("count")
     which = named(document, missing, ("unanswered", "undecided"))
     if others and document["answers"] == "own":
-        yield f"{counted(missing, 'request')} without an answer by the own thread{which}; {counted(others, 'output')} by other threads (--answers)"
+        yield (f"{counted(missing, 'request')} without an answer by the own thread{which}; {counted(others, 'output')} "
+               f"by other threads (--answers)")
     else:
         yield f"{counted(missing, 'request')} taken and never answered{which}"
 
@@ -88,7 +89,8 @@ def starved(document):
     for it in threads[:1]:
         others = f", and {counted(len(threads) - 1, 'other')} too" if len(threads) > 1 else ""
         place = f" at {at(it['place'])}" if it.get("place") else ""
-        yield f"starved: thread {it['thread']}{place} was ready for {counted(it['ticks'], 'tick')} and not chosen{others}"
+        yield (f"starved: thread {it['thread']}{place} was ready for {counted(it['ticks'], 'tick')} and not "
+               f"chosen{others}")
 
 
 def good(document):
