@@ -58,6 +58,7 @@ class Verdict(unittest.TestCase):
             "deadlock: thread 1 → resource 2 → thread 2 → resource 1 → thread 1": {"circles": [circle]},
             "trap at server.c:9:5: thread 2 in get, index 4 of 4 words": {"stop": trap, "stopped": where},
             "the trace is refused at line 7": {"stop": {"line": "stop trace 7", "kind": "trace", "trace_line": 7}},
+            "starved: 2 threads were started and never ran": {"never_ran": 2, "choices": {"count": 1000}},
             "starved: thread 3 at server.c:4:5 was ready for 8,331 ticks and not chosen": {
                 "ready": {"threads": [{"thread": 3, "since": 9, "ticks": 8331, "starves": True, "place": place(4)}]}},
         }
