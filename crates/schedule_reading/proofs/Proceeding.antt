@@ -69,6 +69,7 @@ happened_left : (g : Given) (state : State) (here : source.Segment) (a b : ℕ) 
 happened_left g state here a b k under n (Ok (happening.Puts word)) h = record { after = h.after; next = h.next; runs = runs_left g state h.after k under n h.runs }
 happened_left g state here a b k under n (Ok (happening.Blocks block)) h = record { rests = rests_left g state here (a - b) _ k under n h.rests; thread = h.thread; untrapped = h.untrapped }
 happened_left g state here a b k under n (Ok happening.Ends) h = record { rests = rests_left g state here (a - b) source.Ended k under n h.rests; full = h.full }
+happened_left g state here a b k under n (Ok happening.OutOfSteps) h = (h.0, record { after = h.1.after; silent = h.1.silent; runs = runs_left g state h.1.after k under n h.1.runs })
 happened_left g state here a b k under n _ h = h
 
 -- ---- the thread of a segment may run
