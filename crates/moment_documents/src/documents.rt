@@ -23,7 +23,7 @@ pub struct Subject<'s> {
     pub thread: Option<u32>,
 }
 
-/// A moment: the number of lines of the log, of further steps in the segment in progress, and of outputs in these steps.
+/// A moment: the number of lines of the log, and of further steps in the segment in progress.
 #[derive(Clone, Copy)]
 pub struct Moment {
     /// The number of lines.

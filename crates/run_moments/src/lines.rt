@@ -32,7 +32,7 @@ pub fn read_on<'l, S: Source, C: Measure + Drop>(
     lines: u64,
 ) -> Result<Reached<'l>, Failure>
     requires { StandsSomehow reading.old }
-    ensures reached { (g : Given) (left : Option (List ℕ)) (whole : List ℕ) (line : ℕ) → IsReadTo g left whole log.entry.now line reading.old (S.left trace.old) →
+    ensures reached { (g : Given) (left : Option (List ℕ)) (whole : List ℕ) (line : ℕ) → IsReadTo g left whole log.now line reading.old (S.left trace.old) →
         HasReached g left whole line lines reading.new (S.left trace.new) result }
     ensures again { StandsAgain reading.new result }
     ensures counts { CountsReads result (S.faults trace.old) (S.faults trace.new) }

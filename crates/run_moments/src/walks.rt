@@ -1,5 +1,5 @@
 // Walks along the segment in progress, step by step.
-ghost use Rattle.std.specs.Prelude.{◌≡◌, ◌≤◌};
+ghost use Rattle.std.specs.Prelude.{◌≡◌, ◌-◌, ◌≤◌};
 ghost use Rattle.schedule_reading.specs.Stands.{StandsSomehow};
 ghost use Rattle.schedule_reading.specs.Coming.{RunsSomehow};
 ghost use Rattle.schedule_reading.specs.declared.reading.End.TheVariants.{Stopped};
@@ -86,10 +86,25 @@ fn walk_on<'a, C: Measure + Drop, W: Watch>(
     requires order { first ≤ most }
 {
     match go_on(reading, under, first)? {
-        Some(steps) => return Ok(Walked::Rests { steps }),
-        None => (),
+        Some(steps) => Ok(Walked::Rests { steps }),
+        None => {
+            watch.see(reading, under, first)?;
+            walk_each(reading, under, first, most, watch)
+        }
     }
-    watch.see(reading, under, first)?;
+}
+
+/// Walks step by step, after a number of steps that are done.
+fn walk_each<'a, C: Measure + Drop, W: Watch>(
+    reading: &mut Reading<'a, C>,
+    under: &mut Under<'a>,
+    first: u64,
+    most: u64,
+    watch: &mut W,
+) -> Result<Walked, Failure>
+    requires runs { RunsSomehow reading.old.core under.old (most - first) }
+    requires order { first ≤ most }
+{
     let mut done = first;
     while done < most {
         match go_on(reading, under, 1)? {

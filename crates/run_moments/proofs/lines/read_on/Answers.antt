@@ -47,3 +47,12 @@ returns-in-OutOfSteps-clause-reached g c = λ given left whole line begun.
     let e : ◌≡◌ {A = Result Ruling Failure} (Ok c.in_ok-take_line.field-0) (Ok ruling.OutOfSteps) = ap (λ (x : Ruling). Ok x) c.in-OutOfSteps.is in
     line_late given left whole rest (line + (c.args.lines - c.loop-missing.missing)) c.loop-missing.reading (g.S.Source.left c.loop-missing.trace) (c.loop-missing.invariant.read given left whole line begun) c.in-Some.end (sym c.line_end.ensures ∙ c.in-Some.is) c.take_line.new.reading
     (g.S.Source.left c.take_line.new.trace) (take c.in-Some.end rest) refl (Ok c.in_ok-take_line.field-0) c.in_ok-take_line.ensures.rules e
+
+pub returns-clause-reached : goal.returns-clause-reached
+returns-clause-reached g c = λ given left whole line begun.
+    let none : c.loop-missing.missing ≡ 0 = omega arith in
+    let all : line + (c.args.lines - c.loop-missing.missing) ≡ line + c.args.lines = omega (arith, none) in
+    subst (λ (n : ℕ). IsReadTo given left whole c.loop-missing.rest.now n c.loop-missing.reading (g.S.Source.left c.loop-missing.trace)) all (c.loop-missing.invariant.read given left whole line begun)
+
+pub returns-clause-again : goal.returns-clause-again
+returns-clause-again g c = c.loop-missing.invariant.stands

@@ -1,6 +1,6 @@
 use Rattle.std.proofs.Common.{◌-◌, ◌≤◌}
 use Rattle.schedule_reading.specs.Coming.{RunsSomehow}
-use Rattle.run_moments.proofs.walks.walk_on.Given as goal
+use Rattle.run_moments.proofs.walks.walk_each.Given as goal
 
 abbrev pub invariant-loop-done : goal.invariant-loop-done
 invariant-loop-done g l = record {
