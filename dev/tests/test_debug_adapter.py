@@ -163,6 +163,19 @@ class Bank(Session):
         self.assertEqual(client.process.wait(timeout=20), 0)
 
 
+class Endless(Session):
+    def test_a_pause_ends_a_move_that_takes_long(self):
+        with tempfile.TemporaryDirectory() as folder:
+            source, log = pathlib.Path(folder, "server.c"), pathlib.Path(folder, "log")
+            source.write_text("int main() {\n  int i = 0;\n  while (1) i = i + 1;\n  return 0;\n}\n")
+            log.write_text("run 0 0 0\nstop fuel 0 1000000000 1023\n")
+            client = self.begin(launch={"source": str(source), "log": str(log)})  # which runs at once
+            client.send("pause", threadId=1)
+            stop, place = client.stop()
+            self.assertEqual((stop["reason"], place), ("pause", ("main", 3)))
+            self.assertGreaterEqual(int(client.values("Locals", 1)["i"]), 0)
+
+
 class Refused(Session):
     def setUp(self):
         self.client = debug_protocol.Client(TYPES)

@@ -4,9 +4,9 @@ import collections
 from .stops import Search
 
 Change = collections.namedtuple("Change", "clock moment thread place old new read writes")
-Change.__doc__ = """A change: the clock at which its segment began, the moment after it (lines and steps), its thread and
-the place of the step that made it, both values, the last moment at which the thread read the variable before it, as a
-clock and a place, and the writes of other threads since then, each as clock, thread and value."""
+Change.__doc__ = """A change: the clock at which its segment began, the moment after it, its thread and the place of its
+step, both values, the last moment at which the thread read the variable before it, as a clock and a place, and the
+writes of other threads since then, each as clock, thread and value."""
 
 
 def place_of(run, name):
