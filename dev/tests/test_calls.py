@@ -1,4 +1,4 @@
-"""What `./report graph` and `./report budget` print of their documents, whose numbers are those of examples/calculator."""
+"""What `./report graph` and `./report budget` print of their documents; numbers are those of examples/calculator."""
 import json, unittest
 
 from reporting import calls
@@ -13,7 +13,8 @@ GRAPH = {
     "functions": [{"function": 3, "frame": 32, "bound": 48, "place": place(30, 5, "product")},
                   {"function": 4, "frame": 48, "bound": 64, "place": place(40, 5, "sum")}],
     "sites": [
-        {"site": 6, "kind": "back", "callees": ["factor"], "place": place(32, 11, "factor", text="factor(channel)", function="product")},
+        {"site": 6, "kind": "back", "callees": ["factor"],
+         "place": place(32, 11, "factor", text="factor(channel)", function="product")},
         {"site": 9, "kind": "over", "callees": ["product"], "frame": 48, "bound": 48,
          "place": place(43, 11, "product", text="product(channel)", function="sum")},
         {"site": 10, "kind": "plain", "callees": ["step", "skip"], "place": place(46, 5, "table", function="sum")},
@@ -36,7 +37,8 @@ site  kind   at
     def test_a_budget(self):
         budget = {"version": 1, "chunks": 2, "heights": [{"function": 0, "height": 1, "place": place(6, 5, "slot_of")}]}
         self.assertEqual(calls.lines_of(json.dumps(budget)), ["2 chunks are enough for each live thread", "",
-                                                              "function  height  at", "       0       1  server.c:6:5 slot_of"])
+                                                              "function  height  at", "       0       1  server.c:6:5 "
+                                                                                      "slot_of"])
 
 
 if __name__ == "__main__":

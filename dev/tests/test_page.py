@@ -94,8 +94,10 @@ class Page(unittest.TestCase):
 
     def test_what_stands_in_a_source_a_title_or_a_report_stays_text(self):
         source = f"// {NASTY}\nint main() {{ return 0; }}".encode()
-        left = [{"thread": 1, "is_cut": False, "place": place(1, text=NASTY, function=NASTY), "since": 4, "values": NASTY}]
-        stopped = {"thread": 1, "function": NASTY, "why": NASTY, "places": [], "more_places": 0, "calls": [], "has_more_calls": False}
+        left = [{"thread": 1, "is_cut": False, "place": place(1, text=NASTY, function=NASTY), "since": 4,
+                 "values": NASTY}]
+        stopped = {"thread": 1, "function": NASTY, "why": NASTY, "places": [], "more_places": 0, "calls": [],
+                   "has_more_calls": False}
         elements = Elements(page_of(source, [], ["run 0 0 0", "end 0 11 1024", "stop done"], title=NASTY,
                                     document=changed(left=left, stopped=stopped)))
         self.assertEqual(sum(tag == "script" for tag, _ in elements.found), 2)
@@ -105,7 +107,8 @@ class Page(unittest.TestCase):
     def test_the_dashboard_has_the_verdict_and_the_numbers(self):
         circle = [{"thread": 1, "resource": 2}, {"thread": 2, "resource": 1}]
         text = page_of_example("store", document=changed(requests=requests(5, 0, 4, 2), circles=[circle]))
-        for wanted in ('class="banner bad"', '<a href="#thread=2">thread 2</a>', "<b>2 of 5</b>", "1 never taken", "Requests by latency",
+        for wanted in ('class="banner bad"', '<a href="#thread=2">thread 2</a>', "<b>2 of 5</b>", "1 never taken",
+                       "Requests by latency",
                        '<a href="#line=3">3:5</a> take in worker', "the circle of the deadlock"):
             self.assertIn(wanted, text)
         self.assertIn('class="banner good"', page_of_example("store", document=changed()))
@@ -140,7 +143,8 @@ class InABrowser(unittest.TestCase):
 
     def seen(self):
         panels = '[...document.querySelectorAll("[role=tabpanel]")]'
-        return self.browser.value(panels + '.filter((it) => getComputedStyle(it).display !== "none").map((it) => it.id).join()')
+        return self.browser.value(panels + ('.filter((it) => getComputedStyle(it).display !== "none").map((it) => '
+                                            'it.id).join()'))
 
     def window(self):
         return self.browser.value("[from, to]")
@@ -164,7 +168,8 @@ class InABrowser(unittest.TestCase):
         self.assertEqual(self.browser.errors, [])
 
     def test_a_dark_browser_has_dark_paper_and_light_ink(self):
-        light_of = lambda name: self.browser.value(f"getComputedStyle(document.body).{name}.match(/\\d+/g).reduce((a, b) => a + +b, 0) / 3")
+        light_of = lambda name: self.browser.value(f"getComputedStyle(document.body).{name}.match(/\\d+/g).reduce((a, "
+                                                   f"b) => a + +b, 0) / 3")
         for is_dark in (False, True):
             self.browser.dark(is_dark)
             paper, ink = light_of("backgroundColor"), light_of("color")
@@ -173,12 +178,15 @@ class InABrowser(unittest.TestCase):
         self.assertEqual(self.browser.errors, [])
 
     def test_links_lead_between_the_views(self):
-        for target, view in (("line=46", "source"), ("at=46", "log"), ("thread=2", "timeline"), ("request=2", "requests"), ("clock=900", "timeline")):
-            self.browser.value(f'new Promise((done) => {{ addEventListener("hashchange", () => setTimeout(done), {{ once: true }}); location.hash = "{target}"; }})')
+        for target, view in (("line=46", "source"), ("at=46", "log"), ("thread=2", "timeline"),
+                             ("request=2", "requests"), ("clock=900", "timeline")):
+            self.browser.value(f'new Promise((done) => {{ addEventListener("hashchange", () => setTimeout(done), {{ '
+                               f'once: true }}); location.hash = "{target}"; }})')
             self.assertEqual(self.seen(), view)
         self.assertEqual(self.browser.value('document.querySelector(".code.current").id'), "L46")
         self.assertEqual(self.browser.value("requestList.order[requestList.current]"), 1)
-        self.assertEqual(self.browser.value('logList.order.every((it) => told(lines[it]).textContent.includes("46:19"))'), True)
+        self.assertEqual(self.browser.value('logList.order.every((it) => '
+                                            'told(lines[it]).textContent.includes("46:19"))'), True)
         self.assertEqual(self.browser.errors, [])
 
     def test_a_table_sorts_by_its_column(self):

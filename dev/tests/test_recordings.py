@@ -132,5 +132,29 @@ class Refusals(unittest.TestCase):
         self.assertEqual(ran.stderr, "make_trace: standard input:3: column t: expected a number, found 'x'\n")
 
 
+class OfThisMachine(unittest.TestCase):
+    """An access log that nginx wrote and fields that tshark printed of the same twelve requests by curl."""
+
+    FOLDER = TOP / "dev/tests/recordings"
+
+    def test_an_access_log_of_nginx(self):
+        text = (self.FOLDER / "nginx.log").read_text()
+        status, lines, said = made("--ticks", "1000", "--value", "bytes", given=text)
+        self.assertEqual((status, said, len(lines)), (0, "", 12))
+        # /f2 at 19:29:07 has 1,800 bytes, /f3 and a missing file come a second later
+        self.assertEqual(lines[:3], ["arrive 0 1800", "arrive 1000 2700", "arrive 1000 153"])
+        _, lines, _ = made("--value", "status == 404", given=text)
+        self.assertEqual(sum(it.endswith(" 1") for it in lines), text.count('" 404 '))
+
+    def test_fields_of_tshark(self):
+        text = (self.FOLDER / "tshark.tsv").read_text()
+        status, lines, said = made("--connection", "tcp.stream", "--value", "int(tcp.len)", given=text)
+        self.assertEqual((status, said), (0, ""))
+        # the first connection: the request of 80 bytes, and 271 microseconds later the answer of 2,040
+        self.assertEqual(lines[:3], ["arrive 0 0", "data 0 0 80", "data 271 0 2040"])
+        self.assertEqual(sum(it.startswith("arrive") for it in lines), 12)
+        self.assertEqual(sum(it.startswith("data") for it in lines), len(text.splitlines()) - 1)
+
+
 if __name__ == "__main__":
     unittest.main()

@@ -12,7 +12,8 @@ def place(line, name="take", function="worker", **more):
 
 
 def wait(line, total, **more):
-    return {"place": place(line), "count": 2, "total": total, "median": 1, "99th": total, "greatest": total, "thread": 1,
+    return {"place": place(line), "count": 2, "total": total, "median": 1, "99th": total, "greatest": total,
+            "thread": 1,
             "until": 5000, **more}
 
 
@@ -20,7 +21,8 @@ GOOD = {
     "log_fits": True, "circles": [], "answers": "own", "window": None,
     "requests": {"came": 5, "dropped": 0, "taken": 5, "answered": 5}, "latency": {"first": RANKS, "last": RANKS},
     "other_outputs": None, "request": None, "waits": [wait(3, 2400)], "chunks": {"most_held": 3, "of": 1024},
-    "choices": {"count": 22}, "gate": None, "left": [], "more_left": 0, "never_ran": 0, "resources": [], "stopped": None,
+    "choices": {"count": 22}, "gate": None, "left": [], "more_left": 0, "never_ran": 0, "resources": [],
+    "stopped": None,
     "stop": {"line": "stop idle", "kind": "idle"},
 }
 
@@ -37,14 +39,17 @@ def requests(came, dropped, taken, answered):
 class Verdict(unittest.TestCase):
     def test_the_first_line_says_what_came_of_the_run(self):
         circle = [{"thread": 1, "resource": 2}, {"thread": 2, "resource": 1}]
-        trap = {"line": "stop trap 2 index 87 1021", "kind": "trap", "thread": 2, "trap": "index", "cost": 87, "free": 1021}
-        where = {"thread": 2, "function": "get", "why": "index 4 of 4 words", "places": [place(9, "a", None)], "more_places": 0,
+        trap = {"line": "stop trap 2 index 87 1021", "kind": "trap", "thread": 2, "trap": "index", "cost": 87,
+                "free": 1021}
+        where = {"thread": 2, "function": "get", "why": "index 4 of 4 words", "places": [place(9, "a", None)],
+                 "more_places": 0,
                  "calls": [], "has_more_calls": False}
         cases = {
             "all 5 requests answered": {},
             "1 request came and is answered": {"requests": requests(1, 0, 1, 1)},
             "no request came": {"requests": requests(0, 0, 0, 0)},
-            "all 5 requests answered; the fuel was spent": {"stop": {"line": "stop fuel 1 2 3", "kind": "fuel", "thread": 1}},
+            "all 5 requests answered; the fuel was spent": {"stop": {"line": "stop fuel 1 2 3", "kind": "fuel",
+                                                                     "thread": 1}},
             "3 requests taken and never answered": {"requests": requests(5, 0, 5, 2)},
             "3 requests taken and never answered: 2, 4, 5": {
                 "requests": requests(5, 0, 5, 2), "verdict": {"kind": "unanswered", "requests": [2, 4, 5]}},
@@ -53,6 +58,7 @@ class Verdict(unittest.TestCase):
             "deadlock: thread 1 → resource 2 → thread 2 → resource 1 → thread 1": {"circles": [circle]},
             "trap at server.c:9:5: thread 2 in get, index 4 of 4 words": {"stop": trap, "stopped": where},
             "the trace is refused at line 7": {"stop": {"line": "stop trace 7", "kind": "trace", "trace_line": 7}},
+            "starved: 2 threads were started and never ran": {"never_ran": 2, "choices": {"count": 1000}},
             "starved: thread 3 at server.c:4:5 was ready for 8,331 ticks and not chosen": {
                 "ready": {"threads": [{"thread": 3, "since": 9, "ticks": 8331, "starves": True, "place": place(4)}]}},
         }
@@ -68,7 +74,8 @@ class Verdict(unittest.TestCase):
     def test_outputs_of_other_threads_are_named(self):
         others = {"count": 3, "threads": [{"thread": 3, "outputs": 3}], "more_threads": 0}
         lines = verdict.of(changed(requests=requests(3, 0, 3, 0), other_outputs=others))
-        self.assertEqual(lines, ["3 requests without an answer by the own thread; 3 outputs by other threads (--answers)"])
+        self.assertEqual(lines, ["3 requests without an answer by the own thread; 3 outputs by other threads "
+                                 "(--answers)"])
 
     def test_what_is_expected(self):
         bad = changed(requests=requests(5, 1, 4, 2), circles=[[{"thread": 7, "resource": 3}]])
@@ -84,7 +91,8 @@ class Text(unittest.TestCase):
         lines = text.text_of(GOOD)
         head = next(it for it in lines if it.startswith("latency"))
         row = lines[lines.index(head) + 1]
-        self.assertEqual(row.split(), ["first", "and", "last", "answer", "34", "67", "1,109", "1,109", "1,234,567", "130",
+        self.assertEqual(row.split(), ["first", "and", "last", "answer", "34", "67", "1,109", "1,109", "1,234,567",
+                                       "130",
                                        "by", "thread", "1"])
         for name, number in (("min", "34"), ("p50", "67"), ("max", "1,234,567")):
             self.assertEqual(head.index(name) + len(name), row.index(f" {number} ") + 1 + len(number))
@@ -117,8 +125,10 @@ class Text(unittest.TestCase):
 
     def test_a_report_is_short_and_narrow_whatever_the_run(self):
         parts = [{"kind": "waits", "ticks": it, "until": 10 * it, "place": place(it)} for it in range(1, 21)]
-        request = {"number": 5, "is_slowest": True, "arrived": 10, "thread": 1, "parts": parts, "shorter": {"count": 1, "ticks": 7}}
-        left = [{"thread": it, "is_cut": False, "place": place(it + 1), "since": it, "went_past": {"place": place(3), "at": 2}}
+        request = {"number": 5, "is_slowest": True, "arrived": 10, "thread": 1, "parts": parts,
+                   "shorter": {"count": 1, "ticks": 7}}
+        left = [{"thread": it, "is_cut": False, "place": place(it + 1), "since": it,
+                 "went_past": {"place": place(3), "at": 2}}
                 for it in range(20)]
         full = changed(request=request, waits=[wait(it, it) for it in range(1, 60)], left=left, more_left=980)
         lines = text.text_of(full)

@@ -44,7 +44,8 @@ class Timelines(unittest.TestCase):
 
     def test_rows_have_the_names_of_functions_and_the_legend_the_places(self):
         text = timeline_of("store")
-        for wanted in ("0 main", "1 worker", "2 worker", "accept 46:19 in worker", "wait 37:17 in serve", "ready, not chosen"):
+        for wanted in ("0 main", "1 worker", "2 worker", "accept 46:19 in worker", "wait 37:17 in serve",
+                       "ready, not chosen"):
             self.assertIn(f">{wanted}<", text)
 
     def test_resources_have_bands(self):
@@ -88,7 +89,8 @@ class Graphs(unittest.TestCase):
     def test_without_graphviz_boxes_stand_apart(self):
         made = told_by("relay", lambda told, _: graph.Graph(told))
         picture = tree.fromstring(graph.Layout(made).svg("server.c"))
-        boxes = [(float(it.get("x")), float(it.get("y"))) for it in picture.iter(f"{SVG}rect") if it.get("class") == "box"]
+        boxes = [(float(it.get("x")),
+                  float(it.get("y"))) for it in picture.iter(f"{SVG}rect") if it.get("class") == "box"]
         self.assertEqual(len(boxes), 7)
         for at, (x, y) in enumerate(boxes):
             self.assertTrue(0 <= x <= 830 - graph.BOX)

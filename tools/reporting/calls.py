@@ -44,5 +44,6 @@ def why(site, most):
 def budget(document):
     """How many chunks are enough, and the height of each function."""
     rows = [[str(it["function"]), number(it["height"]), documents.shown(it["place"])] for it in document["heights"]]
-    return [f"{counted(document['chunks'], 'chunk')} are enough for each live thread", "",
+    verb = "is" if document["chunks"] == 1 else "are"
+    return [f"{counted(document['chunks'], 'chunk')} {verb} enough for each live thread", "",
             *table(["function", "height", "at"], rows)]

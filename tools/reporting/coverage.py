@@ -105,7 +105,8 @@ class Coverage:
                  f"FNF:{len(functions)}", f"FNH:{sum(bool(self.entered.get(count)) for count, _ in functions)}"]
         for count, line in enumerate(self.places.branches):
             is_reached = self.taken(count, True) + self.taken(count, False) > 0
-            found += [f"BRDA:{line},{count},{way},{self.taken(count, not way) if is_reached else '-'}" for way in (0, 1)]
+            found += [f"BRDA:{line},{count},{way},{self.taken(count, not way) if is_reached else '-'}" for way in (0,
+                                                                                                                   1)]
         found += [f"BRF:{2 * len(self.places.branches)}", f"BRH:{len(self.branches)}",
                   *[f"DA:{line},{count}" for line, count in lines.items()],
                   f"LF:{len(lines)}", f"LH:{sum(map(bool, lines.values()))}", "end_of_record"]
@@ -116,7 +117,8 @@ class Coverage:
         lines = self.lines()
         missed = [line for line, count in lines.items() if not count]
         named = ", ".join(map(str, missed[:MOST_NAMED])) + (", .." if len(missed) > MOST_NAMED else "")
-        text = f"{len(lines) - len(missed)} of {counted(len(lines), 'line')}, {len(self.branches)} of {counted(2 * len(self.places.branches), 'branch', 'branches')}"
+        text = (f"{len(lines) - len(missed)} of {counted(len(lines), 'line')}, {len(self.branches)} of "
+                f"{counted(2 * len(self.places.branches), 'branch', 'branches')}")
         if self.replay.is_lost:
             return f"{text}, as far as the source could be replayed"
         return f"{text}; never reached: line{'s' * (len(missed) > 1)} {named}" if missed else text

@@ -11,13 +11,15 @@ PLACE = re.compile(r"(?P<file>[^\s:]+):(?P<line>\d+):(?P<column>\d+)")
 
 
 def html_of(document, unit, latencies, busy, timeline):
-    """The dashboard: of a document, the pairs of arrival and latency of all requests, the busy share, and a timeline."""
+    """The dashboard of a document, the pairs of arrival and latency of all requests, the busy ticks, and a timeline."""
     good = verdict.of(document) == [verdict.good(document)]
     lines = "".join(f"<p>{linked(it)}</p>" for it in verdict.of(document))
     drawn_circle = "".join(map(circle, document["circles"][:1]))
     banner = f'<div class="banner {"good" if good else "bad"}" role="status"><div>{lines}</div>{drawn_circle}</div>'
-    drawn = f'<div class="plots">{plots.distribution([it for _, it in latencies], unit)}{plots.over_time(latencies, unit)}</div>'
-    return "".join([banner, cards(document, unit, busy), drawn, timeline, waits(document, unit), request(document, unit),
+    both = plots.distribution([it for _, it in latencies], unit) + plots.over_time(latencies, unit)
+    drawn = f'<div class="plots">{both}</div>'
+    return "".join([banner, cards(document, unit, busy), drawn, timeline, waits(document, unit),
+                    request(document, unit),
                     left(document, unit)])
 
 
@@ -37,12 +39,16 @@ def cards(document, unit, busy):
     more = [f"{number(requests[it])} {it}" for it in ("taken", "dropped")]
     if (untaken := requests["came"] - requests["taken"]) > 0:
         more.append(f"{number(untaken)} never taken")
-    found = [card("requests answered", f"{number(requests['answered'])} of {number(requests['came'])}", ", ".join(more))]
+    found = [card("requests answered", f"{number(requests['answered'])} of {number(requests['came'])}",
+                  ", ".join(more))]
     if latency:
-        ranks = ", ".join(f"{name} {unit.shown(latency[key])}" for name, key in (("p50", "median"), ("p90", "90th"), ("p99", "99th")))
+        named = (("p50", "median"), ("p90", "90th"), ("p99", "99th"))
+        ranks = ", ".join(f"{name} {unit.shown(latency[key])}" for name, key in named)
         found.append(card("greatest latency", f"{unit.shown(latency['greatest'])} {unit.name}", ranks))
-    found.append(card("busy", f"{100 * busy[0] / max(busy[1], 1):.0f} %", f"{number(busy[0])} of {number(busy[1])} ticks"))
-    found.append(card("chunks at the peak", number(chunks["most_held"]), f"of {number(chunks['of'])}, between segments"))
+    found.append(card("busy", f"{100 * busy[0] / max(busy[1], 1):.0f} %",
+                      f"{number(busy[0])} of {number(busy[1])} ticks"))
+    found.append(card("chunks at the peak", number(chunks["most_held"]),
+                      f"of {number(chunks['of'])}, between segments"))
     if gate := document["gate"]:
         found.append(card("ticks the gate was closed", number(gate["ticks"]), counted(gate["times"], "time")))
     return f'<div class="cards">{"".join(found)}</div>'
@@ -63,15 +69,18 @@ def circle(steps):
         angle = 2 * math.pi * (place + .5) / len(nodes) - math.pi / 2
         x, y = 150 + 1.3 * radius * math.cos(angle), 105 + radius * math.sin(angle)
         turned = math.degrees(math.atan2(math.cos(angle), -1.3 * math.sin(angle)))
-        tips.append(f'<path class="tip" transform="translate({x:.0f} {y:.0f}) rotate({turned:.0f})" d="M-5 -5L5 0L-5 5z"/>')
+        tips.append(f'<path class="tip" transform="translate({x:.0f} {y:.0f}) rotate({turned:.0f})" d="M-5 -5L5 0L-5 '
+                    f'5z"/>')
     ring = f'<ellipse cx="150" cy="105" rx="{1.3 * radius:.0f}" ry="{radius}"/>'
-    return f'<svg class="circle" viewBox="0 0 300 210" width="300" height="210" role="img" aria-label="the circle of the deadlock">{ring}{"".join(tips)}{"".join(places)}</svg>'
+    return (f'<svg class="circle" viewBox="0 0 300 210" width="300" height="210" role="img" aria-label="the circle of '
+            f'the deadlock">{ring}{"".join(tips)}{"".join(places)}</svg>')
 
 
 def table(name, heads, rows, more=""):
     """A table that sorts by the column whose head is clicked. A cell is HTML with the value by which it sorts."""
     head = "".join(f'<th scope="col"><button type="button">{it}</button></th>' for it in heads)
-    body = "".join("<tr>" + "".join(f'<td data-value="{escaped(str(value))}">{shown}</td>' for shown, value in row) + "</tr>" for row in rows)
+    cell = lambda shown, value: f'<td data-value="{escaped(str(value))}">{shown}</td>'
+    body = "".join(f"<tr>{''.join(cell(*it) for it in row)}</tr>" for row in rows)
     return f"<h2>{name}</h2><table class=\"sorts\"><thead><tr>{head}</tr></thead><tbody>{body}</tbody></table>{more}"
 
 
@@ -80,7 +89,8 @@ def place_cell(place):
     if "line" not in place:
         return escaped(place.get("text", "")), ""
     name = escaped(documents.shown(place)[len(documents.at(place)):].strip())
-    return f'<a href="#line={place["line"]}">{place["line"]}:{place["column"]}</a> {name}', place["line"] * 1000 + place["column"]
+    line, column = place["line"], place["column"]
+    return f'<a href="#line={line}">{line}:{column}</a> {name}', line * 1000 + column
 
 
 def waits(document, unit):
@@ -112,11 +122,13 @@ def request(document, unit):
         what = f"thread {part['thread']} answers" if part["kind"] == "others" else part["kind"]
         place = place_cell(part["place"])[0] if "place" in part else ""
         bar = f'<i class="bar" style="width:{100 * part["ticks"] / max(most, 1):.1f}%"></i>{unit.shown(part["ticks"])}'
-        rows.append([(f"{what} {place}", what), (bar, part["ticks"]), (f'<a href="#clock={part["until"]}">{unit.shown(part["until"])}</a>', part["until"])])
+        rows.append([(f"{what} {place}", what), (bar, part["ticks"]),
+                     (f'<a href="#clock={part["until"]}">{unit.shown(part["until"])}</a>', part["until"])])
     rest = it.get("shorter")
     more = f"<p>and {counted(rest['count'], 'shorter part')}, {unit.counted(rest['ticks'])}</p>" if rest else ""
     slowest = ", the slowest" * it["is_slowest"]
-    name = f'<a href="#request={it["number"]}">Request {number(it["number"])}</a>{slowest}: arrived at {unit.shown(it["arrived"])}, <a href="#thread={it["thread"]}">thread {it["thread"]}</a>'
+    name = (f'<a href="#request={it["number"]}">Request {number(it["number"])}</a>{slowest}: arrived at '
+            f'{unit.shown(it["arrived"])}, <a href="#thread={it["thread"]}">thread {it["thread"]}</a>')
     return table(name, ("part", unit.name, "until"), rows, more)
 
 
@@ -126,18 +138,22 @@ def left(document, unit):
     for it in document["left"]:
         place = place_cell(it["place"]) if "place" in it else ("its segment was cut", 0)
         values = escaped(it.get("values", ""))
-        rows.append([(f'<a href="#thread={it["thread"]}">thread {it["thread"]}</a>', it["thread"]), place, (values, values),
+        rows.append([(f'<a href="#thread={it["thread"]}">thread {it["thread"]}</a>', it["thread"]), place,
+                     (values, values),
                      (unit.shown(it.get("since")), it.get("since", -1))])
     more = document["more_left"]
     rest = f"<p>and {counted(more, 'more thread')}</p>" if more else ""
     found = table("At the end", ("thread", "waits at", "with the values", "since"), rows, rest) if rows else ""
-    resources = [[(number(it["resource"]), it["resource"]), (f"{number(it['used'])} of {number(it['cap'])}", it["used"]),
+    resources = [[(number(it["resource"]), it["resource"]),
+                  (f"{number(it['used'])} of {number(it['cap'])}", it["used"]),
                   (held(it), 0)] for it in document["resources"]]
-    return found + (table("Resources in use at the end", ("resource", "units", "held by"), resources) if resources else "")
+    return found + (table("Resources in use at the end", ("resource", "units", "held by"),
+                          resources) if resources else "")
 
 
 def held(resource):
     """Who holds units of a resource, as links."""
     if documents.is_semaphore(resource):
         return "taken by some threads and given by others"
-    return ", ".join(f'<a href="#thread={it["thread"]}">thread {it["thread"]}</a>: {number(it["units"])}' for it in resource["holders"])
+    holders = ((it["thread"], number(it["units"])) for it in resource["holders"])
+    return ", ".join(f'<a href="#thread={thread}">thread {thread}</a>: {units}' for thread, units in holders)

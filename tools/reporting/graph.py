@@ -31,7 +31,8 @@ class Graph:
             arrow = self.arrows.setdefault((start, end), [0, 0, [0] * len(RESOURCES)])
             arrow[0] += it.count
             arrow[1] += it.count * it.cost
-            arrow[2] = [total + it.count * change for total, change in zip(arrow[2], [*it.changes, *[0] * len(RESOURCES)])]
+            changes = [*it.changes, *[0] * len(RESOURCES)]
+            arrow[2] = [total + it.count * change for total, change in zip(arrow[2], changes)]
 
     def box(self, node):
         if node in (START, END):
@@ -60,13 +61,15 @@ class Graph:
         """The graph for Graphviz."""
         quoted = lambda lines: '"' + "\\n".join(it.replace("\\", "\\\\").replace('"', '\\"') for it in lines) + '"'
         names = {box: f"n{at}" for at, box in enumerate(self.boxes)}
-        lines = ["digraph {", '  node [shape=box style="rounded,filled" fillcolor="#ffffff" fontname="sans-serif" fontsize=11]',
+        lines = ["digraph {", '  node [shape=box style="rounded,filled" fillcolor="#ffffff" fontname="sans-serif" '
+                              'fontsize=11]',
                  '  edge [fontname="sans-serif" fontsize=11 color="#777777"]']
         for box, (texts, style) in self.boxes.items():
             lines.append(f"  {names[box]} [label={quoted(texts)} fillcolor=\"{colour(style)}\"]")
         for (start, end), arrow in self.arrows.items():
             label = quoted([f"  {it}  " for it in self.label(arrow)])
-            lines.append(f"  {names[start]} -> {names[end]} [label={label} penwidth={self.width(arrow):.1f} arrowsize=0.7]")
+            lines.append(f"  {names[start]} -> {names[end]} [label={label} penwidth={self.width(arrow):.1f} "
+                         f"arrowsize=0.7]")
         return "\n".join([*lines, "}\n"])
 
     def svg(self, title):
@@ -91,21 +94,28 @@ STYLE = palette.STYLE + """
 .box { stroke: #555 }
 .arrow { fill: none; stroke: #777 }
 .count { paint-order: stroke; stroke: #fff; stroke-width: 3px; stroke-linejoin: round }
-@media (prefers-color-scheme: dark) { .count { stroke: #16181d } .edge path, .arrow { stroke: #bbb } .edge polygon, .head { fill: #bbb; stroke: #bbb } }
+@media (prefers-color-scheme: dark) {
+  .count { stroke: #16181d }
+  .edge path, .arrow { stroke: #bbb }
+  .edge polygon, .head { fill: #bbb; stroke: #bbb }
+}
 """
 
 
 def restyled(svg, title):
     """The picture of Graphviz with the colours of all views, in pixels."""
     svg = svg[svg.index("<svg"):]
-    width, tall = (math.ceil(float(it) * 4 / 3) for it in re.search(r'width="([\d.]+)pt" height="([\d.]+)pt"', svg).groups())
+    width, tall = (math.ceil(float(it) * 4 / 3) for it in re.search(r'width="([\d.]+)pt" height="([\d.]+)pt"',
+                                                                    svg).groups())
     svg = re.sub(r'<title>[^<]*</title>', "", svg)
     svg = re.sub(r' (font-family|font-size|fill)="[^"]*"(?=[^>]*>[^<]*</text>)', "", svg)
-    svg = svg.replace('fill="white" stroke="transparent"', 'class="paper"').replace('fill="white" stroke="none"', 'class="paper"')
+    svg = svg.replace('fill="white" stroke="transparent"', 'class="paper"').replace('fill="white" stroke="none"',
+                                                                                    'class="paper"')
     scale = min(1, WIDTH / width)
     head = f'width="{round(width * scale)}" height="{round(tall * scale)}"'
     svg = re.sub(r'width="[\d.]+pt" height="[\d.]+pt"', head, svg, count=1)
-    return re.sub(r"(<svg[^>]*>)", lambda it: f"{it[1]}<title>Blocking graph of {escape.text(title)}</title><style>{STYLE}text {{ font-size: 11px }}</style>", svg, count=1)
+    return re.sub(r"(<svg[^>]*>)", lambda it: (f"{it[1]}<title>Blocking graph of {escape.text(title)}</title>"
+                                               f"<style>{STYLE}text {{ font-size: 11px }}</style>"), svg, count=1)
 
 
 class Layout:
@@ -150,26 +160,33 @@ class Layout:
             self.arrow(start, end, arrow)
         for box, (texts, style) in self.graph.boxes.items():
             self.box(box, texts, style)
-        head = '<marker id="head" viewBox="0 0 8 8" refX="7" refY="4" markerWidth="9" markerHeight="9" markerUnits="userSpaceOnUse" orient="auto"><path class="head" d="M0 0L8 4L0 8z" fill="#777"/></marker>'
+        head = ('<marker id="head" viewBox="0 0 8 8" refX="7" refY="4" markerWidth="9" markerHeight="9" '
+                'markerUnits="userSpaceOnUse" orient="auto">'
+                '<path class="head" d="M0 0L8 4L0 8z" fill="#777"/></marker>')
         return "\n".join([
-            f'<svg xmlns="http://www.w3.org/2000/svg" viewBox="0 0 {WIDTH} {self.tall}" width="{WIDTH}" height="{self.tall}" role="img">',
+            (f'<svg xmlns="http://www.w3.org/2000/svg" viewBox="0 0 {WIDTH} {self.tall}" width="{WIDTH}" '
+             f'height="{self.tall}" role="img">'),
             f"<title>Blocking graph of {escape.text(title)}</title><style>{STYLE}</style><defs>{head}</defs>",
             f'<rect class="paper" width="{WIDTH}" height="{self.tall}"/>',
-            f'<text class="title" x="12" y="20">{escape.text(title)}: {counted(len(self.graph.boxes), "place")}</text>', *self.parts,
+            (f'<text class="title" x="12" y="20">{escape.text(title)}: {counted(len(self.graph.boxes), "place")}'
+             f'</text>'), *self.parts,
             "</svg>\n"
         ])
 
     def box(self, box, texts, style):
         x, y = self.at[box]
-        lines = "".join(f'<text x="{x:.1f}" y="{y + TALL / 2 + 4 + 13 * (at - (len(texts) - 1) / 2):.1f}" text-anchor="middle">{escape.text(it)}</text>'
+        lines = "".join(f'<text x="{x:.1f}" y="{y + TALL / 2 + 4 + 13 * (at - (len(texts) - 1) / 2):.1f}" '
+                        f'text-anchor="middle">{escape.text(it)}</text>'
                         for at, it in enumerate(texts))
-        self.parts.append(f'<g class="node"><rect class="box" x="{x - BOX / 2:.1f}" y="{y}" width="{BOX}" height="{TALL}" rx="5" fill="{colour(style)}"/>{lines}</g>')
+        self.parts.append(f'<g class="node"><rect class="box" x="{x - BOX / 2:.1f}" y="{y}" width="{BOX}" '
+                          f'height="{TALL}" rx="5" fill="{colour(style)}"/>{lines}</g>')
 
     def arrow(self, start, end, arrow):
         (x, y), (to_x, to_y) = self.at[start], self.at[end]
         if to_y == y:  # on the right of the boxes
             right, to_y, y = max(x, to_x) + BOX / 2, y + TALL * .25, y + TALL * .75
-            path = f"M{x + BOX / 2:.1f} {y}C{right + 40:.1f} {y + 14} {right + 40:.1f} {to_y - 14} {to_x + BOX / 2:.1f} {to_y}"
+            path = (f"M{x + BOX / 2:.1f} {y}C{right + 40:.1f} {y + 14} {right + 40:.1f} {to_y - 14} "
+                    f"{to_x + BOX / 2:.1f} {to_y}")
             at = (right + 62, y - TALL * .25)
         else:
             side = -ASIDE if to_y > y else ASIDE
@@ -178,6 +195,8 @@ class Layout:
             path = f"M{x:.1f} {y}C{x:.1f} {middle:.1f} {to_x:.1f} {middle:.1f} {to_x:.1f} {to_y}"
             at = ((x + to_x) / 2, middle + (8 if side > 0 else -8))
         lines = self.graph.label(arrow)
-        texts = "".join(f'<tspan x="{at[0]:.1f}" dy="{13 if place else 4 - 6.5 * (len(lines) - 1)}">{escape.text(it)}</tspan>' for place, it in enumerate(lines))
-        self.parts.append(f'<path class="arrow" stroke-width="{self.graph.width(arrow):.1f}" marker-end="url(#head)" d="{path}"/>')
+        texts = "".join((f'<tspan x="{at[0]:.1f}" dy="{13 if place else 4 - 6.5 * (len(lines) - 1)}">{escape.text(it)}'
+                         f'</tspan>') for place, it in enumerate(lines))
+        self.parts.append(f'<path class="arrow" stroke-width="{self.graph.width(arrow):.1f}" marker-end="url(#head)" '
+                          f'd="{path}"/>')
         self.parts.append(f'<text class="count" y="{at[1]:.1f}" text-anchor="middle">{texts}</text>')

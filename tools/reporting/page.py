@@ -1,8 +1,8 @@
 """A run as one page of HTML, with nothing from outside: a dashboard, a timeline that zooms, the requests, the blocking
 graph, the log, the source, and the report.
 
-The page has the numbers of the run as JSON, and a script (page.js) that draws them. Dashboard and plots are of the whole
-run, whatever its length; the other views have the first lines of the log.
+The page has the numbers of the run as JSON, and a script (page.js) that draws them. Dashboard and plots are of the
+whole run, whatever its length; the other views have the first lines of the log.
 """
 import array, base64, pathlib
 
@@ -13,7 +13,7 @@ from . import coverage, dashboard, escape, graph, outcomes, palette, readiness, 
 from .columns import TICKS, number
 
 HERE = pathlib.Path(__file__).parent
-MOST_LINES = 250_000  # of the log that the page has; the rest is left out, and the page says so
+MOST_LINES = 100_000  # of the log that the page has; the rest is left out, and the page says so
 MOST_OUTPUTS = 8  # of a request that the page has
 MOST_DRAWN = 60  # threads of the timeline in the dashboard
 
@@ -84,7 +84,8 @@ class Page:
     def rows_of_requests(self):
         """Each request: value, arrived, taken, thread, first and last answer, the number of outputs, and the first of
         them."""
-        return [[it.value, it.arrived, it.taken, it.thread, it.first, it.last, len(it.outputs), it.outputs[:MOST_OUTPUTS]]
+        return [[it.value, it.arrived, it.taken, it.thread, it.first, it.last, len(it.outputs),
+                 it.outputs[:MOST_OUTPUTS]]
                 for it in self.requests.entries]
 
     def styles(self):
@@ -100,7 +101,8 @@ class Page:
     def data(self):
         nodes = {"0": "start", "1": "end"} | {node: self.names.node(node) for node in self.keys}
         return {
-            "clock": self.clock, "nodes": nodes, "styles": self.styles(), "threads": self.threads, "segments": self.segments,
+            "clock": self.clock, "nodes": nodes, "styles": self.styles(), "threads": self.threads,
+            "segments": self.segments,
             "drops": self.drops, "log": "\n".join(self.log), "requests": self.rows_of_requests(),
             "unit": [self.unit.name, self.unit.ticks], "leftOut": max(self.lines - MOST_LINES, 0),
         }
@@ -122,14 +124,17 @@ class Page:
         counts = self.counts.lines() if not self.counts.replay.is_lost and self.lines <= MOST_LINES else {}
         for line, code in enumerate(self.source.decode(errors="replace").splitlines(), 1):
             count = counts.get(line)
-            kind = " missed" if count == 0 else ""
-            yield f'<span class="code{kind}" id="L{line}"><a href="#at={line}" title="the log\'s lines at line {line}">{line}</a><b>{"" if count is None else number(count)}</b><code>{escape.text(code)}</code></span>'
+            kind, shown = " missed" if count == 0 else "", "" if count is None else number(count)
+            yield (f'<span class="code{kind}" id="L{line}"><a href="#at={line}" title="the log\'s lines at line '
+                   f'{line}">{line}</a><b>{shown}</b><code>{escape.text(code)}</code></span>')
 
     def finish(self):
         picture = base64.b64encode(self.graph.svg(self.title).encode()).decode()
-        image = f'<img alt="The blocking graph: a box for each place, an arrow for each pair of places" src="data:image/svg+xml;base64,{picture}">'
+        image = (f'<img alt="The blocking graph: a box for each place, an arrow for each pair of places" '
+                 f'src="data:image/svg+xml;base64,{picture}">')
         parts = {
-            "TITLE": escape.text(self.title), "STOP": escape.text(self.stop), "OVERVIEW": self.dashboard(), "REPORT": self.report(),
+            "TITLE": escape.text(self.title), "STOP": escape.text(self.stop), "OVERVIEW": self.dashboard(),
+            "REPORT": self.report(),
             "SOURCE": "\n".join(self.source_lines()), "GRAPH": image, "DATA": escape.script(self.data()),
             "STYLE": palette.STYLE + (HERE / "page.css").read_text(), "SCRIPT": (HERE / "page.js").read_text(),
         }

@@ -33,7 +33,8 @@ def pattern(name, colour, kind):
         "stripes": '<path d="M-1 5L5 -1M-1 9L9 -1M3 9L9 3" stroke="#000" stroke-opacity=".35"/>',
         "dots": '<circle cx="2" cy="2" r="1" fill-opacity=".45"/><circle cx="6" cy="6" r="1" fill-opacity=".45"/>',
     }
-    return f'<pattern id="{name}" width="8" height="8" patternUnits="userSpaceOnUse"><rect width="8" height="8" fill="{colour}"/>{marks[kind]}</pattern>'
+    return (f'<pattern id="{name}" width="8" height="8" patternUnits="userSpaceOnUse"><rect width="8" height="8" '
+            f'fill="{colour}"/>{marks[kind]}</pattern>')
 
 
 STYLE = """

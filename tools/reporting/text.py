@@ -53,7 +53,8 @@ class Report:
             yield from labelled("answers", PAIRINGS[document["answers"]])
         if it := document["window"]:
             to = "the end" if it["to"] is None else self.unit.shown(it["to"])
-            yield from labelled("window", f"from {self.unit.shown(it['from'])} to {to}: requests that arrived, waits, choices and segments that ended")
+            yield from labelled("window", f"from {self.unit.shown(it['from'])} to {to}: requests that arrived, waits, "
+                                          f"choices and segments that ended")
         names = ("came", "dropped", "taken", "answered")
         yield from labelled("requests", ", ".join(f"{number(document['requests'][it])} {it}" for it in names))
         yield from self.other_outputs()
@@ -73,19 +74,22 @@ class Report:
         """The last clock and the share of the time in which segments ran, if the document has them."""
         if it := self.document.get("run"):
             share = f" ({100 * it['busy'] / it['ended']:.0f} %)" if it["ended"] else ""
-            yield from labelled("time", f"{self.unit.counted(it['ended'])}, busy for {self.unit.shown(it['busy'])}{share}: {counted(it['segments'], 'segment')} of {counted(it['threads'], 'thread')}")
+            ran = f"{counted(it['segments'], 'segment')} of {counted(it['threads'], 'thread')}"
+            busy = f"busy for {self.unit.shown(it['busy'])}{share}"
+            yield from labelled("time", f"{self.unit.counted(it['ended'])}, {busy}: {ran}")
 
     def choices(self):
         it = self.document["choices"]
-        ways = [f"{number(it[key])} {name}" for key, name in (("by_score", "by score"), ("by_gate", "by the gate"), ("by_turn", "by turn"))
-                if it.get(key) is not None]
+        named = (("by_score", "by score"), ("by_gate", "by the gate"), ("by_turn", "by turn"))
+        ways = [f"{number(it[key])} {name}" for key, name in named if it.get(key) is not None]
         yield from labelled("choices", number(it["count"]) + (f": {', '.join(ways)}" if ways else ""))
 
     def gate(self):
         it = self.document["gate"]
         if it is None:
             return
-        text = f"closed {counted(it['times'], 'time')}, for {self.unit.counted(it['ticks'])} in all" if it["times"] else "open all the time"
+        text = f"closed {counted(it['times'], 'time')}, for {self.unit.counted(it['ticks'])} in all"
+        text = text if it["times"] else "open all the time"
         text += ", closed at the end" * it["is_closed_at_end"]
         if it.get("held_back"):
             text += f", held a request back at {counted(it['held_back'], 'choice')}"
@@ -98,12 +102,15 @@ class Report:
         full = [it["resource"] for it in self.document["resources"] if it["used"] == it["cap"]]
         if run and full and gate["ticks"] >= MOSTLY * run["ended"] > 0:
             named = " and ".join(f"resource {it}" for it in full)
-            yield from labelled("", f"{named} in full use, as a lock or a queue, keeps it closed: let a lock or an item be 2 units of 3 (docs/WRITING.md, \"Locks and queues, and the gate\")")
+            yield from labelled("", f"{named} in full use, as a lock or a queue, keeps it closed: let a lock or an "
+                                    f"item be 2 units of 3 (docs/WRITING.md, \"Locks and queues, and the gate\")")
 
     def latencies(self):
         first, last = (self.document["latency"][which] for which in ("first", "last"))
-        kinds = [("first and last answer", first)] if first == last else [("first answer", first), ("last answer", last)]
-        rows = [[name, *[self.unit.shown(it[key]) for _, key in RANKS], self.unit.shown(it["arrived"]), f"by thread {it['thread']}"]
+        kinds = [("first and last answer", first)] if first == last else [("first answer", first),
+                                                                          ("last answer", last)]
+        rows = [[name, *[self.unit.shown(it[key]) for _, key in RANKS], self.unit.shown(it["arrived"]),
+                 f"by thread {it['thread']}"]
                 for name, it in kinds if it]
         if rows:
             yield from table([f"latency, {self.unit.name}", *[name for name, _ in RANKS], "arrived", "taken"], rows,
@@ -115,7 +122,8 @@ class Report:
             return
         head = f"request {number(it['number'])}" + ", the slowest" * it["is_slowest"]
         if "parts" not in it:
-            yield f"{head}: {counted(it['came'], 'request')} came in all" if "came" in it else f"{head}: no accept took it"
+            why = f"{counted(it['came'], 'request')} came in all" if "came" in it else "no accept took it"
+            yield f"{head}: {why}"
             return
         yield f"{head}: arrived at {self.unit.shown(it['arrived'])}, taken by thread {it['thread']}"
         shown, rest = longest(it["parts"], self.most_parts)
@@ -133,7 +141,8 @@ class Report:
             what = f"until thread {part['thread']} answers"
         elif what == "waits":
             ready = part["until"] - part["ready_at"] if part.get("ready_at") is not None else 0
-            what = f"waits at {documents.shown(part['place'])}" + (f", ready for {self.unit.shown(ready)}" if ready else "")
+            what = f"waits at {documents.shown(part['place'])}"
+            what += f", ready for {self.unit.shown(ready)}" if ready else ""
         return [self.unit.shown(part["ticks"]), self.unit.shown(part["until"]), what]
 
     def waits(self):
@@ -141,14 +150,16 @@ class Report:
         if not waits:
             return
         has_ready = any(it.get("split") for it in waits)
-        self.ranks = [it for it in RANKS[1:] if it[1] in waits[0]]
+        self.ranks = [it for it in RANKS[1:] if it[1] in waits[0] and (it[0] != "p90" or self.most is None)]
         order = sorted(range(len(waits)), key=lambda at: -waits[at]["total"])
         kept = set(order if self.most is None else order[:self.most])
         rows = [self.wait(it, has_ready) for at, it in enumerate(waits) if at in kept]
         if rest := [it for at, it in enumerate(waits) if at not in kept]:
             count, total = (sum(it[key] for it in rest) for key in ("count", "total"))
-            rows.append([number(count), self.unit.shown(total), *[""] * (len(rows[0]) - 3), f"{counted(len(rest), 'more place')} (--all)"])
-        yield from table(["waits", self.unit.name, *["ready"] * has_ready, *[name for name, _ in self.ranks], "thread", "until",
+            rows.append([number(count), self.unit.shown(total), *[""] * (len(rows[0]) - 3),
+                         f"{counted(len(rest), 'more place')} (--all)"])
+        yield from table(["waits", self.unit.name, *["ready"] * has_ready, *[name for name, _ in self.ranks], "thread",
+                          "until",
                           "at"], rows)
 
     def wait(self, it, has_ready):
@@ -172,7 +183,8 @@ class Report:
         if count := self.document["never_ran"]:
             yield f"{counted(count, 'thread')} that never ran"
         for it in self.document["resources"]:
-            yield from labelled(f"resource {it['resource']}", f"{number(it['used'])} of {number(it['cap'])} in use{self.holders(it)}")
+            yield from labelled(f"resource {it['resource']}",
+                                f"{number(it['used'])} of {number(it['cap'])} in use{self.holders(it)}")
 
     def waiting(self, group):
         """The rows of threads that wait alike."""
@@ -195,8 +207,7 @@ class Report:
         if not resource["holders"]:
             return ""
         if documents.is_semaphore(resource):
-            net = ", ".join(f"thread {it['thread']} took {number(it['units'])} more than it gave" if it["units"] >= 0 else
-                            f"thread {it['thread']} gave {number(-it['units'])} more than it took" for it in resource["holders"])
+            net = ", ".join(map(more_than, resource["holders"]))
             return ", taken by some threads and given by others" + (f": {net}" if self.most is None else "")
         named = ", ".join(f"{number(it['units'])} by thread {it['thread']}" for it in resource["holders"])
         more = f", the others by {counted(resource['more_holders'], 'more thread')}" if resource["more_holders"] else ""
@@ -216,6 +227,13 @@ class Report:
                 yield " " * LABEL + "and by more calls above"
         if it := self.document["stop"]:
             yield it["line"]
+
+
+def more_than(holder):
+    """What a thread took or gave more."""
+    units = number(abs(holder["units"]))
+    way = "took {} more than it gave" if holder["units"] >= 0 else "gave {} more than it took"
+    return f"thread {holder['thread']} {way.format(units)}"
 
 
 def longest(parts, most):

@@ -26,7 +26,7 @@ class Timeline:
         self.story, self.names, self.chunks, self.ready = story, Names(story.places, story.keys), chunks, ready
         self.first, self.last = span
         self.segments = [array.array("q") for _ in range(6)]  # thread, since, ready, start, end, node
-        self.free, self.items, self.answers, self.drops = array.array("q"), array.array("q"), array.array("q"), array.array("q")
+        self.free, self.items, self.answers, self.drops = (array.array("q") for _ in range(4))
         self.uses = collections.defaultdict(list)  # resource: clocks and units
         self.functions, self.clock, self.waiting = {}, 0, {}
 
@@ -118,10 +118,12 @@ class Drawing:
         self.draw_rows(threads[:MOST_ROWS])
         self.axis()
         self.legend(len(threads) - MOST_ROWS)
-        head = f'<svg xmlns="http://www.w3.org/2000/svg" viewBox="0 0 {WIDTH} {self.y}" width="{WIDTH}" height="{self.y}" role="img">'
+        head = (f'<svg xmlns="http://www.w3.org/2000/svg" viewBox="0 0 {WIDTH} {self.y}" width="{WIDTH}" '
+                f'height="{self.y}" role="img">')
         span = f"clock {number(self.first)} to {number(self.last)}, {number(len(threads))} threads"
         return "\n".join([
-            head, f"<title>Timeline of {escape.text(title)}</title><style>{palette.STYLE}</style>", "<defs>", *palette.patterns(), "</defs>",
+            head, f"<title>Timeline of {escape.text(title)}</title><style>{palette.STYLE}</style>", "<defs>",
+            *palette.patterns(), "</defs>",
             f'<rect class="paper" width="{WIDTH}" height="{self.y}"/>',
             f'<text class="title" x="12" y="20">{escape.text(title)}</text>',
             f'<text class="faint" x="12" y="36">{span}; times in ticks</text>', *self.parts, "</svg>\n"
@@ -197,19 +199,23 @@ class Drawing:
         while clock <= self.last:
             x = self.x(clock)
             anchor = "middle" if x < WIDTH - 40 else "end"
-            self.parts.append(f'<path class="grid" d="M{x:.1f} {TOP}V{self.y}"/><text class="faint" x="{x:.1f}" y="{self.y + 12}" text-anchor="{anchor}">{number(clock)}</text>')
+            self.parts.append(f'<path class="grid" d="M{x:.1f} {TOP}V{self.y}"/><text class="faint" x="{x:.1f}" '
+                              f'y="{self.y + 12}" text-anchor="{anchor}">{number(clock)}</text>')
             clock += step
         self.y += 22
 
     def legend(self, more):
-        entries = [("run", "runs"), *[("ready", "ready, not chosen")] * bool(self.told.ready), *[("ended", "ended")] * bool(self.ended), *sorted(self.labels.items(), key=lambda it: (it[0] != "accept", it[1]))]
+        entries = [("run", "runs"), *[("ready", "ready, not chosen")] * bool(self.told.ready),
+                   *[("ended", "ended")] * bool(self.ended), *sorted(self.labels.items(),
+                                                                     key=lambda it: (it[0] != "accept", it[1]))]
         x, self.y = LEFT, self.y + 6
         for style, text in entries:
             width = 26 + 6.2 * len(text)
             if x + width > WIDTH - RIGHT:
                 x, self.y = LEFT, self.y + 17
             fill = f'class="{style}"' if style in OWN else f'class="wait" fill="url(#{style})"'
-            self.parts.append(f'<rect {fill} x="{x}" y="{self.y}" width="14" height="10"/><text x="{x + 19}" y="{self.y + 9}">{escape.text(text)}</text>')
+            self.parts.append(f'<rect {fill} x="{x}" y="{self.y}" width="14" height="10"/><text x="{x + 19}" '
+                              f'y="{self.y + 9}">{escape.text(text)}</text>')
             x += width
         self.y += 24
         if more > 0:

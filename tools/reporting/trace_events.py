@@ -70,7 +70,8 @@ class TraceEvents:
     def node(self, node):
         """The name of a node as JSON, made once."""
         if node not in self.quoted_nodes:
-            self.quoted_nodes[node] = quoted(self.names.node(node)), quoted(self.names.wait(node) if node > END else "start")
+            name = self.names.wait(node) if node > END else "start"
+            self.quoted_nodes[node] = quoted(self.names.node(node)), quoted(name)
         return self.quoted_nodes[node]
 
     def segment(self, it):
@@ -82,7 +83,8 @@ class TraceEvents:
             since = it.start if self.ready.since is None else max(self.ready.since, it.waited_since)
             self.wait(it.thread, it.node, it.waited_since, since, self.called)
             if since < it.start:
-                self.put("X", SERVER, it.thread, since, f'"dur":{it.start - since},"name":"ready","cat":"ready","args":{{"from":{self.node(it.node)[0]}}}')
+                told = f'"dur":{it.start - since},"name":"ready","cat":"ready"'
+                self.put("X", SERVER, it.thread, since, f'{told},"args":{{"from":{self.node(it.node)[0]}}}')
         to = '"cut"' if it.cut else self.node(it.end_node)[0]
         told = f'"from":{self.node(it.node)[0]},"to":{to},"instructions":{it.cost},"free chunks":{it.free}'
         if it.request is not None:
@@ -99,8 +101,8 @@ class TraceEvents:
             del self.ends[it.thread]
 
     def count_replayed(self, start, end):
-        """Units in use and live threads: what `take` takes at the start of the segment, all else at its end, as the log has no clock
-        for it."""
+        """Units in use and live threads: what `take` takes at the start of the segment, all else at its end, as the log
+        has no clock for it."""
         if self.replay.is_lost:
             return
         self.count("live threads", "threads", end, self.replay.live)

@@ -3,6 +3,7 @@ from .columns import counted, number
 from .document import at
 
 MOST_NUMBERS = 12  # of requests in a sentence
+MANY_CHOICES = 1000  # of other threads: one that is ready and isn't chosen meanwhile starves
 CUT = {"trap": "trap", "nochunk": "no free chunk", "threads": "too many threads"}  # the stops that are failures
 FOREIGN = "the log isn't of this source and trace: the numbers below mix two runs"
 EXPECTED = {
@@ -58,7 +59,8 @@ def unanswered(document):
     others = (document.get("other_outputs") or {}).get("count")
     which = named(document, missing, ("unanswered", "undecided"))
     if others and document["answers"] == "own":
-        yield f"{counted(missing, 'request')} without an answer by the own thread{which}; {counted(others, 'output')} by other threads (--answers)"
+        yield (f"{counted(missing, 'request')} without an answer by the own thread{which}; {counted(others, 'output')} "
+               f"by other threads (--answers)")
     else:
         yield f"{counted(missing, 'request')} taken and never answered{which}"
 
@@ -82,13 +84,18 @@ def dropped(document):
 
 
 def starved(document):
-    """Threads that were ready at the end, while others were chosen 1,000 times."""
+    """Threads that were ready at the end, while others were chosen 1,000 times; and threads that never ran although
+    there were as many choices."""
+    if document["never_ran"] and document["choices"]["count"] >= MANY_CHOICES:
+        verb = "was" if document["never_ran"] == 1 else "were"
+        yield f"starved: {counted(document['never_ran'], 'thread')} {verb} started and never ran"
     ready = document.get("ready") or {"threads": []}
     threads = [it for it in ready["threads"] if it["starves"]]
     for it in threads[:1]:
         others = f", and {counted(len(threads) - 1, 'other')} too" if len(threads) > 1 else ""
         place = f" at {at(it['place'])}" if it.get("place") else ""
-        yield f"starved: thread {it['thread']}{place} was ready for {counted(it['ticks'], 'tick')} and not chosen{others}"
+        yield (f"starved: thread {it['thread']}{place} was ready for {counted(it['ticks'], 'tick')} and not "
+               f"chosen{others}")
 
 
 def good(document):

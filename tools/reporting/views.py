@@ -49,7 +49,8 @@ class Views:
         makers = {
             "timeline": lambda: timeline.Timeline(told, self.span(), self.run.chunks(), ready()),
             "graph": lambda: graph.Graph(told),
-            "html": lambda: page.Page(file("html"), told, title, self.source, self.run.chunks(), self.run.options, unit),
+            "html": lambda: page.Page(file("html"), told, title, self.source, self.run.chunks(), self.run.options,
+                                      unit),
             "trace": lambda: trace_events.TraceEvents(file("trace"), told, title, self.run.chunks(), ready()),
             "folded": lambda: folded.Folded(file("folded"), told, asked.why, ready()),
             "requests": lambda: outcomes.Rows(file("requests"), told, asked.answers),

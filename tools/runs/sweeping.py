@@ -43,7 +43,7 @@ def verdict(told, source, log, caps):
 
 
 def is_deadlocked(source, log, caps):
-    """Whether threads wait in a circle for one another's resources at the end; not where the source can't be followed."""
+    """Whether threads wait in a circle for one another's resources at the end; not if the source can't be followed."""
     came = outcome.Outcome(log, places.Places(source))
     if all(came.callee(node) != "take" for node, _ in came.waiting.values()):
         return False
@@ -57,5 +57,6 @@ def failures(row, expected):
     """Which of the expectations the run of a row doesn't meet."""
     if "came" not in row:
         return [row["stop"]] if expected else []
-    met = {"answered": row["answered"] == row["came"], "no-drops": not row["dropped"], "no-deadlock": row["verdict"] != "deadlock"}
+    met = {"answered": row["answered"] == row["came"], "no-drops": not row["dropped"],
+           "no-deadlock": row["verdict"] != "deadlock"}
     return [it for it in expected if not met[it]]
