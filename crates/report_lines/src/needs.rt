@@ -10,11 +10,13 @@ use std::alloc::{AllocError, Global};
 pub fn needs_of(alloc: Global, places: &Places) -> Result<Vec<Need>, AllocError> {
     let mut needs = Vec::new(alloc);
     let mut knows_messages = true;
-    for site in 0..places.sites() {
-        let need = need_of(places, site as u32);
-        let is_wait = places.call_name(site as u32) == b"wait".as_slice();
+    let mut site: u32 = 0;
+    for _ in 0..places.sites() {
+        let need = need_of(places, site);
+        let is_wait = places.call_name(site) == b"wait".as_slice();
         knows_messages = knows_messages && (!is_wait || matches!(need, Need::Message { .. }));
         needs.push(need)?;
+        site = site.saturating_add(1);
     }
     if !knows_messages {
         for need in needs.as_mut_slice() {
