@@ -13,7 +13,7 @@
 MINUTE=60 # seconds between two looks at all sources
 # What the programs say if they are called so and nobody looks on. (dev/check_messages holds both to the programs.)
 USAGE_OF_CAPRICCIO="usage: capriccio serve SRC, run SRC IMG CRT, build SRC IMG CRT, check SRC IMG CRT, graph SRC, demo N, audit SRC LOG, budget SRC IMG CRT"
-USAGE_OF_REPORT="usage: report [--log LOG] [--answers first|value] [--from CLOCK] [--to CLOCK] [--request N] [--why] [--help] serve SRC .. | run SRC IMG CRT .."
+USAGE_OF_REPORT="usage: report [--timeline FILE] [--graph FILE] [--log LOG] [--answers first|value] [--from CLOCK] [--to CLOCK] [--request N] [--why] [--help] serve SRC .. | run SRC IMG CRT .."
 
 # Finds a Python: the system's, which starts faster than a version manager's.
 find_python() {

@@ -2,7 +2,7 @@
 import shutil, subprocess
 
 USAGE = "usage: capriccio serve SRC, run SRC IMG CRT, "
-USAGE_OF_REPORT = "usage: report [--log LOG] "
+USAGE_OF_REPORT = "usage: report [--timeline FILE] "
 HELP, HELP_OF_REPORT = "usage: capriccio COMMAND NAME ..", "usage: report [OPTION ..] serve SRC .."
 HELP_OF_TRY = "Runs Capriccio unproved"
 NOT_BUILT = "not built"

@@ -1,11 +1,15 @@
 """The document of a run: the numbers that the program `report` prints, by docs/report.schema.json."""
 import json
 
+from runs import report_json
+
 
 def read(printed):
     """The document in what the program printed, or None if there is none: a run without a stop has the beginning of
     its log in place of one."""
-    return json.loads(printed) if printed.startswith("{") else None
+    if printed.startswith("{"):
+        return json.loads(printed)
+    return report_json.value_of(printed)
 
 
 def shown(place, with_function=True):

@@ -1,110 +1,114 @@
 use crate::measures::{Measure, measures_in};
 use cap_text::{Fields, Lines};
-use report_text::Document;
+use report_text::Text;
 use source_places::Places;
 use std::alloc::{AllocError, Global};
 
-/// Writes what `graph` printed, as an object: the functions with their measures, and the calls, each with its place, its
-/// callees, and why it is checkpointed. A path between two checkpoints has at most this many bytes.
+/// Appends the lines that `graph` printed, each with its place; for a call also its text, its callees, and why it is
+/// checkpointed. A path between two checkpoints has at most this many bytes.
 pub fn put_analysis(
     alloc: Global,
-    document: &mut Document,
+    text: &mut Text,
     places: &Places,
     analysis: &[u8],
     max_path: u32,
 ) {
     match measures_in(alloc, analysis) {
         Ok(measures) => {
-            document.begin_object();
-            document.count("version", 1);
-            document.count("max_path", u64::from(max_path));
-            put_functions(document, places, measures.as_slice());
-            document.name("sites");
-            document.begin_list();
+            let functions = measures.as_slice();
             for line in Lines::new(analysis) {
-                put_site(alloc, document, places, measures.as_slice(), line);
+                text.bytes(line);
+                put_note(alloc, text, places, functions, line, max_path);
+                text.words("\n");
             }
-            document.end_list();
-            document.end_object();
             drop(measures)
         }
-        Err(AllocError) => document.lack(),
+        Err(AllocError) => text.lack(),
     }
 }
 
-/// Writes the functions, by number: the size of each one's frame, its bound and its place.
-fn put_functions(document: &mut Document, places: &Places, functions: &[Measure]) {
-    document.name("functions");
-    document.begin_list();
-    let mut number: u32 = 0;
-    for measure in functions {
-        document.begin_object();
-        document.count("function", u64::from(number));
-        document.count("frame", measure.frame);
-        document.count("bound", measure.bound);
-        document.name("place");
-        places.put_function_place(document, number);
-        document.end_object();
-        number = number.saturating_add(1);
-    }
-    document.end_list()
-}
-
-/// Writes the call of the line `site S CALLER KIND`, or nothing for another line.
-fn put_site(
+/// Appends the place of the line `function I ..`, or the call of the line `site S CALLER KIND` with its details.
+fn put_note(
     alloc: Global,
-    document: &mut Document,
+    text: &mut Text,
     places: &Places,
     functions: &[Measure],
     line: &[u8],
+    max_path: u32,
 ) {
     let mut fields = Fields::new(line, b' ');
-    let (Some(b"site"), Some(site), Some(_), Some(kind)) = (
-        fields.next(),
-        fields.word(),
-        fields.next(),
-        fields.next(),
-    ) else {
+    let (Some(kind), Some(number)) = (fields.next(), fields.word()) else {
         return;
     };
-    document.begin_object();
-    document.count("site", u64::from(site));
-    document.name("kind");
-    document.characters(alloc, kind);
-    document.name("place");
-    places.put_site_text(document, site);
-    match places.callees(alloc, site) {
-        Ok(callees) => {
-            put_callees(document, places, callees.as_slice());
-            if kind == b"over".as_slice() {
-                put_over(document, functions, places.caller(site), callees.as_slice())
-            }
-            drop(callees)
-        }
-        Err(AllocError) => document.lack(),
+    text.words(": ");
+    if kind == b"function".as_slice() {
+        places.put_function_place(text, number)
+    } else {
+        places.put_site_text(text, number);
+        put_reason(alloc, text, places, functions, number, fields, max_path)
     }
-    document.end_object()
 }
 
-/// Writes the functions that a call may call: several for a call through a table.
-fn put_callees(document: &mut Document, places: &Places, callees: &[u32]) {
-    document.name("callees");
-    document.begin_list();
-    for callee in callees {
-        places.put_function(document, *callee);
-    }
-    document.end_list()
-}
-
-/// Writes the two numbers whose sum exceeds the maximum path, so that a call is checkpointed that closes no cycle: the
-/// size of the caller's frame, and the greatest bound of the callees.
-fn put_over(document: &mut Document, functions: &[Measure], caller: Option<u32>, callees: &[u32]) {
-    let frame = match caller {
-        Some(number) => functions.get(number as usize),
-        None => None,
+/// Appends the possible callees of a call through a table, and why a site is checkpointed, from the remaining fields of
+/// its line.
+fn put_reason(
+    alloc: Global,
+    text: &mut Text,
+    places: &Places,
+    functions: &[Measure],
+    site: u32,
+    mut fields: Fields,
+    max_path: u32,
+) {
+    let Ok(callees) = places.callees(alloc, site) else {
+        text.lack();
+        return;
     };
-    document.count("frame", frame.map_or(0, |measure| measure.frame));
-    document.count("bound", greatest_of(functions, callees))
+    put_callees(text, places, callees.as_slice());
+    fields.next();
+    match fields.next() {
+        Some(b"back") => text.words(", checkpointed: it closes a cycle of calls"),
+        Some(b"over") => {
+            let caller = places.caller(site);
+            put_over(text, functions, caller, callees.as_slice(), max_path)
+        }
+        _ => (),
+    }
+    drop(callees)
+}
+
+/// Appends the functions that a call through a table may call.
+fn put_callees(text: &mut Text, places: &Places, callees: &[u32]) {
+    if callees.len() < 2 {
+        return;
+    }
+    let mut is_first = true;
+    for callee in callees {
+        text.words(if is_first { ", calls " } else { " or " });
+        places.put_function(text, *callee);
+        is_first = false;
+    }
+}
+
+/// Appends why a call is checkpointed that closes no cycle: without a test the path would be too long.
+fn put_over(
+    text: &mut Text,
+    functions: &[Measure],
+    caller: Option<u32>,
+    callees: &[u32],
+    max_path: u32,
+) {
+    let Some(number) = caller else {
+        return;
+    };
+    let frame = match functions.get(number as usize) {
+        Some(measure) => measure.frame,
+        None => 0,
+    };
+    text.form(
+        ", checkpointed: the caller's frame of $ bytes and the callee's bound of $ exceed the $ of a path",
+        &[frame, greatest_of(functions, callees), u64::from(max_path)],
+    )
 }
 
 /// Returns the greatest bound of these functions.

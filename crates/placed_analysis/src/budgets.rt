@@ -1,45 +1,31 @@
 use cap_text::{Fields, Lines};
-use report_text::Document;
+use report_text::Text;
 use source_places::Places;
 
-/// Writes what `budget` printed, as an object: the number of chunks that are enough for each live thread, and the height
-/// of each function with its place.
-pub fn put_budget(document: &mut Document, places: &Places, budget: &[u8]) {
-    document.begin_object();
-    document.count("version", 1);
+/// Appends the lines that `budget` printed, each with the meaning of its number.
+pub fn put_budget(text: &mut Text, places: &Places, budget: &[u8]) {
     for line in Lines::new(budget) {
-        put_chunks(document, line);
-    }
-    document.name("heights");
-    document.begin_list();
-    for line in Lines::new(budget) {
-        put_height(document, places, line);
-    }
-    document.end_list();
-    document.end_object()
-}
-
-/// Writes the number of the line `chunks K`, or nothing for another line.
-fn put_chunks(document: &mut Document, line: &[u8]) {
-    let mut fields = Fields::new(line, b' ');
-    if let (Some(b"chunks"), Some(chunks)) = (fields.next(), fields.count()) {
-        document.count("chunks", chunks)
+        text.bytes(line);
+        put_note(text, places, line);
+        text.words("\n");
     }
 }
 
-/// Writes the function and the number of the line `height I H`, or nothing for another line.
-fn put_height(document: &mut Document, places: &Places, line: &[u8]) {
+/// Appends the meaning of a line's number: for `chunks K` each thread, and for `height I H` the function of that
+/// number.
+fn put_note(text: &mut Text, places: &Places, line: &[u8]) {
     let mut fields = Fields::new(line, b' ');
-    if let (Some(b"height"), Some(function), Some(height)) = (
-        fields.next(),
-        fields.word(),
-        fields.count(),
-    ) {
-        document.begin_object();
-        document.count("function", u64::from(function));
-        document.count("height", height);
-        document.name("place");
-        places.put_function_place(document, function);
-        document.end_object()
+    let Some(kind) = fields.next() else {
+        return;
+    };
+    if kind == b"chunks".as_slice() {
+        text.words(": this many are enough for each live thread");
+        return;
+    }
+    if let Some(function) = fields.word() {
+        text.words(": ");
+        places.put_function(text, function);
+        text.words(" at ");
+        places.put_function_place(text, function)
     }
 }

@@ -1,16 +1,16 @@
-// The output of `graph` and `budget`, as a document with the places in the source.
+// The output of `graph` and `budget`, shown with the places in the source.
 
 use crate::failures::Failure;
 use crate::inputs::load;
-use crate::outcome::{MOST_BYTES, put, show_document};
+use crate::outcome::{MOST_BYTES, put};
 use crate::run::make_run;
 use cap_io::{CleanSink, CleanSource, Shelf, Sink};
 use capriccio_commands::let_go;
 use command_words::{Command, read_words};
 use placed_analysis::{put_analysis, put_budget};
-use report_text::Document;
+use report_text::Text;
 use source_places::Places;
-use std::alloc::Global;
+use std::alloc::{AllocError, Global};
 
 /// Checks whether the words ask for `graph` or `budget`.
 pub(crate) fn is_analysis(alloc: Global, words: &Vec<String>) -> bool {
@@ -100,10 +100,15 @@ fn show_placed<K: Sink>(
     max_path: Option<u32>,
     out: &mut K,
 ) -> Result<(), Failure> {
-    let mut document = Document::new(alloc);
+    let mut text = Text::new(alloc);
     match max_path {
-        Some(most) => put_analysis(alloc, &mut document, places, printed, most),
-        None => put_budget(&mut document, places, printed),
+        Some(most) => put_analysis(alloc, &mut text, places, printed, most),
+        None => put_budget(&mut text, places, printed),
     }
-    show_document(out, document)
+    let shown = match text.whole() {
+        Ok(lines) => put(out, lines.as_bytes()),
+        Err(AllocError) => Err(Failure::Memory),
+    };
+    drop(text);
+    shown
 }

@@ -1,5 +1,4 @@
 use cap_io::{Sink, put_all};
-use repeated_run::RepeatError;
 use report_lines::LinesError;
 use source_places::PlacesError;
 use std::alloc::AllocError;
@@ -19,7 +18,7 @@ pub enum Failure {
     NoLog,
     /// A file or the trace couldn't be read.
     Read,
-    /// The report couldn't be written.
+    /// The report or a picture couldn't be written.
     Write,
     /// Out of memory.
     Memory,
@@ -49,14 +48,6 @@ impl From<LinesError> for Failure {
     }
 }
 
-impl From<RepeatError> for Failure {
-    fn from(error: RepeatError) -> Failure {
-        match error {
-            RepeatError::Read => Failure::Read,
-        }
-    }
-}
-
 impl Failure {
     /// Returns the status of the program, which is Capriccio's for the same failure, and the line for standard error,
     /// with its line feed.
@@ -64,7 +55,7 @@ impl Failure {
         match self {
             Failure::Words => (
                 2,
-                b"usage: report [--log LOG] [--answers first|value] [--from CLOCK] [--to CLOCK] [--request N] [--why] [--help] serve SRC .. | run SRC IMG CRT ..\n",
+                b"usage: report [--timeline FILE] [--graph FILE] [--log LOG] [--answers first|value] [--from CLOCK] [--to CLOCK] [--request N] [--why] [--help] serve SRC .. | run SRC IMG CRT ..\n",
             ),
             Failure::Source => (3, b"report: the source is refused\n"),
             Failure::Log => (4, b"report: the log is not that of a run\n"),

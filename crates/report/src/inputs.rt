@@ -17,3 +17,17 @@ pub fn load<F: Shelf>(
         Err(_) => Err(Failure::Read),
     }
 }
+
+/// Stores a picture.
+pub fn store<F: Shelf>(
+    alloc: Global,
+    shelf: &mut F,
+    name: &str,
+    text: &str,
+) -> Result<(), Failure> {
+    match shelf.store(alloc, name, text.as_bytes()) {
+        Ok(()) => Ok(()),
+        Err(ShelfError::Memory) => Err(Failure::Memory),
+        Err(_) => Err(Failure::Write),
+    }
+}

@@ -1,28 +1,27 @@
 // A program that makes a run of Capriccio and shows what happened in it.
 //
 // In: its options and the words of the run, the source in a file, and the trace on standard input. Out: a report on
-// standard output as one JSON document, and the status of the run. The run is that of `capriccio`, which `make_run`
-// calls with a log in memory; with `--log` a stored log is read instead. docs/REPORT.md describes the report, and
-// docs/report.schema.json the document. `show` of outcome.rt is the whole program over objects that are passed to it;
-// `main` makes the real ones.
+// standard output, pictures in files, and the status of the run. The run is that of `capriccio`, which `make_run` calls
+// with a log in memory; with `--log` a stored log is read instead. docs/REPORT.md describes the report. `show` of
+// outcome.rt is the whole program over objects that are passed to it; `main` makes the real ones.
 //
 // The happenings of a log's entries and the numbers of a whole log are those of `run_history`; `report_lines` writes
-// the members about them, `stopped_run` those about the world at the stop, and `source_places` the places of a source's
-// calls. The repeated run is that of `repeated_run`, the output of `graph` and `budget` is in `analysis`. All output is
-// written into a `Document` of `report_text`: a complete document has each token that was put into it, and each number
-// in decimal digits.
+// the lines about them, `run_pictures` the pictures, and `source_places` has the places of a source's calls. The
+// repeated run is in `again`, the report on the world at the stop in `report`, the output of `graph` and `budget` in
+// `analysis`. All output is written into a `Text` of `report_text`: a complete text has each piece that was put into
+// it, and each number in decimal digits.
 #![tactic(auto)]
 
+mod again;
 mod analysis;
-mod course;
 mod failures;
 mod help;
 mod inputs;
-mod left;
 mod outcome;
+mod pictures;
+mod push;
 mod report;
 mod run;
-mod stops;
 mod subject;
 mod trace;
 mod wanted;

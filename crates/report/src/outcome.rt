@@ -1,30 +1,30 @@
+use crate::again::holders::Holders;
+use crate::again::starting::make_once_more;
+use crate::again::{Decided, Told};
 use crate::analysis::{is_analysis, show_analysis};
 use crate::failures::Failure;
 use crate::help::HELP;
-use crate::inputs::load;
-use crate::report::{RunLog, last_line, put_report};
+use crate::inputs::{load, store};
+use crate::pictures::{put_blocking, put_times};
+use crate::report::circles::put_circles;
+use crate::report::stop::{cut_in, is_in_use, put_stop};
+use crate::report::{Found, RunLog, last_line, put_report};
 use crate::run::make_run;
-use crate::stops::{failure_in, put_stop_line};
 use crate::subject::{Subject, subject_of};
 use crate::trace::Trace;
 use crate::wanted::Wanted;
 use cap_io::{CleanSink, CleanSource, Shelf, Sink, Source, put_all};
 use capriccio_commands::let_go;
-use repeated_run::{Holders, Told, make_once_more};
 use report_figures::{TickList, Window};
-use report_text::Document;
+use report_text::Text;
 use run_history::Answering;
 use schedule_log::read_entry;
 use source_places::Places;
-use std::alloc::Global;
-use stopped_run::{cut_in, is_in_use, never_ran, put_circles, put_stopped, put_uses};
+use std::alloc::{AllocError, Global};
 use thread_core::World;
 
 /// The last line of the log of a run in which no thread is ready.
 const IDLE: &[u8] = b"stop idle";
-
-/// The version of the document.
-const VERSION: u64 = 1;
 
 /// The maximum size of a source in bytes.
 pub(crate) const MOST_BYTES: u32 = 1_048_576;
@@ -126,7 +126,6 @@ fn show_kept<'a, F: Shelf, K: Sink>(
     };
     let run = Run {
         subject,
-        status: 0,
         times,
         log,
         world: None,
@@ -160,12 +159,7 @@ fn show_run<F: Shelf, K: Sink, E: Sink>(
         &mut last,
     );
     drop(source);
-    let made = Made {
-        status,
-        log: log.bytes(),
-        last: &last,
-    };
-    let shown = show_made(alloc, wanted, times, made, shelf, out);
+    let shown = show_made(alloc, wanted, times, log.bytes(), &last, shelf, out);
     drop(log);
     if let Some(world) = last {
         let_go(world);
@@ -174,30 +168,21 @@ fn show_run<F: Shelf, K: Sink, E: Sink>(
     Ok(status)
 }
 
-/// A run that was made: its status, its log, and the world at its stop, if it reached one.
-#[derive(Clone, Copy)]
-struct Made<'a> {
-    status: u8,
-    log: &'a [u8],
-    last: &'a Option<World>,
-}
-
 /// Shows a run from its log and the world at its stop.
 fn show_made<'a, F: Shelf, K: Sink>(
     alloc: Global,
     wanted: &'a Wanted,
     times: &'a TickList,
-    made: Made<'a>,
+    log: &'a [u8],
+    last: &'a Option<World>,
     shelf: &mut F,
     out: &mut K,
 ) -> Result<(), Failure> {
-    let log = made.log;
-    match (subject_of(alloc, &wanted.words)?, made.last) {
+    match (subject_of(alloc, &wanted.words)?, last) {
         (Some(subject), Some(world)) => {
             let told = told_of(alloc, wanted, shelf, log, world)?;
             let run = Run {
                 subject,
-                status: made.status,
                 times,
                 log,
                 world: Some(world),
@@ -223,23 +208,22 @@ fn told_of<F: Shelf>(
     if !wanted.why && (last_line(log) != IDLE || !is_in_use(world)) {
         return Ok(None);
     }
-    match make_once_more(alloc, &wanted.words, shelf, log)? {
-        Some(mut told) => {
+    match make_once_more(alloc, &wanted.words, shelf, log) {
+        Ok(Some(mut told)) => {
             if !wanted.why {
                 told.decided = None;
             }
             Ok(Some(told))
         }
-        None => Ok(None),
+        other => other,
     }
 }
 
-/// A run to be shown: what its words say, its status, the times of its trace, its log, and, in addition to the log, the
-/// world at its stop and the results of the repeated run.
+/// A run to be shown: what its words say, the times of its trace, its log, and, in addition to the log, the world at
+/// its stop and the results of the repeated run.
 #[derive(Clone, Copy)]
 struct Run<'a> {
     subject: Subject<'a>,
-    status: u8,
     times: &'a TickList,
     log: &'a [u8],
     world: Option<&'a World>,
@@ -257,36 +241,37 @@ fn show_log<F: Shelf, K: Sink>(
     let name = run.subject.source;
     let source = load(alloc, shelf, name, MOST_BYTES, Failure::NoSource)?;
     let places = Places::read(alloc, name, source)?;
-    let shown = show_placed(alloc, wanted, &places, run, out);
+    let shown = show_placed(alloc, wanted, &places, run, shelf, out);
     drop(places);
     shown
 }
 
-/// Shows a run, given the places of its source.
-fn show_placed<K: Sink>(
+/// Shows a run, given the places of its source: the report, and the pictures that the words ask for. The blocking graph
+/// is stored as DOT if the file's name ends with that, and otherwise as SVG.
+fn show_placed<F: Shelf, K: Sink>(
     alloc: Global,
     wanted: &Wanted,
     places: &Places,
     run: Run,
+    shelf: &mut F,
     out: &mut K,
 ) -> Result<(), Failure> {
-    let mut document = Document::new(alloc);
-    match put_document(alloc, &mut document, places, run, wanted) {
-        Ok(()) => show_document(out, document),
-        Err(failure) => {
-            drop(document);
-            Err(failure)
-        }
+    let found = put_text(alloc, places, run, wanted, out)?;
+    if let Some(name) = &wanted.timeline {
+        let mut text = Text::new(alloc);
+        let asked = (wanted.from, wanted.to);
+        let written = put_times(alloc, &mut text, places, run.log, found, asked);
+        store_whole(alloc, shelf, name.as_str(), written, text)?;
     }
-}
-
-/// Shows a document, with a line feed at its end.
-pub(crate) fn show_document<K: Sink>(out: &mut K, document: Document) -> Result<(), Failure> {
-    let bytes = document.into_bytes()?;
-    let shown = put(out, bytes.as_slice());
-    drop(bytes);
-    shown?;
-    put(out, b"\n")
+    match &wanted.graph {
+        Some(name) => {
+            let mut text = Text::new(alloc);
+            let is_dot = name.as_str().ends_with(".dot");
+            let written = put_blocking(alloc, &mut text, places, run.log, is_dot);
+            store_whole(alloc, shelf, name.as_str(), written, text)
+        }
+        None => Ok(()),
+    }
 }
 
 /// Returns the window of clocks that the report covers, unless it covers all.
@@ -308,95 +293,64 @@ pub(crate) fn put<K: Sink>(out: &mut K, bytes: &[u8]) -> Result<(), Failure> {
     }
 }
 
-/// Writes the document: the command, the circles, the numbers from the log, where the run stopped, and the last line of
-/// its log.
-fn put_document(
+/// Writes the report.
+fn put_text<K: Sink>(
     alloc: Global,
-    document: &mut Document,
     places: &Places,
     run: Run,
     wanted: &Wanted,
-) -> Result<(), Failure> {
+    out: &mut K,
+) -> Result<Found, Failure> {
+    let mut text = Text::new(alloc);
+    let shown = match write_text(alloc, &mut text, places, run, wanted) {
+        Ok(found) => match text.whole() {
+            Ok(report) => match put(out, report.as_bytes()) {
+                Ok(()) => Ok(found),
+                Err(failure) => Err(failure),
+            },
+            Err(AllocError) => Err(Failure::Memory),
+        },
+        Err(failure) => Err(failure),
+    };
+    drop(text);
+    shown
+}
+
+/// Appends the report: the numbers from the log, where the run stopped, and the last line of its log.
+fn write_text(
+    alloc: Global,
+    text: &mut Text,
+    places: &Places,
+    run: Run,
+    wanted: &Wanted,
+) -> Result<Found, Failure> {
+    let (decided, holders): (Option<Decided>, &[Holders]) = match run.told {
+        Some(told) => (told.decided, told.holders.as_slice()),
+        None => (None, &[]),
+    };
     let line = last_line(run.log);
-    document.begin_object();
-    document.count("version", VERSION);
-    put_words(document, &wanted.words);
-    document.count("status", u64::from(run.status));
-    let has_circle = put_all_circles(alloc, document, run, line);
+    if let (Some(world), Some(told)) = (run.world, run.told) {
+        put_circles(alloc, text, world, told, cut_in(line));
+    }
     let whole = RunLog {
         log: run.log,
         options: run.subject.options,
         times: run.times,
         world: run.world,
-        decided: match run.told {
-            Some(told) => told.decided,
-            None => None,
-        },
+        decided,
         request: wanted.request,
         answering: answering_of(run.told, wanted),
         window: window_of(wanted),
-        has_circle,
-        failure: failure_in(line),
     };
-    let left = put_report(alloc, document, places, whole)?;
-    put_end(alloc, document, places, run, left, line);
-    document.name("stop");
-    put_stop_line(alloc, document, line);
-    document.end_object();
-    Ok(())
-}
-
-/// Writes the words of the run.
-fn put_words(document: &mut Document, words: &Vec<String>) {
-    document.name("words");
-    document.begin_list();
-    for word in words {
-        document.string(word.as_str());
-    }
-    document.end_list()
-}
-
-/// Writes the circles, if they are known. Returns whether there are any.
-fn put_all_circles(alloc: Global, document: &mut Document, run: Run, line: &[u8]) -> bool {
-    document.name("circles");
-    if let (Some(world), Some(told)) = (run.world, run.told) {
-        return put_circles(alloc, document, world, told, cut_in(line));
-    }
-    document.begin_list();
-    document.end_list();
-    false
-}
-
-/// Writes what the world at the stop shows in addition to the log, of which that many threads are left that ran.
-fn put_end(
-    alloc: Global,
-    document: &mut Document,
-    places: &Places,
-    run: Run,
-    left: u64,
-    line: &[u8],
-) {
-    let holders: &[Holders] = match run.told {
-        Some(told) => told.holders.as_slice(),
-        None => &[],
-    };
-    match (run.world, read_entry(line)) {
-        (Some(world), Ok(last)) => {
-            document.count("never_ran", never_ran(world, left));
-            document.name("resources");
-            put_uses(document, world, holders);
-            document.name("stopped");
-            put_stopped(alloc, document, places, world, &last)
-        }
-        _ => {
-            document.count("never_ran", 0);
-            document.name("resources");
-            document.begin_list();
-            document.end_list();
-            document.name("stopped");
-            document.null()
+    let found = put_report(alloc, text, places, whole)?;
+    if let Some(world) = run.world {
+        if let Ok(last) = read_entry(line) {
+            put_stop(alloc, text, places, world, found.left, &last, holders);
         }
     }
+    text.bytes(line);
+    text.words("\n");
+    Ok(found)
 }
 
 /// Returns which outputs are the answers to requests: those that the user chooses, or otherwise with `--why` also those
@@ -407,4 +361,23 @@ fn answering_of<'a>(told: Option<&'a Told>, wanted: &Wanted) -> Answering<'a> {
         (None, Some(known)) if wanted.why => Answering::BySpawn(known.spawned.as_slice()),
         _ => Answering::ByThread,
     }
+}
+
+/// Stores a picture, if it is complete.
+fn store_whole<F: Shelf>(
+    alloc: Global,
+    shelf: &mut F,
+    name: &str,
+    written: Result<(), Failure>,
+    text: Text,
+) -> Result<(), Failure> {
+    let stored = match written {
+        Ok(()) => match text.whole() {
+            Ok(picture) => store(alloc, shelf, name, picture),
+            Err(AllocError) => Err(Failure::Memory),
+        },
+        Err(failure) => Err(failure),
+    };
+    drop(text);
+    stored
 }

@@ -1,12 +1,17 @@
 use crate::failures::Failure;
+use crate::push::push;
 use cap_text::read_dec;
 use run_history::Pairing;
 use std::alloc::Global;
 
-/// What the words ask for: the file of a stored log, whether the run is repeated, what the report is about, and the words
-/// of the run.
+/// What the words ask for: the files of the pictures, the file of a stored log, whether the run is repeated, and the
+/// words of the run.
 #[derive(Drop)]
 pub struct Wanted {
+    /// The file for the timeline.
+    pub timeline: Option<String>,
+    /// The file for the blocking graph.
+    pub graph: Option<String>,
     /// The file of a stored log.
     pub log: Option<String>,
     /// Whether the run is repeated along its log, for the reasons for its choices and the holders of resources.
@@ -30,6 +35,8 @@ pub struct Wanted {
 enum Next {
     /// An option, or the first word of the run.
     Any,
+    Timeline,
+    Graph,
     Log,
     Request,
     From,
@@ -46,6 +53,8 @@ impl Wanted {
     /// `Words` if a number is malformed, or a window ends before it begins.
     pub fn read(alloc: Global, words: Vec<String>) -> Result<Wanted, Failure> {
         let mut wanted = Wanted {
+            timeline: None,
+            graph: None,
             log: None,
             why: false,
             request: None,
@@ -70,6 +79,14 @@ impl Wanted {
         for word in words {
             next = match next {
                 Next::Any => self.begin(word)?,
+                Next::Timeline => {
+                    self.timeline = Some(word);
+                    Next::Any
+                }
+                Next::Graph => {
+                    self.graph = Some(word);
+                    Next::Any
+                }
                 Next::Log => {
                     self.log = Some(word);
                     Next::Any
@@ -91,7 +108,7 @@ impl Wanted {
                     Next::Any
                 }
                 Next::Word => {
-                    self.keep(word)?;
+                    push(&mut self.words, word)?;
                     Next::Word
                 }
             };
@@ -100,14 +117,6 @@ impl Wanted {
             Ok(())
         } else {
             Err(Failure::Words)
-        }
-    }
-
-    /// Adds a word of the run.
-    fn keep(&mut self, word: String) -> Result<(), Failure> {
-        match self.words.push(word) {
-            Ok(()) => Ok(()),
-            Err(_) => Err(Failure::Memory),
         }
     }
 
@@ -122,6 +131,8 @@ impl Wanted {
     /// Reads a word that may be one of the report's options; the first that isn't begins the words of the run.
     fn begin(&mut self, word: String) -> Result<Next, Failure> {
         match word.as_str() {
+            "--timeline" => Ok(Next::Timeline),
+            "--graph" => Ok(Next::Graph),
             "--log" => Ok(Next::Log),
             "--request" => Ok(Next::Request),
             "--answers" => Ok(Next::Answers),
@@ -136,7 +147,7 @@ impl Wanted {
                 Ok(Next::Any)
             }
             _ => {
-                self.keep(word)?;
+                push(&mut self.words, word)?;
                 Ok(Next::Word)
             }
         }

@@ -1,9 +1,9 @@
-use crate::lines::{RequestCounts, put_request_counts};
+use crate::lines::RequestsLine;
 use crate::requests::Asked;
 use crate::scopes::Scope;
 use crate::ticks::cut;
 use report_figures::{TickList, spread_of};
-use report_text::Document;
+use report_text::Text;
 use std::alloc::AllocError;
 
 /// The latency of a request, from its arrival to an answer, with its number and the thread that took it.
@@ -23,14 +23,14 @@ struct Taken {
     thread: u32,
 }
 
-/// Writes the members on requests: how many came, were dropped, were taken and were answered, and the latencies from a
+/// Appends the lines on requests: how many came, were dropped, were taken and were answered, and the latencies from a
 /// request's time in the trace to its first and to its last answer. Returns the request with the longest latency to its
 /// last answer, the earliest of equally long ones.
 ///
 /// `firsts` has the clocks of the first answers, at the places of their requests. It is overwritten with latencies, so
 /// that no further list is allocated.
 pub fn put_requests(
-    document: &mut Document,
+    text: &mut Text,
     scope: Scope,
     firsts: &mut TickList,
     dropped: u64,
@@ -38,33 +38,28 @@ pub fn put_requests(
     let arrivals = scope.numbers.arrivals.len();
     let takes = scope.numbers.takers.len();
     let slowest = to_latencies(firsts, scope)?;
-    let counts = RequestCounts {
+    let line = RequestsLine {
         came: scope.count(arrivals),
         dropped,
         taken: scope.count(takes),
         answered: firsts.len() as u64,
     };
-    document.name("requests");
-    put_request_counts(document, counts);
-    document.name("latency");
-    document.begin_object();
-    document.name("first");
-    put_latencies(document, firsts, slowest)?;
+    text.line(&line);
+    text.words("\n");
+    put_latencies(text, FIRST, firsts, slowest)?;
     cut(firsts, 0);
-    let last = put_lasts(document, scope, firsts)?;
-    document.end_object();
-    Ok(last)
+    put_lasts(text, scope, firsts)
 }
 
-/// Writes the latencies to the last answer. Returns the request with the longest one, the earliest of equally long ones.
+/// Appends the line on latencies to the last answer. Returns the request with the longest one, the earliest of equally
+/// long ones.
 fn put_lasts(
-    document: &mut Document,
+    text: &mut Text,
     scope: Scope,
     ticks: &mut TickList,
 ) -> Result<Option<Asked>, AllocError> {
     let slowest = add_latencies(ticks, scope)?;
-    document.name("last");
-    put_latencies(document, ticks, slowest)?;
+    put_latencies(text, LAST, ticks, slowest)?;
     match slowest {
         Some(latency) => Ok(Some(Asked {
             request: latency.request as u64,
@@ -157,25 +152,33 @@ fn taken_of(scope: Scope, request: usize) -> Option<Taken> {
     }
 }
 
-/// Writes latencies, in ticks, as an object, or `null` if there are none.
+/// The forms of the lines on latencies to the first and to the last answer.
+const FIRST: &str =
+    "latency to the first answer: least $, median $, 90th $, 99th $, greatest $ (arrived $, thread $)\n";
+
+const LAST: &str =
+    "latency to the last answer: least $, median $, 90th $, 99th $, greatest $ (arrived $, thread $)\n";
+
+/// Appends the line on latencies in that form, in ticks, or nothing if there are none.
 fn put_latencies(
-    document: &mut Document,
+    text: &mut Text,
+    form: &str,
     ticks: &mut TickList,
     slowest: Option<Latency>,
 ) -> Result<(), AllocError> {
-    match (spread_of(ticks)?, slowest) {
-        (Some(spread), Some(slowest)) => {
-            document.begin_object();
-            document.count("least", spread.least);
-            document.count("median", spread.median);
-            document.count("90th", spread.ninetieth);
-            document.count("99th", spread.ninety_ninth);
-            document.count("greatest", spread.greatest);
-            document.count("arrived", slowest.arrived);
-            document.count("thread", u64::from(slowest.thread));
-            document.end_object()
-        }
-        _ => document.null(),
+    if let (Some(spread), Some(slowest)) = (spread_of(ticks)?, slowest) {
+        text.form(
+            form,
+            &[
+                spread.least,
+                spread.median,
+                spread.ninetieth,
+                spread.ninety_ninth,
+                spread.greatest,
+                slowest.arrived,
+                u64::from(slowest.thread),
+            ],
+        )
     }
     Ok(())
 }

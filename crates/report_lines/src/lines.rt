@@ -1,14 +1,10 @@
-// Members of a report that show numbers, each with its tokens as a clause.
-ghost use Rattle.std.specs.Prelude.{◌≡◌};
-ghost use Rattle.report_text.specs.Documents.{Puts};
-ghost use Rattle.report_lines.specs.Lines.{chunks_tokens, requests_tokens, split_tokens, waits_tokens};
+// The lines of a report that show numbers, each with its text as a clause.
 
-use report_text::Document;
-use run_history::Split;
+use std::fmt;
 
 /// The numbers of requests that came, were dropped, were taken and were answered.
 #[derive(Clone, Copy)]
-pub struct RequestCounts {
+pub struct RequestsLine {
     /// The requests that came.
     pub came: u64,
     /// The requests that were dropped.
@@ -19,67 +15,76 @@ pub struct RequestCounts {
     pub answered: u64,
 }
 
-/// Writes the numbers of requests, as an object.
-pub fn put_request_counts(document: &mut Document, counts: RequestCounts)
-    ensures { Puts (requests_tokens counts) document.old document.new }
-{
-    document.begin_object();
-    document.count("came", counts.came);
-    document.count("dropped", counts.dropped);
-    document.count("taken", counts.taken);
-    document.count("answered", counts.answered);
-    document.end_object()
+impl fmt::Display for RequestsLine {
+    ghost use Rattle.std.specs.Prelude.{Some};
+    ghost use Rattle.report_lines.specs.Lines.{requests_line};
+
+    ghost output = { λ line. Some (requests_line line) };
+
+    fn fmt<W: fmt::Write>(&self, f: &mut fmt::Formatter<W>) -> fmt::Result {
+        let came = self.came;
+        let dropped = self.dropped;
+        let taken = self.taken;
+        let answered = self.answered;
+        write!(
+            f,
+            "requests: {came} came, {dropped} dropped, {taken} taken, {answered} answered"
+        )
+    }
 }
 
 /// The waits at a place: their number, and their lengths in ticks.
 #[derive(Clone, Copy)]
-pub struct WaitCounts {
+pub struct WaitsPart {
     /// The number of waits.
     pub count: u64,
-    /// The sum of their lengths, if it is below 2^64.
-    pub total: Option<u64>,
+    /// The sum of their lengths.
+    pub total: u128,
     /// Half of the waits have at most this length.
     pub median: u64,
-    /// 90 percent of the waits have at most this length.
-    pub ninetieth: u64,
     /// 99 percent of the waits have at most this length.
     pub ninety_ninth: u64,
     /// The greatest length.
     pub greatest: u64,
 }
 
-/// Writes the waits at a place, as members of an object.
-pub fn put_wait_counts(document: &mut Document, waits: WaitCounts)
-    ensures { Puts (waits_tokens waits) document.old document.new }
-{
-    document.count("count", waits.count);
-    document.count_or_null("total", waits.total);
-    document.count("median", waits.median);
-    document.count("90th", waits.ninetieth);
-    document.count("99th", waits.ninety_ninth);
-    document.count("greatest", waits.greatest)
+impl fmt::Display for WaitsPart {
+    ghost use Rattle.std.specs.Prelude.{Some};
+    ghost use Rattle.report_lines.specs.Lines.{waits_part};
+
+    ghost output = { λ part. Some (waits_part part) };
+
+    fn fmt<W: fmt::Write>(&self, f: &mut fmt::Formatter<W>) -> fmt::Result {
+        let count = self.count;
+        let total = self.total;
+        let median = self.median;
+        let ninety_ninth = self.ninety_ninth;
+        let greatest = self.greatest;
+        write!(f, "{count}, {total}, {median}, {ninety_ninth}, {greatest}")
+    }
 }
 
-/// Writes the maximum number of chunks held between segments, and the number of all chunks, as an object.
-pub fn put_chunks(document: &mut Document, most_held: u32, chunks: u32)
-    ensures { Puts (chunks_tokens most_held chunks) document.old document.new }
-{
-    document.begin_object();
-    document.count("most_held", u64::from(most_held));
-    document.count("of", u64::from(chunks));
-    document.end_object()
+/// The maximum number of chunks held between segments, and the number of all chunks.
+#[derive(Clone, Copy)]
+pub struct ChunksLine {
+    /// The maximum number of held chunks.
+    pub most_held: u32,
+    /// The number of all chunks.
+    pub chunks: u32,
 }
 
-/// Writes the waits at a place in their two parts, as an object.
-pub fn put_split(document: &mut Document, split: Split)
-    ensures { Puts (split_tokens split) document.old document.new }
-{
-    document.begin_object();
-    document.count("count", split.count);
-    document.count("blocked", split.blocked);
-    document.count("ready", split.ready);
-    document.count("greatest_ready", split.greatest);
-    document.count("thread", u64::from(split.thread));
-    document.count("until", split.until);
-    document.end_object()
+impl fmt::Display for ChunksLine {
+    ghost use Rattle.std.specs.Prelude.{Some};
+    ghost use Rattle.report_lines.specs.Lines.{chunks_line};
+
+    ghost output = { λ line. Some (chunks_line line) };
+
+    fn fmt<W: fmt::Write>(&self, f: &mut fmt::Formatter<W>) -> fmt::Result {
+        let most_held = self.most_held;
+        let chunks = self.chunks;
+        write!(
+            f,
+            "chunks: at most {most_held} of {chunks} held between segments"
+        )
+    }
 }

@@ -1,8 +1,8 @@
 use crate::scopes::Scope;
 use crate::ticks::cut;
-use crate::waits::put_lengths;
+use crate::waits::put_part;
 use report_figures::TickList;
-use report_text::Document;
+use report_text::Text;
 use run_history::{Queued, queued_of};
 use std::alloc::AllocError;
 
@@ -13,12 +13,12 @@ struct Longest {
     queued: Queued,
 }
 
-/// Writes the time of requests in the queue, from their arrival to the `accept` that took them, as an object without a
-/// place, or nothing if none was taken. `room` is overwritten with the ticks.
-pub fn put_queue(document: &mut Document, scope: Scope, room: &mut TickList) {
+/// Appends the row on the time of requests in the queue, from their arrival to the `accept` that took them, or nothing
+/// if none was taken. `room` is overwritten with the ticks.
+pub fn put_queue(text: &mut Text, scope: Scope, room: &mut TickList) {
     cut(room, 0);
-    if put_row(document, scope, room).is_err() {
-        document.lack()
+    if put_row(text, scope, room).is_err() {
+        text.lack()
     }
 }
 
@@ -53,20 +53,20 @@ pub(crate) fn ticks_of(queued: Queued) -> u64 {
     queued.taken.saturating_sub(queued.arrived)
 }
 
-/// Writes the object.
-fn put_row(document: &mut Document, scope: Scope, ticks: &mut TickList) -> Result<(), AllocError> {
+/// Appends the row.
+fn put_row(text: &mut Text, scope: Scope, ticks: &mut TickList) -> Result<(), AllocError> {
     let Some(longest) = add_queued(ticks, scope)? else {
         return Ok(());
     };
-    document.begin_object();
-    document.name("place");
-    document.null();
-    put_lengths(document, ticks)?;
-    document.count("request", (longest.request as u64).saturating_add(1));
-    document.count("thread", u64::from(longest.queued.thread));
-    document.count("until", longest.queued.taken);
-    document.name("split");
-    document.null();
-    document.end_object();
+    text.words("  queue, from arrival to accept: ");
+    put_part(text, ticks)?;
+    text.form(
+        " (request $, thread $, until $)\n",
+        &[
+            (longest.request as u64).saturating_add(1),
+            u64::from(longest.queued.thread),
+            longest.queued.taken,
+        ],
+    );
     Ok(())
 }

@@ -2,11 +2,10 @@
 
 use crate::queues::ticks_of;
 use crate::scopes::Scope;
-use crate::sited::SitedLog;
 use crate::told::{LinesError, told_by};
 use cap_text::Lines;
-use report_text::Document;
-use run_history::{Happening, History, Numbers, Part, Parts, Queued, Queues, queued_of};
+use report_text::Text;
+use run_history::{Happening, History, Numbers, Part, Parts, queued_of};
 use source_places::Places;
 use std::alloc::{AllocError, Global};
 
@@ -39,99 +38,69 @@ impl Asked {
     }
 }
 
-/// Writes a request with the parts of its time, up to its last answer, if it has one.
+/// Appends the parts of a request's time, up to its last answer, if it has one.
 pub fn put_parts(
     alloc: Global,
-    document: &mut Document,
+    text: &mut Text,
     places: &Places,
     scope: Scope,
-    sited: SitedLog,
+    log: &[u8],
+    accepts: &[bool],
     asked: Asked,
 ) -> Result<(), LinesError> {
-    document.begin_object();
-    document.count("number", asked.request.saturating_add(1));
-    document.name("is_slowest");
-    document.truth(asked.is_slowest);
-    let read = match queued_of(scope.numbers, scope.times, asked.request as usize) {
-        Some(queued) => {
-            document.count("arrived", queued.arrived);
-            document.count("thread", u64::from(queued.thread));
-            put_taken(alloc, document, places, queued, sited, asked)
-        }
-        None => {
-            put_untaken(document, scope.numbers.arrivals.len() as u64, asked.request);
-            Ok(())
-        }
+    text.form("request $", &[asked.request.saturating_add(1)]);
+    text.words(if asked.is_slowest {
+        ", the slowest"
+    } else {
+        ""
+    });
+    let Some(queued) = queued_of(scope.numbers, scope.times, asked.request as usize) else {
+        put_untaken(text, scope.numbers.arrivals.len() as u64, asked.request);
+        return Ok(());
     };
-    document.end_object();
-    read
-}
-
-/// Writes the number of requests that came, if there is none of that number, from 0.
-fn put_untaken(document: &mut Document, came: u64, request: u64) {
-    if request >= came {
-        document.count("came", came)
-    }
-}
-
-/// Writes the parts of a request that was taken.
-fn put_taken(
-    alloc: Global,
-    document: &mut Document,
-    places: &Places,
-    queued: Queued,
-    sited: SitedLog,
-    asked: Asked,
-) -> Result<(), LinesError> {
+    text.form(
+        ": arrived $, taken by thread $, and its parts until when\n",
+        &[queued.arrived, u64::from(queued.thread)],
+    );
+    text.form("  queue: $, $\n", &[ticks_of(queued), queued.taken]);
     let mut parts = Parts::new(alloc, asked.request);
-    let mut readies = Vec::new(alloc);
-    let read = match read_parts(alloc, &mut parts, &mut readies, sited, asked) {
+    let read = match read_parts(alloc, &mut parts, log, accepts, asked) {
         Ok(other) => {
-            document.name("parts");
-            document.begin_list();
-            begin_part(document, "queue", ticks_of(queued), queued.taken);
-            document.end_object();
-            let timed = Timed {
-                parts: parts.parts.as_slice(),
-                readies: readies.as_slice(),
-            };
-            let shorter = put_listed(alloc, document, places, timed, asked);
             let end = end_of(parts.parts.as_slice(), queued.taken);
-            put_rest(document, end, asked.until, other);
-            document.end_list();
-            put_shorter(document, shorter);
+            put_listed(alloc, text, places, parts.parts.as_slice(), asked);
+            put_rest(text, end, asked.until, other);
             Ok(())
         }
         Err(error) => Err(error),
     };
     drop(parts);
-    drop(readies);
     read
 }
 
-/// Reads a log for the parts of a request, up to its last answer, if it has one, and for the clock at which the thread of
-/// each wait became ready, if that is known. Returns the thread that put that answer, if it isn't the one that took the
-/// request.
+/// Appends why a request of that number, from 0, has no parts; `came` is the number of requests that came.
+fn put_untaken(text: &mut Text, came: u64, request: u64) {
+    if request < came {
+        text.words(": no accept took it\n")
+    } else {
+        text.words(": ");
+        text.counted(came, "request came", "requests came");
+        text.words(" in all\n")
+    }
+}
+
+/// Reads a log for the parts of a request, up to its last answer, if it has one. Returns the thread that put that
+/// answer, if it isn't the one that took the request.
 fn read_parts(
     alloc: Global,
     parts: &mut Parts,
-    readies: &mut Vec<Option<u64>>,
-    sited: SitedLog,
+    log: &[u8],
+    accepts: &[bool],
     asked: Asked,
 ) -> Result<Option<u32>, LinesError> {
     let mut history = History::new(alloc);
-    let mut queues = Queues::new(alloc);
-    for line in Lines::new(sited.log) {
-        let told = told_by(&mut history, line, sited.accepts)?;
-        let ready = sited.ready_at(&queues, told);
-        queues.add(told, sited.need_of(told))?;
+    for line in Lines::new(log) {
+        let told = told_by(&mut history, line, accepts)?;
         parts.add(told)?;
-        if readies.len() < parts.parts.len() {
-            match readies.push(ready) {
-                Ok(()) => (),
-                Err(_) => return Err(LinesError::Memory),
-            }
-        }
         if is_over(parts.parts.as_slice(), asked.until) {
             return Ok(None);
         }
@@ -161,13 +130,15 @@ fn end_of(parts: &[Part], taken: u64) -> u64 {
     }
 }
 
-/// Writes the time from the end of the parts to the last answer, if another thread put it.
-fn put_rest(document: &mut Document, end: u64, until: Option<u64>, other: Option<u32>) {
+/// Appends the time from the end of the parts to the last answer, if another thread put it.
+fn put_rest(text: &mut Text, end: u64, until: Option<u64>, other: Option<u32>) {
     if let (Some(clock), Some(thread)) = (until, other) {
         if end < clock {
-            begin_part(document, "others", clock.saturating_sub(end), clock);
-            document.count("thread", u64::from(thread));
-            document.end_object()
+            let ticks = clock.saturating_sub(end);
+            text.form(
+                "  until thread $ answers: $, $\n",
+                &[u64::from(thread), ticks, clock],
+            )
         }
     }
 }
@@ -180,58 +151,22 @@ fn is_over(parts: &[Part], until: Option<u64>) -> bool {
     }
 }
 
-/// The parts that aren't listed: their number and their total ticks.
-#[derive(Clone, Copy)]
-struct Shorter {
-    count: u64,
-    ticks: u64,
-}
-
-/// Parts, and at the same places the clock at which the thread of a wait became ready, if that is known.
-#[derive(Clone, Copy)]
-struct Timed<'a> {
-    parts: &'a [Part],
-    readies: &'a [Option<u64>],
-}
-
-/// Writes an object for each part, in order. Of the slowest request at most 20 are listed, those that took longest.
-/// Returns what isn't listed.
-fn put_listed(
-    alloc: Global,
-    document: &mut Document,
-    places: &Places,
-    timed: Timed,
-    asked: Asked,
-) -> Option<Shorter> {
+/// Appends a line for each part, in order. Of the slowest request at most 20 are listed, those that took longest,
+/// followed by the number of the others and their total ticks.
+fn put_listed(alloc: Global, text: &mut Text, places: &Places, parts: &[Part], asked: Asked) {
     let most = if asked.is_slowest {
         LISTED
     } else {
-        timed.parts.len()
+        parts.len()
     };
-    match longest_left_out(alloc, timed.parts, most) {
-        Ok(Some(bound)) => Some(put_longer(document, places, timed, Some(bound))),
+    match longest_left_out(alloc, parts, most) {
+        Ok(Some(bound)) => put_longer(text, places, parts, bound),
         Ok(None) => {
-            put_longer(document, places, timed, None);
-            None
+            for part in parts {
+                put_part(text, places, *part);
+            }
         }
-        Err(AllocError) => {
-            document.lack();
-            None
-        }
-    }
-}
-
-/// Writes the number of the parts that aren't listed and their ticks.
-fn put_shorter(document: &mut Document, shorter: Option<Shorter>) {
-    document.name("shorter");
-    match shorter {
-        Some(others) => {
-            document.begin_object();
-            document.count("count", others.count);
-            document.count("ticks", others.ticks);
-            document.end_object()
-        }
-        None => document.null(),
+        Err(AllocError) => text.lack(),
     }
 }
 
@@ -249,36 +184,22 @@ fn longest_left_out(alloc: Global, parts: &[Part], most: usize) -> Result<Option
     Ok(ticks.as_slice().get(left_out - 1).copied())
 }
 
-/// Writes an object for each part that is longer than `bound`, or for all without a bound. Returns the others.
-fn put_longer(
-    document: &mut Document,
-    places: &Places,
-    timed: Timed,
-    bound: Option<u64>,
-) -> Shorter {
-    let mut count: u64 = 0;
-    let mut ticks: u64 = 0;
-    let mut place: usize = 0;
-    for part in timed.parts {
+/// Appends a line for each part that is longer than `bound`, and one for all others.
+fn put_longer(text: &mut Text, places: &Places, parts: &[Part], bound: u64) {
+    let mut others: u64 = 0;
+    let mut total: u64 = 0;
+    for part in parts {
         let length = length_of(*part);
-        if is_longer(length, bound) {
-            let ready = timed.readies.get(place).copied().unwrap_or(None);
-            put_part(document, places, *part, ready);
+        if length > bound {
+            put_part(text, places, *part);
         } else {
-            count = count.saturating_add(1);
-            ticks = ticks.saturating_add(length);
+            others = others.saturating_add(1);
+            total = total.saturating_add(length);
         }
-        place = place.saturating_add(1);
     }
-    Shorter { count, ticks }
-}
-
-/// Checks whether a length is above a bound, if there is one.
-fn is_longer(length: u64, bound: Option<u64>) -> bool {
-    match bound {
-        Some(most) => length > most,
-        None => true,
-    }
+    text.words("  ");
+    text.counted(others, "shorter part", "shorter parts");
+    text.form(": $\n", &[total])
 }
 
 /// Returns the length of a part in ticks.
@@ -289,24 +210,18 @@ fn length_of(part: Part) -> u64 {
     }
 }
 
-/// Writes a part; of a wait also the clock at which its thread became ready, if that is known.
-fn put_part(document: &mut Document, places: &Places, part: Part, ready: Option<u64>) {
-    match part {
-        Part::Runs { ended, .. } => begin_part(document, "runs", length_of(part), ended),
-        Part::Waits { site, until, .. } => {
-            begin_part(document, "waits", length_of(part), until);
-            document.name("place");
-            places.put_site(document, site);
-            document.count_or_null("ready_at", ready)
+/// Appends the line of a part.
+fn put_part(text: &mut Text, places: &Places, part: Part) {
+    let end = match part {
+        Part::Runs { ended, .. } => {
+            text.words("  runs");
+            ended
         }
-    }
-    document.end_object()
-}
-
-/// Begins the object of a part of that kind, of that length, which ends at that clock.
-fn begin_part(document: &mut Document, kind: &str, ticks: u64, until: u64) {
-    document.begin_object();
-    document.text("kind", kind);
-    document.count("ticks", ticks);
-    document.count("until", until)
+        Part::Waits { site, until, .. } => {
+            text.words("  waits at ");
+            places.put_site(text, site);
+            until
+        }
+    };
+    text.form(": $, $\n", &[length_of(part), end])
 }

@@ -1,34 +1,29 @@
-use report_text::Document;
+use report_text::Text;
 use run_history::Unasked;
 
 /// The maximum number of threads that are listed.
 const LISTED: u64 = 20;
 
-/// Writes the number of outputs of threads that served no request, and the first 20 such threads, or `null` if there are
-/// none.
-pub fn put_unasked(document: &mut Document, unasked: &Unasked) {
+/// Appends the number of outputs of threads that served no request, and the first 20 such threads, or nothing if there
+/// are none.
+pub fn put_unasked(text: &mut Text, unasked: &Unasked) {
     let total = total_in(unasked);
     if total == 0 {
-        document.null();
         return;
     }
-    document.begin_object();
-    document.count("count", total);
-    document.name("threads");
-    document.begin_list();
+    text.form("outputs by threads that served no request: $", &[total]);
     let mut shown: u64 = 0;
     for (thread, puts) in &unasked.puts {
         if shown < LISTED {
-            document.begin_object();
-            document.count("thread", u64::from(*thread));
-            document.count("outputs", *puts);
-            document.end_object();
+            text.form(", $ by thread $", &[*puts, u64::from(*thread)]);
         }
         shown = shown.saturating_add(1);
     }
-    document.end_list();
-    document.count("more_threads", shown.saturating_sub(LISTED));
-    document.end_object()
+    if shown > LISTED {
+        text.words(", the others by ");
+        text.counted(shown - LISTED, "more thread", "more threads")
+    }
+    text.words("\n")
 }
 
 /// Returns the total number of these outputs.

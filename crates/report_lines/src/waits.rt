@@ -1,70 +1,49 @@
-use crate::lines::{WaitCounts, put_split, put_wait_counts};
+use crate::lines::WaitsPart;
 use report_figures::{TickList, spread_of, total_of};
-use report_text::Document;
-use run_history::{SiteWaits, Split, WaitLists};
+use report_text::Text;
+use run_history::{SiteWaits, WaitLists};
 use source_places::Places;
 use std::alloc::AllocError;
-use std::collections::BTreeMap;
 
-/// Writes the waits by the place at which threads waited, an object for each, with their two parts if these are known. It
-/// leaves the waits of each place sorted by length.
-pub fn put_waits(
-    document: &mut Document,
-    places: &Places,
-    lists: &mut WaitLists,
-    splits: &BTreeMap<u32, Split>,
-) {
+/// Appends the rows of waits by the place at which threads waited. It leaves the waits of each place sorted by length.
+pub fn put_waits(text: &mut Text, places: &Places, lists: &mut WaitLists) {
     for (site, waits) in &mut lists.sites {
-        let split = splits.get(site).copied();
-        if put_site_waits(document, places, *site, waits, split).is_err() {
-            document.lack()
+        if put_site_waits(text, places, *site, waits).is_err() {
+            text.lack()
         }
     }
 }
 
-/// Writes the waits at a site, with the thread of the longest one, and the end of that.
+/// Appends the row of a site: its waits, the thread with the longest one, and the end of that.
 fn put_site_waits(
-    document: &mut Document,
+    text: &mut Text,
     places: &Places,
     site: u32,
     waits: &mut SiteWaits,
-    split: Option<Split>,
 ) -> Result<(), AllocError> {
-    document.begin_object();
-    document.name("place");
-    places.put_site(document, site);
-    put_lengths(document, &mut waits.ticks)?;
+    text.words("  ");
+    places.put_site(text, site);
+    text.words(": ");
+    put_part(text, &mut waits.ticks)?;
     let longest = waits.longest;
-    document.count("thread", u64::from(longest.thread));
-    document.count("until", longest.until);
-    document.name("split");
-    match split {
-        Some(parts) => put_split(document, parts),
-        None => document.null(),
-    }
-    document.end_object();
+    text.form(
+        " (thread $, until $)\n",
+        &[u64::from(longest.thread), longest.until],
+    );
     Ok(())
 }
 
-/// Writes the number of waits and their lengths, from these ticks, as members of an object, or nothing if there are
-/// none.
-pub(crate) fn put_lengths(document: &mut Document, ticks: &mut TickList) -> Result<(), AllocError> {
-    let total = match total_of(ticks) {
-        Some(total) => u64::try_from(total).ok(),
-        None => None,
-    };
+/// Appends the number of waits and their lengths, from these ticks, or nothing if there are none.
+pub(crate) fn put_part(text: &mut Text, ticks: &mut TickList) -> Result<(), AllocError> {
+    let total = total_of(ticks).unwrap_or(u128::MAX);
     if let Some(spread) = spread_of(ticks)? {
-        put_wait_counts(
-            document,
-            WaitCounts {
-                count: spread.count,
-                total,
-                median: spread.median,
-                ninetieth: spread.ninetieth,
-                ninety_ninth: spread.ninety_ninth,
-                greatest: spread.greatest,
-            },
-        )
+        text.line(&WaitsPart {
+            count: spread.count,
+            total,
+            median: spread.median,
+            ninety_ninth: spread.ninety_ninth,
+            greatest: spread.greatest,
+        })
     }
     Ok(())
 }

@@ -12,6 +12,10 @@ pub record Written : Type 0 where
 abbrev pub Adds : List ℕ → Written → Written → Type 0
 Adds bytes before after = after.is_whole ≡ true → (before.is_whole ≡ true) × (after.bytes ≡ before.bytes ++ bytes)
 
+-- the same with some bytes
+abbrev pub Extends : Written → Written → Type 0
+Extends before after = after.is_whole ≡ true → (before.is_whole ≡ true) × ((bytes : List ℕ) × (after.bytes ≡ before.bytes ++ bytes))
+
 -- the mark in a form that a number replaces
 abbrev pub is_mark : ℕ → Bool
 is_mark byte = byte == 36

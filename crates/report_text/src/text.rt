@@ -24,7 +24,7 @@ impl Text {
     ghost use Rattle.std.specs.Prelude.{◌≡◌, [], true, false, flat_map, IfOk, IfSome, OnErr};
     ghost use Rattle.std.specs.Char.{encode_utf8};
     ghost use Rattle.std.specs.String.{string_bytes};
-    ghost use Rattle.report_text.specs.Written.{Adds, Fills, counted, filled};
+    ghost use Rattle.report_text.specs.Written.{Adds, Extends, Fills, counted, filled};
 
     /// Returns an empty text. It doesn't allocate.
     pub fn new(alloc: Global) -> Text
@@ -138,6 +138,33 @@ impl Text {
     {
         for byte in bytes {
             self.character(char::from(*byte));
+        }
+    }
+
+    /// Appends a name as the text of an SVG element, with `&`, `<` and `>` as entities.
+    pub fn escaped(&mut self, name: &str)
+        ensures { Extends self.old self.new }
+    {
+        for character in name.chars() {
+            match character {
+                '&' => self.words("&amp;"),
+                '<' => self.words("&lt;"),
+                '>' => self.words("&gt;"),
+                other => self.character(other),
+            }
+        }
+    }
+
+    /// Appends a name as a quoted string of DOT, without its quotes.
+    pub fn quoted(&mut self, name: &str)
+        ensures { Extends self.old self.new }
+    {
+        for character in name.chars() {
+            match character {
+                '"' => self.words("\\\""),
+                '\\' => self.words("\\\\"),
+                other => self.character(other),
+            }
         }
     }
 }

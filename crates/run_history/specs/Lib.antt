@@ -12,12 +12,9 @@ pub mod PairedRuns
 pub mod Pairs
 pub mod Parts
 pub mod Queues
-pub mod Readiness
 pub mod Reading
 pub mod Sights
 pub mod Spells
-pub mod Splits
 pub mod Takes
 pub mod Unasked
 pub mod Waits
-pub mod Work

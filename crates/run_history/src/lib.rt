@@ -24,8 +24,7 @@
 // How often and for how long the gate was closed (`Spells`) follows from the happenings of a log and the thresholds of
 // the gate. A log has only the use of chunks, so this applies to a run without other resources. `Spells::start` and
 // `Spells::with` are over `at_start` and `with_happening` (specs/Spells.antt), whose gate and pressure are those of
-// `resource_monitor`. When a thread became ready that waited (`Queues`) is over specs/Readiness.antt, from what it waits for
-// (`Need`), and the two parts of its wait (`Split`) over specs/Splits.antt. The ticks for which threads ran, and the latest clock (`Work`), are over specs/Work.antt.
+// `resource_monitor`.
 #![tactic(auto)]
 
 mod answering;
@@ -39,15 +38,12 @@ mod numbers;
 mod pairs;
 mod parts;
 mod queues;
-mod readiness;
 mod reading;
 mod spells;
-mod splits;
 mod takes;
 mod threads;
 mod unasked;
 mod waits;
-mod work;
 
 pub use answering::Answering;
 pub use answers::{AnswerList, Answers};
@@ -59,12 +55,9 @@ pub use numbers::Numbers;
 pub use pairs::{Pairing, Pairs};
 pub use parts::{Part, Parts};
 pub use queues::{Queued, queued_of};
-pub use readiness::{Need, Queues};
 pub use reading::{ReadError, Reading, Watch, numbers_of};
 pub use spells::{Marks, Spells};
-pub use splits::{Split, add_split};
 pub use takes::Takes;
 pub use threads::{Standing, Thread};
 pub use unasked::Unasked;
 pub use waits::{SiteWaits, WaitLength, WaitLists};
-pub use work::Work;

@@ -1,6 +1,5 @@
 ghost use Rattle.std.specs.Prelude.{◌≤◌, length};
 
-use crate::arguments::literal_at;
 use crate::elements::{Element, elements_of};
 use c_lex::{LexError, Mark, Token, TokenKind, lex};
 use c_parse::{ParseError, parse_nested};
@@ -8,14 +7,13 @@ use c_tree::{RawItem, RawProgram, RawTable};
 use call_places::places_of_calls;
 use cap_word::ModelledCall;
 use report_figures::{Position, position_of};
-use report_text::{Document, Text};
+use report_text::Text;
 use std::alloc::{AllocError, Global};
 use thiserror::Error;
 
 /// A source, and the places of its calls and functions.
 #[derive(Drop)]
 pub struct Places<'a> {
-    alloc: Global,
     /// The name of its file.
     file: &'a str,
     source: Vec<u8>,
@@ -109,7 +107,6 @@ impl<'a> Places<'a> {
         let tokens = lex(alloc, source.as_slice())?;
         let names = names_in(alloc, source.as_slice(), tokens.as_slice())?;
         Ok(Places {
-            alloc,
             file,
             source,
             tokens,
@@ -126,25 +123,6 @@ impl<'a> Places<'a> {
         Ok(sites)
     }
 
-    /// Returns the number of sites.
-    pub fn sites(&self) -> usize {
-        self.names.calls.len()
-    }
-
-    /// Returns the name of a site's call, which is empty if there is no such site.
-    pub fn call_name(&self, site: u32) -> &[u8] {
-        match self.call(site) {
-            Some(at) => self.name_at(at),
-            None => &[],
-        }
-    }
-
-    /// Returns the argument of that number, from 0, of a site's call, if it is a number alone, and each one before it a number
-    /// or a name alone.
-    pub fn literal(&self, site: u32, argument: usize) -> Option<u32> {
-        literal_at(self.tokens.as_slice(), self.call(site)?, argument)
-    }
-
     /// Returns for each site whether its call is one at which a thread waits.
     pub fn waiting_sites(&self, alloc: Global) -> Result<Vec<bool>, AllocError> {
         let mut sites = Vec::new(alloc);
@@ -154,51 +132,27 @@ impl<'a> Places<'a> {
         Ok(sites)
     }
 
-    /// Writes the place of a site, with the name of its call and the function that contains it.
-    pub fn put_site(&self, document: &mut Document, site: u32) {
+    /// Appends the place of a site with its callee and its function: `server.c:12:5 accept in worker`.
+    pub fn put_site(&self, text: &mut Text, site: u32) {
         match self.call(site) {
             Some(at) => {
-                document.begin_object();
-                self.put_members(document, at);
-                self.put_inside(document, at);
-                document.end_object()
+                self.put_named(text, at);
+                self.put_inside(text, at)
             }
-            None => put_unknown(self.alloc, document, "site $", site),
+            None => text.form("site $", &[u64::from(site)]),
         }
     }
 
-    /// Writes the same with the text of the call, if it has more than its name. A long text is cut off.
-    pub fn put_site_text(&self, document: &mut Document, site: u32) {
+    /// Appends the same with the whole text of the call: `server.c:12:5 take(1, n) in worker`. A long text is cut off.
+    pub fn put_site_text(&self, text: &mut Text, site: u32) {
         match self.call(site) {
             Some(at) => {
-                document.begin_object();
-                self.put_members(document, at);
-                self.put_text(document, at);
-                self.put_inside(document, at);
-                document.end_object()
+                self.put_place(text, at);
+                put_call_text(text, self.source.as_slice(), self.tokens.as_slice(), at);
+                self.put_inside(text, at)
             }
-            None => put_unknown(self.alloc, document, "site $", site),
+            None => text.form("site $", &[u64::from(site)]),
         }
-    }
-
-    /// Writes the text of the call whose name is at that place, if it has more than its name.
-    fn put_text(&self, document: &mut Document, at: u32) {
-        let mut text = Text::new(self.alloc);
-        put_call_text(
-            &mut text,
-            self.source.as_slice(),
-            self.tokens.as_slice(),
-            at,
-        );
-        match text.whole() {
-            Ok(call) => {
-                if call.as_bytes() != self.name_at(at) {
-                    document.text("text", call)
-                }
-            }
-            Err(AllocError) => document.lack(),
-        }
-        drop(text)
     }
 
     /// Appends the text of a site's call as `put_site_text` does, or nothing if there is no such site.
@@ -215,29 +169,30 @@ impl<'a> Places<'a> {
         }
     }
 
-    /// Writes the line and the column of a site, whose call led to another one.
-    pub fn put_caller(&self, document: &mut Document, site: u32) {
-        document.begin_object();
-        if let Some(at) = self.call(site) {
-            self.put_position(document, at);
-            self.put_inside(document, at)
-        }
-        document.end_object()
-    }
-
-    /// Writes the name of the function of that number, in the order of their definitions.
-    pub fn put_function(&self, document: &mut Document, function: u32) {
-        match self.names.functions.as_slice().get(function as usize) {
-            Some(at) => document.characters(self.alloc, self.name_at(*at)),
-            None => put_number(self.alloc, document, "function $", function),
+    /// Appends the line and the column of a site whose call led to the previous one: ` < 12:5`.
+    pub fn put_line_below(&self, text: &mut Text, site: u32) {
+        match self.call(site) {
+            Some(at) => {
+                let Position { line, column } = self.position(at);
+                text.form(" < $:$", &[line as u64, column as u64])
+            }
+            None => text.form(" < site $", &[u64::from(site)]),
         }
     }
 
-    /// Writes the place of the function of that number, with its name.
-    pub fn put_function_place(&self, document: &mut Document, function: u32) {
+    /// Appends the name of the function of that number, in the order of their definitions.
+    pub fn put_function(&self, text: &mut Text, function: u32) {
         match self.names.functions.as_slice().get(function as usize) {
-            Some(at) => self.put_named(document, *at),
-            None => put_unknown(self.alloc, document, "function $", function),
+            Some(at) => text.bytes(self.name_at(*at)),
+            None => text.form("function $", &[u64::from(function)]),
+        }
+    }
+
+    /// Appends the place of the function of that number: `server.c:12:5`.
+    pub fn put_function_place(&self, text: &mut Text, function: u32) {
+        match self.names.functions.as_slice().get(function as usize) {
+            Some(at) => self.put_line(text, *at),
+            None => text.form("function $", &[u64::from(function)]),
         }
     }
 
@@ -297,41 +252,33 @@ impl<'a> Places<'a> {
         Ok(())
     }
 
-    /// Writes the places at which a function has such elements of an array, as far as the text alone determines them: up
-    /// to four as a list, and the number of others.
-    pub fn put_elements(&self, document: &mut Document, function: u32, access: Access) {
-        document.name("places");
-        document.begin_list();
+    /// Appends the places at which a function has such elements of an array, as far as the text alone determines them:
+    /// up to four, and the number of others. Appends nothing if there are none.
+    pub fn put_elements(&self, alloc: Global, text: &mut Text, function: u32, access: Access) {
         let number = function as usize;
         let from = self.function(number);
         let to = self.function(number.saturating_add(1));
-        let mut others = 0;
-        match elements_of(self.alloc, self.tokens.as_slice(), from, to) {
-            Ok(elements) => {
-                others = self.put_accesses(document, elements.as_slice(), access);
-                drop(elements)
-            }
-            Err(AllocError) => document.lack(),
-        }
-        document.end_list();
-        document.count("more_places", others)
-    }
-
-    /// Writes the places of the elements that are accessed so, up to four. Returns the number of others.
-    fn put_accesses(&self, document: &mut Document, elements: &[Element], access: Access) -> u64 {
+        let Ok(elements) = elements_of(alloc, self.tokens.as_slice(), from, to) else {
+            text.lack();
+            return;
+        };
         let mut shown: u64 = 0;
-        for element in elements {
+        for element in elements.as_slice() {
             if element.declared.is_none()
                 && element.is_assigned == access.assigns
-                && self.is_of(access.array, element.at, elements)
+                && self.is_of(access.array, element.at, elements.as_slice())
             {
                 if shown < SHOWN {
-                    self.put_named(document, element.at);
+                    text.words(if shown == 0 { ", at " } else { " or " });
+                    self.put_named(text, element.at);
                 }
                 shown = shown.saturating_add(1);
             }
         }
-        shown.saturating_sub(SHOWN)
+        if shown > SHOWN {
+            text.words(" or at ");
+            text.counted(shown - SHOWN, "more place", "more places")
+        }
     }
 
     /// Checks whether the name at that place is that of an array, in a function with these elements and declarations.
@@ -355,26 +302,10 @@ impl<'a> Places<'a> {
         false
     }
 
-    /// Writes a place with the name there.
-    fn put_named(&self, document: &mut Document, at: u32) {
-        document.begin_object();
-        self.put_members(document, at);
-        document.end_object()
-    }
-
-    /// Writes the file, the line and the column of a place, and the name there.
-    fn put_members(&self, document: &mut Document, at: u32) {
-        document.text("file", self.file);
-        self.put_position(document, at);
-        document.name("name");
-        document.characters(self.alloc, self.name_at(at))
-    }
-
-    /// Writes the line and the column of a place.
-    fn put_position(&self, document: &mut Document, at: u32) {
-        let Position { line, column } = self.position(at);
-        document.count("line", u64::from(line));
-        document.count("column", u64::from(column))
+    /// Appends a place, and the name there: `server.c:12:5 accept`.
+    fn put_named(&self, text: &mut Text, at: u32) {
+        self.put_place(text, at);
+        text.bytes(self.name_at(at))
     }
 
     /// Returns the place of the name of a site's call.
@@ -390,12 +321,25 @@ impl<'a> Places<'a> {
         }
     }
 
-    /// Writes the function that contains a place, if there is one.
-    fn put_inside(&self, document: &mut Document, at: u32) {
+    /// Appends the function that contains a place.
+    fn put_inside(&self, text: &mut Text, at: u32) {
         if let Some(function) = function_at(self.names.functions.as_slice(), at) {
-            document.name("function");
-            document.characters(self.alloc, self.name_at(function))
+            text.words(" in ");
+            text.bytes(self.name_at(function))
         }
+    }
+
+    /// Appends a place and a space: `server.c:12:5 `.
+    fn put_place(&self, text: &mut Text, at: u32) {
+        self.put_line(text, at);
+        text.words(" ")
+    }
+
+    /// Appends a place: `server.c:12:5`.
+    fn put_line(&self, text: &mut Text, at: u32) {
+        let Position { line, column } = self.position(at);
+        text.words(self.file);
+        text.form(":$:$", &[line as u64, column as u64])
     }
 
     /// Returns the line and the column of a place.
@@ -417,22 +361,6 @@ impl<'a> Places<'a> {
         }
         rest
     }
-}
-
-/// Writes the number of a site or a function that the source doesn't have, as a place.
-fn put_unknown(alloc: Global, document: &mut Document, form: &str, number: u32) {
-    document.begin_object();
-    document.name("text");
-    put_number(alloc, document, form, number);
-    document.end_object()
-}
-
-/// Writes a form with that number in it, as a string.
-fn put_number(alloc: Global, document: &mut Document, form: &str, number: u32) {
-    let mut text = Text::new(alloc);
-    text.form(form, &[u64::from(number)]);
-    document.written(&text);
-    drop(text)
 }
 
 /// Whether a thread waits at the call of that name.

@@ -1,2 +1,0 @@
-mod Eight
-mod Starts

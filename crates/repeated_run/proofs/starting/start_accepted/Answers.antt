@@ -1,5 +1,0 @@
-use Rattle.repeated_run.proofs.Starts.{start_is_between}
-use Rattle.repeated_run.proofs.starting.start_accepted.Goals as goal
-
-pub make_measured-told-requires-clause-between : goal.make_measured-told-requires-clause-between
-make_measured-told-requires-clause-between c = start_is_between _ _ _ c.in-Ok.world c.in-Ok.ensures
