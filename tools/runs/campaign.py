@@ -77,9 +77,10 @@ class Campaign:
 
     def summary(self):
         source = os.fspath(self.exploration.server.source)
-        spent = {f"{part}_seconds": round(seconds, 2) for part, seconds in self.groups.seconds.items()}
+        spent = self.groups.seconds  # in all processes
         return {"source": source, "traces": self.asked.traces, "seed": self.asked.seed, "runs": self.groups.runs,
-                "seconds": round(self.taken, 2)} | spent
+                "seconds": round(self.taken, 2), "program_seconds": round(spent["program"], 2),
+                "reading_seconds": round(spent["reading"], 2)}
 
     def verdict(self, found):
         runs, seconds = self.groups.runs, max(self.taken, 0.001)
