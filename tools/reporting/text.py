@@ -150,7 +150,7 @@ class Report:
         if not waits:
             return
         has_ready = any(it.get("split") for it in waits)
-        self.ranks = [it for it in RANKS[1:] if it[1] in waits[0] and (it[0] != "p90" or self.most is None)]
+        self.ranks = [it for it in RANKS[1:] if it[1] in waits[0]]
         order = sorted(range(len(waits)), key=lambda at: -waits[at]["total"])
         kept = set(order if self.most is None else order[:self.most])
         rows = [self.wait(it, has_ready) for at, it in enumerate(waits) if at in kept]
