@@ -213,7 +213,6 @@ class Adapter:
 
     def move(self, make):
         """Makes a move, and says where it ended."""
-        self.wire.pauses.clear()
         self.stopped(make())
 
     def stopped(self, hit):

@@ -27,7 +27,7 @@ def write_message(stream, message):
 
 class Wire:
     """Requests that come in, in order, and what goes out, numbered from 1. A thread reads, so that a `pause` is seen
-    while a request is under way."""
+    while a request is under way: `pauses` is set from its arrival until it is taken."""
 
     def __init__(self, source, sink):
         self.source, self.sink, self.sent, self.waiting = source, sink, 0, queue.Queue()
@@ -50,6 +50,8 @@ class Wire:
         message = self.waiting.get()
         if message is None:
             raise Ended
+        if message.get("command") == "pause":
+            self.pauses.clear()
         return message
 
     def send(self, message):
