@@ -7,7 +7,6 @@ import io, os, re
 
 from . import launch, terminal
 from .asked import Unknown
-from .moments import NoMoment
 from .replayed import Differs
 from .stops import Hit
 from .views import Views
@@ -86,7 +85,7 @@ class Adapter:
             if not self.session and command not in ("initialize", "launch", "disconnect", "terminate"):
                 raise Bad(f"{command} comes before launch")
             self.known[command](request, request.get("arguments") or {})
-        except (Bad, Unknown, NoMoment, Differs, launch.Refused, terminal.Bad) as why:
+        except (Bad, Unknown, Differs, launch.Refused, terminal.Bad) as why:
             self.wire.refuse(request, str(why))
         except (KeyError, TypeError, ValueError, AttributeError, OSError) as why:
             self.wire.refuse(request, f"{command}: {why}")

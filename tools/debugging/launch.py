@@ -11,17 +11,7 @@ from .session import Session
 
 TAKES = {"serve": 1, "run": 3}  # the commands that are runs, with the number of their files
 DEFAULT_CHUNKS = 1024
-AUDITED = ("--chunks", "--extra", "--fuel", "--backlog", "--caps", "--high", "--low", "--knee")  # options of an audit
-STRIDES = "values: those of a replay in Python, of which nothing is proved: the rule of strides isn't audited"
-REPLAYED = (
-    "values: those of a replay in Python, of which nothing is proved, as the program `moments` isn't built "
-    "(docs/DEBUGGING.md)"
-)
-
-
-def moments_program():
-    """The path of the program that prints moments, whether it is there or not."""
-    return os.path.join(os.environ.get("CAPRICCIO_PROGRAMS") or str(program.TOP / "built"), "moments")
+NOTE = "values: those of a replay in Python, of which nothing is proved (docs/DEBUGGING.md)"
 
 
 class Refused(Exception):
@@ -66,7 +56,7 @@ class Launch:
     def __init__(self, words, log=None):
         self.words, self.folder = Words(words), tempfile.TemporaryDirectory(prefix="capriccio-debug-")
         self.trace, self.log = os.path.join(self.folder.name, "trace"), log or os.path.join(self.folder.name, "log")
-        self.is_stored, self.note = log is not None, None
+        self.is_stored, self.note = log is not None, NOTE
 
     def copy_trace(self, source):
         """Keeps the trace, from a file that is open."""
@@ -98,17 +88,5 @@ class Launch:
                 ) from None
             except Differs as why:
                 raise Refused(f"{why}", 4) from None
-        session = Session(code, self.words.caps(), log, self.words.chunks(), self.told(), source)
-        if self.words.options.get("--rule") == "stride":
-            self.note = STRIDES
-        elif not session.told.can_tell(session.run, code):
-            self.note = REPLAYED
-        if self.note:
-            session.told = moments.Replayed(self.words.chunks())
-        return session
-
-    def told(self):
-        """What asks the program for moments."""
-        options = [it for name, value in self.words.options.items() if name in AUDITED for it in (name, value)]
-        source, chunks = self.words.files[0], self.words.chunks()
-        return moments.Told(moments_program(), source, self.trace, self.log, options, chunks)
+        chunks = self.words.chunks()
+        return Session(code, self.words.caps(), log, chunks, moments.Replayed(chunks), source)

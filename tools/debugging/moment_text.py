@@ -1,8 +1,6 @@
 """A moment of a run as text: the document of docs/moment.schema.json, laid out for a terminal."""
 import textwrap
 
-from .moments import refusal_text
-
 WIDTH = 100
 SHOWN = 16  # elements of an array without --full
 
@@ -111,8 +109,6 @@ def head_lines(document):
 
 def text_of(document, name, is_full=False):
     """The text of a document; `name` is the source's."""
-    if "refused" in document:
-        return f"{refusal_text(document)}\n"
     lines = head_lines(document)
     for it in document["threads"]:
         lines += ["", f"thread {it['thread']}  {state_text(it)}", *stack_lines(it, name, is_full)]

@@ -1,77 +1,7 @@
-"""Moments of a run, as documents (docs/moment.schema.json).
-
-`Told` asks the program `moments` for them, whose values rest on the proved meaning of the source. `Replayed` makes them
-of the replay in Python, where that program isn't built.
-"""
-import json, subprocess
-
+"""Moments of a run, as documents (docs/moment.schema.json), of the replay in Python."""
 from .instructions import Fail, GiveBack, GiveWord
 from .rewriting import Temporary
 from sources.tree import Call
-
-REFUSED = {
-    "unlawful": "line {at} of the log isn't lawful: `./capriccio audit` says the same",
-    "limit": "line {at} of the log needs more steps of the source than the limit",
-    "over": "the log has only {at} lines",
-    "rests": "the segment that begins after line {line} has only {at} steps: a moment within it has fewer",
-    "between": "no segment is in progress after line {line}: only the line of a `run` has steps after it",
-}
-
-
-class NoMoment(Exception):
-    """There is no document for a moment."""
-
-
-def refusal_text(document):
-    """Why there is no such moment, of a document that says so."""
-    return f"there is no such moment: {REFUSED[document['refused']].format(**document)}"
-
-
-class Told:
-    """The moments of a run that the program `moments` prints, over the options of an audit, the files and the log. The
-    queues, which it doesn't print, are those of the replay."""
-
-    def __init__(self, program, source, trace, log, options, chunks):
-        self.program, self.trace = program, trace
-        self.behind = ["audit", source, log, *options]
-        self.replayed = Replayed(chunks)
-
-    def at(self, run, code):
-        """The document of the moment at which a run is."""
-        line, steps = run.moment
-        document = self.documents(["--full", "--at-line", f"{line}+{steps}" if steps else str(line)])[0]
-        if "refused" in document:
-            raise NoMoment(refusal_text(document))
-        fill_places(document, self.replayed.at(run, code))
-        return document | queues(run)
-
-    def documents(self, asked):
-        """The documents of the moments that are asked for, in order."""
-        with open(self.trace, "rb") as trace:
-            told = subprocess.run([self.program, *asked, *self.behind], stdin=trace, capture_output=True, text=True)
-        try:
-            found = [json.loads(line) for line in told.stdout.splitlines()]
-        except ValueError:
-            found = []
-        if not found:
-            why = told.stderr.strip().partition("\n")[0]
-            raise NoMoment(why or f"{self.program} printed no moment, and ended with status {told.returncode}")
-        return found
-
-    def can_tell(self, run, code):
-        """Whether the program is there and prints moments."""
-        try:
-            return bool(self.at(run, code))
-        except (NoMoment, OSError):
-            return False
-
-
-def fill_places(document, replayed):
-    """Gives a frame without a place, as at the end of a body or of a loop's turn, that of the replay."""
-    for told, made in zip(document["threads"], replayed["threads"]):
-        for frame_, other in zip(told["stack"], made["stack"]):
-            if frame_["line"] is None:
-                frame_["line"], frame_["column"] = other["line"], other["column"]
 
 
 class Replayed:

@@ -3,7 +3,6 @@ import inspect, re
 
 from . import moment_text
 from .asked import Unknown, listed
-from .moments import NoMoment
 from .replayed import Differs
 from .stops import Catch
 
@@ -70,7 +69,7 @@ class Terminal:
             raise Bad(f"{word!r} {what}")
         try:
             self.commands[found[0]](rest.strip())
-        except (Unknown, NoMoment, Differs) as why:
+        except (Unknown, Differs) as why:
             raise Bad(str(why)) from None
 
     # ---- moving
