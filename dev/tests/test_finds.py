@@ -28,7 +28,7 @@ class OfExamples(unittest.TestCase):
             log = report.parent / "log"
             if log.exists():
                 with self.subTest(example=report.parent.name):
-                    line = re.search(r"^circle: (.*)$", report.read_text(), re.M)
+                    line = re.search(r"^deadlock: (.*)$", report.read_text(), re.M)
                     source = (report.parent / "server.c").read_bytes()
                     told = outcome.Outcome(log.read_text(), places.Places(source))
                     steps = following.circle(told, following.followed(source, told.log), finds.caps_of(options_of(log)))
@@ -70,7 +70,7 @@ class OfExamples(unittest.TestCase):
             if log.exists():
                 told = outcome.Outcome(log.read_text(), places.Places((report.parent / "server.c").read_bytes()))
                 numbers = [len(told.delivered), len(told.dropped), len(told.takers), sum(map(bool, told.answers))]
-                wanted = re.search(r"^requests: (\d+) came, (\d+) dropped, (\d+) taken, (\d+) answered",
+                wanted = re.search(r"^requests +(\d+) came, (\d+) dropped, (\d+) taken, (\d+) answered",
                                    report.read_text(), re.M)
                 self.assertEqual(numbers, list(map(int, wanted.groups())))
 

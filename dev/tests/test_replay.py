@@ -65,17 +65,20 @@ class OfExamples(unittest.TestCase):
         for report in REPORTS:
             with self.subTest(example=report.parent.name):
                 said = {int(resource): int(used)
-                        for resource, used in re.findall(r"^resource (\d+): (\d+) of", report.read_text(), re.M)}
+                        for resource, used in re.findall(r"^resource (\d+) +(\d+) of", report.read_text(), re.M)}
                 self.assertEqual({resource: used
                                   for resource, used in of_example(report.parent / "log")[0].uses.items() if used},
                                   said)
 
     def test_the_calls_at_the_end_are_those_of_the_stored_reports(self):
+        checked = 0
         for report in REPORTS:
             with self.subTest(example=report.parent.name):
                 blocked = of_example(report.parent / "log")[0].blocked
-                for thread, call in re.findall(r"^left: thread (\d+) waits at \S+ (\w+)\(", report.read_text(), re.M):
+                for thread, call in re.findall(r"^thread (\d+) +[\d,]+  \S+ (\w+)\(", report.read_text(), re.M):
                     self.assertEqual(blocked[int(thread)][0], call)
+                    checked += 1
+        self.assertGreater(checked, 5)
 
 
 class ByHand(unittest.TestCase):

@@ -13,18 +13,24 @@ def figures_of(folder):
         return figures.Figures(story.Story(places.Places((folder / "server.c").read_bytes()), trace).happenings(log))
 
 
+def number(text):
+    """A number of a report, whose thousands have separators."""
+    return int(text.replace(",", ""))
+
+
 class OfExamples(unittest.TestCase):
     def test_requests_and_latencies_are_those_of_the_report(self):
         self.assertGreater(len(REPORTS), 0)
         for report in REPORTS:
             with self.subTest(example=report.parent.name):
                 told, said = figures_of(report.parent), report.read_text()
-                counts = re.search(r"^requests: (\d+) came, (\d+) dropped, (\d+) taken, (\d+) answered", said, re.M)
-                self.assertEqual([told.came, told.dropped, told.taken, told.answered], list(map(int, counts.groups())))
+                counts = re.search(r"^requests +(\S+) came, (\S+) dropped, (\S+) taken, (\S+) answered", said, re.M)
+                wanted = [number(it) for it in counts.groups()]
+                self.assertEqual([told.came, told.dropped, told.taken, told.answered], wanted)
                 for which, numbers in (("first", told.first), ("last", told.last)):
-                    line = re.search(rf"^latency to the {which} answer: (.*?)(?: \(.*)?$", said, re.M)
-                    wanted = {name: int(number) for name, number in (it.split() for it in line[1].split(", "))} if line else dict.fromkeys(figures.RANKS)
-                    self.assertEqual(figures.spread(numbers), wanted)
+                    line = re.search(rf"^(?:first and last|{which}) answer((?: +[\d,]+){{5}})", said, re.M)
+                    wanted = [number(it) for it in line[1].split()] if line else [None] * 5
+                    self.assertEqual(list(figures.spread(numbers).values()), wanted)
                 self.assertEqual(told.stop.text, said.splitlines()[-1])
 
     def test_places_of_waits_are_those_of_the_report(self):
@@ -32,7 +38,7 @@ class OfExamples(unittest.TestCase):
             with self.subTest(example=report.parent.name):
                 sites = places.Places((report.parent / "server.c").read_bytes()).sites
                 known = {f"{it.place()} {it.callee} in {it.function}" for it in sites}
-                told = re.findall(r"^  examples/\w+/server\.c:(\d+:\d+ \w+ in \w+): ", report.read_text(), re.M)
+                told = re.findall(r" examples/\w+/server\.c:(\d+:\d+ \w+ in \w+)$", report.read_text(), re.M)
                 self.assertGreater(len(told), 0)
                 for place in told:
                     self.assertIn(place, known)
