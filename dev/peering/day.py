@@ -5,7 +5,7 @@ import json, pathlib, subprocess, sys, tempfile
 from .runs import failed, timed
 
 TOP = pathlib.Path(__file__).resolve().parent.parent.parent
-STORIES, POOL = TOP / "docs/stories", TOP / "examples/pool/server.c"
+STORIES, POOL, MOMENT = TOP / "docs/stories", TOP / "examples/pool/server.c", TOP / "tools/moment"
 RUNS = 1_000  # of tools/explore
 APART = 10  # ticks between the requests of the long log: half of them are dropped, else an audit takes no log so long
 
@@ -37,11 +37,6 @@ def long_log(program, folder, requests):
     return trace, log
 
 
-def has_moments(report):
-    """Whether the report can show a moment of a run."""
-    return b"--at-line" in subprocess.run([report, "--help"], capture_output=True).stdout
-
-
 def rows(program, folder, requests):
     """By its name each thing that was done, with its number or the reason why there is none."""
     trace, log = long_log(program, folder, requests)
@@ -49,12 +44,11 @@ def rows(program, folder, requests):
     words = ["--fuel", "1000000000", POOL]
     yield "serve: seconds", *seconds([program, "serve", *words], trace, (10,))
     yield "audit of its log: seconds", *seconds([program, "audit", *words, log], trace)
+    middle = 3 * requests // 2  # (about three lines a request)
+    moment = [MOMENT, "--at-line", middle, "--log", log, "serve", *words]
+    yield "a moment in the middle of its log: seconds", *seconds(moment, trace)
     report = program.parent / "report"
     if not report.is_file():
         return
     yield "report on the run: seconds", *seconds([report, "serve", *words], trace, (10,))
     yield "report on its log: seconds", *seconds([report, "--log", log, "serve", *words], trace)
-    if has_moments(report):
-        middle = 3 * requests // 2  # (about three lines a request)
-        moment = [report, "--at-line", middle, "--log", log, "serve", *words]
-        yield "a moment in the middle of its log: seconds", *seconds(moment, trace)
