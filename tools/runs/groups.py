@@ -1,5 +1,5 @@
 """The finds of many runs, in groups: how often each came, and the run with the shortest trace."""
-import os, pathlib, re, shlex, subprocess
+import os, pathlib, re, shlex, shutil, subprocess
 
 from traces import events
 
@@ -138,9 +138,19 @@ def audited(verdict, log):
 
 
 def nearest(path):
-    """A path from this folder, if it lies below it, as a command."""
+    """A script or tool of this checkout, as a command: by its name if it is installed, and else by a path, from this
+    folder if it lies below it."""
+    path = pathlib.Path(path)
+    installed = program.TOP.parent.parent / "bin" / command_of(path.name)
+    if installed.exists() and installed.resolve() == path.resolve():
+        return installed.name if shutil.which(installed.name) == str(installed) else str(installed)
     near = os.path.relpath(path)
     return os.fspath(path) if near.startswith("..") else near if os.sep in near else f".{os.sep}{near}"
+
+
+def command_of(name):
+    """The name that tools/install gives to a script or tool."""
+    return name if name == "capriccio" else f"capriccio-{name.replace('_', '-')}"
 
 
 def put(name, text):
